@@ -1,0 +1,96 @@
+-- The order of pieces: a piece comes before what lies under it, and what lies under two ordered siblings is ordered.
+use Rattle.std.proofs.Common.{◌≡◌, ◌⊎◌, inl, inr, ◌+◌, List, [], ◌∷◌, ◌++◌, length, refl, sym, ap, ◌∙◌, arith, Bool, true, Some, append_assoc, length-append}
+use Rattle.std.specs.Ordering.{nat_cmp, ordering_then, partial_ordering_then, is_some_and, is_ge}
+use Rattle.std.specs.declared.cmp.Ordering.{Ordering}
+use Rattle.std.specs.declared.cmp.Ordering.TheVariants.{Less, Equal, Greater}
+use Rattle.std.specs.Cmp.{IsTotalOrder, then_total, on_total}
+use Rattle.std.specs.Cmp.Lexicographic.{slice_cmp, nat_list_cmp_total, lists_total, pointwise_decides, bytes_decides}
+use Rattle.std.proofs.lemmas.Cmp.{tied_itself, nat_cmp_total}
+use Rattle.ovl_names.specs.Names.{PathName, name_cmp}
+use Rattle.ovl_names.specs.Paths.{PathNames, path_eq, path_cmp}
+use Rattle.ovl_board.specs.declared.pieces.Piece.{Piece}
+use Rattle.ovl_board.specs.Pieces.{piece_cmp, IsBefore, IsOneBelow}
+
+module _ {K : Type 0} (R : K → K → Ordering) (o : IsTotalOrder R) where
+  pub prefix_before : (d : List K) (n : K) (rest : List K) → slice_cmp R d (d ++ n ∷ rest) ≡ Less
+  prefix_before [] n rest = refl
+  prefix_before (x ∷ d) n rest = rw (tied_itself o x) (prefix_before d n rest)
+
+  pub fork_before : (d : List K) (a b : K) (r s : List K) → R a b ≡ Less → slice_cmp R (d ++ a ∷ r) (d ++ b ∷ s) ≡ Less
+  fork_before [] a b r s h = rw h
+  fork_before (x ∷ d) a b r s h = rw (tied_itself o x) (fork_before d a b r s h)
+
+  -- siblings compare by their last names
+  pub siblings : (d : List K) (a b : K) → slice_cmp R (d ++ a ∷ []) (d ++ b ∷ []) ≡ Less → R a b ≡ Less
+  siblings [] a b h = first (R a b) h
+    where
+      first : (r : Ordering) → ordering_then r Equal ≡ Less → r ≡ Less
+      first Less h = refl
+      first Equal h = h
+      first Greater h = h
+  siblings (x ∷ d) a b h = siblings d a b (rw (tied_itself o x) at h)
+
+pub piece_cmp_total : IsTotalOrder piece_cmp
+piece_cmp_total = then_total (on_total (λ (p : Piece). p.space) nat_cmp_total) (on_total (λ (p : Piece). p.dir) (lists_total nat_list_cmp_total))
+
+pub before_trans : (p q r : Piece) → IsBefore p q → IsBefore q r → IsBefore p r
+before_trans p q r a b = piece_cmp_total.trans p q r a b
+
+-- a test by the partial order of pieces goes by their order
+partial_ge-then : (r s : Ordering) → is_some_and is_ge (partial_ordering_then (Some r) (Some s)) ≡ is_ge (ordering_then r s)
+partial_ge-then Less s = refl
+partial_ge-then Equal s = refl
+partial_ge-then Greater s = refl
+
+pub partial_ge-piece : (p q : Piece) → is_some_and is_ge (partial_ordering_then (Some (nat_cmp p.space q.space)) (Some (path_cmp p.dir q.dir))) ≡ is_ge (piece_cmp p q)
+partial_ge-piece p q = partial_ge-then (nat_cmp p.space q.space) (path_cmp p.dir q.dir)
+
+-- what a test of two paths says
+pub path_eq_decides : (a b : PathNames) → (path_eq a b ≡ true → a ≡ b) × (a ≡ b → path_eq a b ≡ true)
+path_eq_decides = pointwise_decides bytes_decides
+
+-- q lies somewhere under p, or is p
+abbrev pub IsUnder : Piece → Piece → Type 0
+IsUnder p q = (q.space ≡ p.space) × ((rest : PathNames) × (q.dir ≡ p.dir ++ rest))
+
+pub under_one : (p q r : Piece) → IsOneBelow p q → IsUnder q r → IsUnder p r
+under_one p q r b u = (u.0 ∙ b.0, (b.1.0 ∷ u.1.0, u.1.1 ∙ ap (λ d. d ++ u.1.0) b.1.1 ∙ append_assoc p.dir (b.1.0 ∷ []) u.1.0))
+
+pub before_under : (p q r : Piece) → IsOneBelow p q → IsUnder q r → IsBefore p r
+unfolding under_one
+before_under p q r b u =
+    let w = under_one p q r b u in
+    rw (w.0, w.1.1, tied_itself nat_cmp_total p.space) (prefix_before name_cmp nat_list_cmp_total p.dir b.1.0 u.1.0)
+
+pub before_siblings : (p q r x y : Piece) → IsOneBelow p q → IsOneBelow p r → IsBefore q r → IsUnder q x → IsUnder r y → IsBefore x y
+unfolding under_one
+before_siblings p q r x y b c lt u v =
+    let w = under_one p q x b u in
+    let z = under_one p r y c v in
+    let h : slice_cmp name_cmp (p.dir ++ b.1.0 ∷ []) (p.dir ++ c.1.0 ∷ []) ≡ Less = rw (b.0, c.0, b.1.1, c.1.1, tied_itself nat_cmp_total p.space) at lt in
+    rw (w.0, z.0, w.1.1, z.1.1, tied_itself nat_cmp_total p.space) (fork_before name_cmp nat_list_cmp_total p.dir b.1.0 c.1.0 u.1.0 v.1.0 (siblings name_cmp nat_list_cmp_total p.dir b.1.0 c.1.0 h))
+
+pub length_below : (p q : Piece) → IsOneBelow p q → length q.dir ≡ length p.dir + 1
+length_below p q b = ap length b.1.1 ∙ length-append p.dir (b.1.0 ∷ [])
+
+-- the last name of a path, and the path above it
+pub snoc_view : (d : PathNames) → (d ≡ []) ⊎ ((e : PathNames) × ((n : PathName) × (d ≡ e ++ n ∷ [])))
+snoc_view [] = inl refl
+snoc_view (x ∷ d) = elim (snoc_view d) [
+  | inl e ↦ inr ([], (x, ap (λ l. x ∷ l) e))
+  | inr w ↦ inr (x ∷ w.0, (w.1.0, ap (λ l. x ∷ l) w.1.1))
+]
+
+pub snoc_same : (d e : PathNames) (m n : PathName) → d ++ m ∷ [] ≡ e ++ n ∷ [] → d ≡ e
+snoc_same [] [] m n h = refl
+snoc_same [] (y ∷ e) m n h = absurd (omega (arith, ap length h, length-append e (n ∷ [])))
+snoc_same (x ∷ d) [] m n h = absurd (omega (arith, ap length h, length-append d (m ∷ [])))
+snoc_same (x ∷ d) (y ∷ e) m n h = let t : d ++ m ∷ [] ≡ e ++ n ∷ [] = cc in let a = snoc_same d e m n t in cc
+
+-- what a test of the names above a piece's last one says
+pub below-decides : (p q : Piece) (names above own : PathNames) (name : PathName) (r : Bool) → p.space ≡ q.space → names ≡ q.dir → names ≡ above ++ name ∷ [] → own ≡ p.dir → r ≡ path_eq above own
+    → (r ≡ true → IsOneBelow p q) × (IsOneBelow p q → r ≡ true)
+below-decides p q names above own name r s n l o e = (
+  (λ t. (sym s, (name, sym n ∙ l ∙ ap (λ d. d ++ name ∷ []) ((path_eq_decides above own).0 (sym e ∙ t) ∙ o)))),
+  (λ b. e ∙ (path_eq_decides above own).1 (snoc_same above p.dir name b.1.0 (sym l ∙ n ∙ b.1.1) ∙ sym o)),
+)

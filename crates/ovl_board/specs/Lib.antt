@@ -1,0 +1,11 @@
+pub mod Pieces
+pub mod Walks
+pub mod Parcels
+pub mod Balance
+pub mod Assembly
+pub mod Desks
+pub mod Machine
+pub mod CoreViews
+pub mod Cores
+pub mod Trees
+pub mod Laws

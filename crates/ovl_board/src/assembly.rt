@@ -1,0 +1,147 @@
+ghost use Rattle.std.specs.Prelude.{◌≡◌, ◌≤◌, ◌∷◌, ◌++◌, OnOk, IfOk, MatchOption, MatchResult, All, AllPairs, Contains, IsSorted, IsPermutation};
+ghost use Rattle.ovl_board.specs.declared.assembly.BoardFault.TheVariants.{Memory};
+ghost use Rattle.ovl_board.specs.Pieces.{IsBefore, piece_cmp};
+ghost use Rattle.ovl_board.specs.Parcels.{pieces_of};
+ghost use Rattle.ovl_board.specs.Balance.{AllLawful, kids_in, times};
+ghost use Rattle.ovl_board.specs.Assembly.{IsBoardFault, IsInOrder, IsLeast, IsAbsent, AreExpected, IsListFault, bare};
+
+use crate::pieces::Piece;
+use crate::works::Parcel;
+use std::alloc::{AllocError, AllocFailed, Global};
+use thiserror::Error;
+
+/// Why parcels are no walk; where several hold, the first of them is given, with its least piece.
+#[derive(Debug, PartialEq, Eq, Drop, Error)]
+pub enum BoardFault {
+    #[error("two parcels have one piece")]
+    Double(Piece),
+    #[error("a parcel has a piece to which no kids lead from the root")]
+    Stranger(Piece),
+    #[error("no parcel has a piece to which kids lead from the root")]
+    Missing(Piece),
+    #[error("out of memory")]
+    Memory,
+}
+
+impl From<AllocError> for BoardFault {
+    ghost from_gives = { λ _ fault. fault ≡ Memory };
+
+    fn from(_: AllocError) -> BoardFault {
+        BoardFault::Memory
+    }
+}
+
+/// The parcels in the order of their pieces, where each piece to which their kids lead from `root` has one
+/// parcel and no other piece has any; else the first fault in the order of [`BoardFault`].
+/// The kids of each parcel must be lawful, see [`crate::kids_lawful`]. It sorts, and copies each piece.
+pub fn assemble<T: Drop>(
+    alloc: Global,
+    root: &Piece,
+    mut parcels: Vec<Parcel<T>>,
+) -> Result<Vec<Parcel<T>>, BoardFault>
+    requires { AllLawful (bare parcels.items) }
+    ensures { MatchResult result
+        (λ assembled. IsInOrder root.now parcels.items assembled.items)
+        (λ fault. IsBoardFault root.now (bare parcels.items) fault) }
+{
+    sort(&mut parcels)?;
+    let pieces = parcel_pieces(alloc, &parcels)?;
+    let expected = expected_pieces(alloc, root, &parcels)?;
+    compare(alloc, &pieces, &expected)?;
+    Ok(parcels)
+}
+
+fn sort<T>(parcels: &mut Vec<Parcel<T>>) -> Result<(), AllocError>
+    ensures same { IsPermutation parcels.old.items parcels.new.items }
+    ensures sorted { OnOk result (IsSorted piece_cmp (pieces_of (bare parcels.new.items))) }
+{
+    parcels.sort_by(|a, b| a.piece.cmp(&b.piece))
+}
+
+// Whether sorted pieces are the expected ones, each once; else the first fault.
+fn compare(alloc: Global, pieces: &[Piece], expected: &[Piece]) -> Result<(), BoardFault>
+    requires pieces { IsSorted piece_cmp pieces.now }
+    requires expected { IsSorted piece_cmp expected.now }
+    ensures { MatchResult result
+        (λ _. AreExpected pieces.now expected.now)
+        (λ fault. IsListFault pieces.now expected.now fault) }
+{
+    if let Some(double) = first_double(pieces) {
+        return Err(BoardFault::Double(double.copy(alloc)?));
+    }
+    if let Some(stranger) = first_absent(pieces, expected) {
+        return Err(BoardFault::Stranger(stranger.copy(alloc)?));
+    }
+    if let Some(missing) = first_absent(expected, pieces) {
+        return Err(BoardFault::Missing(missing.copy(alloc)?));
+    }
+    Ok(())
+}
+
+fn parcel_pieces<T>(alloc: Global, parcels: &[Parcel<T>]) -> Result<Vec<Piece>, AllocError>
+    ensures { IfOk result (λ pieces. pieces.items ≡ pieces_of (bare parcels.now)) }
+{
+    let mut pieces = Vec::new(alloc);
+    for parcel in parcels {
+        pieces.push(parcel.piece.copy(alloc)?)?;
+    }
+    Ok(pieces)
+}
+
+// The root and all kids, in order.
+fn expected_pieces<T>(
+    alloc: Global,
+    root: &Piece,
+    parcels: &[Parcel<T>],
+) -> Result<Vec<Piece>, AllocError>
+    ensures same { IfOk result (λ pieces. IsPermutation (root.now ∷ kids_in (bare parcels.now)) pieces.items) }
+    ensures sorted { IfOk result (λ pieces. IsSorted piece_cmp pieces.items) }
+{
+    let mut expected = Vec::new(alloc);
+    expected.push(root.copy(alloc)?)?;
+    for parcel in parcels {
+        push_copies(alloc, &mut expected, &parcel.kids)?;
+    }
+    expected.sort()?;
+    Ok(expected)
+}
+
+fn push_copies(alloc: Global, pieces: &mut Vec<Piece>, more: &[Piece]) -> Result<(), AllocError>
+    ensures { OnOk result (pieces.new.items ≡ pieces.old.items ++ more.now) }
+{
+    for piece in more {
+        pieces.push(piece.copy(alloc)?)?;
+    }
+    Ok(())
+}
+
+// The least piece that stands twice in a sorted list.
+fn first_double(pieces: &[Piece]) -> Option<&Piece>
+    requires { IsSorted piece_cmp pieces.now }
+    ensures { MatchOption result
+        (AllPairs IsBefore pieces.now)
+        (λ p. IsLeast (λ q. 2 ≤ times q pieces.now) p.now) }
+{
+    for i in 1..pieces.len() {
+        if pieces[i - 1] == pieces[i] {
+            return Some(&pieces[i]);
+        }
+    }
+    None
+}
+
+// The least piece of a sorted list that isn't in another one.
+fn first_absent<'a>(pieces: &'a [Piece], among: &[Piece]) -> Option<&'a Piece>
+    requires pieces { IsSorted piece_cmp pieces.now }
+    requires among { IsSorted piece_cmp among.now }
+    ensures { MatchOption result
+        (All (Contains among.now) pieces.now)
+        (λ p. IsLeast (IsAbsent pieces.now among.now) p.now) }
+{
+    for piece in pieces {
+        if among.binary_search(piece).is_err() {
+            return Some(piece);
+        }
+    }
+    None
+}

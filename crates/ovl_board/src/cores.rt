@@ -1,0 +1,215 @@
+ghost use Rattle.std.specs.Prelude.{◌≡◌, ◌↔◌, ◌<◌, ◌⊎◌, Some, None, IsTrue, IfOk, IsOk, IfErr, OnOk, OnErr, MatchResult};
+ghost use Rattle.std.specs.Coded.{Coded-set};
+ghost use Rattle.ovl_board.specs.declared.events.CoreFault.TheVariants.{NotPossible, Memory};
+ghost use Rattle.ovl_board.specs.Parcels.{AreOwn, AreOwn-prop, IsPlainUnordered, parcel_views};
+ghost use Rattle.ovl_board.specs.Machine.{IsCoreState, IsIdle, after, after_take, after_steal, after_push, work_piece, desk_of, start_state, start_desks as first_desks};
+ghost use Rattle.ovl_board.specs.CoreViews.{core_state};
+
+use crate::desks::Desk;
+use crate::events::{CoreFault, Event};
+use crate::pieces::Piece;
+use crate::works::{Parcel, Work};
+use std::alloc::{AllocError, Global};
+use std::collections::VecDeque;
+
+/// The work of several workers as a machine of single steps. Each worker has a lane of pieces, a hand for one
+/// piece, and an outbox of kids that it has still to push; a piece that was worked on becomes a parcel.
+pub struct Core<'a, W: Work> {
+    work: &'a W,
+    root: Piece,
+    desks: Vec<Desk>,
+    parcels: Vec<Parcel<W::Out>>,
+    ghost own: { AreOwn (W.kids_of work.now) (W.out_of work.now) (parcel_views W.seen parcels.items) } by { AreOwn-prop W.seen_set (Coded-set root-code) (W.kids_of work.now) (W.out_of work.now)
+        (parcel_views W.seen parcels.items) },
+    ghost kept: { IsCoreState root (core_state W.seen desks.items parcels.items) },
+}
+
+impl<W: Work> Drop for Core<'_, W> {
+    fn drop(self) {
+        let Core {
+            work: _,
+            root: _,
+            desks: _,
+            parcels: _,
+        } = self;
+    }
+}
+
+impl<'a, W: Work> Core<'a, W> {
+    ghost use Rattle.std.specs.Prelude.{◌≡◌, ◌↔◌, ◌<◌, ◌⊎◌, Some, None, IsTrue, IfOk, IsOk, IfErr, OnOk, OnErr};
+    ghost use Rattle.ovl_board.specs.declared.events.CoreFault.TheVariants.{NotPossible};
+    ghost use Rattle.ovl_board.specs.Parcels.{IsPlainUnordered, parcel_views};
+    ghost use Rattle.ovl_board.specs.Machine.{IsIdle, after, start_state, work_piece, desk_of};
+    ghost use Rattle.ovl_board.specs.Cores.{work_of, root_of, parcels_of, state_of};
+
+    /// A core of 1 to 64 workers, whose first lane holds the root of the work; everything else is empty.
+    /// Refuses every other number of workers as not possible, and fails otherwise only for want of memory.
+    pub fn start(
+        alloc: Global,
+        work: &'a W,
+        root: Piece,
+        workers: usize,
+    ) -> Result<Core<'a, W>, CoreFault>
+        ensures refused { (result ≡ Err NotPossible) ↔ ((workers < 1) ⊎ (64 < workers)) }
+        ensures started { IfOk result (λ core. state_of W.seen core ≡ start_state root workers) }
+        ensures given { IfOk result (λ core. (work_of core ≡ work.now) × (root_of core ≡ root)) }
+    {
+        if workers < 1 || workers > 64 {
+            return Err(CoreFault::NotPossible);
+        }
+        let desks = start_desks(alloc, root.copy(alloc)?, workers)?;
+        Ok(Core {
+            work,
+            root,
+            desks,
+            parcels: Vec::new(alloc),
+        })
+    }
+
+    /// Does one event exactly, or refuses it: as not possible where it isn't, else for want of memory. A refused
+    /// step changes nothing.
+    pub fn step(&mut self, alloc: Global, event: Event) -> Result<(), CoreFault>
+        ensures done { OnOk result
+            (after (W.kids_of (work_of self.old)) (W.out_of (work_of self.old)) (state_of W.seen self.old) event
+            ≡ Some (state_of W.seen self.new)) }
+        ensures refused { (result ≡ Err NotPossible) ↔
+            (after (W.kids_of (work_of self.old)) (W.out_of (work_of self.old)) (state_of W.seen self.old) event
+            ≡ None) }
+        ensures same { OnErr result (state_of W.seen self.new ≡ state_of W.seen self.old) }
+        ensures given { (work_of self.new ≡ work_of self.old) × (root_of self.new ≡ root_of self.old) }
+    {
+        match event {
+            Event::Pop(worker) => take(&mut self.desks, worker, worker),
+            Event::Steal(worker, lane) => steal(&mut self.desks, worker, lane),
+            Event::Work(worker) => self.work_piece(alloc, worker),
+            Event::Push(worker) => push(&mut self.desks, worker),
+        }
+    }
+
+    // Turns the piece in a worker's hand into a parcel, and puts its kids into the outbox.
+    fn work_piece(&mut self, alloc: Global, worker: usize) -> Result<(), CoreFault>
+        ensures done { OnOk result
+            (work_piece (W.kids_of (work_of self.old)) (W.out_of (work_of self.old)) (state_of W.seen self.old)
+            worker (desk_of (state_of W.seen self.old).desks worker).hand ≡ Some (state_of W.seen self.new)) }
+        ensures refused { (result ≡ Err NotPossible) ↔
+            ((desk_of (state_of W.seen self.old).desks worker).hand ≡ None) }
+        ensures same { OnErr result (state_of W.seen self.new ≡ state_of W.seen self.old) }
+        ensures given { (work_of self.new ≡ work_of self.old) × (root_of self.new ≡ root_of self.old) }
+    {
+        if worker >= self.desks.len() {
+            return Err(CoreFault::NotPossible);
+        }
+        let Some(piece) = self.desks[worker].held() else {
+            return Err(CoreFault::NotPossible);
+        };
+        let (kids, out) = self.work.visit(alloc, piece)?;
+        let outbox = outbox_of(alloc, &kids)?;
+        self.parcels.reserve(1)?;
+        let piece = self.desks[worker].put_down(outbox);
+        self.parcels.push_reserved(Parcel { piece, kids, out });
+        Ok(())
+    }
+
+    /// Whether nothing is open: lanes, hands and outboxes are empty.
+    pub fn idle(&self) -> bool
+        ensures { IsTrue result ↔ IsIdle (state_of W.seen self.now).desks }
+    {
+        are_empty(&self.desks)
+    }
+
+    /// The parcels, where nothing is open: those of the plain walk from the root, in the order in which they came.
+    /// Otherwise the core as it was.
+    pub fn finish(self) -> Result<Vec<Parcel<W::Out>>, Core<'a, W>>
+        ensures idle { IsOk result ↔ IsIdle (state_of W.seen self.entry).desks }
+        ensures given { IfOk result (λ parcels. parcels.items ≡ parcels_of self.entry) }
+        ensures plain { IfOk result (λ parcels.
+            IsPlainUnordered (W.kids_of (work_of self.entry)) (W.out_of (work_of self.entry)) (root_of self.entry)
+            (parcel_views W.seen parcels.items)) }
+        ensures back { IfErr result (λ core. core ≡ self.entry) }
+    {
+        let _deepest = self.work.deepest();
+        if !self.idle() {
+            return Err(self);
+        }
+        let Core {
+            work: _,
+            root: _,
+            desks: _,
+            parcels,
+        } = self;
+        Ok(parcels)
+    }
+}
+
+fn start_desks(alloc: Global, root: Piece, workers: usize) -> Result<Vec<Desk>, CoreFault>
+    requires { 0 < workers }
+    ensures { MatchResult result (λ desks. desks.items ≡ first_desks root workers) (λ fault. fault ≡ Memory) }
+{
+    let mut desks = Vec::with_capacity(alloc, workers)?;
+    desks.push(Desk::with_piece(alloc, root)?)?;
+    for _ in 1..workers {
+        desks.push(Desk::new(alloc))?;
+    }
+    Ok(desks)
+}
+
+fn are_empty(desks: &[Desk]) -> bool
+    ensures { IsTrue result ↔ IsIdle desks.now }
+{
+    for desk in desks {
+        if !desk.is_empty() {
+            return false;
+        }
+    }
+    true
+}
+
+fn take(desks: &mut Vec<Desk>, worker: usize, lane: usize) -> Result<(), CoreFault>
+    ensures { MatchResult result
+        (λ _. after_take desks.old.items worker lane ≡ Some desks.new.items)
+        (λ fault. (fault ≡ NotPossible) × (after_take desks.old.items worker lane ≡ None)
+        × (desks.new.items ≡ desks.old.items)) }
+{
+    if worker >= desks.len() || lane >= desks.len() || !desks[worker].is_free() {
+        return Err(CoreFault::NotPossible);
+    }
+    let Some(piece) = desks[lane].take_first() else {
+        return Err(CoreFault::NotPossible);
+    };
+    desks[worker].hold(piece);
+    Ok(())
+}
+
+fn steal(desks: &mut Vec<Desk>, worker: usize, lane: usize) -> Result<(), CoreFault>
+    ensures { MatchResult result
+        (λ _. after_steal desks.old.items worker lane ≡ Some desks.new.items)
+        (λ fault. (fault ≡ NotPossible) × (after_steal desks.old.items worker lane ≡ None)
+        × (desks.new.items ≡ desks.old.items)) }
+{
+    if worker == lane {
+        return Err(CoreFault::NotPossible);
+    }
+    take(desks, worker, lane)
+}
+
+fn push(desks: &mut Vec<Desk>, worker: usize) -> Result<(), CoreFault>
+    ensures done { MatchResult result
+        (λ _. after_push desks.old.items worker ≡ Some desks.new.items)
+        (λ _. desks.new.items ≡ desks.old.items) }
+    ensures refused { (result ≡ Err NotPossible) ↔ (after_push desks.old.items worker ≡ None) }
+{
+    if worker >= desks.len() {
+        return Err(CoreFault::NotPossible);
+    }
+    desks[worker].push()
+}
+
+fn outbox_of(alloc: Global, kids: &[Piece]) -> Result<VecDeque<Piece>, AllocError>
+    ensures { IfOk result (λ outbox. outbox.items ≡ kids.now) }
+{
+    let mut outbox = VecDeque::with_capacity(alloc, kids.len())?;
+    for kid in kids {
+        outbox.push_back(kid.copy(alloc)?)?;
+    }
+    Ok(outbox)
+}

@@ -1,0 +1,104 @@
+ghost use Rattle.std.specs.Prelude.{◌≡◌, ◌↔◌, [], ◌∷◌, Some, None, IsTrue, IsSome, MatchOption, MatchResult, option_copied};
+ghost use Rattle.ovl_board.specs.declared.events.CoreFault.TheVariants.{NotPossible, Memory};
+ghost use Rattle.ovl_board.specs.Desks.{empty_desk, is_free, pushed_desk};
+
+use crate::events::CoreFault;
+use crate::pieces::Piece;
+use std::alloc::Global;
+use std::collections::VecDeque;
+use std::marker::Model;
+
+// What a worker has: the lane of pieces to do, the piece in its hand, and the kids that it has still to push.
+#[derive(Drop)]
+pub(crate) struct Desk {
+    lane: VecDeque<Piece>,
+    hand: Option<Piece>,
+    outbox: VecDeque<Piece>,
+}
+
+impl Model for Desk {
+    ghost use Rattle.ovl_board.specs.Desks.{DeskView};
+
+    ghost Value = { DeskView };
+
+    ghost view = { λ a. record { lane = a.lane.items; hand = a.hand; outbox = a.outbox.items } };
+}
+
+impl Desk {
+    pub(crate) fn new(alloc: Global) -> Desk
+        ensures { result ≡ empty_desk }
+    {
+        Desk {
+            lane: VecDeque::new(alloc),
+            hand: None,
+            outbox: VecDeque::new(alloc),
+        }
+    }
+
+    // A desk whose lane holds one piece.
+    pub(crate) fn with_piece(alloc: Global, piece: Piece) -> Result<Desk, CoreFault>
+        ensures { MatchResult result
+            (λ desk. desk ≡ record empty_desk { lane = piece ∷ [] })
+            (λ fault. fault ≡ Memory) }
+    {
+        let mut desk = Desk::new(alloc);
+        desk.lane.push_back(piece)?;
+        Ok(desk)
+    }
+
+    pub(crate) fn is_free(&self) -> bool
+        ensures { result ≡ is_free self.now }
+    {
+        self.hand.is_none() && self.outbox.is_empty()
+    }
+
+    pub(crate) fn is_empty(&self) -> bool
+        ensures { IsTrue result ↔ (self.now ≡ empty_desk) }
+    {
+        self.lane.is_empty() && self.hand.is_none() && self.outbox.is_empty()
+    }
+
+    pub(crate) fn take_first(&mut self) -> Option<Piece>
+        ensures { MatchOption result
+            ((self.old.lane ≡ []) × (self.new ≡ self.old))
+            (λ piece. (self.old.lane ≡ piece ∷ self.new.lane) × (self.new ≡ record self.old { lane = self.new.lane })) }
+    {
+        self.lane.pop_front()
+    }
+
+    pub(crate) fn hold(&mut self, piece: Piece)
+        ensures { self.new ≡ record self.old { hand = Some piece } }
+    {
+        self.hand = Some(piece);
+    }
+
+    pub(crate) fn held(&self) -> Option<&Piece>
+        ensures { option_copied result ≡ self.now.hand }
+    {
+        self.hand.as_ref()
+    }
+
+    pub(crate) fn put_down(&mut self, outbox: VecDeque<Piece>) -> Piece
+        requires { IsSome self.old.hand }
+        ensures piece { self.old.hand ≡ Some result }
+        ensures after { self.new ≡ record self.old { hand = None; outbox = outbox.items } }
+    {
+        self.outbox = outbox;
+        self.hand.take().unwrap()
+    }
+
+    // Moves the first kid of the outbox to the back of the lane.
+    pub(crate) fn push(&mut self) -> Result<(), CoreFault>
+        ensures done { MatchResult result (λ _. pushed_desk self.old ≡ Some self.new) (λ _. self.new ≡ self.old) }
+        ensures refused { (result ≡ Err NotPossible) ↔ (pushed_desk self.old ≡ None) }
+    {
+        if self.outbox.is_empty() {
+            return Err(CoreFault::NotPossible);
+        }
+        self.lane.reserve(1)?;
+        if let Some(piece) = self.outbox.pop_front() {
+            self.lane.push_back_reserved(piece);
+        }
+        Ok(())
+    }
+}

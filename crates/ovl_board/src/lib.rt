@@ -1,0 +1,22 @@
+//! Pieces of work, the plain walk over them, the assembly of what workers bring, and the workers' core.
+#![tactic(auto)]
+
+mod assembly;
+mod cores;
+mod desks;
+mod events;
+pub mod laws;
+mod pieces;
+mod plain;
+#[cfg(test)]
+mod tests;
+mod trees;
+mod works;
+
+pub use assembly::{BoardFault, assemble};
+pub use cores::Core;
+pub use events::{CoreFault, Event};
+pub use pieces::Piece;
+pub use plain::plain_walk;
+pub use trees::{Tree, TreeFault};
+pub use works::{Parcel, Work, kids_lawful};

@@ -1,0 +1,36 @@
+ghost use Rattle.std.specs.Prelude.{◌≡◌, IfOk, IsTrue, ◌↔◌};
+
+use ovl_names::Path;
+use std::alloc::{AllocError, Global};
+
+/// A piece of work: the directory `dir` in one of several spaces, each with paths of its own.
+/// Pieces are ordered by space, and then by path.
+#[derive(Debug, PartialEq, Eq, PartialOrd, Ord, Drop)]
+pub struct Piece {
+    pub space: u16,
+    pub dir: Path,
+}
+
+impl Piece {
+    ghost use Rattle.ovl_board.specs.Pieces.{IsOneBelow};
+
+    /// A piece equal to this one; fails only for want of memory.
+    pub fn copy(&self, alloc: Global) -> Result<Piece, AllocError>
+        ensures { IfOk result (λ piece. piece ≡ self.now) }
+    {
+        Ok(Piece {
+            space: self.space,
+            dir: self.dir.copy(alloc)?,
+        })
+    }
+
+    /// Whether `kid` lies one name below this piece, in its space.
+    pub fn is_parent_of(&self, kid: &Piece) -> bool
+        ensures { IsTrue result ↔ IsOneBelow self.now kid.now }
+    {
+        match kid.dir.names().split_last() {
+            None => false,
+            Some((_, above)) => self.space == kid.space && above == self.dir.names(),
+        }
+    }
+}

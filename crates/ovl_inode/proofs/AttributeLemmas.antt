@@ -1,0 +1,218 @@
+-- Bytes and texts whose types say what they hold, and attributes in order.
+use Rattle.std.proofs.Common.{◌≡◌, ℕ, zero, suc, ◌+◌, ◌<◌, ◌≤◌, List, [], ◌∷◌, ◌++◌, Bool, true, false, IsTrue, refl, sym, ap, subst, ◌∙◌, le-ltb, Fits, w8, length, get_or, take, arith, Option, Some, None, set}
+use Rattle.std.specs.Prelude.{◌==◌, unwrap_or, IfSome, slice_get, not, insert}
+use Rattle.std.specs.List.{list_all, list_any}
+use Rattle.std.specs.Str.{IsUtf8}
+use Rattle.std.specs.Ordering.{is_lt, is_eq, ordering_reverse}
+use Rattle.std.specs.Cmp.{IsTotalOrder}
+use Rattle.std.specs.Cmp.Lexicographic.{nat_list_cmp_total, bytes_decides}
+use Rattle.std.specs.declared.cmp.Ordering.{Ordering}
+use Rattle.std.specs.declared.cmp.Ordering.TheVariants.{Less, Equal, Greater}
+use Rattle.std.proofs.lemmas.Bool.{lt-ltb}
+use Rattle.std.proofs.lemmas.Option.{slice_get_read}
+use Rattle.std.proofs.lemmas.List.{take_more}
+use Rattle.std.proofs.lemmas.List.Elements.{filter-append}
+use Rattle.std.proofs.Math.Dec.{eqb-suc-zero}
+use Rattle.std.proofs.Math.Facts.{Fits-lt-pow}
+use Rattle.std.proofs.lemmas.Map.Text.{is_eq-slice_cmp}
+use Rattle.std.proofs.lemmas.Str.{is_utf8-from_IsUtf8}
+use Rattle.ovl_names.specs.Names.{name_cmp}
+use Rattle.ovl_names.specs.Order.{ascends}
+use Rattle.ovl_names.proofs.Ascending.{both, list_all-before, reversed, is_lt-Less, list_all-filter, ascends-filter}
+use Rattle.ovl_inode.specs.Bytes.{are_bytes}
+use Rattle.ovl_inode.specs.Attributes.{Attributes, attribute_fault, is_attribute_name, is_attribute, is_overlay_name, are_attributes, all_before, attribute_cmp, visible_attributes, with_attribute}
+
+-- numbers below 256 are bytes
+pub are_bytes-below : (numbers : List ℕ) → ((i : ℕ) → get_or numbers i 0 < 256) → are_bytes numbers ≡ true
+are_bytes-below [] range = refl
+are_bytes-below (number ∷ numbers) range =
+    rw (lt-ltb number 256 (range zero)) (are_bytes-below numbers (λ i. range (suc i)))
+
+pub are_bytes-from_range : (numbers : List ℕ) → ((i : ℕ) → Fits w8 (get_or numbers i 0)) → are_bytes numbers ≡ true
+are_bytes-from_range numbers range = are_bytes-below numbers (λ i. Fits-lt-pow {w = w8} {n = get_or numbers i 0} (range i))
+
+-- the attributes that are shown, with one more
+pub visible_attributes-more : (attrs : Attributes) (i : ℕ) (attr : List ℕ × List ℕ) → i < length attrs → attr ≡ get_or attrs i attr → visible_attributes (take (i + 1) attrs) ≡ visible_attributes (take i attrs) ++ visible_attributes (attr ∷ [])
+visible_attributes-more attrs i attr inside is =
+    ap visible_attributes (take_more attrs i attr inside ∙ ap (λ (a : List ℕ × List ℕ). take i attrs ++ a ∷ []) (sym is))
+    ∙ filter-append (λ a. not (is_overlay_name a.0)) (take i attrs) (attr ∷ [])
+
+-- the attributes that are shown are attributes
+pub are_attributes-visible : (attrs : Attributes) → are_attributes attrs ≡ true → are_attributes (visible_attributes attrs) ≡ true
+are_attributes-visible attrs are =
+    let parts = both {a = list_all is_attribute attrs} {b = ascends attribute_cmp attrs} are in
+    rw (list_all-filter is_attribute (λ attr. not (is_overlay_name attr.0)) attrs parts.0) (ascends-filter attribute_cmp (λ attr. not (is_overlay_name attr.0)) attrs parts.1)
+
+-- attributes are ordered as their names are
+attribute_order : IsTotalOrder attribute_cmp
+attribute_order = record {
+  antisymm = λ x y. nat_list_cmp_total.antisymm x.0 y.0;
+  trans = λ x y z. nat_list_cmp_total.trans x.0 y.0 z.0;
+  congr = λ x y z. nat_list_cmp_total.congr x.0 y.0 z.0;
+}
+
+name_cmp-same : (name : List ℕ) → name_cmp name name ≡ Equal
+name_cmp-same name = by (name_cmp name name) (nat_list_cmp_total.antisymm name name)
+  where
+    by : (o : Ordering) → o ≡ ordering_reverse o → o ≡ Equal
+    by Less e = let bad : Less ≡ Greater = e in cc
+    by Equal e = refl
+    by Greater e = let bad : Greater ≡ Less = e in cc
+
+-- a name that another comes after
+after-Greater : (name own : List ℕ) → name_cmp name own ≡ Greater → is_lt (name_cmp own name) ≡ true
+after-Greater name own e = ap is_lt (nat_list_cmp_total.antisymm own name ∙ ap ordering_reverse e)
+
+-- one value cannot be two
+Some_injective : {X : Type 0} {x y : X} → Some x ≡ Some y → x ≡ y
+Some_injective {X} {x} {y} e = ap (λ o. unwrap_or o x) e
+
+list_all-at : {X : Type 0} (test : X → Bool) (xs : List X) (place : ℕ) (x : X) → list_all test xs ≡ true → slice_get xs place ≡ Some x → test x ≡ true
+list_all-at test [] place x all at = let bad : None ≡ Some x = at in cc
+list_all-at test (first ∷ xs) zero x all at = ap test (sym (Some_injective at)) ∙ (both {a = test first} {b = list_all test xs} all).0
+list_all-at test (first ∷ xs) (suc place) x all at = list_all-at test xs place x (both {a = test first} {b = list_all test xs} all).1 at
+
+-- all names before a place come before a name, where the last of them does
+pub list_all-take : (attrs : Attributes) (place : ℕ) (last : List ℕ × List ℕ) (name : List ℕ) → ascends attribute_cmp attrs ≡ true → slice_get attrs place ≡ Some last → is_lt (name_cmp last.0 name) ≡ true → all_before (take (suc place) attrs) name ≡ true
+list_all-take [] place last name up at before = let bad : None ≡ Some last = at in cc
+list_all-take (attr ∷ attrs) zero last name up at before =
+    rw (ap (λ (a : List ℕ × List ℕ). is_lt (name_cmp a.0 name)) (Some_injective at) ∙ before) refl
+list_all-take (attr ∷ attrs) (suc place) last name up at before =
+    let parts = both {a = list_all (λ later. is_lt (attribute_cmp attr later)) attrs} {b = ascends attribute_cmp attrs} up in
+    let first : is_lt (name_cmp attr.0 last.0) ≡ true = list_all-at (λ later. is_lt (attribute_cmp attr later)) attrs place last parts.0 at in
+    let through : is_lt (name_cmp attr.0 name) ≡ true = ap is_lt (nat_list_cmp_total.trans attr.0 last.0 name (is_lt-Less (name_cmp attr.0 last.0) first) (is_lt-Less (name_cmp last.0 name) before)) in
+    rw through (list_all-take attrs place last name parts.1 at before)
+
+-- all names before a place come before the name there
+pub all_before-own : (attrs : Attributes) (place : ℕ) (own : List ℕ × List ℕ) → ascends attribute_cmp attrs ≡ true → slice_get attrs place ≡ Some own → all_before (take place attrs) own.0 ≡ true
+all_before-own [] place own up at = let bad : None ≡ Some own = at in cc
+all_before-own (attr ∷ attrs) zero own up at = refl
+all_before-own (attr ∷ attrs) (suc place) own up at =
+    let parts = both {a = list_all (λ later. is_lt (attribute_cmp attr later)) attrs} {b = ascends attribute_cmp attrs} up in
+    rw (list_all-at (λ later. is_lt (attribute_cmp attr later)) attrs place own parts.0 at) (all_before-own attrs place own parts.1 at)
+
+-- names of which neither comes before the other are one
+pub name_cmp-Equal : (name own : List ℕ) → name_cmp name own ≡ Equal → name ≡ own
+name_cmp-Equal name own e = (bytes_decides name own).0 (sym (is_eq-slice_cmp name own) ∙ ap is_eq e)
+
+-- an attribute put where its name belongs: in place of the one of its name, or between the others
+pub with_attribute-replaced : (attrs : Attributes) (place : ℕ) (own : List ℕ × List ℕ) (value : List ℕ) → all_before (take place attrs) own.0 ≡ true → slice_get attrs place ≡ Some own → with_attribute attrs own.0 value ≡ set attrs place (own.0, value)
+with_attribute-replaced [] place own value before at = let bad : None ≡ Some own = at in cc
+with_attribute-replaced (attr ∷ attrs) zero own value before at =
+    let same : attr ≡ own = Some_injective at in
+    subst (λ (a : List ℕ × List ℕ). with_attribute (attr ∷ attrs) a.0 value ≡ set (attr ∷ attrs) 0 (a.0, value)) same (rw (name_cmp-same attr.0) refl)
+with_attribute-replaced (attr ∷ attrs) (suc place) own value before at =
+    let parts = both {a = is_lt (name_cmp attr.0 own.0)} {b = list_all (λ a. is_lt (name_cmp a.0 own.0)) (take place attrs)} before in
+    rw (reversed nat_list_cmp_total attr.0 own.0 parts.0) (ap (λ rest. attr ∷ rest) (with_attribute-replaced attrs place own value parts.1 at))
+
+pub with_attribute-inserted : (attrs : Attributes) (place : ℕ) (name value : List ℕ) → all_before (take place attrs) name ≡ true → place ≤ length attrs → IfSome (slice_get attrs place) (λ own. name_cmp name own.0 ≡ Less) → with_attribute attrs name value ≡ insert attrs place (name, value)
+with_attribute-inserted [] zero name value before inside after = refl
+with_attribute-inserted [] (suc place) name value before inside after = absurd (omega arith)
+with_attribute-inserted (attr ∷ attrs) zero name value before inside after = rw after refl
+with_attribute-inserted (attr ∷ attrs) (suc place) name value before inside after =
+    let parts = both {a = is_lt (name_cmp attr.0 name)} {b = list_all (λ a. is_lt (name_cmp a.0 name)) (take place attrs)} before in
+    rw (reversed nat_list_cmp_total attr.0 name parts.0) (ap (λ rest. attr ∷ rest) (with_attribute-inserted attrs place name value parts.1 (omega arith) after))
+
+-- attributes and one more
+list_all-with : (attrs : Attributes) (name value : List ℕ) → list_all is_attribute attrs ≡ true → is_attribute_name name ≡ true → are_bytes value ≡ true → list_all is_attribute (with_attribute attrs name value) ≡ true
+list_all-with [] name value all is bytes = rw is (rw bytes refl)
+list_all-with (attr ∷ attrs) name value all is bytes = by (list_all-with attrs name value parts.1 is bytes) (name_cmp name attr.0) refl
+  where
+    parts : (is_attribute attr ≡ true) × (list_all is_attribute attrs ≡ true)
+    parts = both {a = is_attribute attr} {b = list_all is_attribute attrs} all
+
+    by : list_all is_attribute (with_attribute attrs name value) ≡ true → (o : Ordering) → name_cmp name attr.0 ≡ o → list_all is_attribute (with_attribute (attr ∷ attrs) name value) ≡ true
+    by later Less e = rw e (rw is (rw bytes all))
+    by later Equal e = rw e (rw (both {a = is_attribute_name attr.0} {b = are_bytes attr.1} parts.0).0 (rw bytes parts.1))
+    by later Greater e = rw e (rw parts.0 later)
+
+before-with : (attr : List ℕ × List ℕ) (attrs : Attributes) (name value : List ℕ) → list_all (λ later. is_lt (attribute_cmp attr later)) attrs ≡ true → is_lt (name_cmp attr.0 name) ≡ true → list_all (λ later. is_lt (attribute_cmp attr later)) (with_attribute attrs name value) ≡ true
+before-with attr [] name value all before = rw before refl
+before-with attr (next ∷ attrs) name value all before = by (before-with attr attrs name value parts.1 before) (name_cmp name next.0) refl
+  where
+    parts : (is_lt (attribute_cmp attr next) ≡ true) × (list_all (λ later. is_lt (attribute_cmp attr later)) attrs ≡ true)
+    parts = both {a = is_lt (attribute_cmp attr next)} {b = list_all (λ later. is_lt (attribute_cmp attr later)) attrs} all
+
+    by : list_all (λ later. is_lt (attribute_cmp attr later)) (with_attribute attrs name value) ≡ true → (o : Ordering) → name_cmp name next.0 ≡ o → list_all (λ later. is_lt (attribute_cmp attr later)) (with_attribute (next ∷ attrs) name value) ≡ true
+    by later Less e = rw e (rw before all)
+    by later Equal e = rw e all
+    by later Greater e = rw e (rw parts.0 later)
+
+ascends-with : (attrs : Attributes) (name value : List ℕ) → ascends attribute_cmp attrs ≡ true → ascends attribute_cmp (with_attribute attrs name value) ≡ true
+ascends-with [] name value up = refl
+ascends-with (attr ∷ attrs) name value up = by (ascends-with attrs name value parts.1) (name_cmp name attr.0) refl
+  where
+    parts : (list_all (λ later. is_lt (attribute_cmp attr later)) attrs ≡ true) × (ascends attribute_cmp attrs ≡ true)
+    parts = both {a = list_all (λ later. is_lt (attribute_cmp attr later)) attrs} {b = ascends attribute_cmp attrs} up
+
+    by : ascends attribute_cmp (with_attribute attrs name value) ≡ true → (o : Ordering) → name_cmp name attr.0 ≡ o → ascends attribute_cmp (with_attribute (attr ∷ attrs) name value) ≡ true
+    by later Less e =
+        rw e (rw e (rw (list_all-before attribute_order (name, value) attr attrs (ap is_lt e) parts.0) up))
+    by later Equal e = rw e up
+    by later Greater e = rw e (rw (before-with attr attrs name value parts.0 (after-Greater name attr.0 e)) later)
+
+pub are_attributes-with : (attrs : Attributes) (name value : List ℕ) → are_attributes attrs ≡ true → is_attribute_name name ≡ true → are_bytes value ≡ true → are_attributes (with_attribute attrs name value) ≡ true
+are_attributes-with attrs name value are is bytes =
+    let parts = both {a = list_all is_attribute attrs} {b = ascends attribute_cmp attrs} are in
+    rw (list_all-with attrs name value parts.0 is bytes) (ascends-with attrs name value parts.1)
+
+-- a text without a fault names an attribute
+pub is_attribute_name-from_fault : (name : List ℕ) → attribute_fault name ≡ None → IsUtf8 name → is_attribute_name name ≡ true
+is_attribute_name-from_fault name none utf8 = rw none (is_utf8-from_IsUtf8 name utf8)
+
+-- what the tests of a name's fault say together
+pub attribute_fault-none : (name : List ℕ) → 0 < length name → length name ≤ 255 → list_any (λ byte. byte == 0) name ≡ false → attribute_fault name ≡ None
+attribute_fault-none [] some short plain = absurd (omega arith)
+attribute_fault-none (byte ∷ bytes) some short plain =
+    rw (eqb-suc-zero (length bytes)) (rw (le-ltb 255 (length (byte ∷ bytes)) short) (rw plain refl))
+
+-- ---- a search from the end on
+
+-- what lies behind a place comes after the name, if what is there does
+later_than : (o : Option (List ℕ × List ℕ)) (name : List ℕ) → IfSome o (λ own. name_cmp own.0 name ≡ Greater) → IfSome o (λ own. name_cmp name own.0 ≡ Less)
+later_than None name after = tt
+later_than (Some own) name after = nat_list_cmp_total.antisymm name own.0 ∙ ap ordering_reverse after
+
+abbrev pub Belongs : Attributes → List ℕ → ℕ → Type 0
+Belongs attrs name place =
+    IfSome (slice_get attrs place) (λ own. name_cmp name own.0 ≡ Less) × (place ≤ length attrs) × IsTrue (all_before (take place attrs) name)
+
+abbrev pub IsAt : Attributes → List ℕ → ℕ → Type 0
+IsAt attrs name place =
+    IfSome (slice_get attrs place) (λ own. own.0 ≡ name) × (place < length attrs) × IsTrue (all_before (take place attrs) name)
+
+pub belongs_first : (attrs : Attributes) (name : List ℕ) → IfSome (slice_get attrs 0) (λ own. name_cmp own.0 name ≡ Greater) → Belongs attrs name 0
+belongs_first attrs name after = (later_than (slice_get attrs 0) name after, omega arith, refl)
+
+module _ (attrs : Attributes) (name : List ℕ) (place last : ℕ) (own : List ℕ × List ℕ) (are : are_attributes attrs ≡ true) (next : place ≡ suc last) (inside : place ≤ length attrs) (is : own ≡ get_or attrs last own) where
+  up : ascends attribute_cmp attrs ≡ true
+  up = (both {a = list_all is_attribute attrs} {b = ascends attribute_cmp attrs} are).1
+
+  at : slice_get attrs last ≡ Some own
+  at = slice_get_read attrs (length attrs) last own refl (omega arith) is
+
+  pub belongs_after : IfSome (slice_get attrs place) (λ own. name_cmp own.0 name ≡ Greater) → Less ≡ name_cmp own.0 name → Belongs attrs name place
+  belongs_after after before = (
+    later_than (slice_get attrs place) name after,
+    inside,
+    rw next (list_all-take attrs last own name up at (ap is_lt (sym before))),
+  )
+
+  pub is_at : Equal ≡ name_cmp own.0 name → IsAt attrs name last
+  is_at same =
+      let e : own.0 ≡ name = name_cmp-Equal own.0 name (sym same) in
+      (rw at e, omega arith, subst (λ (n : List ℕ). all_before (take last attrs) n ≡ true) e (all_before-own attrs last own up at))
+
+  pub is_after : Greater ≡ name_cmp own.0 name → IfSome (slice_get attrs last) (λ own. name_cmp own.0 name ≡ Greater)
+  is_after greater = rw at (sym greater)
+
+-- ---- a put at the place that a search gave
+
+pub put_at : (attrs : Attributes) (name value : List ℕ) (place : ℕ) (own : List ℕ) → IsAt attrs name place → (v : List ℕ) → slice_get attrs place ≡ Some (own, v) → with_attribute attrs name value ≡ set attrs place (own, value)
+put_at attrs name value place own found v at =
+    let same : own ≡ name = rw at at found.0 in
+    let replaced = with_attribute-replaced attrs place (own, v) value (rw same found.2) at in
+    ap (λ (n : List ℕ). with_attribute attrs n value) (sym same) ∙ replaced
+
+pub put_between : (attrs : Attributes) (name value : List ℕ) (place : ℕ) → Belongs attrs name place → with_attribute attrs name value ≡ insert attrs place (name, value)
+put_between attrs name value place belongs = with_attribute-inserted attrs place name value belongs.2 belongs.1 belongs.0

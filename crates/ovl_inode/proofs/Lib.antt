@@ -1,0 +1,5 @@
+pub mod OnLiterals
+pub mod AttributeLemmas
+pub mod DigestLemmas
+mod Rows
+pub mod RedirectLemmas

@@ -1,0 +1,72 @@
+ghost use Rattle.std.specs.Prelude.{◌≡◌, IsTrue, MatchResult};
+ghost use Rattle.std.specs.List.{list_all};
+ghost use Rattle.ovl_inode.specs.Bytes.{is_digest};
+ghost use Rattle.ovl_inode.specs.Hexadecimal.{digest_fault, digest_of_text, is_lower_digit as lower_digit_test};
+
+use std::marker::Model;
+use thiserror::Error;
+
+/// Why a text is no digest; where both hold, the first is given.
+#[derive(Clone, Copy, Debug, PartialEq, Eq, Error)]
+pub enum DigestFault {
+    #[error("the digest has not 64 digits")]
+    Length,
+    #[error("the digest has a byte that is no lower-case hexadecimal digit")]
+    Digit,
+}
+
+/// A SHA-256 digest (FIPS 180-4), 32 bytes: the name of a blob.
+#[derive(Clone, Copy, Debug, PartialEq, Eq, PartialOrd, Ord, Hash)]
+pub struct Digest {
+    bytes: [u8; 32],
+}
+
+impl Model for Digest {
+    ghost use Rattle.std.specs.Prelude.{ℕ, List, IsTrue};
+    ghost use Rattle.ovl_inode.specs.Bytes.{is_digest};
+
+    ghost Value = { List ℕ };
+
+    ghost view = { λ a. a.bytes };
+
+    ghost invariant = { λ a. IsTrue (is_digest a.bytes) };
+
+    ghost inverse = { λ bytes. record { bytes = bytes } };
+}
+
+impl Digest {
+    /// The digest that 64 lower-case hexadecimal digits spell, or the first fault in the order of [`DigestFault`].
+    pub fn parse(text: &str) -> Result<Digest, DigestFault>
+        ensures { MatchResult result
+            (λ digest. digest_of_text text.now ≡ Some digest)
+            (λ fault. digest_fault text.now ≡ Some fault) }
+    {
+        if text.len() != 64 {
+            return Err(DigestFault::Length);
+        }
+        if !are_lower_digits(text.as_bytes()) {
+            return Err(DigestFault::Digit);
+        }
+        let mut bytes = [0; 32];
+        match hex::decode_to_slice(text, &mut bytes) {
+            Ok(()) => Ok(Digest { bytes }),
+            Err(_) => Err(DigestFault::Digit),
+        }
+    }
+
+    /// The 32 bytes.
+    pub fn as_bytes(&self) -> &[u8; 32]
+        ensures value { result.now ≡ self.now }
+        ensures digest { IsTrue (is_digest self.now) }
+    {
+        &self.bytes
+    }
+}
+
+/// Whether each byte is one of `0` to `9` and `a` to `f`.
+pub fn are_lower_digits(text: &[u8]) -> bool
+    ensures { result ≡ list_all lower_digit_test text.now }
+{
+    text.iter()
+        .all(|byte| matches!(*byte, b'0'..=b'9' | b'a'..=b'f'))
+}

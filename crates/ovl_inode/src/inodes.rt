@@ -1,0 +1,189 @@
+ghost use Rattle.std.specs.Prelude.{◌≡◌, IfOk, string_bytes};
+ghost use Rattle.ovl_inode.specs.Sound.{is_sound_inode, is_sound_kind, has_sound_blob, is_target};
+ghost use Rattle.ovl_inode.specs.Inodes.{visible as visible_inode};
+
+use crate::{Attrs, Digest};
+use std::alloc::{AllocError, Global};
+use std::marker::Model;
+
+/// The target of a symlink.
+#[derive(Debug, Drop)]
+pub struct Target {
+    text: String,
+}
+
+impl Model for Target {
+    ghost use Rattle.std.specs.Prelude.{ℕ, List, string_bytes};
+
+    ghost Value = { List ℕ };
+
+    ghost view = { λ a. string_bytes a.text };
+}
+
+impl Target {
+    /// The target's text.
+    pub fn as_str(&self) -> &str
+        ensures { result.now ≡ self.now }
+    {
+        self.text.as_str()
+    }
+
+    /// The target's text, which takes no memory.
+    pub fn into_string(self) -> String
+        ensures { string_bytes result ≡ self }
+    {
+        self.text
+    }
+
+    /// A target equal to this one; fails only for want of memory.
+    pub fn copy(&self, alloc: Global) -> Result<Target, AllocError>
+        ensures { IfOk result (λ target. target ≡ self.now) }
+    {
+        Ok(Target {
+            text: String::from_str(alloc, self.text.as_str())?,
+        })
+    }
+}
+
+impl From<String> for Target {
+    ghost from_gives = { λ text target. target ≡ string_bytes text };
+
+    fn from(text: String) -> Target {
+        Target { text }
+    }
+}
+
+/// What an inode is, with what only its kind has.
+#[derive(Debug, Drop)]
+pub enum Kind {
+    Dir,
+    /// A regular file: its size in bytes, and the digest of its contents where a blob has them.
+    File { size: u64, blob: Option<Digest> },
+    Symlink { target: Target },
+    Char { major: u32, minor: u32 },
+    Block { major: u32, minor: u32 },
+    Fifo,
+    Socket,
+}
+
+impl Kind {
+    /// A kind equal to this one; fails only for want of memory.
+    pub fn copy(&self, alloc: Global) -> Result<Kind, AllocError>
+        ensures { IfOk result (λ kind. kind ≡ self.now) }
+    {
+        Ok(match self {
+            Kind::Dir => Kind::Dir,
+            Kind::File { size, blob } => Kind::File {
+                size: *size,
+                blob: *blob,
+            },
+            Kind::Symlink { target } => Kind::Symlink {
+                target: target.copy(alloc)?,
+            },
+            Kind::Char { major, minor } => Kind::Char {
+                major: *major,
+                minor: *minor,
+            },
+            Kind::Block { major, minor } => Kind::Block {
+                major: *major,
+                minor: *minor,
+            },
+            Kind::Fifo => Kind::Fifo,
+            Kind::Socket => Kind::Socket,
+        })
+    }
+}
+
+/// The inode of an entry: its kind, permission bits, owner, modification time in seconds and extended attributes.
+#[derive(Debug, Drop)]
+pub struct Inode {
+    pub kind: Kind,
+    pub mode: u16,
+    pub uid: u32,
+    pub gid: u32,
+    pub mtime: i64,
+    pub attrs: Attrs,
+}
+
+impl Inode {
+    /// An inode equal to this one; fails only for want of memory.
+    pub fn copy(&self, alloc: Global) -> Result<Inode, AllocError>
+        ensures { IfOk result (λ inode. inode ≡ self.now) }
+    {
+        Ok(Inode {
+            kind: self.kind.copy(alloc)?,
+            mode: self.mode,
+            uid: self.uid,
+            gid: self.gid,
+            mtime: self.mtime,
+            attrs: self.attrs.copy(alloc)?,
+        })
+    }
+}
+
+/// The inode as the merged tree shows it: without the attributes whose name begins with `trusted.overlay.`.
+/// Fails only for want of memory.
+pub fn visible(alloc: Global, inode: &Inode) -> Result<Inode, AllocError>
+    ensures { IfOk result (λ shown. shown ≡ visible_inode inode.now) }
+{
+    Ok(Inode {
+        kind: inode.kind.copy(alloc)?,
+        mode: inode.mode,
+        uid: inode.uid,
+        gid: inode.gid,
+        mtime: inode.mtime,
+        attrs: inode.attrs.visible(alloc)?,
+    })
+}
+
+/// Whether a manifest can state the inode: a mode of at most 4,095; a file of at most 2^63 - 1 bytes, with a blob
+/// exactly where it has a size over 0 and no attribute `metacopy`; a symlink's target of 1 to 4,095 bytes without NUL.
+/// The types keep the other limits.
+pub fn sound(inode: &Inode) -> bool
+    ensures { result ≡ is_sound_inode inode.now }
+{
+    // The types keep the ranges of these numbers, and the attributes as they should be.
+    let (_uid, _gid, _mtime) = (inode.uid, inode.gid, inode.mtime);
+    let _pairs = inode.attrs.pairs();
+    inode.mode <= 4095
+        && is_kind_sound(
+            &inode.kind,
+            inode.attrs.get("trusted.overlay.metacopy").is_some(),
+        )
+}
+
+// Whether a manifest can state the kind of an inode that has `metacopy` or hasn't.
+fn is_kind_sound(kind: &Kind, has_metacopy: bool) -> bool
+    ensures { result ≡ is_sound_kind kind.now has_metacopy }
+{
+    match kind {
+        Kind::File { size, blob } => *size < 1 << 63 && is_blob_sound(*size, *blob, has_metacopy),
+        Kind::Symlink { target } => is_target_sound(target.as_str()),
+        // The types keep the ranges of these numbers.
+        Kind::Char { major, minor } | Kind::Block { major, minor } => {
+            let (_major, _minor) = (*major, *minor);
+            true
+        }
+        Kind::Dir | Kind::Fifo | Kind::Socket => true,
+    }
+}
+
+// Whether a file of this size has a blob exactly where it has a size over 0 and no `metacopy`.
+fn is_blob_sound(size: u64, blob: Option<Digest>, has_metacopy: bool) -> bool
+    ensures { result ≡ has_sound_blob size blob has_metacopy }
+{
+    match blob {
+        Some(digest) => {
+            // The type keeps the ranges of its bytes.
+            let _bytes = digest.as_bytes();
+            size > 0 && !has_metacopy
+        }
+        None => size == 0 || has_metacopy,
+    }
+}
+
+fn is_target_sound(text: &str) -> bool
+    ensures { result ≡ is_target text.now }
+{
+    !text.is_empty() && text.len() <= 4095 && !text.as_bytes().contains(&0)
+}

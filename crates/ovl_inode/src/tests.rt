@@ -1,0 +1,250 @@
+use super::*;
+use std::alloc::{AllocError, Global};
+use std::test::Fail;
+
+// The SHA-256 digest of the one byte `a`.
+const DIGEST_OF_A: &str = "ca978112ca1bbdcafac231b39a23dc4da786eff8147c4e72b9807785afee48bb";
+
+fn repeated(alloc: Global, part: &str, times: usize) -> Result<String, AllocError> {
+    let mut text = String::new(alloc);
+    for _ in 0..times {
+        text.push_str(part)?;
+    }
+    Ok(text)
+}
+
+// An inode of mode 0644, owner 0 and time 0 without attributes.
+fn plain(alloc: Global, kind: Kind) -> Inode {
+    Inode {
+        kind,
+        mode: 0o644,
+        uid: 0,
+        gid: 0,
+        mtime: 0,
+        attrs: Attrs::new(alloc),
+    }
+}
+
+fn symlink(alloc: Global, target: &str) -> Result<Kind, AllocError> {
+    Ok(Kind::Symlink {
+        target: Target::from(String::from_str(alloc, target)?),
+    })
+}
+
+#[test]
+fn digests_are_read_or_refused_by_their_first_fault(rt: HostRuntime) -> Result<(), Fail> {
+    assert_eq!(rt;
+        *Digest::parse(DIGEST_OF_A)?.as_bytes(),
+        [
+            0xca, 0x97, 0x81, 0x12, 0xca, 0x1b, 0xbd, 0xca, 0xfa, 0xc2, 0x31, 0xb3, 0x9a, 0x23,
+            0xdc, 0x4d, 0xa7, 0x86, 0xef, 0xf8, 0x14, 0x7c, 0x4e, 0x72, 0xb9, 0x80, 0x77, 0x85,
+            0xaf, 0xee, 0x48, 0xbb
+        ]
+    );
+    for (text, fault) in [
+        (
+            "ca978112ca1bbdcafac231b39a23dc4da786eff8147c4e72b9807785afee48b",
+            DigestFault::Length,
+        ),
+        ("", DigestFault::Length),
+        ("CA", DigestFault::Length),
+        (
+            "CA978112CA1BBDCAFAC231B39A23DC4DA786EFF8147C4E72B9807785AFEE48BB",
+            DigestFault::Digit,
+        ),
+    ] {
+        assert_eq!(rt; Digest::parse(text).err(), Some(fault), "at {text:?}");
+    }
+    for (text, lower) in [("0189abef", true), ("", true), ("0A", false), ("g", false)] {
+        assert_eq!(rt; are_lower_digits(text.as_bytes()), lower, "at {text:?}");
+    }
+    Ok(())
+}
+
+#[test]
+fn attributes_are_put_found_and_listed_in_order(rt: HostRuntime) -> Result<(), Fail> {
+    let mut attrs = Attrs::new(rt.alloc());
+    assert_eq!(rt; attrs.put("user.k", &[1]), Ok(()));
+    assert_eq!(rt; attrs.get("user.k"), Some([1].as_slice()));
+    assert_eq!(rt; attrs.get("user.l"), None);
+    let too_long = repeated(rt.alloc(), "a", 256)?;
+    for name in ["", "user\0", too_long.as_str()] {
+        assert_eq!(rt; attrs.put(name, &[2]), Err(AttrFault::Name), "at {name:?}");
+    }
+    assert_eq!(rt; attrs.pairs().len(), 1);
+    for (name, value) in [("user.l", 3), ("user.a", 4), ("user.k", 5)] {
+        attrs.put(name, &[value])?;
+    }
+    let copied = attrs.copy(rt.alloc())?;
+    assert_eq!(rt; copied.pairs().len(), 3);
+    for ((name, value), (want, byte)) in copied
+        .pairs()
+        .iter()
+        .zip([("user.a", 4), ("user.k", 5), ("user.l", 3)])
+    {
+        assert_eq!(rt; name.as_str(), want);
+        assert_eq!(rt; value.as_slice(), [byte].as_slice(), "at {want:?}");
+    }
+    Ok(())
+}
+
+#[test]
+fn names_and_values_of_attributes_are_copied(rt: HostRuntime) -> Result<(), Fail> {
+    let name = AttrName::of(rt.alloc(), "user.k")?;
+    assert_eq!(rt; name.as_str(), "user.k");
+    assert_eq!(rt; name.copy(rt.alloc())?, name);
+    assert!(rt; AttrName::of(rt.alloc(), "user.j")? < name);
+    assert_eq!(rt; AttrName::of(rt.alloc(), "").err(), Some(AttrFault::Name));
+    let longest = repeated(rt.alloc(), "a", 255)?;
+    assert_eq!(rt;
+        AttrName::of(rt.alloc(), longest.as_str())?.as_str(),
+        longest.as_str()
+    );
+    let bytes = Bytes::copy_of(rt.alloc(), &[0, 255])?;
+    assert_eq!(rt; bytes.as_slice(), [0, 255].as_slice());
+    Ok(())
+}
+
+#[test]
+fn targets_and_kinds_are_copied(rt: HostRuntime) -> Result<(), Fail> {
+    let target = Target::from(String::from_str(rt.alloc(), "a b")?);
+    assert_eq!(rt; target.as_str(), "a b");
+    assert_eq!(rt; target.copy(rt.alloc())?.into_string().as_str(), "a b");
+    for (kind, shown) in [
+        (Kind::Dir, "Dir"),
+        (
+            Kind::File {
+                size: 7,
+                blob: None,
+            },
+            "File { size: 7, blob: None }",
+        ),
+        (
+            Kind::Symlink { target },
+            "Symlink { target: Target { text: \"a b\" } }",
+        ),
+        (
+            Kind::Char { major: 0, minor: 1 },
+            "Char { major: 0, minor: 1 }",
+        ),
+        (
+            Kind::Block { major: 2, minor: 3 },
+            "Block { major: 2, minor: 3 }",
+        ),
+        (Kind::Fifo, "Fifo"),
+        (Kind::Socket, "Socket"),
+    ] {
+        let copied = kind.copy(rt.alloc())?;
+        assert_eq!(rt; format!(in rt.alloc(); "{copied:?}")?.as_str(), shown);
+    }
+    Ok(())
+}
+
+#[test]
+fn an_opaque_directory_is_copied_and_shown_without_its_mark(rt: HostRuntime) -> Result<(), Fail> {
+    let mut opaque = plain(rt.alloc(), Kind::Dir);
+    opaque.attrs.put("trusted.overlay.opaque", b"y")?;
+    let copied = opaque.copy(rt.alloc())?;
+    assert_eq!(rt;
+        copied.attrs.get("trusted.overlay.opaque"),
+        Some(b"y".as_slice())
+    );
+    assert_eq!(rt;
+        format!(in rt.alloc(); "{copied:?}")?.as_str(),
+        format!(in rt.alloc(); "{opaque:?}")?.as_str()
+    );
+    let shown = visible(rt.alloc(), &opaque)?;
+    assert_eq!(rt;
+        format!(in rt.alloc(); "{shown:?}")?.as_str(),
+        format!(in rt.alloc(); "{:?}", plain(rt.alloc(), Kind::Dir))?.as_str()
+    );
+    opaque.attrs.put("user.k", &[1])?;
+    assert_eq!(rt; opaque.attrs.visible(rt.alloc())?.pairs().len(), 1);
+    Ok(())
+}
+
+#[test]
+fn inodes_are_sound_or_not(rt: HostRuntime) -> Result<(), Fail> {
+    let digest = Digest::parse(DIGEST_OF_A)?;
+    let longest = repeated(rt.alloc(), "t", 4095)?;
+    let too_long = repeated(rt.alloc(), "t", 4096)?;
+    for (kind, wanted) in [
+        (Kind::Dir, true),
+        (
+            Kind::File {
+                size: 0,
+                blob: None,
+            },
+            true,
+        ),
+        (
+            Kind::File {
+                size: 1,
+                blob: Some(digest),
+            },
+            true,
+        ),
+        (
+            Kind::File {
+                size: (1 << 63) - 1,
+                blob: Some(digest),
+            },
+            true,
+        ),
+        (symlink(rt.alloc(), "a b")?, true),
+        (symlink(rt.alloc(), longest.as_str())?, true),
+        (Kind::Char { major: 0, minor: 0 }, true),
+        (
+            Kind::Block {
+                major: 1,
+                minor: 0xffff_ffff,
+            },
+            true,
+        ),
+        (Kind::Fifo, true),
+        (Kind::Socket, true),
+        (
+            Kind::File {
+                size: 1,
+                blob: None,
+            },
+            false,
+        ),
+        (
+            Kind::File {
+                size: 0,
+                blob: Some(digest),
+            },
+            false,
+        ),
+        (
+            Kind::File {
+                size: 1 << 63,
+                blob: Some(digest),
+            },
+            false,
+        ),
+        (symlink(rt.alloc(), "")?, false),
+        (symlink(rt.alloc(), "a\0")?, false),
+        (symlink(rt.alloc(), too_long.as_str())?, false),
+    ] {
+        let inode = plain(rt.alloc(), kind);
+        assert_eq!(rt; sound(&inode), wanted, "at {inode:?}");
+    }
+    for (mode, wanted) in [(0, true), (0o7777, true), (4096, false)] {
+        let mut inode = plain(rt.alloc(), Kind::Dir);
+        inode.mode = mode;
+        assert_eq!(rt; sound(&inode), wanted, "at mode {mode}");
+    }
+    for (size, blob, wanted) in [
+        (1, None, true),
+        (0, None, true),
+        (1, Some(digest), false),
+        (0, Some(digest), false),
+    ] {
+        let mut inode = plain(rt.alloc(), Kind::File { size, blob });
+        inode.attrs.put("trusted.overlay.metacopy", &[])?;
+        assert_eq!(rt; sound(&inode), wanted, "at {inode:?}");
+    }
+    Ok(())
+}

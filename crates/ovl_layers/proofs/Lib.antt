@@ -1,0 +1,3 @@
+pub mod Limited
+mod Rows
+pub mod ShowLemmas

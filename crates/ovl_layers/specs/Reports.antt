@@ -1,0 +1,79 @@
+-- The report of `show`: a line for each path of the merged tree, in path order, and their number.
+use Rattle.std.specs.Prelude.{ℕ, ◌+◌, ◌/◌, ◌%◌, Bool, true, false, Option, Some, None, List, [], ◌∷◌, ◌++◌, length, decimal, codes}
+use Rattle.std.specs.Fmt.{signed_decimal}
+use Rattle.std.specs.List.{flat_map}
+use Rattle.hex.specs.Hex.{encode_lower}
+use Rattle.ovl_names.specs.Paths.{PathNames}
+use Rattle.ovl_names.specs.Escapes.{escaped, shown_path}
+use Rattle.ovl_inode.specs.declared.digests.Digest.{Digest}
+use Rattle.ovl_inode.specs.declared.inodes.Inode.{Inode}
+use Rattle.ovl_inode.specs.declared.inodes.Kind.{Kind}
+use Rattle.ovl_inode.specs.declared.inodes.Kind.TheVariants.{Dir, File, Symlink, Char, Block, Fifo, Socket}
+use Rattle.ovl_lookup.specs.declared.looks.Look.{Look}
+use Rattle.ovl_lookup.specs.declared.looks.Look.TheVariants.{Nothing, Shown, Broken}
+
+-- the last octal digit of a number, and the last four
+abbrev pub octal_digit : ℕ → ℕ
+octal_digit number = 48 + number % 8
+
+abbrev pub octal : ℕ → List ℕ
+octal mode = octal_digit (mode / 512) ∷ octal_digit (mode / 64) ∷ octal_digit (mode / 8) ∷ octal_digit mode ∷ []
+
+-- the manifest's word for a kind
+abbrev pub kind_word : Kind → List ℕ
+kind_word Dir = codes "dir"
+kind_word (File size blob) = codes "file"
+kind_word (Symlink target) = codes "symlink"
+kind_word (Char major minor) = codes "char"
+kind_word (Block major minor) = codes "block"
+kind_word Fifo = codes "fifo"
+kind_word Socket = codes "socket"
+
+-- files alone have a size
+abbrev pub size_word : Kind → List ℕ
+size_word (File size blob) = decimal size
+size_word _ = codes "-"
+
+-- the digest of a file's contents, `missing` where it is `broken`, a metacopy file without its data, and `-` where it is empty
+abbrev pub blob_word : Bool → Option Digest → List ℕ
+blob_word true blob = codes "missing"
+blob_word false (Some blob) = encode_lower blob
+blob_word false None = codes "-"
+
+-- `MAJOR:MINOR`
+abbrev pub device_word : ℕ → ℕ → List ℕ
+device_word major minor = decimal major ++ codes ":" ++ decimal minor
+
+-- what a kind has of its own: contents, a target, or the numbers of a device
+abbrev pub what_word : Bool → Kind → List ℕ
+what_word broken (File size blob) = blob_word broken blob
+what_word broken (Symlink target) = escaped target
+what_word broken (Char major minor) = device_word major minor
+what_word broken (Block major minor) = device_word major minor
+what_word broken _ = codes "-"
+
+-- an attribute at the end of a line
+abbrev pub attribute_word : List ℕ × List ℕ → List ℕ
+attribute_word attr = codes " " ++ escaped attr.0 ++ codes "=" ++ encode_lower attr.1
+
+-- a word, and the space after it
+abbrev pub spaced : List ℕ → List ℕ
+spaced word = word ++ codes " "
+
+-- `KIND MODE UID GID MTIME SIZE WHAT PATH`, and then ` NAME=HEX` for each attribute
+abbrev pub inode_line : Bool → PathNames → Inode → List ℕ
+inode_line broken path inode =
+    spaced (kind_word inode.kind) ++ spaced (octal inode.mode)
+    ++ spaced (decimal inode.uid) ++ spaced (decimal inode.gid) ++ spaced (signed_decimal inode.mtime)
+    ++ spaced (size_word inode.kind) ++ spaced (what_word broken inode.kind)
+    ++ shown_path path ++ flat_map attribute_word inode.attrs ++ codes "\n"
+
+-- the line of what is shown at a path of the merged tree
+abbrev pub show_line : PathNames × Look → List ℕ
+show_line (path, Nothing) = []
+show_line (path, Shown inode) = inode_line false path inode
+show_line (path, Broken inode) = inode_line true path inode
+
+-- the lines, and then `entries N`
+abbrev pub show_report : List (PathNames × Look) → List ℕ
+show_report looks = flat_map show_line looks ++ codes "entries " ++ decimal (length looks) ++ codes "\n"

@@ -1,0 +1,48 @@
+ghost use Rattle.std.specs.Prelude.{◌≡◌, ◌≢◌, ◌<◌, ◌≤◌, IfOk, IfSome, length, vec_len};
+ghost use Rattle.ovl_layers.specs.declared.inputs.InputFault.TheVariants.{TooLong};
+
+use std::alloc::Global;
+use std::io::{Error, ErrorKind, Read};
+
+/// The most bytes that are read of one input.
+pub const INPUT_LIMIT: u32 = 268_435_456;
+
+/// Why an input isn't read.
+#[derive(Clone, Copy, Debug, PartialEq, Eq)]
+pub enum InputFault {
+    /// A read failed.
+    Device,
+    /// The input has more bytes than the limit.
+    TooLong,
+    Memory,
+}
+
+/// All that a reader has left, where that is no more than `limit` bytes.
+pub fn read_limited<R: Read>(
+    alloc: Global,
+    reader: &mut R,
+    limit: u32,
+) -> Result<Vec<u8>, InputFault>
+    ensures within { IfOk result (λ bytes. vec_len bytes ≤ limit) }
+    ensures whole { IfOk result (λ bytes. IfSome (R.remaining reader.old) (λ left. bytes.items ≡ left)) }
+    ensures too_long { result ≡ Err TooLong → IfSome (R.remaining reader.old) (λ left. limit < length left) }
+{
+    let mut bytes = Vec::new(alloc);
+    let mut limited = reader.take(u64::from(limit) + 1);
+    match limited.read_to_end(&mut bytes) {
+        Ok(_) if bytes.len() <= limit as usize => Ok(bytes),
+        Ok(_) => Err(InputFault::TooLong),
+        Err(error) => Err(fault_of(&error)),
+    }
+}
+
+// A system call's own want of memory is the device's.
+fn fault_of(error: &Error) -> InputFault
+    ensures { result ≢ TooLong }
+{
+    if error.raw_os_error().is_none() && error.kind() == ErrorKind::OutOfMemory {
+        InputFault::Memory
+    } else {
+        InputFault::Device
+    }
+}

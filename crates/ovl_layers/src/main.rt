@@ -1,0 +1,37 @@
+//! Offline tools for stacks of overlay layers: prints what the layer of standard input's manifest shows.
+#![tactic(auto)]
+
+mod faults;
+mod inputs;
+mod reports;
+mod shows;
+#[cfg(test)]
+mod tests;
+
+use faults::ProgramFault;
+use std::env::{Env, FillError};
+use std::io;
+use std::process::ExitCode;
+
+fn main(rt: HostRuntime) -> ExitCode {
+    match run(&rt) {
+        Ok(()) => ExitCode::SUCCESS,
+        Err(fault) => {
+            // Where standard error can't be written either, the status says it.
+            let _ = eprintln!(rt; "ovl_layers: {fault}");
+            ExitCode::from(fault.status())
+        }
+    }
+}
+
+fn run(rt: &(impl Env + Input + Print + AllocGlobal)) -> Result<(), ProgramFault> {
+    if has_words(rt) {
+        return Err(ProgramFault::Words);
+    }
+    shows::show_input(rt.alloc(), &mut rt.reader(), &mut io::writer(rt))
+}
+
+// Whether the program was started with any word after its name, be it text or not.
+fn has_words(rt: &impl Env) -> bool {
+    !matches!(rt.arg(1, &mut [0u8; 1]), Err(FillError::NotPresent))
+}

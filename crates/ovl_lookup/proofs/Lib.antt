@@ -1,0 +1,10 @@
+pub mod Longest
+pub mod Turns
+pub mod WalkFacts
+pub mod FoundLemmas
+pub mod ChildLemmas
+pub mod KidLemmas
+pub mod ListLemmas
+pub mod Notation
+pub mod RowStacks
+mod Rows

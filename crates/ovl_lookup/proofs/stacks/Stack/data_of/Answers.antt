@@ -1,0 +1,27 @@
+use Rattle.std.proofs.Common.{◌≡◌, IfOk, Option, List, [], ◌∷◌, sym, ap, ◌∙◌, subst, cond}
+use Rattle.ovl_inode.specs.declared.inodes.Inode.{Inode}
+use Rattle.ovl_lookup.specs.Trace.{things_found}
+use Rattle.std.proofs.Common.{drop}
+use Rattle.ovl_lookup.specs.Merged.{data_of}
+use Rattle.ovl_lookup.specs.Passes.{found_on}
+use Rattle.ovl_lookup.proofs.FoundLemmas.{bare_file, data_of-metacopy, data_of-bad}
+use Rattle.ovl_lookup.proofs.stacks.Stack.data_of.Goals as goal
+
+pub returns-then-not-branch : goal.returns-then-not-branch
+returns-then-not-branch c =
+    let bare = bare_file c.args.inode.now c.requires.bare in
+    sym (data_of-bad c.args.inode.now (found_on c.args.self.now c.args.i c.args.next c.args.closed) (sym c.in_ok-is_metacopy.ensures ∙ c.if-not-branch.true) bare.0 bare.1)
+
+pub returns-then-closed : goal.returns-then-closed
+returns-then-closed c =
+    let bare = bare_file c.args.inode.now c.requires.bare in
+    sym (ap (λ b. data_of (c.args.inode.now ∷ cond b [] (things_found (drop c.args.i c.args.self.now.layers) c.args.next))) c.if-closed.true
+    ∙ data_of-metacopy c.args.inode.now [] (sym c.in_ok-is_metacopy.ensures ∙ c.if-not-branch.false) bare.0 bare.1)
+
+pub returns : goal.returns
+returns c =
+    let bare = bare_file c.args.inode.now c.requires.bare in
+    let found : List Inode = things_found (drop c.args.i c.args.self.now.layers) c.args.next in
+    let same = ap (λ b. data_of (c.args.inode.now ∷ cond b [] found)) c.if-closed.false
+    ∙ data_of-metacopy c.args.inode.now found (sym c.in_ok-is_metacopy.ensures ∙ c.if-not-branch.false) bare.0 bare.1 in
+    subst (λ (wanted : Option Inode). IfOk c.data.result (λ f. f ≡ wanted)) (sym same) c.data.ensures

@@ -1,0 +1,5 @@
+pub mod Walk
+pub mod Stacks
+pub mod Trace
+pub mod Merged
+pub mod Passes

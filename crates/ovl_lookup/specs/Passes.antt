@@ -1,0 +1,63 @@
+-- What the passes over names and layers keep.
+use Rattle.std.specs.Prelude.{ℕ, zero, suc, Bool, false, ◌||◌, Option, Some, None, List, [], ◌∷◌, ◌++◌, if◌then◌else◌, is_some, unwrap_or, drop, filter, map}
+use Rattle.std.specs.List.{flat_map}
+use Rattle.std.specs.BTreeSet.{insert_key}
+use Rattle.ovl_names.specs.Names.{PathName, name_cmp}
+use Rattle.ovl_names.specs.Paths.{PathNames, child_path}
+use Rattle.ovl_inode.specs.declared.inodes.Inode.{Inode}
+use Rattle.ovl_inode.specs.declared.marks.Mark.{Mark}
+use Rattle.ovl_inode.specs.Marks.{is_metacopy}
+use Rattle.ovl_manifest.specs.Layers.{Entries, names_below}
+use Rattle.ovl_lookup.specs.declared.looks.Look.{Look}
+use Rattle.ovl_lookup.specs.Walk.{walk, origin_path, name_in_lower, is_closing}
+use Rattle.ovl_lookup.specs.Stacks.{StackView}
+use Rattle.ovl_lookup.specs.Trace.{things_found}
+use Rattle.ovl_lookup.specs.Merged.{is_data, look, shows}
+
+-- the path and the flag in a directory of this mark, by those of its parent
+abbrev pub entered_path : Mark → PathNames → PathName → PathNames
+entered_path mark next name = unwrap_or (origin_path (Some mark)) (child_path next (name_in_lower (Some mark) name))
+
+abbrev pub entered_closed : Mark → Bool → Bool
+entered_closed mark closed = if is_some (origin_path (Some mark)) then false else (closed || is_closing (Some mark))
+
+-- what the layers from `i` on find, where the walk above them gave this path and flag
+abbrev pub found_on : StackView → ℕ → PathNames → Bool → List Inode
+found_on stack i next closed = if closed then [] else things_found (drop i stack.layers) next
+
+-- the data below metacopy files, by what is found there
+abbrev pub data_below : List Inode → Option Inode
+data_below [] = None
+data_below (inode ∷ below) =
+    if is_metacopy inode then data_below below
+    else if is_data inode then Some inode
+    else None
+
+-- the names that the layers themselves have directly below a path, along its walks
+abbrev pub own_names_along : List Entries → PathNames → List PathName
+own_names_along [] path = []
+own_names_along (layer ∷ layers) path =
+    names_below layer path ++ (if (walk layer path).closed then [] else own_names_along layers (walk layer path).next)
+
+-- names put among ascending ones
+abbrev pub put_names : List PathName → List PathName → List PathName
+put_names names [] = names
+put_names names (name ∷ more) = put_names (insert_key name_cmp names name) more
+
+-- those of the layers' own names below which something is shown
+abbrev pub kids_along : StackView → PathNames → List PathName
+kids_along stack path = filter (λ name. shows stack (child_path path name)) (put_names [] (own_names_along stack.layers path))
+
+-- looks with `name` before each path
+abbrev pub looks_under : PathName → List (PathNames × Look) → List (PathNames × Look)
+looks_under name looks = map (λ e. (name ∷ e.0, e.1)) looks
+
+-- looks with `path` before each path
+abbrev pub looks_placed : PathNames → List (PathNames × Look) → List (PathNames × Look)
+looks_placed path looks = map (λ e. (path ++ e.0, e.1)) looks
+
+-- what is shown at a path and at most `depth` names under it, the paths counted from it
+abbrev pub looks_from : ℕ → StackView → PathNames → List (PathNames × Look)
+looks_from zero stack path = []
+looks_from (suc depth) stack path =
+    ([], look stack path) ∷ flat_map (λ name. looks_under name (looks_from depth stack (child_path path name))) (kids_along stack path)

@@ -1,0 +1,13 @@
+//! Walks in one layer, and what a stack of layers shows.
+#![tactic(auto)]
+
+mod lists;
+mod looks;
+mod stacks;
+mod steps;
+#[cfg(test)]
+mod tests;
+
+pub use looks::Look;
+pub use stacks::{Stack, StackFault};
+pub use steps::{Step, walk};

@@ -1,0 +1,118 @@
+ghost use Rattle.std.specs.Prelude.{◌≡◌, ◌≤◌, ◌++◌, [], length, drop, IfOk, OnOk};
+ghost use Rattle.ovl_lookup.specs.Stacks.{from_layer};
+ghost use Rattle.ovl_lookup.specs.Merged.{AreKids, IsMerged, is_nothing as nothing_test};
+ghost use Rattle.ovl_lookup.specs.Passes.{own_names_along, put_names, kids_along, looks_from, looks_placed};
+
+use crate::{Look, Stack, Step};
+use ovl_names::{Name, Path};
+use std::alloc::{AllocError, Global};
+use std::collections::BTreeSet;
+
+/// The most names of a path in a manifest.
+const LAYER_DEPTH: usize = 64;
+
+impl Stack {
+    /// The names that a directory has in the merged tree of the layers with index `from` and up, in order; none where
+    /// no directory is shown. `from` is at most the number of layers. Fails only for want of memory.
+    /// overlayfs.rst: "Merging directories", "readdir".
+    pub fn names(&self, alloc: Global, from: usize, path: &Path) -> Result<Vec<Name>, AllocError>
+        requires { from ≤ length self.now.layers }
+        ensures { IfOk result (λ names. AreKids (from_layer from self.now) path.now names.items) }
+    {
+        let _ = &self.layers;
+        let names = self.kids(alloc, from, path)?;
+        Ok(names)
+    }
+
+    /// The whole merged tree in path order: each path at which something is shown once, with what is shown there.
+    /// Fails only for want of memory.
+    pub fn list(&self, alloc: Global) -> Result<Vec<(Path, Look)>, AllocError>
+        ensures { IfOk result (λ looks. IsMerged self.now looks.items) }
+    {
+        let _ = &self.layers;
+        let mut looks = Vec::new(alloc);
+        let root = Path::root(alloc);
+        self.push_looks(alloc, &root, LAYER_DEPTH * self.layers() + 1, &mut looks)?;
+        Ok(looks)
+    }
+
+    // Adds what is shown at a path and at most `depth` names under it, in path order.
+    fn push_looks(
+        &self,
+        alloc: Global,
+        path: &Path,
+        depth: usize,
+        looks: &mut Vec<(Path, Look)>,
+    ) -> Result<(), AllocError>
+        ensures { OnOk result (looks.new.items ≡ looks.old.items ++ looks_placed path.now (looks_from depth self.now path.now)) }
+    {
+        if depth == 0 {
+            return Ok(());
+        }
+        let look = self.look(alloc, 0, path)?;
+        looks.push((path.copy(alloc)?, look))?;
+        let names = self.kids(alloc, 0, path)?;
+        for name in &names {
+            let child = path.child(alloc, name)?;
+            self.push_looks(alloc, &child, depth - 1, looks)?;
+        }
+        Ok(())
+    }
+
+    // The layers' own names below a path, along its walks, below which something is shown.
+    fn kids(&self, alloc: Global, from: usize, path: &Path) -> Result<Vec<Name>, AllocError>
+        requires { from ≤ length self.now.layers }
+        ensures { IfOk result (λ names. names.items ≡ kids_along (from_layer from self.now) path.now) }
+    {
+        let mut names = Vec::new(alloc);
+        let found = self.own_names_along(alloc, from, path)?;
+        for name in found {
+            let child = path.child(alloc, &name)?;
+            let look = self.look(alloc, from, &child)?;
+            if !is_nothing(&look) {
+                names.push(name)?;
+            }
+        }
+        Ok(names)
+    }
+
+    // The layers' own names below a path, along its walks.
+    fn own_names_along(
+        &self,
+        alloc: Global,
+        from: usize,
+        path: &Path,
+    ) -> Result<BTreeSet<Name>, AllocError>
+        requires { from ≤ length self.now.layers }
+        ensures { IfOk result (λ found. found.keys ≡ put_names [] (own_names_along (drop from self.now.layers) path.now)) }
+    {
+        let mut found = BTreeSet::new(alloc);
+        let mut next = path.copy(alloc)?;
+        for i in from..self.layers() {
+            let own = self.own_names(alloc, i, &next)?;
+            put_all(&mut found, own)?;
+            let step = self.own_walk(alloc, i, &next)?;
+            if step.closed {
+                return Ok(found);
+            }
+            next = step.next;
+        }
+        Ok(found)
+    }
+}
+
+// Puts the names among those of the set.
+fn put_all(found: &mut BTreeSet<Name>, names: Vec<Name>) -> Result<(), AllocError>
+    ensures { OnOk result (found.new.keys ≡ put_names found.old.keys names.items) }
+{
+    for name in names {
+        found.insert(name)?;
+    }
+    Ok(())
+}
+
+fn is_nothing(look: &Look) -> bool
+    ensures { result ≡ nothing_test look.now }
+{
+    matches!(look, Look::Nothing)
+}

@@ -1,0 +1,98 @@
+ghost use Rattle.std.specs.Prelude.{◌≡◌, ◌<◌, ◌≤◌, ◌↔◌, ◌⊎◌, length, IfOk, IsErr, MatchResult, slice_get, IfSome};
+ghost use Rattle.std.specs.Option.{option_map};
+ghost use Rattle.std.specs.List.{All};
+ghost use Rattle.ovl_manifest.specs.Layers.{IsLayer, entry_at, names_below};
+ghost use Rattle.ovl_lookup.specs.Walk.{walk as the_walk};
+ghost use Rattle.ovl_lookup.specs.Stacks.{layer_limit};
+
+use crate::{Step, walk};
+use ovl_inode::Inode;
+use ovl_manifest::Layer;
+use ovl_names::{Name, Path};
+use std::alloc::{AllocError, Global};
+use std::marker::Model;
+use thiserror::Error;
+
+/// Why layers are no stack.
+#[derive(Clone, Copy, Debug, PartialEq, Eq, Error)]
+pub enum StackFault {
+    #[error("layers must be 1 to 128")]
+    Layers,
+}
+
+/// A stack of 1 to 128 layers, the topmost first.
+#[derive(Drop)]
+pub struct Stack {
+    pub(crate) layers: Vec<Layer>,
+}
+
+impl Model for Stack {
+    ghost use Rattle.std.specs.Prelude.{◌<◌, ◌≤◌, length};
+    ghost use Rattle.std.specs.List.{All};
+    ghost use Rattle.ovl_manifest.specs.Layers.{IsLayer};
+    ghost use Rattle.ovl_lookup.specs.Stacks.{StackView, layer_limit};
+
+    ghost Value = { StackView };
+
+    ghost view = { λ a. record { layers = a.layers.items } };
+
+    ghost invariant = { λ a. (0 < length a.layers.items) × (length a.layers.items ≤ layer_limit) × All IsLayer a.layers.items };
+}
+
+impl Stack {
+    /// The stack of these layers, the topmost first; refused exactly where they are none or over 128.
+    pub fn of(layers: Vec<Layer>) -> Result<Stack, StackFault>
+        ensures value { IfOk result (λ stack. stack.layers ≡ layers.items) }
+        ensures refused { IsErr result ↔ ((length layers.items ≡ 0) ⊎ (layer_limit < length layers.items)) }
+    {
+        if layers.is_empty() || layers.len() > 128 {
+            return Err(StackFault::Layers);
+        }
+        keep_layers(&layers);
+        Ok(Stack { layers })
+    }
+
+    /// The number of layers, 1 to 128.
+    pub fn layers(&self) -> usize
+        ensures value { result ≡ length self.now.layers }
+        ensures some { 0 < result }
+        ensures limit { result ≤ layer_limit }
+        ensures each { All IsLayer self.now.layers }
+    {
+        self.layers.len()
+    }
+
+    /// The inode that layer `i` has at a path, and `None` where it has no entry; `i` is below the number of layers.
+    pub fn own_at(&self, i: usize, path: &Path) -> Option<&Inode>
+        requires { i < length self.now.layers }
+        ensures { IfSome (slice_get self.now.layers i) (λ layer. option_map (λ inode. inode.now) result ≡ entry_at layer path.now) }
+    {
+        self.layers[i].at(path)
+    }
+
+    /// The names directly below a path in layer `i`, in order; none where it has no directory. `i` is below the number
+    /// of layers. Fails only for want of memory.
+    pub fn own_names(&self, alloc: Global, i: usize, path: &Path) -> Result<Vec<Name>, AllocError>
+        requires { i < length self.now.layers }
+        ensures { IfSome (slice_get self.now.layers i) (λ layer. IfOk result (λ names. names.items ≡ names_below layer path.now)) }
+    {
+        self.layers[i].children(alloc, path)
+    }
+
+    /// The walk of a path in layer `i`, see [`walk`]; `i` is below the number of layers. Fails only for want of memory.
+    pub fn own_walk(&self, alloc: Global, i: usize, path: &Path) -> Result<Step, AllocError>
+        requires { i < length self.now.layers }
+        ensures { IfSome (slice_get self.now.layers i) (λ layer. IfOk result (λ step. step ≡ the_walk layer path.now)) }
+    {
+        walk(alloc, &self.layers[i], path)
+    }
+}
+
+// Each of these is a layer, since its type keeps that.
+fn keep_layers(layers: &[Layer])
+    ensures { All IsLayer layers.now }
+{
+    for layer in layers {
+        let _root = layer.root();
+    }
+}

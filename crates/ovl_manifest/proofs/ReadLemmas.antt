@@ -1,0 +1,244 @@
+-- What a stated entry is, and what one more entry makes of a layer.
+use Rattle.std.proofs.Common.{◌≡◌, ℕ, ◌<◌, ◌≤◌, ◌+◌, ◌⊎◌, zero, suc, get_or, List, [], ◌∷◌, ◌++◌, Bool, true, false, Option, Some, None, Result, Ok, Err, refl, sym, ap, ◌∙◌, subst, length, length-append, drop, take, arith}
+use Rattle.std.specs.Option.{option_and_then, option_eq}
+use Rattle.std.specs.Prelude.{◌==◌, not, nat_eq, nat_lt, nat_le, is_some, is_none, if◌then◌else◌, flat_map, codes}
+use Rattle.std.specs.List.{starts_with, list_any}
+use Rattle.std.proofs.lemmas.Bool.{eqb-true}
+use Rattle.std.proofs.lemmas.Bool.Decides.{nat_tests}
+use Rattle.std.proofs.lemmas.Option.{option_and_then_some}
+use Rattle.std.proofs.lemmas.Str.{IsUtf8-from_is_utf8, is_utf8-from_IsUtf8}
+use Rattle.std.specs.Str.{IsUtf8, is_utf8}
+use Rattle.serde_json.specs.Data.{Num, unsigned, negative, float, Data, null, boolean, number, string, array, object, Items}
+use Rattle.serde_json.specs.Find.{get, as_number, as_u64, as_array}
+use Rattle.serde_json.specs.Read.{read}
+use Rattle.serde_json.specs.View.{view, items_view}
+use Rattle.serde_json.specs.declared.value.Value.{Value}
+use Rattle.ovl_names.specs.Names.{slash, name_fault}
+use Rattle.ovl_names.specs.Paths.{PathNames, parent_path, path_fault, path_text, text_parts, parts_between, depth_limit, text_limit}
+use Rattle.ovl_names.specs.declared.paths.PathFault.{PathFault}
+use Rattle.ovl_names.specs.declared.paths.PathFault.TheVariants.{NotAbsolute, EmptyPart, BadPart, TooDeep, TooLong}
+use Rattle.ovl_names.proofs.Ascending.{both, not_false}
+use Rattle.ovl_inode.specs.Sound.{is_sound_inode}
+use Rattle.ovl_manifest.specs.Layers.{Entry, Entries, is_directory_at, is_within_limits, entry_limit}
+use Rattle.ovl_manifest.specs.Manifest.{comes_after, fault_after, entry_fault, entry_after, entries_after, layer_of_entries, stated_entries, layer_of_fields, layer_of_value, read_layer, IsFaultOf}
+use Rattle.ovl_manifest.specs.declared.faults.LayerFault.{LayerFault}
+use Rattle.ovl_manifest.specs.declared.faults.LayerFault.TheVariants.{NotJson, Shape, Version, Count, Entry as WrongEntry, Order, NoParent, Root, Escaped, Memory}
+use Rattle.ovl_inode.specs.Attributes.{has_escaped_name}
+use Rattle.ovl_manifest.specs.Fields.{has_exactly, entry_of, entry_with, is_entry, inode_field, path_field, path_of_text, text_field}
+
+-- ---- a path that is read keeps the limits
+
+-- the parts of a text, with the separator before each, give it back
+spelled : (rest : List ℕ) → flat_map (λ own. slash ∷ own) (parts_between rest) ≡ slash ∷ rest
+spelled [] = refl
+spelled (byte ∷ rest) = by (byte == slash) refl (parts_between rest) refl (spelled rest)
+  where
+    by : (b : Bool) → (byte == slash) ≡ b → (parts : List (List ℕ)) → parts_between rest ≡ parts → flat_map (λ own. slash ∷ own) (parts_between rest) ≡ slash ∷ rest → flat_map (λ own. slash ∷ own) (parts_between (byte ∷ rest)) ≡ slash ∷ byte ∷ rest
+    by true e parts is all = rw e (λ j. slash ∷ (all ∙ ap (λ first. first ∷ rest) (sym (eqb-true byte slash e))) j)
+    by false e [] is all = let bad : [] ≡ slash ∷ rest = rw is at all in cc
+    by false e (own ∷ parts) is all = rw (e, is) (ap (λ (text : List ℕ). slash ∷ byte ∷ drop 1 text) (rw is at all))
+
+absolute : (text : List ℕ) → starts_with nat_eq text (slash ∷ []) ≡ true → (rest : List ℕ) × (text ≡ slash ∷ rest)
+absolute [] starts = let bad : false ≡ true = starts in cc
+absolute (byte ∷ rest) starts = (rest, ap (λ first. first ∷ rest) (sym (eqb-true slash byte (both {a = nat_eq slash byte} {b = true} starts).0)))
+
+text_of_parts : (text : List ℕ) → starts_with nat_eq text (slash ∷ []) ≡ true → path_text (text_parts text) ≡ text
+text_of_parts text starts = at text (absolute text starts).0 (absolute text starts).1
+  where
+    parts_text : (parts : List (List ℕ)) (rest : List ℕ) → flat_map (λ own. slash ∷ own) parts ≡ slash ∷ rest → path_text parts ≡ slash ∷ rest
+    parts_text [] rest all = let bad : [] ≡ slash ∷ rest = all in cc
+    parts_text (own ∷ parts) rest all = all
+
+    from : (rest : List ℕ) → path_text (text_parts (slash ∷ rest)) ≡ slash ∷ rest
+    from [] = refl
+    from (byte ∷ rest) = parts_text (parts_between (byte ∷ rest)) (byte ∷ rest) (spelled (byte ∷ rest))
+
+    at : (text rest : List ℕ) → text ≡ slash ∷ rest → path_text (text_parts text) ≡ text
+    at text rest is = ap (λ (t : List ℕ). path_text (text_parts t)) is ∙ (from rest ∙ sym is)
+
+-- the tests of a path without a fault
+none_of : (a b c d e : Bool) → (if not a then Some NotAbsolute else if b then Some EmptyPart else if c then Some BadPart else if d then Some TooDeep else if e then Some TooLong else None) ≡ None → (a ≡ true) × (d ≡ false) × (e ≡ false)
+none_of false b c d e none = let bad : Some NotAbsolute ≡ None = none in cc
+none_of true true c d e none = let bad : Some EmptyPart ≡ None = none in cc
+none_of true false true d e none = let bad : Some BadPart ≡ None = none in cc
+none_of true false false true e none = let bad : Some TooDeep ≡ None = none in cc
+none_of true false false false true none = let bad : Some TooLong ≡ None = none in cc
+none_of true false false false false none = (refl, refl, refl)
+
+not_past : (limit n : ℕ) → nat_lt limit n ≡ false → nat_le n limit ≡ true
+not_past limit n past = grind (arith, nat_tests)
+
+within : (text : List ℕ) → path_fault depth_limit text ≡ None → is_within_limits (text_parts text) ≡ true
+within text none =
+    let tests = none_of (starts_with nat_eq text (slash ∷ [])) (list_any (λ part. length part == 0) (text_parts text)) (list_any (λ part. is_some (name_fault part)) (text_parts text)) (nat_lt depth_limit (length (text_parts text))) (nat_lt text_limit (length text)) none in
+    let short : nat_le (length (path_text (text_parts text))) text_limit ≡ true = ap (λ (t : List ℕ). nat_le (length t) text_limit) (text_of_parts text tests.0) ∙ not_past text_limit (length text) tests.2 in
+    rw (not_past depth_limit (length (text_parts text)) tests.1) short
+
+-- ---- a stated entry is sound and keeps the limits
+
+if-Some : {X : Type 0} (b : Bool) (x y : X) → (if b then Some x else None) ≡ Some y → (b ≡ true) × (x ≡ y)
+if-Some true x y is = (refl, cc)
+if-Some false x y is = let bad : None ≡ Some y = is in cc
+
+pub stated : (value : Data) (entry : Entry) → entry_of value ≡ Some entry → (is_sound_inode entry.1 ≡ true) × (is_within_limits entry.0 ≡ true)
+stated value entry is =
+    option_and_then_some (λ path. option_and_then (entry_with value path) (inode_field value)) (path_field value) entry is (λ path of_path of_inode.
+    option_and_then_some (entry_with value path) (inode_field value) entry of_inode (λ inode has_inode made.
+    let parts = if-Some (is_entry value inode) (path, inode) entry made in
+    let sound = (both parts.0).1 in
+    option_and_then_some path_of_text (text_field (codes "path") value) path of_path (λ text has_text read.
+    let spells = if-Some (is_none (path_fault depth_limit text)) (text_parts text) path read in (
+      subst (λ (e : Entry). is_sound_inode e.1 ≡ true) parts.1 sound,
+      subst (λ (e : Entry). is_within_limits e.0 ≡ true) parts.1 (subst (λ (p : PathNames). is_within_limits p ≡ true) spells.1 (within text (nothing text spells.0))),
+    ))))
+  where
+    nothing : (text : List ℕ) → is_none (path_fault depth_limit text) ≡ true → path_fault depth_limit text ≡ None
+    nothing text none = by (path_fault depth_limit text) refl
+      where
+        by : (o : Option PathFault) → path_fault depth_limit text ≡ o → path_fault depth_limit text ≡ None
+        by None e = e
+        by (Some fault) e = let bad : false ≡ true = rw e at none in cc
+
+-- ---- one more entry
+
+pub taken : (first : Entry) (before : Entries) (entry : Entry) → has_escaped_name entry.1.attrs ≡ false → comes_after (first ∷ before) entry.0 ≡ true → is_directory_at (first ∷ before) (parent_path entry.0) ≡ true → entry_after (first ∷ before) (Some entry) ≡ Ok ((first ∷ before) ++ entry ∷ [])
+taken first before entry unescaped after parent = rw (none, entry_after) refl
+  where
+    others : Entries
+    others = first ∷ before
+
+    none : entry_fault others entry ≡ None
+    none =
+        ap (λ b. if b then Some (Escaped (length others)) else fault_after others entry) unescaped
+        ∙ (ap (λ b. if not b then Some (Order (length others)) else if not (is_directory_at others (parent_path entry.0)) then Some (NoParent (length others)) else None) after
+        ∙ ap (λ b. if not b then Some (NoParent (length others)) else None) parent)
+
+pub one_more : (before : Entries) (one : Option Entry) (entries : Entries) → entry_after before one ≡ Ok entries → length entries ≡ length before + 1
+one_more before None entries is = let bad : Err (WrongEntry (length before)) ≡ Ok entries = is in cc
+one_more before (Some entry) entries is = by (entry_fault before entry) refl
+  where
+    by : (o : Option LayerFault) → entry_fault before entry ≡ o → length entries ≡ length before + 1
+    by None e = let made : Ok (before ++ entry ∷ []) ≡ Ok entries = rw (e, entry_after) at is in let same : before ++ entry ∷ [] ≡ entries = cc in ap length (sym same) ∙ length-append before (entry ∷ [])
+    by (Some fault) e = let bad : Err fault ≡ Ok entries = rw (e, entry_after) at is in cc
+
+through : (before mid : Entries) (one more : List (Option Entry)) → entries_after before one ≡ Ok mid → entries_after before (one ++ more) ≡ entries_after mid more
+through before mid [] more is = let same : before ≡ mid = cc in ap (λ (es : Entries). entries_after es more) same
+through before mid (first ∷ one) more is = by (λ entries. through entries mid one more) (entry_after before first) refl
+  where
+    by : ((entries : Entries) → entries_after entries one ≡ Ok mid → entries_after entries (one ++ more) ≡ entries_after mid more) → (r : Result Entries LayerFault) → entry_after before first ≡ r → entries_after before ((first ∷ one) ++ more) ≡ entries_after mid more
+    by rest (Ok entries) e = rw (e, entries_after) (rest entries (rw (e, entries_after) at is))
+    by rest (Err fault) e = let bad : Err fault ≡ Ok mid = rw (e, entries_after) at is in cc
+
+-- the fault of one result is that of another which fails with it
+pub same_fault : (one other : Result Entries LayerFault) → ((fault : LayerFault) → one ≡ Err fault → other ≡ Err fault) → (fault : LayerFault) → IsFaultOf one fault → IsFaultOf other fault
+same_fault one other fails NotJson is = fails NotJson is
+same_fault one other fails Shape is = fails Shape is
+same_fault one other fails Version is = fails Version is
+same_fault one other fails Count is = fails Count is
+same_fault one other fails (WrongEntry n) is = fails (WrongEntry n) is
+same_fault one other fails (Order n) is = fails (Order n) is
+same_fault one other fails (NoParent n) is = fails (NoParent n) is
+same_fault one other fails Root is = fails Root is
+same_fault one other fails (Escaped n) is = fails (Escaped n) is
+same_fault one other fails Memory is = tt
+
+-- ---- the entries of values, one after another
+
+abbrev pub stated_of : List Value → List (Option Entry)
+stated_of values = stated_entries (items_view values)
+
+stated_of-append : (one other : List Value) → stated_of (one ++ other) ≡ stated_of one ++ stated_of other
+stated_of-append [] other = refl
+stated_of-append (value ∷ one) other = ap (λ rest. entry_of (view value) ∷ rest) (stated_of-append one other)
+
+pub length-stated_of : (values : List Value) → length (stated_of values) ≡ length values
+length-stated_of [] = refl
+length-stated_of (value ∷ values) = ap suc (length-stated_of values)
+
+split_here : (values : List Value) (k : ℕ) (d : Value) → k < length values → take k values ++ get_or values k d ∷ drop (suc k) values ≡ values
+split_here [] k d inside = absurd (omega arith)
+split_here (value ∷ values) zero d inside = refl
+split_here (value ∷ values) (suc k) d inside = ap (λ rest. value ∷ rest) (split_here values k d (omega arith))
+
+plus_one : (k : ℕ) → k + 1 ≡ suc k
+plus_one k = omega arith
+
+take_next : (values : List Value) (k : ℕ) (d : Value) → k < length values → take (suc k) values ≡ take k values ++ get_or values k d ∷ []
+take_next [] k d inside = absurd (omega arith)
+take_next (value ∷ values) zero d inside = refl
+take_next (value ∷ values) (suc k) d inside = ap (λ rest. value ∷ rest) (take_next values k d (omega arith))
+
+module _ (values : List Value) (k : ℕ) (value : Value) (inside : k < length values) (is : value ≡ get_or values k value) (before : Entries) (so_far : entries_after [] (stated_of (take k values)) ≡ Ok before) where
+  pub further : (entries : Entries) → entry_after before (entry_of (view value)) ≡ Ok entries → entries_after [] (stated_of (take (k + 1) values)) ≡ Ok entries
+  further entries one =
+      let next : take (k + 1) values ≡ take k values ++ value ∷ [] = ap (λ (n : ℕ). take n values) (plus_one k) ∙ (take_next values k value inside ∙ ap (λ (v : Value). take k values ++ v ∷ []) (sym is)) in
+      ap (λ (vs : List Value). entries_after [] (stated_of vs)) next
+      ∙ (ap (entries_after []) (stated_of-append (take k values) (value ∷ []))
+      ∙ (through [] before (stated_of (take k values)) (stated_of (value ∷ [])) so_far ∙ rw (one, entries_after) refl))
+
+  pub fails_here : (fault : LayerFault) → IsFaultOf (entry_after before (entry_of (view value))) fault → IsFaultOf (entries_after [] (stated_of values)) fault
+  fails_here fault told = same_fault (entry_after before (entry_of (view value))) (entries_after [] (stated_of values)) at fault told
+    where
+      whole : take k values ++ value ∷ drop (suc k) values ≡ values
+      whole = ap (λ (v : Value). take k values ++ v ∷ drop (suc k) values) is ∙ split_here values k value inside
+
+      at : (fault : LayerFault) → entry_after before (entry_of (view value)) ≡ Err fault → entries_after [] (stated_of values) ≡ Err fault
+      at fault fails =
+          ap (λ (vs : List Value). entries_after [] (stated_of vs)) (sym whole)
+          ∙ (ap (entries_after []) (stated_of-append (take k values) (value ∷ drop (suc k) values))
+          ∙ (through [] before (stated_of (take k values)) (stated_of (value ∷ drop (suc k) values)) so_far ∙ rw (fails, entries_after) refl))
+
+-- ---- the fields of a manifest
+
+version_one : (version : Data) → option_and_then as_u64 (as_number version) ≡ Some 1 → as_number version ≡ Some (unsigned 1)
+version_one (number (unsigned n)) is = let same : n ≡ 1 = cc in ap (λ m. Some (unsigned m)) same
+version_one (number (negative n)) is = let bad : None ≡ Some 1 = is in cc
+version_one (number (float n)) is = let bad : None ≡ Some 1 = is in cc
+version_one null is = let bad : None ≡ Some 1 = is in cc
+version_one (boolean b) is = let bad : None ≡ Some 1 = is in cc
+version_one (string s) is = let bad : None ≡ Some 1 = is in cc
+version_one (array a) is = let bad : None ≡ Some 1 = is in cc
+version_one (object o) is = let bad : None ≡ Some 1 = is in cc
+
+pub value_read : (value version entries : Data) (items : Items) → has_exactly (codes "entries" ∷ codes "overlay-layer" ∷ []) value ≡ true → get (codes "overlay-layer") value ≡ Some version → get (codes "entries") value ≡ Some entries → as_array entries ≡ Some items → option_and_then as_u64 (as_number version) ≡ Some 1 → layer_of_value value ≡ layer_of_entries (stated_entries items)
+value_read value version entries items members has_version has_entries listed one =
+    rw members (ap (λ (o : Option Data). layer_of_fields (option_and_then as_number o) (option_and_then as_array (get (codes "entries") value))) has_version
+    ∙ (ap (λ (o : Option Data). layer_of_fields (as_number version) (option_and_then as_array o)) has_entries
+    ∙ (ap (layer_of_fields (as_number version)) listed ∙ ap (λ (o : Option Num). layer_of_fields o (Some items)) (version_one version one))))
+
+pub counted : (values : List Value) → 1 ≤ length values → length values ≤ entry_limit → layer_of_entries (stated_of values) ≡ entries_after [] (stated_of values)
+counted values some limit = rw (length-stated_of values, none, most) refl
+  where
+    none : (length values == 0) ≡ false
+    none = grind (arith, nat_tests)
+
+    most : nat_lt entry_limit (length values) ≡ false
+    most = grind (arith, nat_tests)
+
+pub miscounted : (values : List Value) → (length values ≡ 0) ⊎ (entry_limit < length values) → layer_of_entries (stated_of values) ≡ Err Count
+miscounted values count = by (length values == 0) refl
+  where
+    by : (b : Bool) → (length values == 0) ≡ b → layer_of_entries (stated_of values) ≡ Err Count
+    by true e = rw (length-stated_of values, e) refl
+    by false e = rw (length-stated_of values, e, past) refl
+      where
+        past : nat_lt entry_limit (length values) ≡ true
+        past = grind (arith, nat_tests, count)
+
+pub same_number : (o : Option ℕ) → false ≡ not (option_eq nat_eq o (Some 1)) → o ≡ Some 1
+same_number None is = cc
+same_number (Some n) is = ap Some (eqb-true n 1 (not_false (nat_eq n 1) (sym is)))
+
+-- ---- the text of a manifest
+
+pub text_read : (bytes : List ℕ) (value : Data) → IsUtf8 bytes → read bytes ≡ Some value → read_layer bytes ≡ layer_of_value value
+text_read bytes value utf8 reads =
+    let is : (if is_utf8 bytes then read bytes else None) ≡ Some value = ap (λ b. if b then read bytes else None) (is_utf8-from_IsUtf8 bytes utf8) ∙ reads in
+    rw (is, read_layer) refl
+
+pub no_text : (bytes : List ℕ) → (IsUtf8 bytes → read bytes ≡ None) → read_layer bytes ≡ Err NotJson
+no_text bytes none = let is = by (is_utf8 bytes) refl in rw (is, read_layer) refl
+  where
+    by : (b : Bool) → is_utf8 bytes ≡ b → (if is_utf8 bytes then read bytes else None) ≡ None
+    by true e = ap (λ b. if b then read bytes else None) e ∙ none (IsUtf8-from_is_utf8 bytes e)
+    by false e = ap (λ b. if b then read bytes else None) e

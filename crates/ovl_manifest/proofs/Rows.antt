@@ -1,0 +1,55 @@
+-- Worked examples of manifests, by computation.
+use Rattle.std.specs.Prelude.{◌≡◌, pos, [], ◌∷◌, codes, Ok, Err, refl}
+use Rattle.serde_json.proofs.OnLiterals.{serde_json_on_literals}
+use Rattle.ovl_inode.proofs.OnLiterals.{inode_on_literals}
+use Rattle.ovl_inode.specs.declared.inodes.Inode.{Inode}
+use Rattle.ovl_inode.specs.declared.inodes.Kind.TheVariants.{Dir}
+use Rattle.ovl_manifest.specs.declared.faults.LayerFault.TheVariants.{NotJson, Shape, Version, Count, Order, NoParent, Root, Escaped}
+use Rattle.ovl_manifest.specs.Manifest.{read_layer}
+
+abbrev dir : Inode
+dir = record { kind = Dir; mode = 493; uid = 0; gid = 0; mtime = pos 0; attrs = [] }
+
+one : read_layer (codes "{\"entries\":[{\"gid\":0,\"kind\":\"dir\",\"mode\":493,\"mtime\":0,\"path\":\"/\",\"uid\":0,\"xattrs\":{}}],\"overlay-layer\":1}") ≡ Ok (([], dir) ∷ [])
+unfolding serde_json_on_literals inode_on_literals
+one = refl
+
+two : read_layer (codes "{\"entries\":[{\"gid\":0,\"kind\":\"dir\",\"mode\":493,\"mtime\":0,\"path\":\"/\",\"uid\":0,\"xattrs\":{}},{\"gid\":0,\"kind\":\"dir\",\"mode\":493,\"mtime\":0,\"path\":\"/d\",\"uid\":0,\"xattrs\":{}}],\"overlay-layer\":1}") ≡ Ok (([], dir) ∷ (codes "d" ∷ [], dir) ∷ [])
+unfolding serde_json_on_literals inode_on_literals
+two = refl
+
+order : read_layer (codes "{\"entries\":[{\"gid\":0,\"kind\":\"dir\",\"mode\":493,\"mtime\":0,\"path\":\"/\",\"uid\":0,\"xattrs\":{}},{\"gid\":0,\"kind\":\"dir\",\"mode\":493,\"mtime\":0,\"path\":\"/b\",\"uid\":0,\"xattrs\":{}},{\"gid\":0,\"kind\":\"dir\",\"mode\":493,\"mtime\":0,\"path\":\"/a\",\"uid\":0,\"xattrs\":{}}],\"overlay-layer\":1}") ≡ Err (Order 2)
+unfolding serde_json_on_literals inode_on_literals
+order = refl
+
+twice : read_layer (codes "{\"entries\":[{\"gid\":0,\"kind\":\"dir\",\"mode\":493,\"mtime\":0,\"path\":\"/\",\"uid\":0,\"xattrs\":{}},{\"gid\":0,\"kind\":\"dir\",\"mode\":493,\"mtime\":0,\"path\":\"/a\",\"uid\":0,\"xattrs\":{}},{\"gid\":0,\"kind\":\"dir\",\"mode\":493,\"mtime\":0,\"path\":\"/a\",\"uid\":0,\"xattrs\":{}}],\"overlay-layer\":1}") ≡ Err (Order 2)
+unfolding serde_json_on_literals inode_on_literals
+twice = refl
+
+no-parent : read_layer (codes "{\"entries\":[{\"gid\":0,\"kind\":\"dir\",\"mode\":493,\"mtime\":0,\"path\":\"/\",\"uid\":0,\"xattrs\":{}},{\"gid\":0,\"kind\":\"dir\",\"mode\":493,\"mtime\":0,\"path\":\"/a/b\",\"uid\":0,\"xattrs\":{}}],\"overlay-layer\":1}") ≡ Err (NoParent 1)
+unfolding serde_json_on_literals inode_on_literals
+no-parent = refl
+
+version : read_layer (codes "{\"entries\":[{\"gid\":0,\"kind\":\"dir\",\"mode\":493,\"mtime\":0,\"path\":\"/\",\"uid\":0,\"xattrs\":{}}],\"overlay-layer\":2}") ≡ Err Version
+unfolding serde_json_on_literals inode_on_literals
+version = refl
+
+count : read_layer (codes "{\"entries\":[],\"overlay-layer\":1}") ≡ Err Count
+unfolding serde_json_on_literals inode_on_literals
+count = refl
+
+root : read_layer (codes "{\"entries\":[{\"gid\":0,\"kind\":\"dir\",\"mode\":493,\"mtime\":0,\"path\":\"/a\",\"uid\":0,\"xattrs\":{}}],\"overlay-layer\":1}") ≡ Err Root
+unfolding serde_json_on_literals inode_on_literals
+root = refl
+
+shape : read_layer (codes "[]") ≡ Err Shape
+unfolding serde_json_on_literals inode_on_literals
+shape = refl
+
+escaped : read_layer (codes "{\"entries\":[{\"gid\":0,\"kind\":\"dir\",\"mode\":493,\"mtime\":0,\"path\":\"/\",\"uid\":0,\"xattrs\":{}},{\"gid\":0,\"kind\":\"dir\",\"mode\":493,\"mtime\":0,\"path\":\"/a\",\"uid\":0,\"xattrs\":{\"trusted.overlay.overlay.opaque\":\"79\"}}],\"overlay-layer\":1}") ≡ Err (Escaped 1)
+unfolding serde_json_on_literals inode_on_literals
+escaped = refl
+
+cut : read_layer (codes "{\"entries\":[{\"gid\":0,\"kind\":\"dir\",\"mode\":493,\"mti") ≡ Err NotJson
+unfolding serde_json_on_literals inode_on_literals
+cut = refl

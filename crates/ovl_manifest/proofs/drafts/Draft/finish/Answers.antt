@@ -1,0 +1,26 @@
+use Rattle.std.proofs.Common.{◌≡◌, ◌∙◌, ◌++◌, [], List, sym, ap, subst}
+use Rattle.std.proofs.lemmas.List.{append-nil}
+use Rattle.ovl_manifest.specs.Layers.{Entries, IsLayer}
+use Rattle.ovl_manifest.specs.LayerTrees.{NodeView, entries_from, entries_of_nodes}
+use Rattle.ovl_manifest.specs.Drafts.{entries_of_open}
+use Rattle.ovl_manifest.proofs.OpenLemmas.{nodes_ascend, ascends-below}
+use Rattle.ovl_manifest.proofs.DraftLemmas.{no_names}
+use Rattle.ovl_manifest.proofs.drafts.Draft.finish.Goals as goal
+
+pub invariant_of-result : goal.invariant_of-result
+invariant_of-result c =
+    let nodes : List NodeView = c.in_ok-inode.field-0.children.items in
+    let none : c.in_ok-inode.field-0.spine.items ≡ [] = no_names c.in_ok-inode.field-0.spine.items c.in_ok-inode.ensures.spine in
+    let same = sym (c.in_ok-inode.ensures.entries)
+    ∙ ap (λ (below : Entries). entries_from c.in_ok-inode.field-0.inode below)
+    (ap (λ (spine : List NodeView). entries_of_nodes nodes ++ entries_of_open spine) none ∙ append-nil (entries_of_nodes nodes)) in
+    let is = subst IsLayer same c.requires.layer in
+    (nodes_ascend nodes (ascends-below c.in_ok-inode.field-0.inode (entries_of_nodes nodes) is.in_order), is)
+
+pub returns : goal.returns
+returns c =
+    let nodes : List NodeView = c.in_ok-inode.field-0.children.items in
+    let none : c.in_ok-inode.field-0.spine.items ≡ [] = no_names c.in_ok-inode.field-0.spine.items c.in_ok-inode.ensures.spine in
+    ap (λ (below : Entries). entries_from c.in_ok-inode.field-0.inode below)
+    (sym (append-nil (entries_of_nodes nodes)) ∙ ap (λ (spine : List NodeView). entries_of_nodes nodes ++ entries_of_open spine) (sym none))
+    ∙ c.in_ok-inode.ensures.entries

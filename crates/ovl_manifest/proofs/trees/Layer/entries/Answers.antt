@@ -1,0 +1,17 @@
+use Rattle.std.proofs.Common.{◌++◌, append_assoc, List, take, sym, ◌∙◌, ap}
+use Rattle.ovl_manifest.specs.Layers.{Entries}
+use Rattle.ovl_manifest.specs.LayerTrees.{NodeView, entries_of_nodes, under, entries_from, placed}
+use Rattle.ovl_names.specs.Paths.{PathNames, child_path}
+use Rattle.ovl_manifest.proofs.NodeLemmas.{entries_of_nodes-more, placed_at-under}
+use Rattle.ovl_manifest.proofs.trees.Layer.entries.Goals as goal
+
+pub loop-child-preserved : goal.loop-child-preserved
+loop-child-preserved c =
+    let nodes : List NodeView = c.deref-child-items.result.now in
+    let node : NodeView = c.child-item.result in
+    let more = entries_of_nodes-more nodes c.loop-child.child-index node c.loop-child-test.true c.child-item.is in
+    let below = ap (λ (path : PathNames). placed (child_path path node.name) (entries_from node.inode node.below)) c.root-root.ensures ∙ placed_at-under node.name (entries_from node.inode node.below) in
+    c.in_ok-push_entries.ensures
+    ∙ ((λ j. c.loop-child.invariant j ++ below j)
+    ∙ (append_assoc c.push.new.self.items (entries_of_nodes (take c.loop-child.child-index nodes)) (under node.name (entries_from node.inode node.below))
+    ∙ ap (λ (rest : Entries). c.push.new.self.items ++ rest) (sym more)))

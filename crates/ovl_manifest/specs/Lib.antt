@@ -1,0 +1,6 @@
+pub mod Layers
+pub mod LayerTrees
+pub mod TreeFalls
+pub mod Fields
+pub mod Manifest
+pub mod Drafts

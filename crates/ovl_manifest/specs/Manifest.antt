@@ -1,0 +1,86 @@
+-- The layer that a manifest states, or its first fault.
+use Rattle.std.specs.Prelude.{◌≡◌, ⊤, ℕ, Bool, ◌&&◌, ◌||◌, ◌==◌, not, Option, Some, None, Result, Ok, Err, List, [], ◌∷◌, ◌++◌, if◌then◌else◌, length, codes, nat_lt, is_some, option_and_then}
+use Rattle.std.specs.List.{list_all}
+use Rattle.std.specs.Ordering.{is_lt}
+use Rattle.std.specs.Str.{is_utf8}
+use Rattle.serde_json.specs.Data.{Num, unsigned, Data, Items, no_items, item}
+use Rattle.serde_json.specs.Find.{get, as_number, as_u64, as_i64, as_array}
+use Rattle.serde_json.specs.Read.{read}
+use Rattle.ovl_names.specs.Paths.{PathNames, path_cmp, parent_path, is_root}
+use Rattle.ovl_inode.specs.Attributes.{has_escaped_name}
+use Rattle.ovl_inode.specs.Marks.{is_directory}
+use Rattle.ovl_manifest.specs.Layers.{Entry, Entries, is_directory_at, entry_limit}
+use Rattle.ovl_manifest.specs.Fields.{has_exactly, entry_of}
+use Rattle.ovl_manifest.specs.declared.faults.LayerFault.{LayerFault}
+use Rattle.ovl_manifest.specs.declared.faults.LayerFault.TheVariants.{NotJson, Shape, Version, Count, Entry as WrongEntry, Order, NoParent, Root, Escaped, Memory}
+
+-- the path comes strictly after all paths before it
+abbrev pub comes_after : Entries → PathNames → Bool
+comes_after before path = list_all (λ entry. is_lt (path_cmp entry.0 path)) before
+
+-- the fault of the first entry, and that of the entry `n` after others
+abbrev pub root_fault : Entry → Option LayerFault
+root_fault entry = if is_root entry.0 && is_directory entry.1 then None else Some Root
+
+abbrev pub place_fault : Entries → Entry → Option LayerFault
+place_fault before entry =
+    if not (comes_after before entry.0) then Some (Order (length before))
+    else if not (is_directory_at before (parent_path entry.0)) then Some (NoParent (length before))
+    else None
+
+abbrev pub fault_after : Entries → Entry → Option LayerFault
+fault_after [] entry = root_fault entry
+fault_after (first ∷ others) entry = place_fault (first ∷ others) entry
+
+-- the fault of an entry after these: of an escaped attribute first
+abbrev pub entry_fault : Entries → Entry → Option LayerFault
+entry_fault before entry =
+    if has_escaped_name entry.1.attrs then Some (Escaped (length before))
+    else fault_after before entry
+
+-- the entries with one more, or its fault
+abbrev pub entry_after : Entries → Option Entry → Result Entries LayerFault
+entry_after before None = Err (WrongEntry (length before))
+entry_after before (Some entry) = elim (entry_fault before entry) [ Some fault ↦ Err fault | None ↦ Ok (before ++ entry ∷ []) ]
+
+-- the entries with all of these, or the first fault
+abbrev pub entries_after : Entries → List (Option Entry) → Result Entries LayerFault
+entries_after before [] = Ok before
+entries_after before (stated ∷ more) = elim (entry_after before stated) [ Ok entries ↦ entries_after entries more | Err fault ↦ Err fault ]
+
+-- a layer has 1 to 1,048,576 entries
+abbrev pub layer_of_entries : List (Option Entry) → Result Entries LayerFault
+layer_of_entries stated =
+    if length stated == 0 || nat_lt entry_limit (length stated) then Err Count else entries_after [] stated
+
+abbrev pub stated_entries : Items → List (Option Entry)
+stated_entries no_items = []
+stated_entries (item value values) = entry_of value ∷ stated_entries values
+
+-- a whole number, and the version that is read
+abbrev pub is_whole : Num → Bool
+is_whole n = is_some (as_u64 n) || is_some (as_i64 n)
+
+abbrev pub layer_of_version : Num → Items → Result Entries LayerFault
+layer_of_version (unsigned n) values = if n == 1 then layer_of_entries (stated_entries values) else Err Version
+layer_of_version _ values = Err Version
+
+-- a manifest is an object of a whole number and a list
+abbrev pub layer_of_fields : Option Num → Option Items → Result Entries LayerFault
+layer_of_fields (Some version) (Some values) = if is_whole version then layer_of_version version values else Err Shape
+layer_of_fields _ _ = Err Shape
+
+abbrev pub layer_of_value : Data → Result Entries LayerFault
+layer_of_value value =
+    if has_exactly (codes "entries" ∷ codes "overlay-layer" ∷ []) value
+    then layer_of_fields (option_and_then as_number (get (codes "overlay-layer") value)) (option_and_then as_array (get (codes "entries") value))
+    else Err Shape
+
+-- the layer that bytes state
+abbrev pub read_layer : List ℕ → Result Entries LayerFault
+read_layer bytes = elim (if is_utf8 bytes then read bytes else None) [ None ↦ Err NotJson | Some value ↦ layer_of_value value ]
+
+-- the fault that was told is the one that is stated; want of memory may come at any time
+abbrev pub IsFaultOf : Result Entries LayerFault → LayerFault → Type 0
+IsFaultOf stated Memory = ⊤
+IsFaultOf stated fault = stated ≡ Err fault

@@ -1,0 +1,191 @@
+ghost use Rattle.std.specs.Prelude.{◌≡◌, ◌≤◌, ◌+◌, ◌-◌, true, false, [], ◌∷◌, ◌++◌, IsTrue, IfOk, length, map, take, vec_len};
+ghost use Rattle.std.specs.Bool.{OnTrue};
+ghost use Rattle.ovl_names.specs.Order.{ascends};
+ghost use Rattle.ovl_names.specs.Paths.{path_cmp, parent_path};
+ghost use Rattle.ovl_inode.specs.Attributes.{has_escaped_name};
+ghost use Rattle.ovl_inode.specs.Marks.{is_directory};
+ghost use Rattle.ovl_inode.specs.Sound.{is_sound_inode};
+ghost use Rattle.std.specs.Ordering.{is_lt};
+ghost use Rattle.ovl_manifest.specs.Layers.{entry_cmp, is_directory_at};
+ghost use Rattle.ovl_manifest.specs.LayerTrees.{under, entries_from, grown};
+ghost use Rattle.ovl_manifest.specs.Manifest.{comes_after};
+ghost use Rattle.ovl_manifest.specs.Drafts.{draft_entries, inode_on_way as way_inode, IsDraft, CanTake};
+
+use crate::trees::{Layer, Node};
+use ovl_inode::{Inode, Kind};
+use ovl_names::Path;
+use std::alloc::{AllocError, Global};
+
+/// A layer while it is built: the finished nodes of its root, and the nodes on the way to its last entry.
+#[derive(Drop)]
+pub(crate) struct Draft {
+    inode: Inode,
+    children: Vec<Node>,
+    spine: Vec<Node>,
+    last: Path,
+}
+
+impl Draft {
+    /// The layer of a root alone.
+    pub(crate) fn start(alloc: Global, inode: Inode) -> Draft
+        requires directory { IsTrue (is_directory inode) }
+        requires sound { IsTrue (is_sound_inode inode) }
+        requires unescaped { has_escaped_name inode.attrs ≡ false }
+        ensures entries { draft_entries result ≡ ([], inode) ∷ [] }
+        ensures draft { IsDraft result }
+    {
+        Draft {
+            inode,
+            children: Vec::new(alloc),
+            spine: Vec::new(alloc),
+            last: Path::root(alloc),
+        }
+    }
+
+    /// Whether the path comes after all entries.
+    pub(crate) fn comes_before(&self, path: &Path) -> bool
+        requires { IsDraft self.now }
+        ensures value { result ≡ comes_after (draft_entries self.now) path.now }
+        ensures last { result ≡ is_lt (path_cmp self.now.last path.now) }
+    {
+        self.last < *path
+    }
+
+    /// Whether the directory of a path that comes after all entries is there.
+    pub(crate) fn has_parent(&self, path: &Path) -> bool
+        requires draft { IsDraft self.now }
+        requires after { IsTrue (is_lt (path_cmp self.now.last path.now)) }
+        ensures value { result ≡ is_directory_at (draft_entries self.now) (parent_path path.now) }
+        ensures depth { OnTrue result ((length path.now ≤ vec_len self.now.spine + 1)
+            × (take (length path.now - 1) self.now.last ≡ parent_path path.now)) }
+    {
+        let depth = path.len() - 1;
+        if depth > self.spine.len() {
+            return false;
+        }
+        if path.names()[..depth] != self.last.names()[..depth] {
+            return false;
+        }
+        is_dir(self.inode_on_way(depth))
+    }
+
+    // The inode of the directory on the way to the last entry that has `depth` names.
+    fn inode_on_way(&self, depth: usize) -> &Inode
+        requires { depth ≤ vec_len self.now.spine }
+        ensures { result.now ≡ way_inode self.now.inode self.now.spine.items depth }
+    {
+        if depth == 0 {
+            &self.inode
+        } else {
+            &self.spine[depth - 1].inode
+        }
+    }
+
+    /// The draft with one more entry, which comes after all others and whose directory is there.
+    pub(crate) fn with(self, alloc: Global, path: Path, inode: Inode) -> Result<Draft, AllocError>
+        requires draft { IsDraft self }
+        requires entry { CanTake self path inode }
+        ensures entries { IfOk result (λ draft. draft_entries draft ≡ draft_entries self ++ (path, inode) ∷ []) }
+        ensures draft { IfOk result (λ draft. IsDraft draft) }
+    {
+        let depth = path.len() - 1;
+        let name = path.names()[depth].copy(alloc)?;
+        let mut draft = self.closed(depth)?;
+        draft.spine.push(Node {
+            name,
+            inode,
+            children: Vec::new(alloc),
+        })?;
+        draft.last = path;
+        Ok(draft)
+    }
+
+    /// The finished layer.
+    pub(crate) fn finish(self) -> Result<Layer, AllocError>
+        requires { IsDraft self }
+        ensures { IfOk result (λ layer. layer ≡ draft_entries self) }
+    {
+        let Draft {
+            inode,
+            children,
+            ..
+        } = self.closed(0)?;
+        Ok(Layer { inode, children })
+    }
+
+    // The same draft with the first `depth` nodes of its spine; the others are finished.
+    fn closed(self, depth: usize) -> Result<Draft, AllocError>
+        requires order { ascends entry_cmp (draft_entries self) ≡ true }
+        requires depth { depth ≤ vec_len self.spine }
+        ensures entries { IfOk result (λ draft. draft_entries draft ≡ draft_entries self) }
+        ensures spine { IfOk result (λ draft. map (λ node. node.name) draft.spine.items
+            ≡ take depth (map (λ node. node.name) self.spine.items)) }
+        ensures count { IfOk result (λ draft. vec_len draft.spine ≡ depth) }
+    {
+        let mut draft = self;
+        while draft.spine.len() > depth {
+            draft = draft.with_last_closed()?;
+        }
+        Ok(draft)
+    }
+
+    // The same draft with the last node of its spine finished.
+    fn with_last_closed(self) -> Result<Draft, AllocError>
+        requires order { ascends entry_cmp (draft_entries self) ≡ true }
+        requires some { 1 ≤ vec_len self.spine }
+        ensures entries { IfOk result (λ draft. draft_entries draft ≡ draft_entries self) }
+        ensures spine { IfOk result (λ draft. map (λ node. node.name) draft.spine.items
+            ≡ take (vec_len self.spine - 1) (map (λ node. node.name) self.spine.items)) }
+        ensures count { IfOk result (λ draft. vec_len draft.spine + 1 ≡ vec_len self.spine) }
+    {
+        let Draft {
+            inode,
+            mut children,
+            mut spine,
+            last,
+        } = self;
+        let node = spine.pop().unwrap();
+        let Some(parent) = spine.pop() else {
+            children.push(node)?;
+            return Ok(Draft {
+                inode,
+                children,
+                spine,
+                last,
+            });
+        };
+        spine.push(parent.with_child(node)?)?;
+        Ok(Draft {
+            inode,
+            children,
+            spine,
+            last,
+        })
+    }
+}
+
+fn is_dir(inode: &Inode) -> bool
+    ensures { result ≡ is_directory inode.now }
+{
+    matches!(inode.kind, Kind::Dir)
+}
+
+impl Node {
+    // The node with one more child, which comes after all others.
+    fn with_child(self, child: Node) -> Result<Node, AllocError>
+        requires { ascends entry_cmp (self.below ++ under child.name (entries_from child.inode child.below)) ≡ true }
+        ensures { IfOk result (λ node. node ≡ grown self child) }
+    {
+        let Node {
+            name,
+            inode,
+            mut children,
+        } = self;
+        children.push(child)?;
+        Ok(Node {
+            name,
+            inode,
+            children,
+        })
+    }
+}

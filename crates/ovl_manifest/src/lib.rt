@@ -1,0 +1,14 @@
+//! Layers as trees of sorted children, seen as finite maps from paths to inodes, and the manifests that state them.
+#![tactic(auto)]
+
+mod drafts;
+mod faults;
+mod fields;
+mod reading;
+#[cfg(test)]
+mod tests;
+mod trees;
+
+pub use faults::LayerFault;
+pub use reading::read_layer;
+pub use trees::{Cursor, Layer};

@@ -1,0 +1,5 @@
+pub mod Ascending
+pub mod NameLemmas
+pub mod EscapeLemmas
+mod OnLiterals
+mod Rows

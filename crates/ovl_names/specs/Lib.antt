@@ -1,0 +1,4 @@
+pub mod Order
+pub mod Names
+pub mod Paths
+pub mod Escapes

@@ -1,0 +1,12 @@
+//! Names and paths of overlay layers, their order, and how reports show them.
+#![tactic(auto)]
+
+mod escapes;
+mod names;
+mod paths;
+#[cfg(test)]
+mod tests;
+
+pub use escapes::escaped;
+pub use names::{Name, NameFault};
+pub use paths::{Path, PathFault};

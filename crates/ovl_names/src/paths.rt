@@ -1,0 +1,276 @@
+ghost use Rattle.std.specs.Prelude.{◌≡◌, ◌↔◌, ◌<◌, ◌==◌, Some, None, is_some, IsTrue, IfOk, MatchResult, [], ◌∷◌, ◌++◌, length, string_bytes};
+ghost use Rattle.std.specs.Cmp.{partial_equiv_from_equiv, po};
+ghost use Rattle.std.specs.Cmp.Lexicographic.{nat_list_cmp_total, nat_list_eq_equiv, texts_ties, lists_total, lists_equiv, lists_ties};
+ghost use Rattle.std.proofs.Common.{refl};
+ghost use Rattle.std.specs.List.{list_any};
+ghost use Rattle.ovl_names.specs.Names.{name_cmp, name_fault, slash};
+ghost use Rattle.ovl_names.specs.declared.paths.PathFault.TheVariants.{Memory};
+ghost use Rattle.ovl_names.specs.Paths.{child_path, parent_of, path_eq, path_cmp, path_fault, path_refusal, text_parts, parts_between, has_names, depth_limit};
+ghost use Rattle.ovl_names.specs.Escapes.{shown_path};
+
+use crate::escaped;
+use crate::names::{Name, first_name_fault};
+use std::alloc::{AllocError, AllocFailed, Global};
+use std::cmp::Ordering;
+use std::marker::Model;
+use thiserror::Error;
+
+/// Why a text is no path; where several hold, the first of them is given.
+#[derive(Clone, Copy, Debug, PartialEq, Eq, Error)]
+pub enum PathFault {
+    #[error("the path does not begin with `/`")]
+    NotAbsolute,
+    #[error("the path has an empty part")]
+    EmptyPart,
+    #[error("the path has a part that is no name")]
+    BadPart,
+    #[error("the path has more than 64 names")]
+    TooDeep,
+    #[error("the path has more than 4095 bytes")]
+    TooLong,
+    #[error("out of memory")]
+    Memory,
+}
+
+impl From<AllocError> for PathFault {
+    ghost from_gives = { λ _ fault. fault ≡ Memory };
+
+    fn from(_: AllocError) -> PathFault {
+        PathFault::Memory
+    }
+}
+
+impl<T: Drop> From<AllocFailed<T>> for PathFault {
+    ghost from_gives = { λ _ fault. fault ≡ Memory };
+
+    fn from(_: AllocFailed<T>) -> PathFault {
+        PathFault::Memory
+    }
+}
+
+/// The most names of a path that is read from text.
+const DEPTH_LIMIT: usize = 64;
+
+/// The most bytes of a text that is read as a path.
+const TEXT_LIMIT: usize = 4095;
+
+/// A path from the root of a layer or an overlay, as its names from the root down; the root has none.
+/// Paths are ordered name by name as bytes, and a path comes before its continuations.
+#[derive(Debug, Drop)]
+pub struct Path {
+    names: Vec<Name>,
+}
+
+impl Model for Path {
+    ghost use Rattle.std.specs.Prelude.{IsTrue};
+    ghost use Rattle.ovl_names.specs.Paths.{PathNames, has_names};
+
+    ghost Value = { PathNames };
+
+    ghost view = { λ a. a.names.items };
+
+    ghost invariant = { λ a. IsTrue (has_names a.names.items) };
+}
+
+impl Path {
+    /// The root, `/`.
+    pub fn root(alloc: Global) -> Path
+        ensures { result ≡ [] }
+    {
+        Path {
+            names: Vec::new(alloc),
+        }
+    }
+
+    /// The path that a text spells: `/`, or names of at most 64 with `/` before each, in at most 4,095 bytes.
+    /// Otherwise the first fault in the order of [`PathFault`], each looked for in the whole text before the next.
+    pub fn parse(alloc: Global, text: &str) -> Result<Path, PathFault>
+        ensures { MatchResult result
+            (λ path. (path ≡ text_parts text.now) × (path_fault depth_limit text.now ≡ None))
+            (λ fault. path_fault depth_limit text.now ≡ path_refusal fault) }
+    {
+        let Some(rest) = text.strip_prefix('/') else {
+            return Err(PathFault::NotAbsolute);
+        };
+        if rest.is_empty() {
+            return Ok(Path::root(alloc));
+        }
+        if let Some(fault) = parts_fault(rest) {
+            return Err(fault);
+        }
+        let mut names = Vec::new(alloc);
+        for part in rest.split('/') {
+            let Ok(name) = Name::of(alloc, part) else {
+                return Err(PathFault::Memory);
+            };
+            names.push(name)?;
+        }
+        Ok(Path { names })
+    }
+
+    /// The number of names; 0 for the root.
+    pub fn len(&self) -> usize
+        ensures { result ≡ length self.now }
+    {
+        self.names.len()
+    }
+
+    /// Whether this is the root.
+    pub fn is_empty(&self) -> bool
+        ensures { IsTrue result ↔ (self.now ≡ []) }
+    {
+        self.names.is_empty()
+    }
+
+    /// The names from the root down.
+    pub fn names(&self) -> &[Name]
+        ensures value { result.now ≡ self.now }
+        ensures names { IsTrue (has_names self.now) }
+    {
+        &self.names
+    }
+
+    /// A path equal to this one; fails only for want of memory.
+    pub fn copy(&self, alloc: Global) -> Result<Path, AllocError>
+        ensures { IfOk result (λ path. path ≡ self.now) }
+    {
+        let mut names = Vec::with_capacity(alloc, self.names.len())?;
+        for name in &self.names {
+            let copied = name.copy(alloc)?;
+            names.push(copied)?;
+        }
+        Ok(Path { names })
+    }
+
+    /// The path of the entry `name` in this directory; fails only for want of memory.
+    pub fn child(&self, alloc: Global, name: &Name) -> Result<Path, AllocError>
+        ensures { IfOk result (λ path. path ≡ child_path self.now name.now) }
+    {
+        let mut path = self.copy(alloc)?;
+        path.names.push(name.copy(alloc)?)?;
+        Ok(path)
+    }
+
+    /// The path that goes down these names from this one; fails only for want of memory.
+    pub fn joined(&self, alloc: Global, names: &[Name]) -> Result<Path, AllocError>
+        ensures { IfOk result (λ path. path ≡ self.now ++ names.now) }
+    {
+        let mut path = self.copy(alloc)?;
+        for name in names {
+            path.push(name.copy(alloc)?)?;
+        }
+        Ok(path)
+    }
+
+    /// Goes down to the entry `name` of this directory; fails, with nothing changed, only for want of memory.
+    pub fn push(&mut self, name: Name) -> Result<(), AllocError>
+        ensures { MatchResult result
+            (λ _. self.new ≡ child_path self.old name)
+            (λ _. self.new ≡ self.old) }
+    {
+        self.names.push(name)?;
+        Ok(())
+    }
+
+    /// The path of the directory that holds this entry, and `None` for the root; fails only for want of memory.
+    pub fn parent(&self, alloc: Global) -> Result<Option<Path>, AllocError>
+        ensures { IfOk result (λ parent. parent ≡ parent_of self.now) }
+    {
+        if self.names.is_empty() {
+            return Ok(None);
+        }
+        let mut parent = self.copy(alloc)?;
+        parent.names.pop();
+        Ok(Some(parent))
+    }
+
+    /// The path as reports write it: `/` before each name, see [`escaped`], and `/` for the root.
+    /// Fails only for want of memory.
+    pub fn shown(&self, alloc: Global) -> Result<String, AllocError>
+        ensures { IfOk result (λ text. string_bytes text ≡ shown_path self.now) }
+    {
+        if self.names.is_empty() {
+            return String::from_str(alloc, "/");
+        }
+        let mut text = String::new(alloc);
+        for name in &self.names {
+            text.push_str("/")?;
+            text.push_str(name.shown(alloc)?.as_str())?;
+        }
+        Ok(text)
+    }
+}
+
+// The first fault of the text that has `/` before these parts, in the order of `PathFault`.
+fn parts_fault(rest: &str) -> Option<PathFault>
+    requires { 0 < length rest.now }
+    ensures { result ≡ path_fault depth_limit (slash ∷ rest.now) }
+{
+    if has_empty_part(rest) {
+        Some(PathFault::EmptyPart)
+    } else if has_bad_part(rest) {
+        Some(PathFault::BadPart)
+    } else if part_count(rest) > DEPTH_LIMIT {
+        Some(PathFault::TooDeep)
+    } else if rest.len() >= TEXT_LIMIT {
+        Some(PathFault::TooLong)
+    } else {
+        None
+    }
+}
+
+fn has_empty_part(rest: &str) -> bool
+    ensures { result ≡ list_any (λ part. length part == 0) (parts_between rest.now) }
+{
+    rest.split('/').any(|part| part.is_empty())
+}
+
+fn has_bad_part(rest: &str) -> bool
+    ensures { result ≡ list_any (λ part. is_some (name_fault part)) (parts_between rest.now) }
+{
+    rest.split('/').any(|part| first_name_fault(part).is_some())
+}
+
+fn part_count(rest: &str) -> usize
+    ensures { result ≡ length (parts_between rest.now) }
+{
+    rest.split('/').count()
+}
+
+impl PartialEq for Path {
+    ghost eq = { path_eq };
+
+    ghost laws = { partial_equiv_from_equiv (lists_equiv nat_list_eq_equiv) };
+
+    fn eq(&self, other: &Path) -> bool {
+        self.names.as_slice() == other.names.as_slice()
+    }
+}
+
+impl Eq for Path {
+    ghost laws = { lists_equiv nat_list_eq_equiv };
+}
+
+impl PartialOrd for Path {
+    ghost partial_cmp = { λ a b. Some (path_cmp a b) };
+
+    ghost laws = { po (lists_total nat_list_cmp_total) (lists_ties name_cmp texts_ties) };
+
+    fn partial_cmp(&self, other: &Path) -> Option<Ordering> {
+        Some(self.cmp(other))
+    }
+}
+
+impl Ord for Path {
+    ghost cmp = { path_cmp };
+
+    ghost total = { lists_total nat_list_cmp_total };
+
+    ghost matches_partial_cmp = { λ a b. refl };
+
+    ghost matches_eq = { lists_ties name_cmp texts_ties };
+
+    fn cmp(&self, other: &Path) -> Ordering {
+        self.names.as_slice().cmp(other.names.as_slice())
+    }
+}
