@@ -4,7 +4,11 @@
 mod faults;
 mod inputs;
 mod reports;
+#[cfg(test)]
+mod samples;
 mod shows;
+#[cfg(test)]
+mod stack_tests;
 #[cfg(test)]
 mod tests;
 

@@ -1,6 +1,7 @@
 use crate::faults::{ProgramFault, ShowFault};
 use crate::inputs::{INPUT_LIMIT, InputFault, read_limited};
 use crate::reports::report_of;
+use crate::samples::manifest_of;
 use crate::shows::{show_input, show_stack};
 use ovl_inode::{Attrs, Digest, Inode, Kind, Target};
 use ovl_lookup::Look;
@@ -195,68 +196,6 @@ fn other_kinds_show_their_words_and_numbers(rt: HostRuntime) -> Result<(), Fail>
         fifo 0000 0 0 1732233600 - - /p\\x20q\n\
         socket 7777 0 0 0 - - /s user.a= user.b\\x20c=00ff\n\
         entries 3\n"
-    );
-    Ok(())
-}
-
-// What an entry states of its kind.
-const DIR: &str = "\"kind\":\"dir\",\"mode\":493";
-
-const FILE: &str =
-    "\"kind\":\"file\",\"mode\":420,\"size\":1,\"blob\":\"ca978112ca1bbdcafac231b39a23dc4da786eff8147c4e72b9807785afee48bb\"";
-
-const UNREAD: &str = "\"kind\":\"file\",\"mode\":420,\"size\":1";
-
-const WHITEOUT: &str = "\"kind\":\"char\",\"mode\":0,\"major\":0,\"minor\":0";
-
-// The attributes of an entry.
-const HAS_METACOPY: &str = "\"trusted.overlay.metacopy\":\"\"";
-
-// The manifest of a root and these entries: the path, what its kind states, and the attributes of each.
-fn manifest_of(alloc: Global, entries: &[(&str, &str, &str)]) -> Result<Vec<u8>, Fail> {
-    let mut text = String::from_str(alloc, "{\"overlay-layer\":1,\"entries\":[")?;
-    push_entry(alloc, &mut text, ("/", DIR, ""))?;
-    for entry in entries {
-        text.push_str(",")?;
-        push_entry(alloc, &mut text, *entry)?;
-    }
-    text.push_str("]}")?;
-    Ok(text.into_bytes())
-}
-
-fn push_entry(alloc: Global, text: &mut String, entry: (&str, &str, &str)) -> Result<(), Fail> {
-    let (path, kind, attributes) = entry;
-    let entry = format!(in alloc;
-        "{{\"path\":\"{path}\",{kind},\"uid\":0,\"gid\":0,\"mtime\":0,\"xattrs\":{{{attributes}}}}}"
-    )?;
-    text.push_str(entry.as_str())?;
-    Ok(())
-}
-
-// What `show` prints of these layers, the topmost first.
-fn shown(alloc: Global, layers: &[&[(&str, &str, &str)]]) -> Result<String, Fail> {
-    let mut manifests = Vec::new(alloc);
-    for entries in layers {
-        manifests.push(manifest_of(alloc, entries)?)?;
-    }
-    Ok(String::from_utf8(show_stack(alloc, &manifests)?)?)
-}
-
-#[test]
-fn metacopy_files_show_their_data(rt: HostRuntime) -> Result<(), Fail> {
-    let alloc = rt.alloc();
-    let upper: &[(&str, &str, &str)] = &[("/f", UNREAD, HAS_METACOPY)];
-    assert_eq!(rt;
-        shown(alloc, &[upper, upper, &[("/f", FILE, "")]])?.as_str(),
-        "dir 0755 0 0 0 - - /\n\
-        file 0644 0 0 0 1 ca978112ca1bbdcafac231b39a23dc4da786eff8147c4e72b9807785afee48bb /f\n\
-        entries 2\n"
-    );
-    assert_eq!(rt;
-        shown(alloc, &[upper, upper, &[("/f", WHITEOUT, "")]])?.as_str(),
-        "dir 0755 0 0 0 - - /\n\
-        file 0644 0 0 0 1 missing /f\n\
-        entries 2\n"
     );
     Ok(())
 }
