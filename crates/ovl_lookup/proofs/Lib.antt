@@ -5,6 +5,7 @@ pub mod FoundLemmas
 pub mod ChildLemmas
 pub mod KidLemmas
 pub mod ListLemmas
+pub mod LawLemmas
 pub mod Notation
 pub mod RowStacks
 mod Rows

@@ -3,3 +3,5 @@ pub mod Stacks
 pub mod Trace
 pub mod Merged
 pub mod Passes
+pub mod Sound
+pub mod Laws

@@ -1,6 +1,7 @@
 //! Walks in one layer, and what a stack of layers shows.
 #![tactic(auto)]
 
+pub mod laws;
 mod lists;
 mod looks;
 mod stacks;

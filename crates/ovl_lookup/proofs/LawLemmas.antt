@@ -1,0 +1,39 @@
+-- The laws of the merged tree.
+use Rattle.std.proofs.Common.{◌≡◌, Bool, true, false, cond, List, [], ◌∷◌, refl, sym, ap, ◌∙◌}
+use Rattle.std.specs.Prelude.{◌&&◌}
+use Rattle.ovl_inode.specs.declared.inodes.Inode.{Inode}
+use Rattle.ovl_inode.specs.declared.inodes.Kind.{Kind}
+use Rattle.ovl_inode.specs.declared.inodes.Kind.TheVariants.{Dir, File, Symlink, Char, Block, Fifo, Socket}
+use Rattle.ovl_inode.specs.Marks.{is_directory, is_regular, has_metacopy}
+use Rattle.ovl_lookup.specs.Laws.{ShowsParents, ShowsWithinDepth}
+use Rattle.ovl_lookup.specs.Trace.{things_found}
+use Rattle.ovl_lookup.specs.Merged.{shown_of, is_shown_directory}
+use Rattle.ovl_names.specs.Paths.{child_path}
+use Rattle.ovl_lookup.proofs.FoundLemmas.{shown_of-full}
+use Rattle.ovl_lookup.proofs.KidLemmas.{shows-found}
+use Rattle.ovl_lookup.proofs.ChildLemmas.{starts_directory, child_found}
+use Rattle.ovl_lookup.proofs.ListLemmas.{shows-limited}
+
+-- a directory is no regular file
+not_regular : (kind : Kind) → elim kind as (λ _. Bool) [ Dir ↦ true | _ ↦ false ] ≡ true → elim kind as (λ _. Bool) [ File size blob ↦ true | _ ↦ false ] ≡ false
+not_regular Dir is = refl
+not_regular (File size blob) is = let bad : false ≡ true = is in cc
+not_regular (Symlink target) is = refl
+not_regular (Char major minor) is = refl
+not_regular (Block major minor) is = refl
+not_regular Fifo is = refl
+not_regular Socket is = refl
+
+-- a directory that is found first is shown
+directory-shown : (found : List Inode) → starts_directory found ≡ true → is_shown_directory (shown_of found) ≡ true
+directory-shown [] is = is
+directory-shown (inode ∷ below) is =
+    ap is_shown_directory (shown_of-full inode below (ap (λ b. b && has_metacopy inode) (not_regular inode.kind is))) ∙ is
+
+pub ShowsParents-holds : ShowsParents
+ShowsParents-holds stack each path name shown =
+    directory-shown (things_found stack.layers path)
+    (child_found stack.layers each path name (sym (shows-found stack (child_path path name)) ∙ shown)).0
+
+pub ShowsWithinDepth-holds : ShowsWithinDepth
+ShowsWithinDepth-holds stack each path shown = shows-limited stack each path shown

@@ -1,0 +1,11 @@
+ghost use Rattle.ovl_lookup.specs.Laws.{ShowsParents, ShowsWithinDepth};
+
+/// The merged tree is closed under parents: where something is shown in a directory, that directory is shown.
+pub fn merged_tree_has_parents()
+    ensures { ShowsParents }
+{}
+
+/// The merged tree is no deeper than 64 times the number of layers.
+pub fn merged_tree_is_within_depth()
+    ensures { ShowsWithinDepth }
+{}
