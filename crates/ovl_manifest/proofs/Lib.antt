@@ -4,4 +4,6 @@ pub mod LayerLemmas
 pub mod DraftLemmas
 pub mod FieldLemmas
 mod Rows
+mod RowsText
 pub mod ReadLemmas
+pub mod EntryLemmas

@@ -2,6 +2,7 @@
 #![tactic(auto)]
 
 mod drafts;
+mod entries;
 mod faults;
 mod fields;
 mod reading;
@@ -9,6 +10,7 @@ mod reading;
 mod tests;
 mod trees;
 
+pub use entries::from_entries;
 pub use faults::LayerFault;
 pub use reading::read_layer;
 pub use trees::{Cursor, Layer};
