@@ -7,3 +7,4 @@ mod Rows
 mod RowsText
 pub mod ReadLemmas
 pub mod EntryLemmas
+pub mod TextLemmas

@@ -9,8 +9,10 @@ mod reading;
 #[cfg(test)]
 mod tests;
 mod trees;
+mod writing;
 
 pub use entries::from_entries;
 pub use faults::LayerFault;
 pub use reading::read_layer;
 pub use trees::{Cursor, Layer};
+pub use writing::write_layer;
