@@ -8,3 +8,7 @@ mod RowsText
 pub mod ReadLemmas
 pub mod EntryLemmas
 pub mod TextLemmas
+pub mod TailLemmas
+pub mod ValueLemmas
+pub mod StatedLemmas
+pub mod BackLemmas

@@ -71,7 +71,7 @@ in_turn-more attrs k d up inside = let next : suc k ≡ k + 1 = omega arith in b
 
 -- ---- what is written has no float, and nests at most four deep
 
-no_or : (a b : Bool) → (a || b) ≡ false → (a ≡ false) × (b ≡ false)
+pub no_or : (a b : Bool) → (a || b) ≡ false → (a ≡ false) × (b ≡ false)
 no_or true b e = let bad : true ≡ false = e in cc
 no_or false b e = (refl, e)
 

@@ -126,7 +126,8 @@ impl Layer {
 
     /// All entries in path order; fails only for want of memory.
     pub fn entries(&self, alloc: Global) -> Result<Vec<(Path, Inode)>, AllocError>
-        ensures { IfOk result (λ entries. entries.items ≡ self.now) }
+        ensures value { IfOk result (λ entries. entries.items ≡ self.now) }
+        ensures layer { OnOk result (IsLayer self.now) }
     {
         let root = Path::root(alloc);
         let mut entries = Vec::new(alloc);

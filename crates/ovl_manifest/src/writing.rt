@@ -1,6 +1,8 @@
-ghost use Rattle.std.specs.Prelude.{◌≡◌, IfOk, OnOk, codes, string_bytes};
+ghost use Rattle.std.specs.Prelude.{◌≡◌, Ok, IfOk, OnOk, codes, string_bytes};
 ghost use Rattle.serde_json.specs.View.{view, items_view, members_view};
 ghost use Rattle.ovl_names.specs.Paths.{path_text as text_of_path};
+ghost use Rattle.ovl_manifest.specs.Layers.{IsLayer};
+ghost use Rattle.ovl_manifest.specs.Manifest.{read_layer};
 ghost use Rattle.ovl_manifest.specs.Text.{manifest_text, layer_value as value_of_layer, entry_value as value_of_entry, entry_items, common_members as common, attribute_members as attributes, with_kind, kind_word as word_of_kind, hexadecimal as hexadecimal_data};
 
 use crate::trees::Layer;
@@ -10,9 +12,10 @@ use serde_json::{Map, Value, json, put};
 use std::alloc::{AllocError, Global};
 
 /// The manifest of a layer: compact JSON whose objects have their members in the byte order of their names, and a
-/// newline. Fails only for want of memory. The format is told in `docs/FORMATS.md`.
+/// newline. Reading it gives the layer back. Fails only for want of memory. The format is told in `docs/FORMATS.md`.
 pub fn write_layer(alloc: Global, layer: &Layer) -> Result<Vec<u8>, AllocError>
-    ensures { IfOk result (λ bytes. bytes.items ≡ manifest_text layer.now) }
+    ensures text { IfOk result (λ bytes. bytes.items ≡ manifest_text layer.now) }
+    ensures back { IfOk result (λ bytes. read_layer bytes.items ≡ Ok layer.now) }
 {
     let mut text = layer_value(alloc, layer)?.to_string(alloc)?;
     text.push_str("\n")?;
@@ -20,7 +23,8 @@ pub fn write_layer(alloc: Global, layer: &Layer) -> Result<Vec<u8>, AllocError>
 }
 
 fn layer_value(alloc: Global, layer: &Layer) -> Result<Value, AllocError>
-    ensures { IfOk result (λ value. view value ≡ value_of_layer layer.now) }
+    ensures value { IfOk result (λ value. view value ≡ value_of_layer layer.now) }
+    ensures layer { OnOk result (IsLayer layer.now) }
 {
     let entries = entry_values(alloc, &layer.entries(alloc)?)?;
     json!(in alloc; {"entries": entries, "overlay-layer": 1})
