@@ -51,6 +51,12 @@ attribute_members-in_turn (attr ∷ next ∷ attrs) up =
     ap (put attr.0 (hexadecimal attr.1)) (attribute_members-in_turn (next ∷ attrs) parts.1)
     ∙ rw (is_lt-Less (attribute_cmp attr next) first.0) refl
 
+-- what holds of all elements holds of each
+pub all-at : {X : Type 0} (test : X → Bool) (xs : List X) (k : ℕ) (d : X) → list_all test xs ≡ true → k < length xs → test (get_or xs k d) ≡ true
+all-at test [] k d all inside = absurd (omega (arith, inside))
+all-at test (x ∷ xs) zero d all inside = (both {a = test x} {b = list_all test xs} all).0
+all-at test (x ∷ xs) (suc k) d all inside = all-at test xs k d (both {a = test x} {b = list_all test xs} all).1 (omega (arith, inside))
+
 -- ascending attributes are put one after another
 pub in_turn-more : (attrs : Attributes) (k : ℕ) (d : List ℕ × List ℕ) → ascends attribute_cmp attrs ≡ true → k < length attrs → put (get_or attrs k d).0 (hexadecimal (get_or attrs k d).1) (attributes_in_turn (take k attrs)) ≡ attributes_in_turn (take (k + 1) attrs)
 in_turn-more attrs k d up inside = let next : suc k ≡ k + 1 = omega arith in by attrs k up inside ∙ ap (λ (n : ℕ). attributes_in_turn (take n attrs)) next
@@ -61,13 +67,8 @@ in_turn-more attrs k d up inside = let next : suc k ≡ k + 1 = omega arith in b
     by (attr ∷ attrs) (suc k) up inside =
         let parts = both {a = list_all (λ later. is_lt (attribute_cmp attr later)) attrs} {b = ascends attribute_cmp attrs} up in
         let deeper : k < length attrs = omega (arith, inside) in
-        let before : is_lt (attribute_cmp attr (get_or attrs k d)) ≡ true = later attrs k parts.0 deeper in
+        let before : is_lt (attribute_cmp attr (get_or attrs k d)) ≡ true = all-at (λ later. is_lt (attribute_cmp attr later)) attrs k d parts.0 deeper in
         rw (reversed nat_list_cmp_total attr.0 (get_or attrs k d).0 before) (ap (member attr.0 (hexadecimal attr.1)) (by attrs k parts.1 deeper))
-      where
-        later : (others : Attributes) (k : ℕ) → list_all (λ later. is_lt (attribute_cmp attr later)) others ≡ true → k < length others → is_lt (attribute_cmp attr (get_or others k d)) ≡ true
-        later [] k all inside = absurd (omega (arith, inside))
-        later (other ∷ others) zero all inside = (both {a = is_lt (attribute_cmp attr other)} {b = list_all (λ later. is_lt (attribute_cmp attr later)) others} all).0
-        later (other ∷ others) (suc k) all inside = later others k (both {a = is_lt (attribute_cmp attr other)} {b = list_all (λ later. is_lt (attribute_cmp attr later)) others} all).1 (omega (arith, inside))
 
 -- ---- what is written has no float, and nests at most four deep
 

@@ -1,5 +1,5 @@
 -- The values that are written state what they were written of.
-use Rattle.std.proofs.Common.{◌≡◌, ℕ, zero, suc, ◌-◌, ◌/◌, ◌%◌, ◌^◌, ◌<◌, ◌∙◌, ℤ, pos, negsuc, List, [], ◌∷◌, ◌++◌, Bool, true, false, Option, Some, None, refl, sym, ap, subst, append_assoc, append-nil, length, length-append, get_or, arith, ltb-true, le-leb, eqb-true, eq-eqb, cond}
+use Rattle.std.proofs.Common.{◌≡◌, ℕ, zero, suc, ◌-◌, ◌/◌, ◌%◌, ◌^◌, ◌<◌, ◌∙◌, ℤ, pos, negsuc, List, [], ◌∷◌, ◌++◌, Bool, true, false, Option, Some, None, refl, sym, ap, subst, append_assoc, append-nil, length, length-append, arith, ltb-true, le-leb, eqb-true, eq-eqb, cond}
 use Rattle.std.specs.Prelude.{◌||◌, ◌==◌, not, nat_eq, nat_lt, nat_le, is_some, is_none, if◌then◌else◌, slice_index, option_and_then}
 use Rattle.std.specs.List.{list_all, list_any, starts_with, onto_first}
 use Rattle.std.specs.Ordering.{is_lt}
@@ -27,7 +27,7 @@ use Rattle.ovl_manifest.specs.Fields.{up_to, path_of_text, attribute_after, attr
 use Rattle.ovl_manifest.specs.Text.{hexadecimal, attribute_members}
 use Rattle.ovl_manifest.proofs.EntryLemmas.{slashed}
 use Rattle.ovl_manifest.proofs.FieldLemmas.{attributes_after-put}
-use Rattle.ovl_manifest.proofs.TextLemmas.{attributes_in_turn, attribute_members-in_turn, no_or}
+use Rattle.ovl_manifest.proofs.TextLemmas.{attributes_in_turn, attribute_members-in_turn, no_or, all-at}
 
 -- ---- numbers
 
@@ -42,11 +42,6 @@ seconds-back (pos n) is = rw is refl
 seconds-back (negsuc n) is = refl
 
 -- ---- hexadecimal digits
-
-all-at : {X : Type 0} (test : X → Bool) (xs : List X) (k : ℕ) (d : X) → list_all test xs ≡ true → k < length xs → test (get_or xs k d) ≡ true
-all-at test [] k d all inside = absurd (omega (arith, inside))
-all-at test (x ∷ xs) zero d all inside = (both {a = test x} {b = list_all test xs} all).0
-all-at test (x ∷ xs) (suc k) d all inside = all-at test xs k d (both {a = test x} {b = list_all test xs} all).1 (omega (arith, inside))
 
 digit-lower : (d : ℕ) → d < 16 → is_lower_digit (slice_index lower_digits d) ≡ true
 digit-lower d inside = all-at is_lower_digit lower_digits d 0 refl inside
