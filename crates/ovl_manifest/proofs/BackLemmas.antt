@@ -12,8 +12,9 @@ use Rattle.ovl_names.proofs.Ascending.{both, not_true, is_lt-Less, list_all-fron
 use Rattle.ovl_inode.specs.declared.inodes.Inode.{Inode}
 use Rattle.ovl_inode.specs.Attributes.{has_escaped_name}
 use Rattle.ovl_inode.specs.Marks.{is_directory}
-use Rattle.ovl_manifest.specs.Layers.{Entry, Entries, entry_cmp, entry_at, is_directory_at, has_parent, entry_limit, IsLayer}
-use Rattle.ovl_manifest.specs.Manifest.{comes_after, root_fault, entry_fault, entry_after, entries_after, layer_of_entries, layer_of_value}
+use Rattle.ovl_manifest.specs.Layers.{Entry, Entries, entry_cmp, entry_at, is_directory_at, has_parent, is_within_limits, entry_limit, IsLayer}
+use Rattle.ovl_inode.specs.Sound.{is_sound_inode}
+use Rattle.ovl_manifest.specs.Manifest.{comes_after, root_fault, entry_fault, entry_after, entries_after, layer_of_entries, stated_pair, layer_of_pairs, layer_of_value}
 use Rattle.ovl_manifest.specs.declared.faults.LayerFault.TheVariants.{Root, Escaped}
 use Rattle.ovl_manifest.specs.Text.{layer_value}
 use Rattle.ovl_manifest.proofs.OpenLemmas.{path_cmp-under}
@@ -115,16 +116,30 @@ all-taken (first ∷ others) (entry ∷ more) is =
     one_taken before (Some entry) (map (λ e. Some e) more) (before ++ entry ∷ []) (taken first others entry (unescaped before entry more is) comes (parent before entry more is some))
     ∙ (all-taken (before ++ entry ∷ []) more (subst IsLayer (sym same) is) ∙ ap (λ (es : Entries). Ok es) same)
 
--- ---- the value of a layer
-
-pub layer-back : (layer : Entries) → IsLayer layer → layer_of_value (layer_value layer) ≡ Ok layer
-layer-back layer is =
+layer-counted : (layer : Entries) → IsLayer layer → layer_of_entries (map (λ entry. Some entry) layer) ≡ Ok layer
+layer-counted layer is =
     let count : length (map (λ (entry : Entry). Some entry) layer) ≡ length layer = length-map layer (λ (entry : Entry). Some entry) in
     let limit : length layer ≤ entry_limit = leb-true (length layer) entry_limit is.counted in
-    ap layer_of_entries (entries-stated layer is.named is.limited is.sound)
-    ∙ (counted (map (λ (entry : Entry). Some entry) layer) (omega (arith, count, some layer is.rooted)) (omega (arith, count, limit))
-    ∙ all-taken [] layer is)
+    counted (map (λ (entry : Entry). Some entry) layer) (omega (arith, count, some layer is.rooted)) (omega (arith, count, limit))
+    ∙ all-taken [] layer is
   where
     some : (layer : Entries) → is_directory_at layer [] ≡ true → 0 < length layer
     some [] rooted = let bad : false ≡ true = rooted in cc
     some (entry ∷ layer) rooted = omega arith
+
+-- ---- the value of a layer, and its pairs
+
+pub layer-back : (layer : Entries) → IsLayer layer → layer_of_value (layer_value layer) ≡ Ok layer
+layer-back layer is = ap layer_of_entries (entries-stated layer is.named is.limited is.sound) ∙ layer-counted layer is
+
+pairs-stated : (entries : Entries) → list_all (λ entry. is_within_limits entry.0) entries ≡ true → list_all (λ entry. is_sound_inode entry.1) entries ≡ true → map stated_pair entries ≡ map (λ entry. Some entry) entries
+pairs-stated [] limited sound = refl
+pairs-stated (entry ∷ entries) limited sound =
+    let limits = both {a = is_within_limits entry.0} {b = list_all (λ e. is_within_limits e.0) entries} limited in
+    let sounds = both {a = is_sound_inode entry.1} {b = list_all (λ e. is_sound_inode e.1) entries} sound in
+    let own : stated_pair entry ≡ Some entry =
+    ap (λ b. if b && is_sound_inode entry.1 then Some entry else None) limits.0 ∙ ap (λ b. if b then Some entry else None) sounds.0 in
+    λ j. own j ∷ pairs-stated entries limits.1 sounds.1 j
+
+pub pairs-back : (layer : Entries) → IsLayer layer → layer_of_pairs layer ≡ Ok layer
+pairs-back layer is = ap layer_of_entries (pairs-stated layer is.limited is.sound) ∙ layer-counted layer is

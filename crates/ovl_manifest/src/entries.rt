@@ -11,9 +11,9 @@ use ovl_inode::{Attrs, Inode, Kind, sound};
 use ovl_names::Path;
 use std::alloc::Global;
 
-/// The layer of these entries. It is refused with the first fault in the order of [`LayerFault`] from `Count` on,
-/// each looked for in an entry before the next entry's; `Memory` can come at any time. `Entry` is told of a path of
-/// more than 64 names or 4,095 bytes of text, and of an inode that isn't sound.
+/// The layer of these entries. It is refused with `Count`, or with the first fault of the first entry that has one, in
+/// the order of tests that `docs/FORMATS.md` tells; `Memory` can come at any time. `Entry` is told of a path of more
+/// than 64 names or 4,095 bytes of text, and of an inode that isn't sound.
 pub fn from_entries(alloc: Global, entries: Vec<(Path, Inode)>) -> Result<Layer, LayerFault>
     ensures { MatchResult result
         (λ layer. layer_of_pairs entries.items ≡ Ok layer)

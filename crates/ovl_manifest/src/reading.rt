@@ -10,10 +10,9 @@ use crate::trees::Layer;
 use serde_json::{Category, Value};
 use std::alloc::Global;
 
-/// The layer that the bytes of a manifest state. It is refused with the first fault in the order of
-/// [`LayerFault`], each looked for in the whole manifest's entries before the next entry's; `Memory` can come at
-/// any time. The text is JSON (RFC 8259) in UTF-8, nested at most 127 deep; of members with the same name the
-/// last counts. The format is told in `docs/FORMATS.md`.
+/// The layer that the bytes of a manifest state. It is refused with the first fault in the order of tests that
+/// `docs/FORMATS.md` tells, each entry tested before the next; `Memory` can come at any time. The text is JSON
+/// (RFC 8259) in UTF-8, nested at most 127 deep; of members with the same name the last counts.
 pub fn read_layer(alloc: Global, bytes: &[u8]) -> Result<Layer, LayerFault>
     ensures { MatchResult result
         (λ layer. layer_stated bytes.now ≡ Ok layer)
