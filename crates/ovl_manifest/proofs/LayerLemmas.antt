@@ -52,7 +52,7 @@ comes_after-last front last path inode up = by (is_lt (path_cmp last path)) refl
 
 -- ---- the directory of an entry after the last
 
-path_cmp-same : (path : PathNames) → path_cmp path path ≡ Equal
+pub path_cmp-same : (path : PathNames) → path_cmp path path ≡ Equal
 path_cmp-same [] = refl
 path_cmp-same (name ∷ path) = path_cmp-under name path path ∙ path_cmp-same path
 

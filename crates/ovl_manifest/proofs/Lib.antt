@@ -4,4 +4,11 @@ pub mod LayerLemmas
 pub mod DraftLemmas
 pub mod FieldLemmas
 mod Rows
+mod RowsText
 pub mod ReadLemmas
+pub mod EntryLemmas
+pub mod TextLemmas
+pub mod TailLemmas
+pub mod ValueLemmas
+pub mod StatedLemmas
+pub mod BackLemmas

@@ -206,23 +206,23 @@ value_read value version entries items members has_version has_entries listed on
     ∙ (ap (λ (o : Option Data). layer_of_fields (as_number version) (option_and_then as_array o)) has_entries
     ∙ (ap (layer_of_fields (as_number version)) listed ∙ ap (λ (o : Option Num). layer_of_fields o (Some items)) (version_one version one))))
 
-pub counted : (values : List Value) → 1 ≤ length values → length values ≤ entry_limit → layer_of_entries (stated_of values) ≡ entries_after [] (stated_of values)
-counted values some limit = rw (length-stated_of values, none, most) refl
+pub counted : (stated : List (Option Entry)) → 1 ≤ length stated → length stated ≤ entry_limit → layer_of_entries stated ≡ entries_after [] stated
+counted stated some limit = rw (none, most) refl
   where
-    none : (length values == 0) ≡ false
+    none : (length stated == 0) ≡ false
     none = grind (arith, nat_tests)
 
-    most : nat_lt entry_limit (length values) ≡ false
+    most : nat_lt entry_limit (length stated) ≡ false
     most = grind (arith, nat_tests)
 
-pub miscounted : (values : List Value) → (length values ≡ 0) ⊎ (entry_limit < length values) → layer_of_entries (stated_of values) ≡ Err Count
-miscounted values count = by (length values == 0) refl
+pub miscounted : (stated : List (Option Entry)) → (length stated ≡ 0) ⊎ (entry_limit < length stated) → layer_of_entries stated ≡ Err Count
+miscounted stated count = by (length stated == 0) refl
   where
-    by : (b : Bool) → (length values == 0) ≡ b → layer_of_entries (stated_of values) ≡ Err Count
-    by true e = rw (length-stated_of values, e) refl
-    by false e = rw (length-stated_of values, e, past) refl
+    by : (b : Bool) → (length stated == 0) ≡ b → layer_of_entries stated ≡ Err Count
+    by true e = rw e refl
+    by false e = rw (e, past) refl
       where
-        past : nat_lt entry_limit (length values) ≡ true
+        past : nat_lt entry_limit (length stated) ≡ true
         past = grind (arith, nat_tests, count)
 
 pub same_number : (o : Option ℕ) → false ≡ not (option_eq nat_eq o (Some 1)) → o ≡ Some 1

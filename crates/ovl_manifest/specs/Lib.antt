@@ -3,4 +3,5 @@ pub mod LayerTrees
 pub mod TreeFalls
 pub mod Fields
 pub mod Manifest
+pub mod Text
 pub mod Drafts

@@ -1,5 +1,5 @@
 -- The layer that a manifest states, or its first fault.
-use Rattle.std.specs.Prelude.{◌≡◌, ⊤, ℕ, Bool, ◌&&◌, ◌||◌, ◌==◌, not, Option, Some, None, Result, Ok, Err, List, [], ◌∷◌, ◌++◌, if◌then◌else◌, length, codes, nat_lt, is_some, option_and_then}
+use Rattle.std.specs.Prelude.{◌≡◌, ⊤, ℕ, Bool, ◌&&◌, ◌||◌, ◌==◌, not, Option, Some, None, Result, Ok, Err, List, [], ◌∷◌, ◌++◌, if◌then◌else◌, length, map, codes, nat_lt, is_some, option_and_then}
 use Rattle.std.specs.List.{list_all}
 use Rattle.std.specs.Ordering.{is_lt}
 use Rattle.std.specs.Str.{is_utf8}
@@ -9,7 +9,8 @@ use Rattle.serde_json.specs.Read.{read}
 use Rattle.ovl_names.specs.Paths.{PathNames, path_cmp, parent_path, is_root}
 use Rattle.ovl_inode.specs.Attributes.{has_escaped_name}
 use Rattle.ovl_inode.specs.Marks.{is_directory}
-use Rattle.ovl_manifest.specs.Layers.{Entry, Entries, is_directory_at, entry_limit}
+use Rattle.ovl_inode.specs.Sound.{is_sound_inode}
+use Rattle.ovl_manifest.specs.Layers.{Entry, Entries, is_directory_at, is_within_limits, entry_limit}
 use Rattle.ovl_manifest.specs.Fields.{has_exactly, entry_of}
 use Rattle.ovl_manifest.specs.declared.faults.LayerFault.{LayerFault}
 use Rattle.ovl_manifest.specs.declared.faults.LayerFault.TheVariants.{NotJson, Shape, Version, Count, Entry as WrongEntry, Order, NoParent, Root, Escaped, Memory}
@@ -53,9 +54,21 @@ abbrev pub layer_of_entries : List (Option Entry) → Result Entries LayerFault
 layer_of_entries stated =
     if length stated == 0 || nat_lt entry_limit (length stated) then Err Count else entries_after [] stated
 
+-- the entries that values state, one after another
 abbrev pub stated_entries : Items → List (Option Entry)
 stated_entries no_items = []
 stated_entries (item value values) = entry_of value ∷ stated_entries values
+
+-- a pair states an entry where its path keeps the limits and its inode is sound
+abbrev pub is_statable : Entry → Bool
+is_statable entry = is_within_limits entry.0 && is_sound_inode entry.1
+
+abbrev pub stated_pair : Entry → Option Entry
+stated_pair entry = if is_statable entry then Some entry else None
+
+-- the layer of pairs
+abbrev pub layer_of_pairs : Entries → Result Entries LayerFault
+layer_of_pairs pairs = layer_of_entries (map stated_pair pairs)
 
 -- a whole number, and the version that is read
 abbrev pub is_whole : Num → Bool

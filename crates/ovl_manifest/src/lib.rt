@@ -2,13 +2,17 @@
 #![tactic(auto)]
 
 mod drafts;
+mod entries;
 mod faults;
 mod fields;
 mod reading;
 #[cfg(test)]
 mod tests;
 mod trees;
+mod writing;
 
+pub use entries::from_entries;
 pub use faults::LayerFault;
 pub use reading::read_layer;
 pub use trees::{Cursor, Layer};
+pub use writing::write_layer;

@@ -1,23 +1,18 @@
-ghost use Rattle.std.specs.Prelude.{◌≡◌, ◌≤◌, ◌<◌, Ok, Err, MatchResult, [], length};
+ghost use Rattle.std.specs.Prelude.{◌≡◌, ◌≤◌, Ok, Err, MatchResult, [], length};
 ghost use Rattle.serde_json.specs.View.{view, items_view};
-ghost use Rattle.ovl_inode.specs.Attributes.{has_escaped_name as escaped_test, is_escaped_name as escaped_name_test};
 ghost use Rattle.ovl_manifest.specs.Layers.{entry_limit};
-ghost use Rattle.ovl_manifest.specs.Fields.{entry_of};
-ghost use Rattle.ovl_manifest.specs.Manifest.{entry_after, entries_after, stated_entries, layer_of_entries, layer_of_value, read_layer as layer_stated, IsFaultOf};
-ghost use Rattle.ovl_manifest.specs.Drafts.{draft_entries, IsDraft};
+ghost use Rattle.ovl_manifest.specs.Manifest.{entries_after, stated_entries, layer_of_value, read_layer as layer_stated, IsFaultOf};
 
-use crate::drafts::Draft;
+use crate::entries::{add, start};
 use crate::faults::LayerFault;
 use crate::fields::{is_made_of, read_entry};
 use crate::trees::Layer;
-use ovl_inode::{Attrs, Kind};
 use serde_json::{Category, Value};
 use std::alloc::Global;
 
-/// The layer that the bytes of a manifest state. It is refused with the first fault in the order of
-/// [`LayerFault`], each looked for in the whole manifest's entries before the next entry's; `Memory` can come at
-/// any time. The text is JSON (RFC 8259) in UTF-8, nested at most 127 deep; of members with the same name the
-/// last counts. The format is told in `docs/FORMATS.md`.
+/// The layer that the bytes of a manifest state. It is refused with the first fault in the order of tests that
+/// `docs/FORMATS.md` tells, each entry tested before the next; `Memory` can come at any time. The text is JSON
+/// (RFC 8259) in UTF-8, nested at most 127 deep; of members with the same name the last counts.
 pub fn read_layer(alloc: Global, bytes: &[u8]) -> Result<Layer, LayerFault>
     ensures { MatchResult result
         (λ layer. layer_stated bytes.now ≡ Ok layer)
@@ -65,67 +60,10 @@ fn read_entries(alloc: Global, values: &[Value]) -> Result<Layer, LayerFault>
         (λ layer. entries_after [] (stated_entries (items_view values.now)) ≡ Ok layer)
         (λ fault. IsFaultOf (entries_after [] (stated_entries (items_view values.now))) fault) }
 {
-    let mut draft = read_root(alloc, &values[0])?;
+    let mut draft = start(alloc, read_entry(alloc, &values[0])?)?;
     for number in 1..values.len() {
-        draft = read_next(alloc, draft, number as u32, &values[number])?;
+        let entry = read_entry(alloc, &values[number])?;
+        draft = add(alloc, draft, number as u32, entry)?;
     }
     Ok(draft.finish()?)
-}
-
-// The draft of the first entry.
-fn read_root(alloc: Global, value: &Value) -> Result<Draft, LayerFault>
-    ensures { MatchResult result
-        (λ draft. (entry_after [] (entry_of (view value.now)) ≡ Ok (draft_entries draft)) × IsDraft draft)
-        (λ fault. IsFaultOf (entry_after [] (entry_of (view value.now))) fault) }
-{
-    let Some((path, inode)) = read_entry(alloc, value)? else {
-        return Err(LayerFault::Entry(0));
-    };
-    if has_escaped_name(&inode.attrs) {
-        return Err(LayerFault::Escaped(0));
-    }
-    if !path.is_empty() || !matches!(inode.kind, Kind::Dir) {
-        return Err(LayerFault::Root);
-    }
-    Ok(Draft::start(alloc, inode))
-}
-
-// The draft with one more entry.
-fn read_next(alloc: Global, draft: Draft, number: u32, value: &Value) -> Result<Draft, LayerFault>
-    requires draft { IsDraft draft }
-    requires number { number ≡ length (draft_entries draft) }
-    requires room { number < entry_limit }
-    ensures { MatchResult result
-        (λ more. (entry_after (draft_entries draft) (entry_of (view value.now)) ≡ Ok (draft_entries more)) × IsDraft more)
-        (λ fault. IsFaultOf (entry_after (draft_entries draft) (entry_of (view value.now))) fault) }
-{
-    let Some((path, inode)) = read_entry(alloc, value)? else {
-        return Err(LayerFault::Entry(number));
-    };
-    if has_escaped_name(&inode.attrs) {
-        return Err(LayerFault::Escaped(number));
-    }
-    if !draft.comes_before(&path) {
-        return Err(LayerFault::Order(number));
-    }
-    if !draft.has_parent(&path) {
-        return Err(LayerFault::NoParent(number));
-    }
-    Ok(draft.with(alloc, path, inode)?)
-}
-
-// Whether the name of some attribute begins with `trusted.overlay.overlay.`.
-fn has_escaped_name(attrs: &Attrs) -> bool
-    ensures { result ≡ escaped_test attrs.now }
-{
-    attrs
-        .pairs()
-        .iter()
-        .any(|(name, _)| is_escaped_name(name.as_str()))
-}
-
-fn is_escaped_name(name: &str) -> bool
-    ensures { result ≡ escaped_name_test name.now }
-{
-    name.as_bytes().starts_with(b"trusted.overlay.overlay.")
 }

@@ -1,4 +1,6 @@
 use super::*;
+use ovl_inode::{Attrs, Inode, Kind};
+use ovl_names::{Name, Path};
 use std::alloc::{AllocError, Global};
 use std::test::Fail;
 
@@ -246,5 +248,229 @@ fn a_fault_has_its_text(rt: HostRuntime) -> Result<(), Fail> {
     ] {
         assert_eq!(rt; fault.to_string(rt.alloc())?.as_str(), text);
     }
+    Ok(())
+}
+
+const BLOCK: &str =
+    r#"{"gid":0,"kind":"block","major":8,"minor":1,"mode":384,"mtime":0,"path":"/b","uid":0,"xattrs":{}}"#;
+
+const CHAR: &str =
+    r#"{"gid":0,"kind":"char","major":1,"minor":3,"mode":438,"mtime":0,"path":"/c","uid":0,"xattrs":{}}"#;
+
+const DIR: &str =
+    r#"{"gid":0,"kind":"dir","mode":493,"mtime":0,"path":"/d","uid":0,"xattrs":{"trusted.overlay.opaque":"79"}}"#;
+
+const IN_DIR: &str =
+    r#"{"gid":0,"kind":"file","mode":420,"mtime":0,"path":"/d/e","size":0,"uid":0,"xattrs":{}}"#;
+
+const SYMLINK: &str =
+    r#"{"gid":0,"kind":"symlink","mode":511,"mtime":0,"path":"/l","target":"a \"b\"","uid":0,"xattrs":{}}"#;
+
+const FIFO: &str =
+    r#"{"gid":0,"kind":"fifo","mode":420,"mtime":0,"path":"/p","uid":0,"xattrs":{}}"#;
+
+const SOCKET: &str =
+    r#"{"gid":0,"kind":"socket","mode":420,"mtime":0,"path":"/s","uid":0,"xattrs":{}}"#;
+
+// Whether the layer is written as this text and a newline.
+fn is_written(alloc: Global, layer: &Layer, text: &str) -> Result<bool, AllocError> {
+    let bytes = write_layer(alloc, layer)?;
+    let line = format!(in alloc; "{text}\n")?;
+    Ok(bytes.as_slice() == line.as_bytes())
+}
+
+// A directory without attributes, of this mode.
+fn directory(alloc: Global, mode: u16) -> Inode {
+    Inode {
+        kind: Kind::Dir,
+        mode,
+        uid: 0,
+        gid: 0,
+        mtime: 0,
+        attrs: Attrs::new(alloc),
+    }
+}
+
+// Directories at these paths, in this order.
+fn directories(alloc: Global, paths: &[&str]) -> Result<Vec<(Path, Inode)>, Fail> {
+    let mut entries = Vec::new(alloc);
+    for path in paths {
+        entries.push((Path::parse(alloc, *path)?, directory(alloc, 493)))?;
+    }
+    Ok(entries)
+}
+
+#[test]
+fn a_lone_root_is_written_as_it_was_read(rt: HostRuntime) -> Result<(), Fail> {
+    let layer = read_layer(rt.alloc(), ROOT_ALONE.as_bytes())?;
+    assert_eq!(rt; write_layer(rt.alloc(), &layer)?.len(), 107);
+    assert!(rt; is_written(rt.alloc(), &layer, ROOT_ALONE)?);
+    Ok(())
+}
+
+#[test]
+fn entries_of_each_kind_are_written_as_they_were_read(rt: HostRuntime) -> Result<(), Fail> {
+    let alloc = rt.alloc();
+    let text = with_root(
+        alloc,
+        &[BLOCK, CHAR, DIR, IN_DIR, FILE, SYMLINK, FIFO, SOCKET],
+    )?;
+    let layer = read_layer(alloc, text.as_bytes())?;
+    assert!(rt; is_written(alloc, &layer, text.as_str())?);
+    assert_eq!(rt; layer.entries(alloc)?.len(), 9);
+    Ok(())
+}
+
+#[test]
+fn the_entries_of_a_layer_make_that_layer(rt: HostRuntime) -> Result<(), Fail> {
+    let alloc = rt.alloc();
+    let text = with_root(alloc, &[CHAR, DIR, IN_DIR, FILE])?;
+    let layer = read_layer(alloc, text.as_bytes())?;
+    let entries = layer.entries(alloc)?;
+    assert_eq!(rt; entries.len(), 5);
+    assert!(rt; entries[3].0 == Path::parse(alloc, "/d/e")?);
+    let same = from_entries(alloc, entries)?;
+    assert!(rt; is_written(alloc, &same, text.as_str())?);
+    Ok(())
+}
+
+#[test]
+fn a_lone_root_is_made_of_its_entry(rt: HostRuntime) -> Result<(), Fail> {
+    let layer = from_entries(rt.alloc(), directories(rt.alloc(), &["/"])?)?;
+    assert!(rt; is_written(rt.alloc(), &layer, ROOT_ALONE)?);
+    let entries = layer.entries(rt.alloc())?;
+    assert_eq!(rt; entries.len(), 1);
+    assert!(rt; entries[0].0.is_empty());
+    Ok(())
+}
+
+#[test]
+fn inodes_and_names_are_found_by_path(rt: HostRuntime) -> Result<(), Fail> {
+    let alloc = rt.alloc();
+    let text = with_root(alloc, &[CHAR, DIR, IN_DIR, FILE])?;
+    let layer = read_layer(alloc, text.as_bytes())?;
+    let file = Path::parse(alloc, "/f")?;
+    assert_eq!(rt; layer.at(&file).map(|inode| inode.mtime), Some(-7));
+    assert!(rt; layer.at(&Path::parse(alloc, "/f/g")?).is_none());
+    let names = layer.children(alloc, &Path::root(alloc))?;
+    assert_eq!(rt; names.len(), 3);
+    assert_eq!(rt; names[1].as_str(), "d");
+    Ok(())
+}
+
+#[test]
+fn a_cursor_goes_down_by_names(rt: HostRuntime) -> Result<(), Fail> {
+    let alloc = rt.alloc();
+    let text = with_root(alloc, &[CHAR, DIR, IN_DIR])?;
+    let layer = read_layer(alloc, text.as_bytes())?;
+    let Some(directory) = layer.root().child(&Name::of(alloc, "d")?) else {
+        return Err(Fail::from("no /d"));
+    };
+    assert!(rt; matches!(directory.inode().kind, Kind::Dir));
+    assert_eq!(rt; directory.names(alloc)?.len(), 1);
+    assert!(rt; directory.child(&Name::of(alloc, "f")?).is_none());
+    assert!(rt; layer.place(&Path::parse(alloc, "/d/e")?).is_some());
+    Ok(())
+}
+
+#[test]
+fn entries_out_of_order_or_twice_are_refused(rt: HostRuntime) -> Result<(), Fail> {
+    let alloc = rt.alloc();
+    let falling = with_root(alloc, &[FILE, DIR])?;
+    assert_eq!(rt;
+        fault_of(alloc, falling.as_str()),
+        Some(LayerFault::Order(2))
+    );
+    let twice = with_root(alloc, &[DIR, DIR])?;
+    assert_eq!(rt; fault_of(alloc, twice.as_str()), Some(LayerFault::Order(2)));
+    let orphan = with_root(alloc, &[IN_DIR])?;
+    assert_eq!(rt;
+        fault_of(alloc, orphan.as_str()),
+        Some(LayerFault::NoParent(1))
+    );
+    Ok(())
+}
+
+#[test]
+fn names_have_at_most_255_bytes(rt: HostRuntime) -> Result<(), Fail> {
+    let alloc = rt.alloc();
+    let name = repeated(alloc, "n", 254)?;
+    let manifest = with_root(alloc, &[FILE])?;
+    let long = manifest.replace(alloc, "/f", format!(in alloc; "/{name}n")?.as_str())?;
+    assert_eq!(rt; fault_of(alloc, long.as_str()), None);
+    let longer = manifest.replace(alloc, "/f", format!(in alloc; "/{name}nn")?.as_str())?;
+    assert_eq!(rt;
+        fault_of(alloc, longer.as_str()),
+        Some(LayerFault::Entry(1))
+    );
+    Ok(())
+}
+
+// The fault of entries that are directories at each of the first paths down a chain of names.
+fn fault_of_chain(alloc: Global, depth: usize) -> Result<Option<LayerFault>, Fail> {
+    let name = Name::of(alloc, "n")?;
+    let mut path = Path::root(alloc);
+    let mut entries = directories(alloc, &["/"])?;
+    for _ in 0..depth {
+        path = path.child(alloc, &name)?;
+        entries.push((path.copy(alloc)?, directory(alloc, 493)))?;
+    }
+    Ok(from_entries(alloc, entries).err())
+}
+
+#[test]
+fn paths_have_at_most_64_names(rt: HostRuntime) -> Result<(), Fail> {
+    assert_eq!(rt; fault_of_chain(rt.alloc(), 64)?, None);
+    assert_eq!(rt;
+        fault_of_chain(rt.alloc(), 65)?,
+        Some(LayerFault::Entry(65))
+    );
+    let deep = repeated(rt.alloc(), "/n", 65)?;
+    let manifest = with_root(rt.alloc(), &[FILE])?.replace(rt.alloc(), "/f", deep.as_str())?;
+    assert_eq!(rt;
+        fault_of(rt.alloc(), manifest.as_str()),
+        Some(LayerFault::Entry(1))
+    );
+    Ok(())
+}
+
+// The fault of directories at these paths.
+fn fault_of_paths(alloc: Global, paths: &[&str]) -> Result<Option<LayerFault>, Fail> {
+    Ok(from_entries(alloc, directories(alloc, paths)?).err())
+}
+
+#[test]
+fn entries_that_are_no_layer_are_refused(rt: HostRuntime) -> Result<(), Fail> {
+    let alloc = rt.alloc();
+    assert_eq!(rt; fault_of_paths(alloc, &[])?, Some(LayerFault::Count));
+    assert_eq!(rt; fault_of_paths(alloc, &["/a"])?, Some(LayerFault::Root));
+    assert_eq!(rt;
+        fault_of_paths(alloc, &["/", "/b", "/a"])?,
+        Some(LayerFault::Order(2))
+    );
+    assert_eq!(rt;
+        fault_of_paths(alloc, &["/", "/a/b"])?,
+        Some(LayerFault::NoParent(1))
+    );
+    Ok(())
+}
+
+#[test]
+fn inodes_that_no_manifest_states_are_refused(rt: HostRuntime) -> Result<(), Fail> {
+    let alloc = rt.alloc();
+    let mut unsound = directories(alloc, &["/", "/a"])?;
+    unsound.push((Path::parse(alloc, "/b")?, directory(alloc, 4096)))?;
+    assert_eq!(rt;
+        from_entries(alloc, unsound).err(),
+        Some(LayerFault::Entry(2))
+    );
+    let mut escaped = directories(alloc, &["/"])?;
+    let mut inode = directory(alloc, 493);
+    inode.attrs.put("trusted.overlay.overlay.opaque", b"y")?;
+    escaped.push((Path::parse(alloc, "/a")?, inode))?;
+    assert_eq!(rt;
+        from_entries(alloc, escaped).err(),
+        Some(LayerFault::Escaped(1))
+    );
     Ok(())
 }

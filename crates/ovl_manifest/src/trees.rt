@@ -1,7 +1,8 @@
-ghost use Rattle.std.specs.Prelude.{◌≡◌, ◌≢◌, ◌++◌, [], IfOk, OnOk, MatchOption};
+ghost use Rattle.std.specs.Prelude.{◌≡◌, ◌≢◌, ◌++◌, [], Ok, IfOk, OnOk, MatchOption};
 ghost use Rattle.std.specs.Option.{option_map};
 ghost use Rattle.ovl_names.specs.Paths.{child_path};
 ghost use Rattle.ovl_manifest.specs.Layers.{IsLayer, entry_at, names_below};
+ghost use Rattle.ovl_manifest.specs.Manifest.{layer_of_pairs};
 ghost use Rattle.ovl_manifest.specs.LayerTrees.{entries_from, entries_in, entries_under, placed};
 
 use ovl_inode::Inode;
@@ -124,9 +125,11 @@ impl Layer {
         }
     }
 
-    /// All entries in path order; fails only for want of memory.
+    /// All entries in path order, which make this layer; fails only for want of memory.
     pub fn entries(&self, alloc: Global) -> Result<Vec<(Path, Inode)>, AllocError>
-        ensures { IfOk result (λ entries. entries.items ≡ self.now) }
+        ensures value { IfOk result (λ entries. entries.items ≡ self.now) }
+        ensures layer { OnOk result (IsLayer self.now) }
+        ensures back { IfOk result (λ entries. layer_of_pairs entries.items ≡ Ok self.now) }
     {
         let root = Path::root(alloc);
         let mut entries = Vec::new(alloc);

@@ -1,7 +1,10 @@
-use Rattle.std.proofs.Common.{◌++◌, append_assoc, List, take, sym, ◌∙◌, ap}
+use Rattle.std.proofs.Common.{◌++◌, append_assoc, List, take, sym, ◌∙◌, ap, rules, arith}
 use Rattle.ovl_manifest.specs.Layers.{Entries}
 use Rattle.ovl_manifest.specs.LayerTrees.{NodeView, entries_of_nodes, under, entries_from, placed}
 use Rattle.ovl_names.specs.Paths.{PathNames, child_path}
+use Rattle.std.proofs.lemmas.Grind.{common_steps}
+use Rattle.ovl_manifest.specs.Manifest.{layer_of_pairs}
+use Rattle.ovl_manifest.proofs.BackLemmas.{pairs-back}
 use Rattle.ovl_manifest.proofs.NodeLemmas.{entries_of_nodes-more, placed_at-under}
 use Rattle.ovl_manifest.proofs.trees.Layer.entries.Goals as goal
 
@@ -15,3 +18,12 @@ loop-child-preserved c =
     ∙ ((λ j. c.loop-child.invariant j ++ below j)
     ∙ (append_assoc c.push.new.self.items (entries_of_nodes (take c.loop-child.child-index nodes)) (under node.name (entries_from node.inode node.below))
     ∙ ap (λ (rest : Entries). c.push.new.self.items ++ rest) (sym more)))
+
+pub returns-clause-value : goal.returns-clause-value
+returns-clause-value c = grind (arith, common_steps)
+
+pub returns-clause-layer : goal.returns-clause-layer
+returns-clause-layer c = search rules
+
+pub returns-clause-back : goal.returns-clause-back
+returns-clause-back c = ap layer_of_pairs (returns-clause-value c) ∙ pairs-back c.args.self.now (returns-clause-layer c)

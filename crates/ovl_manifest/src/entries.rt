@@ -1,0 +1,126 @@
+ghost use Rattle.std.specs.Prelude.{◌≡◌, ◌<◌, Ok, IfSome, IsTrue, MatchResult, [], length};
+ghost use Rattle.ovl_inode.specs.Attributes.{has_escaped_name as escaped_test, is_escaped_name as escaped_name_test};
+ghost use Rattle.ovl_manifest.specs.Layers.{entry_limit, is_within_limits as within_limits_test};
+ghost use Rattle.ovl_manifest.specs.Manifest.{is_statable, stated_pair, entry_after, layer_of_pairs, IsFaultOf};
+ghost use Rattle.ovl_manifest.specs.Drafts.{draft_entries, IsDraft};
+
+use crate::drafts::Draft;
+use crate::faults::LayerFault;
+use crate::trees::Layer;
+use ovl_inode::{Attrs, Inode, Kind, sound};
+use ovl_names::Path;
+use std::alloc::Global;
+
+/// The layer of these entries. It is refused with `Count`, or with the first fault of the first entry that has one, in
+/// the order of tests that `docs/FORMATS.md` tells; `Memory` can come at any time. `Entry` is told of a path of more
+/// than 64 names or 4,095 bytes of text, and of an inode that isn't sound.
+pub fn from_entries(alloc: Global, entries: Vec<(Path, Inode)>) -> Result<Layer, LayerFault>
+    ensures { MatchResult result
+        (λ layer. layer_of_pairs entries.items ≡ Ok layer)
+        (λ fault. IsFaultOf (layer_of_pairs entries.items) fault) }
+{
+    if entries.len() > 1_048_576 {
+        return Err(LayerFault::Count);
+    }
+    let mut entries = entries.into_iter();
+    let Some(root) = entries.next() else {
+        return Err(LayerFault::Count);
+    };
+    let mut draft = start(alloc, stated(root))?;
+    let mut number = 0;
+    for entry in entries {
+        number += 1;
+        draft = add(alloc, draft, number, stated(entry))?;
+    }
+    Ok(draft.finish()?)
+}
+
+/// The draft of the first entry, if one is stated.
+pub(crate) fn start(alloc: Global, entry: Option<(Path, Inode)>) -> Result<Draft, LayerFault>
+    requires { IfSome entry (λ stated. IsTrue (is_statable stated)) }
+    ensures { MatchResult result
+        (λ draft. (entry_after [] entry ≡ Ok (draft_entries draft)) × IsDraft draft)
+        (λ fault. IsFaultOf (entry_after [] entry) fault) }
+{
+    let Some((path, inode)) = entry else {
+        return Err(LayerFault::Entry(0));
+    };
+    if has_escaped_name(&inode.attrs) {
+        return Err(LayerFault::Escaped(0));
+    }
+    if !path.is_empty() || !matches!(inode.kind, Kind::Dir) {
+        return Err(LayerFault::Root);
+    }
+    Ok(Draft::start(alloc, inode))
+}
+
+/// The draft with the entry of this number, if one is stated.
+pub(crate) fn add(
+    alloc: Global,
+    draft: Draft,
+    number: u32,
+    entry: Option<(Path, Inode)>,
+) -> Result<Draft, LayerFault>
+    requires draft { IsDraft draft }
+    requires number { number ≡ length (draft_entries draft) }
+    requires room { number < entry_limit }
+    requires stated { IfSome entry (λ stated. IsTrue (is_statable stated)) }
+    ensures { MatchResult result
+        (λ more. (entry_after (draft_entries draft) entry ≡ Ok (draft_entries more)) × IsDraft more)
+        (λ fault. IsFaultOf (entry_after (draft_entries draft) entry) fault) }
+{
+    let Some((path, inode)) = entry else {
+        return Err(LayerFault::Entry(number));
+    };
+    if has_escaped_name(&inode.attrs) {
+        return Err(LayerFault::Escaped(number));
+    }
+    if !draft.comes_before(&path) {
+        return Err(LayerFault::Order(number));
+    }
+    if !draft.has_parent(&path) {
+        return Err(LayerFault::NoParent(number));
+    }
+    Ok(draft.with(alloc, path, inode)?)
+}
+
+// The entry that a pair states, and `None` where a manifest can't state it.
+fn stated(entry: (Path, Inode)) -> Option<(Path, Inode)>
+    ensures { result ≡ stated_pair entry }
+{
+    if is_within_limits(&entry.0) && sound(&entry.1) {
+        Some(entry)
+    } else {
+        None
+    }
+}
+
+// Whether the path has at most 64 names, and its text at most 4,095 bytes.
+fn is_within_limits(path: &Path) -> bool
+    ensures { result ≡ within_limits_test path.now }
+{
+    if path.len() > 64 {
+        return false;
+    }
+    let mut bytes = 0;
+    for name in path.names() {
+        bytes += 1 + name.as_str().len();
+    }
+    bytes <= 4095
+}
+
+// Whether the name of some attribute begins with `trusted.overlay.overlay.`.
+fn has_escaped_name(attrs: &Attrs) -> bool
+    ensures { result ≡ escaped_test attrs.now }
+{
+    attrs
+        .pairs()
+        .iter()
+        .any(|(name, _)| is_escaped_name(name.as_str()))
+}
+
+fn is_escaped_name(name: &str) -> bool
+    ensures { result ≡ escaped_name_test name.now }
+{
+    name.as_bytes().starts_with(b"trusted.overlay.overlay.")
+}
