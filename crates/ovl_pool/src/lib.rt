@@ -8,6 +8,8 @@ mod hauls;
 mod runs;
 mod seating;
 mod tallies;
+#[cfg(test)]
+mod tests;
 mod workers;
 
 pub use gates::{Gate, OpenGate};
