@@ -97,17 +97,6 @@ where
         Ok(walk) => walk,
         Err(fault) => return Err(RunFault::Board(fault)),
     };
-    let Tally {
-        known,
-        delivered,
-        ..
-    } = tally.into_inner();
-    let (taken, left) = closed(rt, alloc, ended, thieves)?;
-    let count = RunCount {
-        known,
-        delivered,
-        taken,
-        left,
-    };
+    let count = closed(rt, alloc, &tally.into_inner(), ended, thieves)?;
     Ok((walk, count))
 }

@@ -1,5 +1,7 @@
-ghost use Rattle.std.specs.Prelude.{◌<◌, length};
+ghost use Rattle.std.specs.Prelude.{◌≡◌, ◌<◌, IfOk, length};
 
+use crate::runs::RunCount;
+use crate::tallies::Tally;
 use crate::workers::{Other, Worker};
 use ovl_board::Piece;
 use ovl_lanes::{Seat, Thief, close};
@@ -46,14 +48,17 @@ fn passes(alloc: Global, workers: &mut [Worker], number: usize) -> Result<Vec<Ot
     Ok(others)
 }
 
-/// Joins all passes to their lanes again and closes the lanes: how many pieces were taken in all, and are left. Sums
-/// over 2^64 - 1 are told as that.
+/// Joins all passes to their lanes again and closes the lanes: the numbers of a run with this tally. Sums over 2^64 - 1
+/// are told as that.
 pub(crate) fn closed<R: Wait>(
     rt: &R,
     alloc: Global,
+    tally: &Tally,
     workers: Vec<Worker>,
     thieves: Vec<Thief>,
-) -> Result<(u64, u64), AllocError> {
+) -> Result<RunCount, AllocError>
+    ensures { IfOk result (λ count. (count.known ≡ tally.now.known) × (count.delivered ≡ tally.now.delivered)) }
+{
     let mut lanes = Vec::new(alloc);
     let mut passes = Vec::new(alloc);
     for Worker { lane, mut others } in workers {
@@ -72,5 +77,10 @@ pub(crate) fn closed<R: Wait>(
         taken = taken.saturating_add(gathered.taken);
         left = left.saturating_add(gathered.left);
     }
-    Ok((taken, left))
+    Ok(RunCount {
+        known: tally.known,
+        delivered: tally.delivered,
+        taken,
+        left,
+    })
 }
