@@ -1,0 +1,8 @@
+use Rattle.ovl_pool.specs.Hauls.{IsOwnHaul}
+use Rattle.ovl_pool.proofs.workers.labor.Given as goal
+
+abbrev pub invariant-loop : goal.invariant-loop
+invariant-loop g l =
+    (goal.iterator-loop g).can_next l.iterator'
+    × (goal.iterator-loop g).is_finite l.iterator'
+    × IsOwnHaul g.W.Work.seen (g.W.Work.kids_of l.work) (g.W.Work.out_of l.work) (g.G.Gate.may_refuse l.gate) l.haul

@@ -1,0 +1,48 @@
+ghost use Rattle.std.specs.Prelude.{◌≡◌, ◌++◌, ◌⊎◌, None, IfOk, []};
+
+use ovl_board::{Parcel, Piece};
+use std::alloc::{AllocError, Global};
+
+/// What workers bring: their parcels, a piece that the gate refused, and whether memory was wanted.
+#[derive(Drop)]
+pub(crate) struct Haul<T> {
+    pub(crate) parcels: Vec<Parcel<T>>,
+    pub(crate) refused: Option<Piece>,
+    pub(crate) starved: bool,
+}
+
+impl<T: Drop> Haul<T> {
+    pub(crate) fn empty(alloc: Global) -> Haul<T>
+        ensures parcels { result.parcels.items ≡ [] }
+        ensures refused { result.refused ≡ None }
+    {
+        Haul {
+            parcels: Vec::new(alloc),
+            refused: None,
+            starved: false,
+        }
+    }
+
+    /// Both hauls in one. Of two refused pieces it keeps the first.
+    pub(crate) fn with(self, other: Haul<T>) -> Result<Haul<T>, AllocError>
+        ensures parcels { IfOk result (λ both. both.parcels.items ≡ self.parcels.items ++ other.parcels.items) }
+        ensures refused { IfOk result (λ both. (both.refused ≡ self.refused) ⊎ (both.refused ≡ other.refused)) }
+    {
+        let Haul {
+            mut parcels,
+            refused,
+            starved,
+        } = self;
+        let Haul {
+            parcels: mut more,
+            refused: beside,
+            starved: too,
+        } = other;
+        parcels.append(&mut more)?;
+        Ok(Haul {
+            parcels,
+            refused: if refused.is_some() { refused } else { beside },
+            starved: starved || too,
+        })
+    }
+}

@@ -1,0 +1,17 @@
+//! Workers that share the visits of a work: at Ok their answer is the plain walk, on every schedule.
+#![tactic(auto)]
+
+mod chains;
+mod crews;
+mod gates;
+mod hauls;
+mod runs;
+mod seating;
+mod tallies;
+#[cfg(test)]
+mod tests;
+mod workers;
+
+pub use gates::{Gate, OpenGate};
+pub use runs::{RunCount, RunFault, run};
+pub use tallies::Tally;
