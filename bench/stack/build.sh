@@ -1,5 +1,5 @@
 #!/usr/bin/env bash
-# Proves and builds the program of main.rt over a copy of this repository's crates in FOLDER, where it is made anew.
+# Writes a program over a copy of this repository's crates into FOLDER, and proves and builds it there.
 # It leaves FOLDER/stack: `FOLDER/stack show LAYER..` prints what the layers show, the topmost first.
 set -euo pipefail
 
@@ -16,7 +16,31 @@ cp -r -- "$top/crates" "$top/crates.txt" "$folder/"
 sed -i 's/^ovl_layers:.*/& anyhow/' "$folder/crates.txt"
 cd -- "$folder/crates/ovl_layers"
 rm -rf -- src/*tests.rt src/samples.rt stdin stdout out
-cp -- "$here/main.rt" src/main.rt
+cat > src/main.rt <<'END'
+//! Prints what a stack of layers shows: the words are `show` and their manifests' files, the topmost first.
+#![tactic(auto)]
+
+mod faults;
+mod inputs;
+mod reports;
+mod shows;
+
+use anyhow::{Context, Result, bail};
+use shows::show_stack;
+use std::io::Write;
+use std::{env, fs, io};
+
+fn main(rt: HostRuntime) -> Result<()> {
+    let mut manifests = Vec::new(rt.alloc());
+    for word in env::args(&rt)?.skip(2) {
+        manifests.push(fs::read(&rt, word.as_str()).context("a layer isn't read")?)?;
+    }
+    match show_stack(rt.alloc(), &manifests) {
+        Ok(report) => Ok(io::writer(&rt).write_all(&report)?),
+        Err(fault) => bail!("no report: {fault}"),
+    }
+}
+END
 rt run -- show "$top/examples/root.json" > "$folder/root.show"
 cmp -- "$folder/root.show" "$top/examples/root.show"
 cp -- out/ovl_layers "$folder/stack"
