@@ -12,7 +12,7 @@ use std::alloc::{AllocError, Global};
 use std::sync::{Mutex, Wait};
 use std::thread::{Threads, join};
 
-/// The labor of these workers, the last of them in this thread and each other one in a thread of its own, and their
+/// The labor of these workers, one of them in this thread and each other one in a thread of its own, and their
 /// hauls in one. It ends when all of them ended, and gives them back.
 #[cycle(crew)]
 pub(crate) fn crew<W: Work + Sync, G: Gate + Sync, R: Threads + Wait + Sync>(
