@@ -96,7 +96,7 @@ views-rise (blob ∷ blobs) up = (
   views-rise blobs up.1,
 )
 
-blobs-rise : (blobs : List Blob) → Rises (λ a b. blob_cmp a b ≡ Less) (blob_views blobs) → Rises NameBefore blobs
+pub blobs-rise : (blobs : List Blob) → Rises (λ a b. blob_cmp a b ≡ Less) (blob_views blobs) → Rises NameBefore blobs
 blobs-rise [] up = tt
 blobs-rise (blob ∷ blobs) up = (
   (λ b h. up.0 (blob_view b) (In-map blob_view b blobs h)),
@@ -165,7 +165,7 @@ module _ (blobs : List BlobView) where
         ),
       )
 
-  names-rise : are_in_order blobs ≡ true → Rises (λ a b. digest_cmp a b ≡ Less) (wrong_names blobs)
+  pub names-rise : are_in_order blobs ≡ true → Rises (λ a b. digest_cmp a b ≡ Less) (wrong_names blobs)
   names-rise up = mapped (filter is_wrong blobs) (Rises-filter (λ a b. blob_cmp a b ≡ Less) is_wrong blobs (Rises-ascends blob_cmp blobs up))
     where
       mapped : (bs : List BlobView) → Rises (λ a b. blob_cmp a b ≡ Less) bs → Rises (λ a b. digest_cmp a b ≡ Less) (map (λ (b : BlobView). b.name) bs)

@@ -1,3 +1,10 @@
 mod Ascent
 mod Plain
 mod BlobLemmas
+mod DataLemmas
+mod FindLemmas
+mod LayerFacts
+mod OutLemmas
+mod CodeLemmas
+mod Digests
+mod Rows

@@ -1,1 +1,6 @@
 pub mod Blobs
+pub mod Codes
+pub mod Conditions
+pub mod Findings
+pub mod Checks
+pub mod CheckViews

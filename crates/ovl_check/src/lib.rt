@@ -2,5 +2,16 @@
 #![tactic(auto)]
 
 mod blobs;
+mod checks;
+mod contents;
+mod findings;
+mod notes;
+mod places;
+mod redirects;
+mod subjects;
+#[cfg(test)]
+mod tests;
 
 pub use blobs::{BLOB_SPACE, Blob, BlobWork, blobs_in_order, finish_blobs};
+pub use findings::{Code, Finding};
+pub use subjects::{CheckOut, CheckWork};
