@@ -111,7 +111,7 @@ in_order-pairs blobs up = AllPairs-Rises NameBefore blobs (blobs-rise blobs (Ris
 
 -- ---- the names with wrong bytes, over the plain walk
 
-any-In : (name : PathName) (names : List PathName) → list_any (name_eq name) names ≡ true → In name names
+pub any-In : (name : PathName) (names : List PathName) → list_any (name_eq name) names ≡ true → In name names
 any-In name [] is = let bad : false ≡ true = is in cc
 any-In name (own ∷ names) is = by (any-In name names) (name_eq name own) refl is
   where

@@ -47,7 +47,7 @@ below-path (first ∷ directory) (own ∷ names) name is = by (below-path direct
     by later true e is = (λ j. sym ((bytes_decides first own).0 e) j ∷ later is j)
     by later false e is = let bad : None ≡ Some name = is in cc
 
-below-In : (layer : Entries) (directory : PathNames) (name : PathName) → In name (names_below layer directory) → (entry : Entry) × (In entry layer × (entry.0 ≡ child_path directory name))
+pub below-In : (layer : Entries) (directory : PathNames) (name : PathName) → In name (names_below layer directory) → (entry : Entry) × (In entry layer × (entry.0 ≡ child_path directory name))
 below-In [] directory name h = absurd h
 below-In (entry ∷ layer) directory name h = elim (cons_cases name (name_below directory entry.0) (names_below layer directory) h) [
   | inl e ↦ (entry, (inl refl, below-path directory entry.0 name e))
@@ -73,7 +73,7 @@ names-rise (entry ∷ layer) directory up = by (names-rise layer directory up.1)
 
 -- ---- kids are lawful, and no deeper than a layer
 
-abbrev kid_at : Piece → PathName → Piece
+abbrev pub kid_at : Piece → PathName → Piece
 kid_at p name = directory_piece p.space (child_path p.dir name)
 
 kids-rise : (p : Piece) (names : List PathName) → Rises NameBefore names → Rises IsBefore (map (kid_at p) names)
@@ -88,7 +88,7 @@ kids-rise p (name ∷ names) up = (
 )
 
 module _ (work : CheckView) (each : All IsLayer work.stack.layers) where
-  kid-directory : (p q : Piece) → In q (check_kids work p) → (name : PathName) × (In name (names_below (layer_at work.stack p.space) p.dir) × ((is_directory_at (layer_at work.stack p.space) (child_path p.dir name) ≡ true) × (q ≡ kid_at p name)))
+  pub kid-directory : (p q : Piece) → In q (check_kids work p) → (name : PathName) × (In name (names_below (layer_at work.stack p.space) p.dir) × ((is_directory_at (layer_at work.stack p.space) (child_path p.dir name) ≡ true) × (q ≡ kid_at p name)))
   kid-directory p q h =
       let layer = layer_at work.stack p.space in
       let test : PathName → Bool = λ name. is_directory_at layer (child_path p.dir name) in
@@ -96,7 +96,7 @@ module _ (work : CheckView) (each : All IsLayer work.stack.layers) where
       let there = In-filter-cases test one.0 (names_below layer p.dir) one.1.0 in
       (one.0, (there.0, (there.1, one.1.1)))
 
-  layer-ascends : (i : ℕ) → Rises (λ a b. entry_cmp a b ≡ Less) (layer_at work.stack i)
+  pub layer-ascends : (i : ℕ) → Rises (λ a b. entry_cmp a b ≡ Less) (layer_at work.stack i)
   layer-ascends i = elim (layer_or_none work.stack.layers each i) [
     | inl none ↦ subst (Rises (λ a b. entry_cmp a b ≡ Less)) (sym none) tt
     | inr is ↦ Rises-ascends entry_cmp (layer_at work.stack i) is.in_order

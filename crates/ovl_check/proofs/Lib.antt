@@ -6,5 +6,9 @@ mod FindLemmas
 mod LayerFacts
 mod OutLemmas
 mod CodeLemmas
+mod DoubleLemmas
+mod MemberLemmas
+mod FinishLemmas
+mod OrderLemmas
 mod Digests
 mod Rows

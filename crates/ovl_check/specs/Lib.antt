@@ -4,3 +4,4 @@ pub mod Conditions
 pub mod Findings
 pub mod Checks
 pub mod CheckViews
+pub mod Walks

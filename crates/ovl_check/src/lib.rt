@@ -5,6 +5,7 @@ mod blobs;
 mod checks;
 mod contents;
 mod findings;
+mod finish;
 mod notes;
 mod places;
 mod redirects;
@@ -14,4 +15,5 @@ mod tests;
 
 pub use blobs::{BLOB_SPACE, Blob, BlobWork, blobs_in_order, finish_blobs};
 pub use findings::{Code, Finding};
+pub use finish::finish_check;
 pub use subjects::{CheckOut, CheckWork};

@@ -48,7 +48,7 @@ take_front : {X : Type 0} → (xs ys : List X) → take (length xs) (xs ++ ys) �
 take_front [] ys = refl
 take_front (x ∷ xs) ys = ap (λ rest. x ∷ rest) (take_front xs ys)
 
-length-child : (path : PathNames) (name : PathName) → is_root (child_path path name) ≡ false
+pub length-child : (path : PathNames) (name : PathName) → is_root (child_path path name) ≡ false
 length-child [] name = refl
 length-child (first ∷ path) name = refl
 
