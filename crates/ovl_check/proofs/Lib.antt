@@ -10,5 +10,6 @@ mod DoubleLemmas
 mod MemberLemmas
 mod FinishLemmas
 mod OrderLemmas
+pub mod WalkLists
 mod Digests
 mod Rows
