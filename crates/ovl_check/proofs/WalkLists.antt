@@ -13,7 +13,7 @@ more work i n (first ∷ lists) views walks is plain = (walks.0, more work (i + 
 pub layer_walks-more : {X : Type 0} (seen : X → List View) (work : CheckView) (xs : List X) (x : X) (n : ℕ) → AreLayerWalks work 0 (map seen xs) → length xs ≡ n → IsPlain (check_kids work) (check_out work) (directory_piece n []) (seen x) → AreLayerWalks work 0 (map seen (xs ++ x ∷ []))
 layer_walks-more {X} seen work xs x n walks count plain =
     subst (AreLayerWalks work 0) (sym (map-append seen xs (x ∷ [])))
-    (more work 0 n (map seen xs) (seen x) walks (lengths xs ∙ count) plain)
+    (more work 0 n (map seen xs) (seen x) walks (omega (arith, lengths xs, count)) plain)
   where
     lengths : (ys : List X) → length (map seen ys) ≡ length ys
     lengths [] = refl

@@ -1,8 +1,12 @@
-ghost use Rattle.std.specs.Prelude.{◌≡◌, IfOk, true};
+ghost use Rattle.std.specs.Prelude.{◌≡◌, IfOk, true, length, map};
+ghost use Rattle.ovl_board.specs.Parcels.{parcel_views};
+ghost use Rattle.ovl_check.specs.Checks.{check_seen};
+ghost use Rattle.ovl_check.specs.CheckViews.{check_view};
+ghost use Rattle.ovl_check.specs.Walks.{AreLayerWalks};
 ghost use Rattle.ovl_check.specs.Blobs.{blob_views, are_in_order, wrong_names};
 
 use super::*;
-use ovl_board::{Piece, Work, plain_walk};
+use ovl_board::{Parcel, Piece, Work, plain_walk};
 use ovl_inode::Digest;
 use ovl_lookup::Stack;
 use ovl_manifest::read_layer;
@@ -147,5 +151,42 @@ fn a_directory_is_checked_with_its_files(rt: HostRuntime) -> Result<(), Fail> {
 fn faults_come_before_notes(rt: HostRuntime) -> Result<(), Fail> {
     assert!(rt; Code::BlobDigest.is_fault());
     assert!(rt; !Code::OrphanWhiteout.is_fault());
+    Ok(())
+}
+
+// The plain walks of the first `count` layers, each from its root.
+fn walks_of(
+    alloc: Global,
+    work: &CheckWork<'_>,
+    count: u16,
+) -> Result<Vec<Vec<Parcel<CheckOut>>>, Fail>
+    ensures count { IfOk result (λ layers. length layers.items ≡ count) }
+    ensures walks { IfOk result (λ layers. AreLayerWalks (check_view work.now) 0 (map (λ parcels. parcel_views check_seen parcels.items) layers.items)) }
+{
+    let mut layers = Vec::new(alloc);
+    for i in 0..count {
+        let root = Piece {
+            space: i,
+            dir: Path::root(alloc),
+        };
+        layers.push(plain_walk(alloc, work, root)?)?;
+    }
+    Ok(layers)
+}
+
+#[test]
+fn the_second_of_two_moves_from_one_place_is_a_double(rt: HostRuntime) -> Result<(), Fail> {
+    let stack = moved_twice(rt.alloc())?;
+    let blobs = Vec::new(rt.alloc());
+    if !blobs_in_order(&blobs) || stack.layers() != 2 {
+        return Err(Fail::from("the names do not ascend"));
+    }
+    let wrong = wrong_of(rt.alloc(), &blobs)?;
+    let work = CheckWork::new(&stack, &blobs, &wrong);
+    let layers = walks_of(rt.alloc(), &work, 2)?;
+    let findings = finish_check(rt.alloc(), &work, layers)?;
+    assert_eq!(rt; findings.len(), 3);
+    assert_eq!(rt; findings[1].code, Code::RedirectDouble);
+    assert_eq!(rt; findings[1].path, Path::parse(rt.alloc(), "/b")?);
     Ok(())
 }
