@@ -77,7 +77,7 @@ module _ (layer : Entries) (path : PathNames) (name : PathName) (is : IsLayer la
 
 -- ---- an entry's name stands among the names below its directory
 
-name_below-child : (path : PathNames) (name : PathName) → name_below path (child_path path name) ≡ Some name
+pub name_below-child : (path : PathNames) (name : PathName) → name_below path (child_path path name) ≡ Some name
 name_below-child [] name = refl
 name_below-child (first ∷ path) name = ap (λ b. cond b (name_below path (child_path path name)) None) (name_eq-same first) ∙ name_below-child path name
 
@@ -93,7 +93,7 @@ is_entry : Option Inode → Bool
 is_entry None = false
 is_entry (Some inode) = true
 
-names_below-has : (layer : Entries) (path : PathNames) (name : PathName) (inode : Inode) → entry_at layer (child_path path name) ≡ Some inode → list_any (name_eq name) (names_below layer path) ≡ true
+pub names_below-has : (layer : Entries) (path : PathNames) (name : PathName) (inode : Inode) → entry_at layer (child_path path name) ≡ Some inode → list_any (name_eq name) (names_below layer path) ≡ true
 names_below-has [] path name inode here = let bad : None ≡ Some inode = here in cc
 names_below-has (entry ∷ layer) path name inode here = by (names_below-has layer path name inode) (path_eq (child_path path name) entry.0) refl here
   where
@@ -209,12 +209,12 @@ abbrev found-some : Option Inode → Bool
 found-some None = false
 found-some (Some inode) = true
 
-entry-limited : (layer : Entries) (path : PathNames) (inode : Inode) → IsLayer layer → entry_at layer path ≡ Some inode → length path ≤ 64
+pub entry-limited : (layer : Entries) (path : PathNames) (inode : Inode) → IsLayer layer → entry_at layer path ≡ Some inode → length path ≤ 64
 entry-limited layer path inode is here =
     let limited : is_within_limits path ≡ true = lookup-all (λ (entry : Entry). is_within_limits entry.0) path layer inode is.limited here in
     leb-true (length path) 64 (both {a = nat_le (length path) depth_limit} {b = nat_le (length (path_text path)) text_limit} limited).0
 
-directory-limited : (layer : Entries) (path : PathNames) → IsLayer layer → is_directory_at layer path ≡ true → length path ≤ 64
+pub directory-limited : (layer : Entries) (path : PathNames) → IsLayer layer → is_directory_at layer path ≡ true → length path ≤ 64
 directory-limited layer path is holds = by (entry_at layer path) refl holds
   where
     by : (found : Option Inode) → entry_at layer path ≡ found → elim found as (λ _. Bool) [ Some inode ↦ is_directory inode | None ↦ false ] ≡ true → length path ≤ 64

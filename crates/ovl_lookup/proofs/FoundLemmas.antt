@@ -81,7 +81,7 @@ metacopy_cases false true false file (Some (Some redirect)) is = let bad : false
 metacopy_cases false false opaque true reading is = (refl, refl)
 metacopy_cases false false opaque false reading is = let bad : false ≡ true = is in cc
 
-metacopy-file : (inode : Inode) → is_metacopy inode ≡ true → (is_directory inode ≡ false) × ((is_regular inode && has_metacopy inode) ≡ true)
+pub metacopy-file : (inode : Inode) → is_metacopy inode ≡ true → (is_directory inode ≡ false) × ((is_regular inode && has_metacopy inode) ≡ true)
 metacopy-file inode is = metacopy_cases (is_whiteout inode) (is_directory inode) (has_opaque inode) (is_regular inode && has_metacopy inode) (redirect_reading inode) is
 
 regular-kind : (kind : Kind) → (elim kind as (λ _. Bool) [ File size blob ↦ true | _ ↦ false ]) ≡ true → (elim kind as (λ _. Bool) [ Dir ↦ true | _ ↦ false ]) ≡ false

@@ -48,11 +48,11 @@ take_front : {X : Type 0} → (xs ys : List X) → take (length xs) (xs ++ ys) �
 take_front [] ys = refl
 take_front (x ∷ xs) ys = ap (λ rest. x ∷ rest) (take_front xs ys)
 
-length-child : (path : PathNames) (name : PathName) → is_root (child_path path name) ≡ false
+pub length-child : (path : PathNames) (name : PathName) → is_root (child_path path name) ≡ false
 length-child [] name = refl
 length-child (first ∷ path) name = refl
 
-parent_path-child : (path : PathNames) (name : PathName) → parent_path (child_path path name) ≡ path
+pub parent_path-child : (path : PathNames) (name : PathName) → parent_path (child_path path name) ≡ path
 parent_path-child path name =
     let len : length (path ++ name ∷ []) - 1 ≡ length path = omega (arith, length-append path (name ∷ [])) in
     ap (λ n. take n (path ++ name ∷ [])) len ∙ take_front path (name ∷ [])

@@ -1,0 +1,125 @@
+-- A layer of a stack: its entries one by one, and the directories in a directory.
+use Rattle.std.proofs.Common.{◌≡◌, ℕ, zero, suc, ◌+◌, ◌-◌, ◌<◌, ◌≤◌, ◌⊎◌, inl, inr, Bool, true, false, cond, Option, Some, None, List, [], ◌∷◌, ◌++◌, map, length, refl, sym, ap, ◌∙◌, subst, arith}
+use Rattle.std.specs.Prelude.{filter, not, slice_get, unwrap_or, AllPairs, All}
+use Rattle.std.specs.Map.{lookup}
+use Rattle.std.specs.List.{filter_map, cons_option, list_all, list_any}
+use Rattle.std.specs.Ordering.{ordering_then, nat_cmp}
+use Rattle.std.specs.Cmp.Lexicographic.{nat_list_cmp_total, lists_total, bytes_decides, pointwise_decides}
+use Rattle.std.proofs.lemmas.Cmp.{tied_itself, nat_cmp_total}
+use Rattle.std.specs.declared.cmp.Ordering.{Ordering}
+use Rattle.std.specs.declared.cmp.Ordering.TheVariants.{Less, Equal}
+use Rattle.ovl_names.specs.Names.{PathName, name_eq, name_cmp}
+use Rattle.ovl_names.specs.Paths.{PathNames, child_path, path_eq, path_cmp, depth_limit}
+use Rattle.ovl_names.specs.Order.{ascends}
+use Rattle.ovl_inode.specs.declared.inodes.Inode.{Inode}
+use Rattle.ovl_inode.specs.Marks.{is_directory}
+use Rattle.ovl_manifest.specs.Layers.{Entries, Entry, IsLayer, entry_at, entry_cmp, is_directory_at, name_below, names_below}
+use Rattle.ovl_lookup.specs.Stacks.{StackView}
+use Rattle.ovl_lookup.proofs.ChildLemmas.{directory-limited, all-first, all-rest}
+use Rattle.ovl_board.specs.declared.pieces.Piece.{Piece}
+use Rattle.ovl_board.specs.Pieces.{IsBefore, IsOneBelow, AreLawfulKids, HasLawfulKids}
+use Rattle.ovl_board.proofs.PieceOrder.{siblings, fork_before}
+use Rattle.ovl_board.proofs.Members.{In, Every, Rises, All-Every, AllPairs-Rises, In-map-cases}
+use Rattle.ovl_check.specs.Checks.{CheckView, layer_at, directory_piece, check_kids}
+use Rattle.ovl_check.proofs.Ascent.{Rises-ascends, Rises-filter, In-filter-cases}
+
+-- a layer of a stack is one, and past the last there is nothing
+pub layer_or_none : (layers : List Entries) → All IsLayer layers → (i : ℕ) → (unwrap_or (slice_get layers i) [] ≡ []) ⊎ IsLayer (unwrap_or (slice_get layers i) [])
+layer_or_none [] each i = inl refl
+layer_or_none (layer ∷ layers) each zero = inr (all-first IsLayer layer layers each)
+layer_or_none (layer ∷ layers) each (suc i) = layer_or_none layers (all-rest IsLayer layer layers each) i
+
+-- ---- the names in a directory
+
+cons_cases : {X : Type 0} (x : X) (o : Option X) (xs : List X) → In x (cons_option o xs) → (o ≡ Some x) ⊎ In x xs
+cons_cases x None xs h = inr h
+cons_cases x (Some y) xs (inl e) = inl (ap Some (sym e))
+cons_cases x (Some y) xs (inr h) = inr h
+
+below-path : (directory path : PathNames) (name : PathName) → name_below directory path ≡ Some name → path ≡ child_path directory name
+below-path [] [] name is = let bad : None ≡ Some name = is in cc
+below-path [] (own ∷ []) name is = ap (λ (o : Option PathName). elim o as (λ _. PathNames) [ Some n ↦ n ∷ [] | None ↦ [] ]) is
+below-path [] (own ∷ other ∷ names) name is = let bad : None ≡ Some name = is in cc
+below-path (first ∷ directory) [] name is = let bad : None ≡ Some name = is in cc
+below-path (first ∷ directory) (own ∷ names) name is = by (below-path directory names name) (name_eq first own) refl is
+  where
+    by : (name_below directory names ≡ Some name → names ≡ child_path directory name) → (b : Bool) → name_eq first own ≡ b → cond b (name_below directory names) None ≡ Some name → own ∷ names ≡ child_path (first ∷ directory) name
+    by later true e is = (λ j. sym ((bytes_decides first own).0 e) j ∷ later is j)
+    by later false e is = let bad : None ≡ Some name = is in cc
+
+pub below-In : (layer : Entries) (directory : PathNames) (name : PathName) → In name (names_below layer directory) → (entry : Entry) × (In entry layer × (entry.0 ≡ child_path directory name))
+below-In [] directory name h = absurd h
+below-In (entry ∷ layer) directory name h = elim (cons_cases name (name_below directory entry.0) (names_below layer directory) h) [
+  | inl e ↦ (entry, (inl refl, below-path directory entry.0 name e))
+  | inr k ↦ let r = below-In layer directory name k in (r.0, (inr r.1.0, r.1.1))
+]
+
+abbrev NameBefore : PathName → PathName → Type 0
+NameBefore a b = name_cmp a b ≡ Less
+
+names-rise : (layer : Entries) (directory : PathNames) → Rises (λ a b. entry_cmp a b ≡ Less) layer → Rises NameBefore (names_below layer directory)
+names-rise [] directory up = tt
+names-rise (entry ∷ layer) directory up = by (names-rise layer directory up.1) (name_below directory entry.0) refl
+  where
+    by : Rises NameBefore (names_below layer directory) → (o : Option PathName) → name_below directory entry.0 ≡ o → Rises NameBefore (cons_option o (names_below layer directory))
+    by rest None e = rest
+    by rest (Some name) e = (
+      (λ later h.
+          let other = below-In layer directory later h in
+          siblings name_cmp nat_list_cmp_total directory name later
+          ((λ j. path_cmp (sym (below-path directory entry.0 name e) j) (sym other.1.1 j)) ∙ up.0 other.0 other.1.0)),
+      rest,
+    )
+
+-- ---- kids are lawful, and no deeper than a layer
+
+abbrev pub kid_at : Piece → PathName → Piece
+kid_at p name = directory_piece p.space (child_path p.dir name)
+
+kids-rise : (p : Piece) (names : List PathName) → Rises NameBefore names → Rises IsBefore (map (kid_at p) names)
+kids-rise p [] up = tt
+kids-rise p (name ∷ names) up = (
+  (λ q h.
+      let other = In-map-cases (kid_at p) q names h in
+      subst (IsBefore (kid_at p name)) (sym other.1.1)
+      (ap (λ o. ordering_then o (path_cmp (child_path p.dir name) (child_path p.dir other.0))) (tied_itself nat_cmp_total p.space)
+      ∙ fork_before name_cmp nat_list_cmp_total p.dir name other.0 [] [] (up.0 other.0 other.1.0))),
+  kids-rise p names up.1,
+)
+
+module _ (work : CheckView) (each : All IsLayer work.stack.layers) where
+  pub kid-directory : (p q : Piece) → In q (check_kids work p) → (name : PathName) × (In name (names_below (layer_at work.stack p.space) p.dir) × ((is_directory_at (layer_at work.stack p.space) (child_path p.dir name) ≡ true) × (q ≡ kid_at p name)))
+  kid-directory p q h =
+      let layer = layer_at work.stack p.space in
+      let test : PathName → Bool = λ name. is_directory_at layer (child_path p.dir name) in
+      let one = In-map-cases (kid_at p) q (filter test (names_below layer p.dir)) h in
+      let there = In-filter-cases test one.0 (names_below layer p.dir) one.1.0 in
+      (one.0, (there.0, (there.1, one.1.1)))
+
+  pub layer-ascends : (i : ℕ) → Rises (λ a b. entry_cmp a b ≡ Less) (layer_at work.stack i)
+  layer-ascends i = elim (layer_or_none work.stack.layers each i) [
+    | inl none ↦ subst (Rises (λ a b. entry_cmp a b ≡ Less)) (sym none) tt
+    | inr is ↦ Rises-ascends entry_cmp (layer_at work.stack i) is.in_order
+  ]
+
+  within : (i : ℕ) (path : PathNames) → is_directory_at (layer_at work.stack i) path ≡ true → length path ≤ depth_limit
+  within i path is = elim (layer_or_none work.stack.layers each i) [
+    | inl none ↦ (let bad : false ≡ true = sym (ap (λ (l : Entries). is_directory_at l path) none) ∙ is in absurd (cc))
+    | inr layer ↦ directory-limited (layer_at work.stack i) path layer is
+  ]
+
+  pub check_kids-lawful : HasLawfulKids (check_kids work) depth_limit
+  check_kids-lawful = record {
+    lawful = λ p. record {
+      below = All-Every (IsOneBelow p) (check_kids work p) (λ q h.
+          let kid = kid-directory p q h in
+          subst (IsOneBelow p) (sym kid.1.1.1) (refl, (kid.0, refl)));
+      ascend = AllPairs-Rises IsBefore (check_kids work p)
+          (kids-rise p (filter (λ name. is_directory_at (layer_at work.stack p.space) (child_path p.dir name)) (names_below (layer_at work.stack p.space) p.dir))
+          (Rises-filter NameBefore (λ name. is_directory_at (layer_at work.stack p.space) (child_path p.dir name)) (names_below (layer_at work.stack p.space) p.dir)
+          (names-rise (layer_at work.stack p.space) p.dir (layer-ascends p.space))));
+    };
+    shallow = λ p. All-Every (λ kid. length kid.dir ≤ depth_limit) (check_kids work p) (λ q h.
+        let kid = kid-directory p q h in
+        subst (λ (x : Piece). length x.dir ≤ depth_limit) (sym kid.1.1.1) (within p.space (child_path p.dir kid.0) kid.1.1.0));
+  }

@@ -1,0 +1,15 @@
+mod Ascent
+mod Plain
+mod BlobLemmas
+mod DataLemmas
+mod FindLemmas
+mod LayerFacts
+mod OutLemmas
+mod CodeLemmas
+mod DoubleLemmas
+mod MemberLemmas
+mod FinishLemmas
+mod OrderLemmas
+pub mod WalkLists
+mod Digests
+mod Rows

@@ -1,0 +1,93 @@
+-- The findings of worked examples, by computation.
+use Rattle.std.specs.Prelude.{◌≡◌, ℕ, Bool, true, false, List, [], ◌∷◌, ◌++◌, codes, Some, None, refl, map, take}
+use Rattle.ovl_names.specs.Paths.{PathNames}
+use Rattle.ovl_inode.specs.declared.inodes.Inode.{Inode}
+use Rattle.ovl_inode.specs.declared.inodes.Kind.TheVariants.{Dir, File}
+use Rattle.ovl_inode.specs.Attributes.{overlay_prefix, opaque_name, redirect_name, metacopy_name, whiteout_name}
+use Rattle.ovl_inode.proofs.OnLiterals.{inode_on_literals}
+use Rattle.ovl_manifest.specs.Layers.{Entries}
+use Rattle.ovl_lookup.specs.Stacks.{StackView}
+use Rattle.ovl_lookup.specs.Sound.{are_sound}
+use Rattle.ovl_lookup.proofs.Notation.{plain_inode, directory, opaque, marked_x, moved, opaque_moved, file_a, metacopy, whiteout, empty_whiteout, full_whiteout, digest_a, path, layer_of}
+use Rattle.ovl_lookup.proofs.RowStacks.{stack_of, root_alone, covered, one_over, moved_twice, moved_twice_shown, opaque_with_redirect, metacopies_over}
+use Rattle.ovl_check.specs.declared.findings.Code.{Code}
+use Rattle.ovl_check.specs.declared.findings.Finding.{Finding}
+use Rattle.ovl_check.specs.declared.findings.Code.TheVariants.{RedirectForm, RedirectLost, RedirectKind, RedirectDouble, RedirectOpen, DataMissing, DataSize, BlobMissing, BlobSize, BlobDigest, OrphanWhiteout, WhiteoutInOpaque, WhiteoutUnmarked, ImpureMissing, MarkIgnored}
+use Rattle.ovl_check.specs.Blobs.{BlobView}
+use Rattle.ovl_check.specs.Findings.{finding, findings}
+use Rattle.ovl_check.proofs.Digests.{blob_a, digests_on_literals}
+
+-- a finding at a path of layer `i`, by its text
+abbrev at : ℕ → List ℕ → Code → Finding
+at i text code = finding i (path text) code
+
+-- the blob of the contents `a`
+abbrev with_a : List BlobView
+with_a = blob_a ∷ []
+
+root-clean : findings [] root_alone ≡ []
+unfolding inode_on_literals
+root-clean = refl
+
+covered-clean : findings with_a covered ≡ []
+unfolding inode_on_literals digests_on_literals
+covered-clean = refl
+
+empty-unmarked : findings with_a (one_over directory empty_whiteout) ≡ at 0 (codes "/f") WhiteoutUnmarked ∷ []
+unfolding inode_on_literals digests_on_literals
+empty-unmarked = refl
+
+empty-marked : findings with_a (one_over marked_x empty_whiteout) ≡ []
+unfolding inode_on_literals digests_on_literals
+empty-marked = refl
+
+full-ignored : findings with_a (one_over directory full_whiteout) ≡ at 0 (codes "/f") MarkIgnored ∷ []
+unfolding inode_on_literals digests_on_literals
+full-ignored = refl
+
+moved-clean : findings with_a moved_twice ≡ []
+unfolding inode_on_literals digests_on_literals
+moved-clean = refl
+
+moved-shown-clean : findings with_a moved_twice_shown ≡ []
+unfolding inode_on_literals digests_on_literals
+moved-shown-clean = refl
+
+opaque-redirect : findings with_a opaque_with_redirect ≡ at 0 (codes "/d") MarkIgnored ∷ []
+unfolding inode_on_literals digests_on_literals
+opaque-redirect = refl
+
+abbrev malformed : StackView
+malformed = stack_of (layer_of ((path (codes "/a"), moved (codes "/")) ∷ (path (codes "/b"), moved (codes "/a/")) ∷ (path (codes "/c"), moved (codes "a/b")) ∷ (path (codes "/e"), moved []) ∷ []) ∷ layer_of [] ∷ [])
+
+malformed-faults : findings [] malformed ≡ at 0 (codes "/a") RedirectForm ∷ at 0 (codes "/b") RedirectForm ∷ at 0 (codes "/c") RedirectForm ∷ at 0 (codes "/e") RedirectForm ∷ []
+unfolding inode_on_literals
+malformed-faults = refl
+
+-- two directories that go on at one place, which the layer doesn't hide
+abbrev double : StackView
+double = stack_of (layer_of ((path (codes "/a"), moved (codes "/x")) ∷ (path (codes "/b"), moved (codes "/x")) ∷ []) ∷ layer_of ((path (codes "/x"), directory) ∷ []) ∷ [])
+
+double-faults : findings [] double ≡ at 0 (codes "/a") RedirectOpen ∷ at 0 (codes "/b") RedirectDouble ∷ at 0 (codes "/b") RedirectOpen ∷ []
+unfolding inode_on_literals
+double-faults = refl
+
+lost-faults : findings [] (stack_of (layer_of ((path (codes "/a"), moved (codes "/x")) ∷ []) ∷ layer_of [] ∷ [])) ≡ at 0 (codes "/a") RedirectLost ∷ at 0 (codes "/a") RedirectOpen ∷ []
+unfolding inode_on_literals
+lost-faults = refl
+
+kind-faults : findings with_a (stack_of (layer_of ((path (codes "/a"), moved (codes "/x")) ∷ (path (codes "/x"), whiteout) ∷ []) ∷ layer_of ((path (codes "/x"), file_a) ∷ []) ∷ [])) ≡ at 0 (codes "/a") RedirectKind ∷ []
+unfolding inode_on_literals digests_on_literals
+kind-faults = refl
+
+metacopies-clean : findings with_a (metacopies_over file_a) ≡ []
+unfolding inode_on_literals digests_on_literals
+metacopies-clean = refl
+
+metacopies-missing : findings [] (metacopies_over whiteout) ≡ at 0 (codes "/f") DataMissing ∷ at 1 (codes "/f") DataMissing ∷ at 2 (codes "/f") OrphanWhiteout ∷ []
+unfolding inode_on_literals
+metacopies-missing = refl
+
+metacopies-size : findings with_a (stack_of (layer_of ((path (codes "/f"), metacopy 2) ∷ []) ∷ layer_of ((path (codes "/f"), metacopy 1) ∷ []) ∷ layer_of ((path (codes "/f"), file_a) ∷ []) ∷ [])) ≡ at 0 (codes "/f") DataSize ∷ []
+unfolding inode_on_literals digests_on_literals
+metacopies-size = refl

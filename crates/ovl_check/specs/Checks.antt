@@ -1,0 +1,102 @@
+-- The work of checking a stack, directory by directory.
+use mathlib.Core.List.{is_set}
+use Rattle.std.proofs.Math.Bool.{Bool-set}
+use native.Mathlib.Nat.{ℕ_set}
+use Rattle.std.specs.Coded.{Coded-set, coded_option, coded_list, coded_ℕ}
+use Rattle.ovl_check.specs.contracts.findings.Code as code_type
+use Rattle.std.specs.Prelude.{ℕ, ◌+◌, Bool, false, not, ◌&&◌, Option, Some, None, List, [], ◌++◌, if◌then◌else◌, map, filter, slice_get, unwrap_or}
+use Rattle.std.specs.List.{flat_map}
+use Rattle.ovl_names.specs.Names.{PathName}
+use Rattle.ovl_names.specs.Paths.{PathNames, child_path}
+use Rattle.ovl_manifest.specs.Layers.{Entries, Entry, entry_at, is_directory_at, names_below}
+use Rattle.ovl_inode.specs.declared.inodes.Kind.TheVariants.{File}
+use Rattle.ovl_lookup.specs.declared.looks.Look.{Look}
+use Rattle.ovl_lookup.specs.declared.looks.Look.TheVariants.{Shown}
+use Rattle.ovl_lookup.specs.Walk.{mark_at, walk}
+use Rattle.ovl_lookup.specs.Stacks.{StackView, from_layer}
+use Rattle.ovl_lookup.specs.Sound.{is_moved}
+use Rattle.ovl_board.specs.declared.pieces.Piece.{Piece}
+use Rattle.ovl_check.specs.declared.findings.Code.{Code}
+use Rattle.ovl_check.specs.declared.findings.Finding.{Finding}
+use Rattle.ovl_check.specs.declared.subjects.CheckOut.{CheckOut}
+use Rattle.ovl_check.specs.Codes.{all_codes, is_double}
+use Rattle.ovl_check.specs.Blobs.{BlobView}
+use Rattle.ovl_check.specs.Conditions.{holds}
+use Rattle.ovl_check.specs.Findings.{finding}
+
+-- what is checked: a stack and its blobs
+pub record CheckView : Type 0 where
+  pub stack : StackView
+  pub blobs : List BlobView
+
+-- what is seen of the output of a directory: its findings, its next path where its walk is open, and whether it is moved
+pub record CheckSeen : Type 0 where
+  pub findings : List Finding
+  pub place : Option PathNames
+  pub moved : Bool
+
+abbrev pub check_seen : CheckOut → CheckSeen
+check_seen out = record { findings = out.findings.items; place = out.place; moved = out.moved }
+
+-- layer `i` of a stack, and the layers below it
+abbrev pub layer_at : StackView → ℕ → Entries
+layer_at stack i = unwrap_or (slice_get stack.layers i) []
+
+abbrev pub layers_below : StackView → ℕ → StackView
+layers_below stack i = from_layer (i + 1) stack
+
+-- the size of the file that is shown
+abbrev pub size_shown : Look → Option ℕ
+size_shown (Shown inode) = elim inode.kind [ File size blob ↦ Some size | _ ↦ None ]
+size_shown _ = None
+
+-- a directory of layer `i`
+abbrev pub directory_piece : ℕ → PathNames → Piece
+directory_piece i dir = record { space = i; dir = dir }
+
+-- the kids of a directory: the directories directly in it
+abbrev pub check_kids : CheckView → Piece → List Piece
+check_kids work piece =
+    let layer = layer_at work.stack piece.space in
+    map (λ name. directory_piece piece.space (child_path piece.dir name))
+    (filter (λ name. is_directory_at layer (child_path piece.dir name)) (names_below layer piece.dir))
+
+-- the condition of a code other than redirect-double holds at an entry of layer `i`
+abbrev pub holds_alone : CheckView → ℕ → Entry → Code → Bool
+holds_alone work i entry code = not (is_double code) && holds work.blobs (layer_at work.stack i) (layers_below work.stack i) entry code
+
+-- the findings at an entry, redirect-double apart
+abbrev pub findings_alone : CheckView → ℕ → Entry → List Finding
+findings_alone work i entry = map (finding i entry.0) (filter (holds_alone work i entry) all_codes)
+
+-- the same at a path, where there is an entry
+abbrev pub findings_at_path : CheckView → ℕ → PathNames → List Finding
+findings_at_path work i path =
+    elim (entry_at (layer_at work.stack i) path) [ Some inode ↦ findings_alone work i (path, inode) | None ↦ [] ]
+
+-- those of a directory: at itself, and at each name in it that is no directory
+abbrev pub directory_findings : CheckView → ℕ → PathNames → List Finding
+directory_findings work i dir =
+    let layer = layer_at work.stack i in
+    findings_at_path work i dir
+    ++ flat_map (λ name. findings_at_path work i (child_path dir name))
+    (filter (λ name. not (is_directory_at layer (child_path dir name))) (names_below layer dir))
+
+-- the output of a directory; nothing is put out elsewhere
+abbrev pub no_seen : CheckSeen
+no_seen = record { findings = []; place = None; moved = false }
+
+abbrev pub check_out : CheckView → Piece → CheckSeen
+check_out work piece =
+    let layer = layer_at work.stack piece.space in
+    if is_directory_at layer piece.dir
+    then record {
+      findings = directory_findings work piece.space piece.dir;
+      place = (if (walk layer piece.dir).closed then None else Some (walk layer piece.dir).next);
+      moved = is_moved (mark_at layer piece.dir);
+    }
+    else no_seen
+
+-- what is seen is plain data
+pub seen_set : IsSet CheckSeen
+seen_set = hlevel (is_set, Coded-set (coded_option (coded_list (coded_list coded_ℕ))), ℕ_set, Bool-set, Coded-set (code_type.the_row).coded)

@@ -1,0 +1,57 @@
+ghost use Rattle.std.specs.Prelude.{◌≡◌};
+ghost use Rattle.ovl_check.specs.Codes.{is_fault as fault_test};
+
+use ovl_names::Path;
+
+/// What a finding says of an entry, in the order of reports: ten faults, then five notes. docs/PROFILE.md has the
+/// condition of each.
+#[derive(Clone, Copy, Debug, PartialEq, Eq, PartialOrd, Ord)]
+pub enum Code {
+    /// A redirect that is malformed.
+    RedirectForm,
+    /// A moved directory whose old place shows nothing.
+    RedirectLost,
+    /// A moved directory whose old place shows something else than a directory.
+    RedirectKind,
+    /// A moved directory that goes on where an earlier directory does.
+    RedirectDouble,
+    /// A moved directory whose old place isn't hidden.
+    RedirectOpen,
+    /// A metacopy file without data.
+    DataMissing,
+    /// A metacopy file whose data has another size.
+    DataSize,
+    /// A file whose blob isn't among the blobs.
+    BlobMissing,
+    /// A file whose blob has another length than the file's size.
+    BlobSize,
+    /// A file whose blob has another digest than its name.
+    BlobDigest,
+    /// A whiteout that hides nothing.
+    OrphanWhiteout,
+    /// A whiteout in an opaque directory.
+    WhiteoutInOpaque,
+    /// A whiteout by attribute in a directory that isn't marked as having such.
+    WhiteoutUnmarked,
+    /// A directory that holds a copied entry and isn't marked as impure.
+    ImpureMissing,
+    /// An entry with an attribute that says nothing there.
+    MarkIgnored,
+}
+
+impl Code {
+    /// Whether it is a fault; the others are notes.
+    pub fn is_fault(self) -> bool
+        ensures { result ≡ fault_test self }
+    {
+        self < Code::OrphanWhiteout
+    }
+}
+
+/// What is found at an entry of a layer. Findings are ordered by layer, then by path, then by code.
+#[derive(Debug, PartialEq, Eq, PartialOrd, Ord, Drop)]
+pub struct Finding {
+    pub layer: u16,
+    pub path: Path,
+    pub code: Code,
+}

@@ -1,0 +1,101 @@
+ghost use Rattle.std.specs.Prelude.{◌≡◌, ◌++◌, [], length, map, IfOk, OnOk};
+ghost use Rattle.std.specs.List.{flat_map};
+ghost use Rattle.ovl_board.specs.Parcels.{parcel_view, parcel_views};
+ghost use Rattle.ovl_check.specs.Blobs.{blob_views};
+ghost use Rattle.ovl_check.specs.Findings.{findings as all_findings};
+ghost use Rattle.ovl_check.specs.Checks.{check_seen};
+ghost use Rattle.ovl_check.specs.CheckViews.{check_view};
+ghost use Rattle.ovl_check.specs.Walks.{AreLayerWalks, double_at, places_with, doubles_after, found_along};
+
+use crate::findings::{Code, Finding};
+use crate::subjects::{CheckOut, CheckWork};
+use ovl_board::Parcel;
+use ovl_names::Path;
+use std::alloc::{AllocError, Global};
+use std::collections::BTreeSet;
+
+/// All that is found in a stack and its blobs, by layer, then by path, then by code, each once. The lists of parcels
+/// are the plain walks of the work from the root of each layer, in order. Fails only for want of memory.
+pub fn finish_check(
+    alloc: Global,
+    _work: &CheckWork<'_>,
+    layers: Vec<Vec<Parcel<CheckOut>>>,
+) -> Result<Vec<Finding>, AllocError>
+    requires count { length layers.items ≡ length _work.now.stack.now.layers }
+    requires walks { AreLayerWalks (check_view _work.now) 0 (map (λ parcels. parcel_views check_seen parcels.items) layers.items) }
+    ensures { IfOk result (λ found. found.items ≡ all_findings (blob_views _work.now.blobs.now) _work.now.stack.now) }
+{
+    // The stack keeps its layers.
+    let _layers = _work.stack.layers();
+    let mut found = found_in(alloc, layers)?;
+    found.sort()?;
+    found.dedup();
+    Ok(found)
+}
+
+// What is found along the walks of all layers.
+fn found_in(alloc: Global, layers: Vec<Vec<Parcel<CheckOut>>>) -> Result<Vec<Finding>, AllocError>
+    ensures { IfOk result (λ found. found.items ≡ flat_map (λ parcels. found_along (parcel_views check_seen parcels.items)) layers.items) }
+{
+    let mut found = Vec::new(alloc);
+    for parcels in layers {
+        push_doubles(alloc, &parcels, &mut found)?;
+        push_outputs(parcels, &mut found)?;
+    }
+    Ok(found)
+}
+
+// Adds the outputs of all directories.
+fn push_outputs(
+    parcels: Vec<Parcel<CheckOut>>,
+    findings: &mut Vec<Finding>,
+) -> Result<(), AllocError>
+    ensures { OnOk result (findings.new.items ≡ findings.old.items ++ flat_map (λ parcel. parcel.out.findings.items) parcels.items) }
+{
+    for parcel in parcels {
+        let out = parcel.out;
+        let mut found = out.findings;
+        findings.append(&mut found)?;
+    }
+    Ok(())
+}
+
+// Adds a finding for each moved directory that goes on where an earlier one does.
+fn push_doubles(
+    alloc: Global,
+    parcels: &[Parcel<CheckOut>],
+    findings: &mut Vec<Finding>,
+) -> Result<(), AllocError>
+    ensures { OnOk result (findings.new.items ≡ findings.old.items ++ doubles_after [] (parcel_views check_seen parcels.now)) }
+{
+    let mut places = BTreeSet::new(alloc);
+    for parcel in parcels {
+        note_place(alloc, parcel, &mut places, findings)?;
+    }
+    Ok(())
+}
+
+// Notes where a directory goes on, and adds a finding where it is moved and an earlier one goes on there.
+fn note_place(
+    alloc: Global,
+    parcel: &Parcel<CheckOut>,
+    places: &mut BTreeSet<Path>,
+    findings: &mut Vec<Finding>,
+) -> Result<(), AllocError>
+    ensures found { OnOk result (findings.new.items ≡ findings.old.items
+        ++ double_at places.old.keys (parcel_view check_seen parcel.now) (check_seen parcel.now.out).place) }
+    ensures noted { OnOk result (places.new.keys ≡ places_with places.old.keys (check_seen parcel.now.out).place) }
+{
+    let Some(place) = &parcel.out.place else {
+        return Ok(());
+    };
+    let first = places.insert(place.copy(alloc)?)?;
+    if parcel.out.moved && !first {
+        findings.push(Finding {
+            layer: parcel.piece.space,
+            path: parcel.piece.dir.copy(alloc)?,
+            code: Code::RedirectDouble,
+        })?;
+    }
+    Ok(())
+}

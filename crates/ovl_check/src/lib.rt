@@ -1,0 +1,19 @@
+//! What is wrong with a stack of layers and its blobs, as work in pieces.
+#![tactic(auto)]
+
+mod blobs;
+mod checks;
+mod contents;
+mod findings;
+mod finish;
+mod notes;
+mod places;
+mod redirects;
+mod subjects;
+#[cfg(test)]
+mod tests;
+
+pub use blobs::{BLOB_SPACE, Blob, BlobWork, blobs_in_order, finish_blobs};
+pub use findings::{Code, Finding};
+pub use finish::finish_check;
+pub use subjects::{CheckOut, CheckWork};
