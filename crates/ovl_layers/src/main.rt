@@ -3,7 +3,6 @@
 
 mod faults;
 mod inputs;
-mod reports;
 mod shows;
 #[cfg(test)]
 mod tests;
