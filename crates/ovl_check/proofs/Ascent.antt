@@ -1,0 +1,102 @@
+-- Strictly ascending lists, and their members.
+use Rattle.std.proofs.Common.{◌≡◌, ◌⊎◌, inl, inr, Bool, true, false, cond, List, [], ◌∷◌, refl, sym, ap, ◌∙◌, subst}
+use Rattle.std.specs.Prelude.{◌&&◌, filter}
+use Rattle.std.specs.List.{list_all, list_any, AllByRecursion}
+use Rattle.std.specs.List.Sorted.{IsStrictlySortedBy}
+use Rattle.std.specs.Ordering.{is_lt}
+use Rattle.std.specs.Cmp.{IsTotalOrder}
+use Rattle.std.proofs.lemmas.Cmp.{tied_itself}
+use Rattle.std.specs.declared.cmp.Ordering.{Ordering}
+use Rattle.std.specs.declared.cmp.Ordering.TheVariants.{Less, Equal}
+use Rattle.ovl_names.specs.Order.{ascends}
+use Rattle.ovl_names.proofs.Ascending.{both, is_lt-Less}
+use Rattle.ovl_board.proofs.Members.{In, Every, Rises}
+
+-- ---- tests of all elements, and of some
+
+pub list_all-Every : {X : Type 0} (test : X → Bool) (xs : List X) → list_all test xs ≡ true → Every (λ x. test x ≡ true) xs
+list_all-Every test [] all x h = absurd h
+list_all-Every test (y ∷ xs) all x (inl e) = ap test e ∙ (both {a = test y} {b = list_all test xs} all).0
+list_all-Every test (y ∷ xs) all x (inr h) = list_all-Every test xs (both {a = test y} {b = list_all test xs} all).1 x h
+
+pub list_all-from_Every : {X : Type 0} (test : X → Bool) (xs : List X) → Every (λ x. test x ≡ true) xs → list_all test xs ≡ true
+list_all-from_Every test [] each = refl
+list_all-from_Every test (y ∷ xs) each = (λ j. each y (inl refl) j && list_all-from_Every test xs (λ x h. each x (inr h)) j)
+
+-- ---- what passes a test
+
+pub In-filter : {X : Type 0} (test : X → Bool) (x : X) (xs : List X) → In x xs → test x ≡ true → In x (filter test xs)
+In-filter test x [] h t = absurd h
+In-filter {X} test x (y ∷ xs) (inl e) t =
+    subst (λ b. In x (cond b (y ∷ filter test xs) (filter test xs))) (sym (ap test (sym e) ∙ t)) (inl e)
+In-filter {X} test x (y ∷ xs) (inr h) t = by (test y) (In-filter test x xs h t)
+  where
+    by : (b : Bool) → In x (filter test xs) → In x (cond b (y ∷ filter test xs) (filter test xs))
+    by true later = inr later
+    by false later = later
+
+pub In-filter-cases : {X : Type 0} (test : X → Bool) (x : X) (xs : List X) → In x (filter test xs) → In x xs × (test x ≡ true)
+In-filter-cases test x [] h = absurd h
+In-filter-cases {X} test x (y ∷ xs) h = by (In-filter-cases test x xs) (test y) refl h
+  where
+    by : (In x (filter test xs) → In x xs × (test x ≡ true)) → (b : Bool) → test y ≡ b → In x (cond b (y ∷ filter test xs) (filter test xs)) → In x (y ∷ xs) × (test x ≡ true)
+    by later true t (inl e) = (inl e, ap test e ∙ t)
+    by later true t (inr k) = (inr (later k).0, (later k).1)
+    by later false t k = (inr (later k).0, (later k).1)
+
+-- ---- order
+
+-- the two ways to say that each element comes before all later ones
+pub Rises-ascends : {X : Type 0} (cmp : X → X → Ordering) (xs : List X) → ascends cmp xs ≡ true → Rises (λ a b. cmp a b ≡ Less) xs
+Rises-ascends cmp [] up = tt
+Rises-ascends cmp (x ∷ xs) up =
+    let parts = both {a = list_all (λ later. is_lt (cmp x later)) xs} {b = ascends cmp xs} up in
+    ((λ y h. is_lt-Less (cmp x y) (list_all-Every (λ later. is_lt (cmp x later)) xs parts.0 y h)), Rises-ascends cmp xs parts.1)
+
+pub ascends-Rises : {X : Type 0} (cmp : X → X → Ordering) (xs : List X) → Rises (λ a b. cmp a b ≡ Less) xs → ascends cmp xs ≡ true
+ascends-Rises cmp [] up = refl
+ascends-Rises cmp (x ∷ xs) up =
+    (λ j. list_all-from_Every (λ later. is_lt (cmp x later)) xs (λ y h. ap is_lt (up.0 y h)) j && ascends-Rises cmp xs up.1 j)
+
+pub Rises-sorted : {X : Type 0} (cmp : X → X → Ordering) (xs : List X) → IsStrictlySortedBy cmp xs → Rises (λ a b. cmp a b ≡ Less) xs
+unfolding IsStrictlySortedBy
+Rises-sorted cmp [] up = tt
+Rises-sorted {X} cmp (x ∷ xs) up = (first xs up.0, Rises-sorted cmp xs up.1)
+  where
+    first : (ys : List X) → AllByRecursion (λ y. cmp x y ≡ Less) ys → Every (λ y. cmp x y ≡ Less) ys
+    first [] all y h = absurd h
+    first (z ∷ ys) all y (inl e) = ap (cmp x) e ∙ all.0
+    first (z ∷ ys) all y (inr h) = first ys all.1 y h
+
+-- a filter and a map keep it
+pub Rises-filter : {X : Type 0} (R : X → X → Type 0) (test : X → Bool) (xs : List X) → Rises R xs → Rises R (filter test xs)
+Rises-filter R test [] up = tt
+Rises-filter {X} R test (x ∷ xs) up = by (test x) (Rises-filter R test xs up.1)
+  where
+    by : (b : Bool) → Rises R (filter test xs) → Rises R (cond b (x ∷ filter test xs) (filter test xs))
+    by true later = ((λ y h. up.0 y (In-filter-cases test y xs h).0), later)
+    by false later = later
+
+module _ {X : Type 0} (R : X → X → Type 0) (never : (x : X) → R x x → ⊥) (trans : (x y z : X) → R x y → R y z → R x z) where
+  -- two strictly ascending lists with the same members are one
+  pub rising_same : (ps qs : List X) → Rises R ps → Rises R qs → ((x : X) → In x ps → In x qs) → ((x : X) → In x qs → In x ps) → ps ≡ qs
+  rising_same [] [] a b f g = refl
+  rising_same [] (q ∷ qs) a b f g = absurd (g q (inl refl))
+  rising_same (p ∷ ps) [] a b f g = absurd (f p (inl refl))
+  rising_same (p ∷ ps) (q ∷ qs) a b f g =
+      let same = heads (f p (inl refl)) (g q (inl refl)) in
+      ap (λ x. x ∷ ps) same ∙ ap (λ xs. q ∷ xs) (rising_same ps qs a.1 b.1
+      (λ x i. elim (f x (inr i)) [ inl e ↦ absurd (never x (subst (λ y. R y x) (same ∙ sym e) (a.0 x i))) | inr k ↦ k ])
+      (λ x i. elim (g x (inr i)) [ inl e ↦ absurd (never x (subst (λ y. R y x) (sym same ∙ sym e) (b.0 x i))) | inr k ↦ k ]))
+    where
+      heads : In p (q ∷ qs) → In q (p ∷ ps) → p ≡ q
+      heads (inl e) k = e
+      heads (inr i) (inl e) = sym e
+      heads (inr i) (inr k) = absurd (never p (trans p q p (a.0 q k) (b.0 p i)))
+
+-- the same by a total order
+pub less_never : {X : Type 0} {cmp : X → X → Ordering} (order : IsTotalOrder cmp) (x : X) → cmp x x ≡ Less → ⊥
+less_never order x lt = let bad : Less ≡ Equal = sym lt ∙ tied_itself order x in absurd (cc)
+
+pub ordered_same : {X : Type 0} {cmp : X → X → Ordering} (order : IsTotalOrder cmp) (ps qs : List X) → Rises (λ a b. cmp a b ≡ Less) ps → Rises (λ a b. cmp a b ≡ Less) qs → ((x : X) → In x ps → In x qs) → ((x : X) → In x qs → In x ps) → ps ≡ qs
+ordered_same {X} {cmp} order ps qs a b f g = rising_same (λ x y. cmp x y ≡ Less) (less_never order) order.trans ps qs a b f g

@@ -1,0 +1,3 @@
+mod Ascent
+mod Plain
+mod BlobLemmas

@@ -1,0 +1,219 @@
+ghost use Rattle.std.specs.Prelude.{◌≡◌, IfOk, true, map};
+ghost use Rattle.std.specs.List.{flat_map};
+ghost use Rattle.sha2.specs.Sha256.{sha256};
+ghost use Rattle.ovl_names.specs.Names.{name_eq};
+ghost use Rattle.ovl_board.specs.declared.pieces.Piece.{Piece};
+ghost use Rattle.ovl_board.specs.Parcels.{IsPlain, parcel_views};
+ghost use Rattle.ovl_check.specs.Blobs.{blob_view, blob_views, first_digits as the_digits, is_wrong as wrong_test, are_in_order, wrong_names, wrong_names_under as the_names_under, digits_of_names as the_digits_of_names, digits_piece, blob_kids, blob_out, blob_root};
+
+use ovl_board::{Parcel, Piece, Work};
+use ovl_inode::Digest;
+use ovl_names::{Name, Path};
+use sha2::Sha256;
+use std::alloc::{AllocError, Global};
+use std::collections::BTreeSet;
+use std::marker::Model;
+
+/// The space of the pieces of a [`BlobWork`].
+pub const BLOB_SPACE: u16 = 128;
+
+/// A blob: bytes under the digest that they should have.
+#[derive(Debug, Drop)]
+pub struct Blob {
+    pub name: Digest,
+    pub bytes: Vec<u8>,
+}
+
+/// Whether the names of the blobs ascend strictly.
+pub fn blobs_in_order(blobs: &[Blob]) -> bool
+    ensures { result ≡ are_in_order (blob_views blobs.now) }
+{
+    for i in 1..blobs.len() {
+        if !blobs[i - 1].name.cmp(&blobs[i].name).is_lt() {
+            return false;
+        }
+    }
+    true
+}
+
+/// The digests of blobs as work, in the space [`BLOB_SPACE`]. The root has a kid for each two hexadecimal digits with
+/// which a blob's name begins. The output of such a kid is the names of its blobs whose bytes have another SHA-256
+/// digest, in the order of the blobs; the root puts out none.
+#[derive(Drop)]
+pub struct BlobWork<'a> {
+    blobs: &'a [Blob],
+}
+
+impl<'a> Model for BlobWork<'a> {
+    ghost use Rattle.std.specs.Prelude.{List};
+    ghost use Rattle.ovl_check.specs.Blobs.{BlobView, blob_views};
+
+    ghost Value = { List BlobView };
+
+    ghost view = { λ a. blob_views a.blobs.now };
+}
+
+impl<'a> BlobWork<'a> {
+    /// The work of these blobs.
+    pub fn new(blobs: &'a [Blob]) -> BlobWork<'a>
+        ensures { result ≡ blob_views blobs.now }
+    {
+        BlobWork { blobs }
+    }
+
+    // A kid for each two digits with which a name begins, in order.
+    fn kids(&self, alloc: Global) -> Result<Vec<Piece>, AllocError>
+        ensures { IfOk result (λ kids. kids.items ≡ blob_kids self.now blob_root) }
+    {
+        let digits = digits_of_names(alloc, self.blobs)?;
+        digits_pieces(alloc, digits)
+    }
+
+    // The names of the blobs with wrong bytes whose names begin with these digits.
+    fn wrong_names(&self, alloc: Global, digits: &Name) -> Result<Vec<Digest>, AllocError>
+        ensures { IfOk result (λ names. names.items ≡ the_names_under digits.now self.now) }
+    {
+        wrong_names_under(alloc, self.blobs, digits)
+    }
+}
+
+impl<'a> Work for BlobWork<'a> {
+    type Out = Vec<Digest>;
+
+    ghost use Rattle.std.specs.Prelude.{ℕ, List};
+    ghost use Rattle.ovl_check.specs.Blobs.{blob_kids, blob_out, names_set};
+
+    ghost Seen = { List (List ℕ) };
+
+    ghost seen_set = { names_set };
+
+    ghost seen = { λ names. names.items };
+
+    ghost kids_of = { blob_kids };
+
+    ghost out_of = { blob_out };
+
+    ghost deepest_of = { λ _. 1 };
+
+    fn visit(&self, alloc: Global, piece: &Piece) -> Result<(Vec<Piece>, Vec<Digest>), AllocError> {
+        let none = Vec::new(alloc);
+        if piece.space != BLOB_SPACE {
+            return Ok((none, Vec::new(alloc)));
+        }
+        match piece.dir.names() {
+            [] => Ok((self.kids(alloc)?, Vec::new(alloc))),
+            [digits] => Ok((none, self.wrong_names(alloc, digits)?)),
+            _ => Ok((none, Vec::new(alloc))),
+        }
+    }
+
+    fn deepest(&self) -> u32 {
+        1
+    }
+}
+
+/// The names of the blobs whose bytes have another SHA-256 digest, ascending, where the blobs' names ascend strictly.
+/// The parcels are the plain walk of the work from `/` of its space. Fails only for want of memory.
+pub fn finish_blobs(
+    alloc: Global,
+    _work: &BlobWork<'_>,
+    parcels: Vec<Parcel<Vec<Digest>>>,
+) -> Result<Vec<Digest>, AllocError>
+    requires { IsPlain (blob_kids _work.now) (blob_out _work.now) blob_root (parcel_views (λ names. names.items) parcels.items) }
+    ensures { are_in_order _work.now ≡ true → IfOk result (λ names. names.items ≡ wrong_names _work.now) }
+{
+    let mut names = outputs(alloc, parcels)?;
+    names.sort()?;
+    names.dedup();
+    Ok(names)
+}
+
+// The outputs of all parcels, one after another.
+fn outputs(alloc: Global, parcels: Vec<Parcel<Vec<Digest>>>) -> Result<Vec<Digest>, AllocError>
+    ensures { IfOk result (λ names. names.items ≡ flat_map (λ parcel. parcel.out.items) parcels.items) }
+{
+    let mut names = Vec::new(alloc);
+    for parcel in parcels {
+        let mut out = parcel.out;
+        names.append(&mut out)?;
+    }
+    Ok(names)
+}
+
+// The first two digits of the blobs' names, each once, in order.
+fn digits_of_names(alloc: Global, blobs: &[Blob]) -> Result<BTreeSet<Name>, AllocError>
+    ensures { IfOk result (λ digits. digits.keys ≡ the_digits_of_names (blob_views blobs.now)) }
+{
+    let mut digits = BTreeSet::new(alloc);
+    for blob in blobs {
+        digits.insert(digits_name(alloc, &blob.name)?)?;
+    }
+    Ok(digits)
+}
+
+// The piece of each two digits.
+fn digits_pieces(alloc: Global, digits: BTreeSet<Name>) -> Result<Vec<Piece>, AllocError>
+    ensures { IfOk result (λ pieces. pieces.items ≡ map digits_piece digits.keys) }
+{
+    let mut pieces = Vec::new(alloc);
+    for name in digits {
+        let mut dir = Path::root(alloc);
+        dir.push(name)?;
+        pieces.push(Piece {
+            space: BLOB_SPACE,
+            dir,
+        })?;
+    }
+    Ok(pieces)
+}
+
+// The names of the blobs with wrong bytes whose names begin with these digits.
+fn wrong_names_under(
+    alloc: Global,
+    blobs: &[Blob],
+    digits: &Name,
+) -> Result<Vec<Digest>, AllocError>
+    ensures { IfOk result (λ names. names.items ≡ the_names_under digits.now (blob_views blobs.now)) }
+{
+    let mut names = Vec::new(alloc);
+    for blob in blobs {
+        if begins_with(&blob.name, digits) && is_wrong(blob) {
+            names.push(blob.name)?;
+        }
+    }
+    Ok(names)
+}
+
+fn first_digits(name: &Digest) -> [u8; 2]
+    ensures { result ≡ the_digits name.now }
+{
+    let mut digits = [0; 2];
+    let _ = hex::encode_to_slice(&name.as_bytes()[..1], &mut digits);
+    digits
+}
+
+// The first two digits of a digest, as a name.
+fn digits_name(alloc: Global, name: &Digest) -> Result<Name, AllocError>
+    ensures { IfOk result (λ digits. digits ≡ the_digits name.now) }
+{
+    let text = hex::encode(alloc, &name.as_bytes()[..1])?;
+    match Name::of(alloc, text.as_str()) {
+        Ok(digits) => Ok(digits),
+        // Two digits are a name, so that there is no other fault.
+        Err(_) => Err(AllocError),
+    }
+}
+
+fn begins_with(name: &Digest, digits: &Name) -> bool
+    ensures { result ≡ name_eq digits.now (the_digits name.now) }
+{
+    digits.as_str().as_bytes() == first_digits(name).as_slice()
+}
+
+// Whether the blob's bytes have another digest than its name.
+fn is_wrong(blob: &Blob) -> bool
+    ensures { result ≡ wrong_test (blob_view blob.now) }
+{
+    <Sha256 as sha2::Digest>::digest(blob.bytes.as_slice()).as_slice()
+        != blob.name.as_bytes().as_slice()
+}
