@@ -15,6 +15,9 @@ use std::test::Fail;
 // The SHA-256 digest of `a`.
 const DIGEST_OF_A: &str = "ca978112ca1bbdcafac231b39a23dc4da786eff8147c4e72b9807785afee48bb";
 
+// The SHA-256 digest of `abc`.
+const DIGEST_OF_ABC: &str = "ba7816bf8f01cfea414140de5dae2223b00361a396177a9cb410ff61f20015ad";
+
 fn inode_of(alloc: Global, mode: u16, kind: Kind) -> Inode {
     Inode {
         kind,
@@ -319,5 +322,27 @@ fn a_failed_write_is_told_with_what_went_out(rt: HostRuntime) -> Result<(), Fail
     let fault = emit(&mut short, b"abcde".as_slice());
     assert_eq!(rt; fault, Err(EmitFault { written: 3 }));
     assert_eq!(rt; short.taken.as_slice(), b"abc".as_slice());
+    Ok(())
+}
+
+fn contents_of(alloc: Global, texts: &[&str]) -> Result<Vec<Vec<u8>>, Fail> {
+    let mut contents = Vec::new(alloc);
+    for text in texts {
+        contents.push(String::from_str(alloc, text)?.into_bytes())?;
+    }
+    Ok(contents)
+}
+
+#[test]
+fn blobs_are_named_by_their_digests_and_each_once(rt: HostRuntime) -> Result<(), Fail> {
+    let contents = contents_of(rt.alloc(), &["abc", "a", "abc"])?;
+    let blobs = named_blobs(rt.alloc(), &contents)?;
+    let [first, second] = blobs.as_slice() else {
+        return Err(Fail::from("not two blobs"));
+    };
+    assert_eq!(rt; first.name, Digest::parse(DIGEST_OF_ABC)?);
+    assert_eq!(rt; first.bytes.as_slice(), b"abc".as_slice());
+    assert_eq!(rt; second.name, Digest::parse(DIGEST_OF_A)?);
+    assert_eq!(rt; second.bytes.as_slice(), b"a".as_slice());
     Ok(())
 }
