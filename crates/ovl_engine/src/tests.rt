@@ -124,11 +124,21 @@ const DIR: &str = "\"kind\":\"dir\",\"mode\":493";
 const FILE: &str =
     "\"kind\":\"file\",\"mode\":420,\"size\":1,\"blob\":\"ca978112ca1bbdcafac231b39a23dc4da786eff8147c4e72b9807785afee48bb\"";
 
+const EMPTY: &str = "\"kind\":\"file\",\"mode\":420,\"size\":0";
+
 const WHITEOUT: &str = "\"kind\":\"char\",\"mode\":0,\"major\":0,\"minor\":0";
 
 const IS_OPAQUE: &str = "\"trusted.overlay.opaque\":\"79\"";
 
+const HOLDS_WHITEOUTS: &str = "\"trusted.overlay.opaque\":\"78\"";
+
 const TO_X: &str = "\"trusted.overlay.redirect\":\"2f78\"";
+
+const BESIDE_R: &str = "\"trusted.overlay.redirect\":\"72\"";
+
+const OPAQUE_TO_X: &str = "\"trusted.overlay.opaque\":\"79\",\"trusted.overlay.redirect\":\"2f78\"";
+
+const IS_WHITEOUT: &str = "\"trusted.overlay.whiteout\":\"\"";
 
 // A layer of a root and these entries: the path, what its kind states, and the attributes of each.
 fn layer_of(alloc: Global, entries: &[(&str, &str, &str)]) -> Result<Layer, Fail> {
@@ -158,28 +168,32 @@ fn two_directories(alloc: Global) -> Result<Stack, Fail> {
     Ok(Stack::of(layers)?)
 }
 
+fn stack_of(
+    alloc: Global,
+    upper: &[(&str, &str, &str)],
+    lower: &[(&str, &str, &str)],
+) -> Result<Stack, Fail> {
+    let mut layers = Vec::new(alloc);
+    layers.push(layer_of(alloc, upper)?)?;
+    layers.push(layer_of(alloc, lower)?)?;
+    Ok(Stack::of(layers)?)
+}
+
 // An absolute redirect in an opaque directory, over what it hides and what it comes from.
 fn moved_in_opaque(alloc: Global) -> Result<Stack, Fail> {
-    let mut layers = Vec::new(alloc);
-    layers.push(layer_of(
-        alloc,
-        &[
-            ("/n", DIR, IS_OPAQUE),
-            ("/n/d", DIR, TO_X),
-            ("/x", WHITEOUT, ""),
-        ],
-    )?)?;
-    layers.push(layer_of(
-        alloc,
-        &[
-            ("/n", DIR, ""),
-            ("/n/z", FILE, ""),
-            ("/n-a", FILE, ""),
-            ("/x", DIR, ""),
-            ("/x/k", FILE, ""),
-        ],
-    )?)?;
-    Ok(Stack::of(layers)?)
+    let upper: &[(&str, &str, &str)] = &[
+        ("/n", DIR, IS_OPAQUE),
+        ("/n/d", DIR, TO_X),
+        ("/x", WHITEOUT, ""),
+    ];
+    let lower: &[(&str, &str, &str)] = &[
+        ("/n", DIR, ""),
+        ("/n/z", FILE, ""),
+        ("/n-a", FILE, ""),
+        ("/x", DIR, ""),
+        ("/x/k", FILE, ""),
+    ];
+    stack_of(alloc, upper, lower)
 }
 
 fn root_piece(alloc: Global) -> Piece
@@ -212,6 +226,49 @@ fn the_walk_over_a_stack_gives_its_merged_tree(rt: HostRuntime) -> Result<(), Fa
         file 0644 0 0 0 1 ca978112ca1bbdcafac231b39a23dc4da786eff8147c4e72b9807785afee48bb /n-a\n\
         entries 5\n"
     );
+    Ok(())
+}
+
+// The paths that a stack of two layers shows, with a space after each.
+fn shown_paths(
+    alloc: Global,
+    upper: &[(&str, &str, &str)],
+    lower: &[(&str, &str, &str)],
+) -> Result<String, Fail> {
+    let stack = stack_of(alloc, upper, lower)?;
+    let mut text = String::new(alloc);
+    for (path, _) in &walked(alloc, &stack)? {
+        text.push_str(path.shown(alloc)?.as_str())?;
+        text.push_str(" ")?;
+    }
+    Ok(text)
+}
+
+#[test]
+fn whiteouts_and_opaque_directories_hide(rt: HostRuntime) -> Result<(), Fail> {
+    let files: &[(&str, &str, &str)] = &[("/d", DIR, ""), ("/d/k", FILE, "")];
+    let hidden = shown_paths(rt.alloc(), &[("/d", EMPTY, IS_WHITEOUT)], files)?;
+    assert_eq!(rt; hidden.as_str(), "/ ");
+    let opaque = shown_paths(rt.alloc(), &[("/d", DIR, IS_OPAQUE)], files)?;
+    assert_eq!(rt; opaque.as_str(), "/ /d ");
+    let merged = shown_paths(rt.alloc(), &[("/d", DIR, HOLDS_WHITEOUTS)], files)?;
+    assert_eq!(rt; merged.as_str(), "/ /d /d/k ");
+    Ok(())
+}
+
+#[test]
+fn redirects_are_followed_but_on_opaque_directories(rt: HostRuntime) -> Result<(), Fail> {
+    let lower: &[(&str, &str, &str)] = &[("/x", DIR, ""), ("/x/r", DIR, ""), ("/x/r/k", FILE, "")];
+    let upper: &[(&str, &str, &str)] = &[
+        ("/p", DIR, TO_X),
+        ("/p/q", DIR, BESIDE_R),
+        ("/p/r", WHITEOUT, ""),
+        ("/x", WHITEOUT, ""),
+    ];
+    let moved = shown_paths(rt.alloc(), upper, lower)?;
+    assert_eq!(rt; moved.as_str(), "/ /p /p/q /p/q/k ");
+    let opaque = shown_paths(rt.alloc(), &[("/d", DIR, OPAQUE_TO_X)], lower)?;
+    assert_eq!(rt; opaque.as_str(), "/ /d /x /x/r /x/r/k ");
     Ok(())
 }
 
