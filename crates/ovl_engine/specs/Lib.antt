@@ -1,0 +1,3 @@
+pub mod Directories
+pub mod NamedBlobs
+pub mod Reports
