@@ -1,5 +1,4 @@
-use Rattle.std.proofs.Common.{◌≡◌, ◌∙◌, ◌++◌, ◌∷◌, [], ℕ, sym, ap, subst, Ok, List, Result, map}
-use Rattle.ovl_manifest.specs.Layers.{Entries}
+use Rattle.std.proofs.Common.{◌≡◌, ◌∙◌, ℕ, sym, ap, subst, Ok, List, map}
 use Rattle.ovl_manifest.specs.Manifest.{read_layer, IsFaultOf}
 use Rattle.ovl_layers.specs.Shows.{layers_from, IsLayersFault}
 use Rattle.ovl_layers.specs.declared.faults.ShowFault.{ShowFault}

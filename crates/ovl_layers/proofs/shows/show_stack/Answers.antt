@@ -1,6 +1,5 @@
-use Rattle.std.proofs.Common.{◌≡◌, ◌∙◌, ◌<◌, ◌⊎◌, ℕ, refl, sym, subst, length, map}
+use Rattle.std.proofs.Common.{◌≡◌, ◌<◌, ◌⊎◌, ℕ, refl, subst, map}
 use Rattle.std.proofs.lemmas.Result.{err_from_is_err_and}
-use Rattle.std.proofs.lemmas.List.{length-map}
 use Rattle.ovl_lookup.specs.Stacks.{layer_limit}
 use Rattle.ovl_layers.proofs.ShowLemmas.{counted}
 use Rattle.ovl_layers.proofs.shows.show_stack.Goals as goal
