@@ -22,7 +22,6 @@ cat > src/main.rt <<'END'
 
 mod faults;
 mod inputs;
-mod reports;
 mod shows;
 
 use anyhow::{Context, Result, bail};

@@ -1,3 +1,2 @@
 pub mod Limited
-mod Rows
 pub mod ShowLemmas

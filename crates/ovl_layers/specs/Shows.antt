@@ -6,7 +6,7 @@ use Rattle.ovl_manifest.specs.Manifest.{read_layer}
 use Rattle.ovl_lookup.specs.declared.looks.Look.{Look}
 use Rattle.ovl_lookup.specs.Stacks.{layer_limit}
 use Rattle.ovl_lookup.specs.Merged.{IsMerged}
-use Rattle.ovl_layers.specs.Reports.{show_report}
+use Rattle.ovl_engine.specs.Reports.{show_report}
 use Rattle.ovl_layers.specs.declared.faults.ShowFault.{ShowFault}
 use Rattle.ovl_layers.specs.declared.faults.ShowFault.TheVariants.{Layers, Layer, Memory}
 

@@ -3,7 +3,6 @@
 
 mod faults;
 mod inputs;
-mod reports;
 #[cfg(test)]
 mod samples;
 mod shows;

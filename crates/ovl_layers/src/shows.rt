@@ -5,7 +5,7 @@ ghost use Rattle.ovl_layers.specs.Shows.{layers_from, IsShow, IsRefused, IsLayer
 
 use crate::faults::{ProgramFault, ShowFault};
 use crate::inputs::{INPUT_LIMIT, read_limited};
-use crate::reports::report_of;
+use ovl_engine::report_of;
 use ovl_lookup::Stack;
 use ovl_manifest::{Layer, read_layer};
 use std::alloc::Global;

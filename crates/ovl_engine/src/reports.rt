@@ -2,7 +2,7 @@ ghost use Rattle.std.specs.Prelude.{◌≡◌, ◌+◌, ◌%◌, ◌++◌, IfOk,
 ghost use Rattle.std.specs.Fmt.{signed_decimal};
 ghost use Rattle.std.specs.List.{flat_map};
 ghost use Rattle.ovl_names.specs.Escapes.{escaped as escaped_text, shown_path};
-ghost use Rattle.ovl_layers.specs.Reports.{octal_digit as last_digit, octal, kind_word, size_word, blob_word, device_word, what_word, attribute_word, spaced, inode_line, show_report};
+ghost use Rattle.ovl_engine.specs.Reports.{octal_digit as last_digit, octal, kind_word, size_word, blob_word, device_word, what_word, attribute_word, spaced, inode_line, show_report};
 
 use ovl_inode::{Attrs, Digest, Inode, Kind};
 use ovl_lookup::Look;

@@ -2,7 +2,7 @@ use Rattle.std.proofs.Common.{◌≡◌, ◌++◌, take, string_bytes}
 use Rattle.std.specs.Prelude.{codes}
 use Rattle.std.specs.List.{flat_map}
 use Rattle.ovl_names.specs.Escapes.{escaped}
-use Rattle.ovl_layers.proofs.reports.push_path.Given as goal
+use Rattle.ovl_engine.proofs.reports.push_path.Given as goal
 
 abbrev pub invariant-loop-name : goal.invariant-loop-name
 invariant-loop-name l =

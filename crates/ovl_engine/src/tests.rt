@@ -1,0 +1,323 @@
+ghost use Rattle.std.specs.Prelude.{◌≡◌, IfOk};
+ghost use Rattle.ovl_lookup.specs.Merged.{IsMerged};
+ghost use Rattle.ovl_engine.specs.Directories.{show_root};
+
+use super::*;
+use ovl_board::{Core, Event, Parcel, Piece, plain_walk};
+use ovl_inode::{Attrs, Digest, Inode, Kind, Target};
+use ovl_lookup::{Look, Stack};
+use ovl_manifest::{Layer, read_layer};
+use ovl_names::{Name, Path};
+use std::alloc::Global;
+use std::io::{self, Error, Write};
+use std::test::Fail;
+
+// The SHA-256 digest of `a`.
+const DIGEST_OF_A: &str = "ca978112ca1bbdcafac231b39a23dc4da786eff8147c4e72b9807785afee48bb";
+
+fn inode_of(alloc: Global, mode: u16, kind: Kind) -> Inode {
+    Inode {
+        kind,
+        mode,
+        uid: 0,
+        gid: 0,
+        mtime: 0,
+        attrs: Attrs::new(alloc),
+    }
+}
+
+fn text_of(alloc: Global, looks: &[(Path, Look)]) -> Result<String, Fail> {
+    Ok(String::from_utf8(report_of(alloc, looks)?)?)
+}
+
+#[test]
+fn a_report_has_a_line_for_each_path_and_their_number(rt: HostRuntime) -> Result<(), Fail> {
+    let alloc = rt.alloc();
+    assert_eq!(rt; text_of(alloc, &[])?.as_str(), "entries 0\n");
+    let root = Look::Shown(inode_of(alloc, 0o755, Kind::Dir));
+    let blob = Some(Digest::parse(DIGEST_OF_A)?);
+    let empty = Kind::File {
+        size: 0,
+        blob: None,
+    };
+    let large = Kind::File {
+        size: (1 << 63) - 1,
+        blob,
+    };
+    let lost = Kind::File {
+        size: 1,
+        blob: None,
+    };
+    let target = Target::from(String::from_str(alloc, "a b")?);
+    let mut link = inode_of(alloc, 0o777, Kind::Symlink { target });
+    link.attrs.put("user.k", &[1])?;
+    assert_eq!(rt;
+        text_of(
+            alloc,
+            &[
+                (Path::root(alloc), root),
+                (
+                    Path::parse(alloc, "/f")?,
+                    Look::Broken(inode_of(alloc, 0o644, lost))
+                ),
+                (Path::parse(alloc, "/l")?, Look::Shown(link)),
+                (
+                    Path::parse(alloc, "/z")?,
+                    Look::Shown(inode_of(alloc, 0o4755, large))
+                ),
+                (
+                    Path::parse(alloc, "/é")?,
+                    Look::Shown(inode_of(alloc, 0o644, empty))
+                ),
+            ]
+        )?
+        .as_str(),
+        "dir 0755 0 0 0 - - /\n\
+        file 0644 0 0 0 1 missing /f\n\
+        symlink 0777 0 0 0 - a\\x20b /l user.k=01\n\
+        file 4755 0 0 0 9223372036854775807 ca978112ca1bbdcafac231b39a23dc4da786eff8147c4e72b9807785afee48bb /z\n\
+        file 0644 0 0 0 0 - /\\xc3\\xa9\n\
+        entries 5\n"
+    );
+    Ok(())
+}
+
+#[test]
+fn other_kinds_show_their_words_and_numbers(rt: HostRuntime) -> Result<(), Fail> {
+    let alloc = rt.alloc();
+    let device = Kind::Block {
+        major: 8,
+        minor: u32::MAX,
+    };
+    let mut block = inode_of(alloc, 0o60, device);
+    block.uid = u32::MAX;
+    block.gid = 6;
+    block.mtime = i64::MIN;
+    let mut fifo = inode_of(alloc, 0, Kind::Fifo);
+    fifo.mtime = 1732233600;
+    let mut socket = inode_of(alloc, 0o7777, Kind::Socket);
+    socket.attrs.put("user.b c", &[0, 255])?;
+    socket.attrs.put("user.a", &[])?;
+    assert_eq!(rt;
+        text_of(
+            alloc,
+            &[
+                (Path::parse(alloc, "/b")?, Look::Shown(block)),
+                (Path::parse(alloc, "/p q")?, Look::Shown(fifo)),
+                (Path::parse(alloc, "/s")?, Look::Shown(socket)),
+            ]
+        )?
+        .as_str(),
+        "block 0060 4294967295 6 -9223372036854775808 - 8:4294967295 /b\n\
+        fifo 0000 0 0 1732233600 - - /p\\x20q\n\
+        socket 7777 0 0 0 - - /s user.a= user.b\\x20c=00ff\n\
+        entries 3\n"
+    );
+    Ok(())
+}
+
+const DIR: &str = "\"kind\":\"dir\",\"mode\":493";
+
+const FILE: &str =
+    "\"kind\":\"file\",\"mode\":420,\"size\":1,\"blob\":\"ca978112ca1bbdcafac231b39a23dc4da786eff8147c4e72b9807785afee48bb\"";
+
+const WHITEOUT: &str = "\"kind\":\"char\",\"mode\":0,\"major\":0,\"minor\":0";
+
+const IS_OPAQUE: &str = "\"trusted.overlay.opaque\":\"79\"";
+
+const TO_X: &str = "\"trusted.overlay.redirect\":\"2f78\"";
+
+// A layer of a root and these entries: the path, what its kind states, and the attributes of each.
+fn layer_of(alloc: Global, entries: &[(&str, &str, &str)]) -> Result<Layer, Fail> {
+    let mut text = String::from_str(alloc, "{\"overlay-layer\":1,\"entries\":[")?;
+    push_entry(alloc, &mut text, ("/", DIR, ""))?;
+    for entry in entries {
+        text.push_str(",")?;
+        push_entry(alloc, &mut text, *entry)?;
+    }
+    text.push_str("]}")?;
+    Ok(read_layer(alloc, text.as_bytes())?)
+}
+
+fn push_entry(alloc: Global, text: &mut String, entry: (&str, &str, &str)) -> Result<(), Fail> {
+    let (path, kind, attributes) = entry;
+    let entry = format!(in alloc;
+        "{{\"path\":\"{path}\",{kind},\"uid\":0,\"gid\":0,\"mtime\":0,\"xattrs\":{{{attributes}}}}}"
+    )?;
+    text.push_str(entry.as_str())?;
+    Ok(())
+}
+
+// Two directories, alone.
+fn two_directories(alloc: Global) -> Result<Stack, Fail> {
+    let mut layers = Vec::new(alloc);
+    layers.push(layer_of(alloc, &[("/a", DIR, ""), ("/b", DIR, "")])?)?;
+    Ok(Stack::of(layers)?)
+}
+
+// An absolute redirect in an opaque directory, over what it hides and what it comes from.
+fn moved_in_opaque(alloc: Global) -> Result<Stack, Fail> {
+    let mut layers = Vec::new(alloc);
+    layers.push(layer_of(
+        alloc,
+        &[
+            ("/n", DIR, IS_OPAQUE),
+            ("/n/d", DIR, TO_X),
+            ("/x", WHITEOUT, ""),
+        ],
+    )?)?;
+    layers.push(layer_of(
+        alloc,
+        &[
+            ("/n", DIR, ""),
+            ("/n/z", FILE, ""),
+            ("/n-a", FILE, ""),
+            ("/x", DIR, ""),
+            ("/x/k", FILE, ""),
+        ],
+    )?)?;
+    Ok(Stack::of(layers)?)
+}
+
+fn root_piece(alloc: Global) -> Piece
+    ensures { result ≡ show_root }
+{
+    Piece {
+        space: 0,
+        dir: Path::root(alloc),
+    }
+}
+
+// The walk over a stack by one thread.
+fn walked(alloc: Global, stack: &Stack) -> Result<Vec<(Path, Look)>, Fail>
+    ensures { IfOk result (λ looks. IsMerged stack.now looks.items) }
+{
+    let work = ShowWork::new(stack);
+    let parcels = plain_walk(alloc, &work, root_piece(alloc))?;
+    Ok(finish_show(alloc, &work, parcels)?)
+}
+
+#[test]
+fn the_walk_over_a_stack_gives_its_merged_tree(rt: HostRuntime) -> Result<(), Fail> {
+    let looks = walked(rt.alloc(), &moved_in_opaque(rt.alloc())?)?;
+    assert_eq!(rt;
+        text_of(rt.alloc(), &looks)?.as_str(),
+        "dir 0755 0 0 0 - - /\n\
+        dir 0755 0 0 0 - - /n\n\
+        dir 0755 0 0 0 - - /n/d\n\
+        file 0644 0 0 0 1 ca978112ca1bbdcafac231b39a23dc4da786eff8147c4e72b9807785afee48bb /n/d/k\n\
+        file 0644 0 0 0 1 ca978112ca1bbdcafac231b39a23dc4da786eff8147c4e72b9807785afee48bb /n-a\n\
+        entries 5\n"
+    );
+    Ok(())
+}
+
+// The pieces and the names put out, as text: a line for each parcel.
+fn lines_of(alloc: Global, parcels: &[Parcel<Vec<(Name, Look)>>]) -> Result<String, Fail> {
+    let mut text = String::new(alloc);
+    for parcel in parcels {
+        text.push_str(parcel.piece.dir.shown(alloc)?.as_str())?;
+        for (name, _) in &parcel.out {
+            text.push_str(" ")?;
+            text.push_str(name.as_str())?;
+        }
+        text.push_str("\n")?;
+    }
+    Ok(text)
+}
+
+#[test]
+fn the_pieces_are_the_directories(rt: HostRuntime) -> Result<(), Fail> {
+    let small = two_directories(rt.alloc())?;
+    let parcels = plain_walk(rt.alloc(), &ShowWork::new(&small), root_piece(rt.alloc()))?;
+    assert_eq!(rt; lines_of(rt.alloc(), &parcels)?.as_str(), "/ a b\n/a\n/b\n");
+    let moved = moved_in_opaque(rt.alloc())?;
+    let parcels = plain_walk(rt.alloc(), &ShowWork::new(&moved), root_piece(rt.alloc()))?;
+    assert_eq!(rt;
+        lines_of(rt.alloc(), &parcels)?.as_str(),
+        "/ n n-a\n/n d\n/n/d k\n"
+    );
+    Ok(())
+}
+
+#[test]
+fn two_workers_share_the_directories(rt: HostRuntime) -> Result<(), Fail> {
+    let stack = two_directories(rt.alloc())?;
+    let work = ShowWork::new(&stack);
+    let mut core = Core::start(rt.alloc(), &work, root_piece(rt.alloc()), 2)?;
+    for event in [
+        Event::Pop(0),
+        Event::Work(0),
+        Event::Push(0),
+        Event::Push(0),
+        Event::Steal(1, 0),
+        Event::Pop(0),
+        Event::Work(0),
+        Event::Work(1),
+    ] {
+        core.step(rt.alloc(), event)?;
+    }
+    let Ok(parcels) = core.finish() else {
+        return Err(Fail::from("open"));
+    };
+    assert_eq!(rt; lines_of(rt.alloc(), &parcels)?.as_str(), "/ a b\n/b\n/a\n");
+    Ok(())
+}
+
+// Takes a few bytes in all, one or two at a time, is interrupted before each, and then fails.
+#[derive(Drop)]
+struct Narrow {
+    room: usize,
+    taken: Vec<u8>,
+    interrupts: bool,
+}
+
+impl Write for Narrow {
+    fn write(&mut self, buf: &[u8]) -> io::Result<usize> {
+        self.interrupts = !self.interrupts;
+        if !self.interrupts {
+            return Err(Error::from_raw_os_error(4));
+        }
+        if self.room == 0 {
+            return Err(Error::from_raw_os_error(28));
+        }
+        let count = buf.len().min(self.room).min(2);
+        let Ok(()) = self.taken.extend_from_slice(&buf[..count]) else {
+            return Err(Error::from_raw_os_error(12));
+        };
+        self.room -= count;
+        Ok(count)
+    }
+
+    fn flush(&mut self) -> io::Result<()> {
+        Ok(())
+    }
+}
+
+fn narrow_writer(alloc: Global, room: usize) -> Narrow {
+    Narrow {
+        room,
+        taken: Vec::new(alloc),
+        interrupts: false,
+    }
+}
+
+#[test]
+fn all_bytes_go_out_or_those_that_the_fault_counts(rt: HostRuntime) -> Result<(), Fail> {
+    let mut whole = Vec::new(rt.alloc());
+    assert_eq!(rt; emit(&mut whole, b"abcde".as_slice()), Ok(()));
+    assert_eq!(rt; whole.as_slice(), b"abcde".as_slice());
+    let mut wide = narrow_writer(rt.alloc(), 5);
+    assert_eq!(rt; emit(&mut wide, b"abcde".as_slice()), Ok(()));
+    assert_eq!(rt; wide.taken.as_slice(), b"abcde".as_slice());
+    Ok(())
+}
+
+#[test]
+fn a_failed_write_is_told_with_what_went_out(rt: HostRuntime) -> Result<(), Fail> {
+    let mut short = narrow_writer(rt.alloc(), 3);
+    let fault = emit(&mut short, b"abcde".as_slice());
+    assert_eq!(rt; fault, Err(EmitFault { written: 3 }));
+    assert_eq!(rt; short.taken.as_slice(), b"abc".as_slice());
+    Ok(())
+}

@@ -1,0 +1,182 @@
+ghost use Rattle.std.specs.Prelude.{◌≡◌, ◌++◌, ◌∷◌, [], IfOk, OnOk, IsPermutation, IsSorted, map};
+ghost use Rattle.std.specs.List.{flat_map};
+ghost use Rattle.ovl_lookup.specs.Merged.{look as the_look, IsMerged, is_shown_directory, look_cmp};
+ghost use Rattle.ovl_board.specs.Parcels.{parcel_views};
+ghost use Rattle.ovl_engine.specs.Directories.{HasAllNames, IsShowWalk, named_look, directories_in as the_directories_in, looks_placed_in};
+
+use ovl_board::{Parcel, Piece, Work};
+use ovl_inode::{Inode, Kind};
+use ovl_lookup::{Look, Stack};
+use ovl_names::{Name, Path};
+use std::alloc::{AllocError, Global};
+use std::marker::Model;
+
+/// The merged tree of a stack as work, whose pieces are its directories, from `/` of space 0. The output of a
+/// directory is each name in it, in order, with what is shown there; its kids are those that are directories. A kid
+/// has the space of its piece. overlayfs.rst: "Merging directories", "readdir".
+#[derive(Drop)]
+pub struct ShowWork<'a> {
+    stack: &'a Stack,
+}
+
+impl<'a> Model for ShowWork<'a> {
+    ghost use Rattle.ovl_lookup.specs.Stacks.{StackView};
+
+    ghost Value = { StackView };
+
+    ghost view = { λ a. a.stack.now };
+}
+
+impl<'a> ShowWork<'a> {
+    /// The work of this stack.
+    pub fn new(stack: &'a Stack) -> ShowWork<'a>
+        ensures value { result ≡ stack.now }
+        ensures names { HasAllNames stack.now }
+    {
+        let _layers = stack.layers();
+        ShowWork { stack }
+    }
+}
+
+impl<'a> Work for ShowWork<'a> {
+    type Out = Vec<(Name, Look)>;
+
+    ghost use Rattle.std.specs.Prelude.{List};
+    ghost use Rattle.ovl_engine.specs.Directories.{NamedLook, looks_set, show_kids, show_out, show_depth};
+
+    ghost Seen = { List NamedLook };
+
+    ghost seen_set = { looks_set };
+
+    ghost seen = { λ looks. looks.items };
+
+    ghost kids_of = { show_kids };
+
+    ghost out_of = { show_out };
+
+    ghost deepest_of = { show_depth };
+
+    fn visit(
+        &self,
+        alloc: Global,
+        piece: &Piece,
+    ) -> Result<(Vec<Piece>, Vec<(Name, Look)>), AllocError> {
+        let _layers = self.stack.layers();
+        let names = self.stack.names(alloc, 0, &piece.dir)?;
+        let looks = looks_at(alloc, self.stack, &piece.dir, names)?;
+        let kids = directories_in(alloc, piece, &looks)?;
+        Ok((kids, looks))
+    }
+
+    fn deepest(&self) -> u32 {
+        64 * self.stack.layers() as u32
+    }
+}
+
+// What the stack shows at each of these names in a directory.
+fn looks_at(
+    alloc: Global,
+    stack: &Stack,
+    dir: &Path,
+    names: Vec<Name>,
+) -> Result<Vec<(Name, Look)>, AllocError>
+    ensures { IfOk result (λ looks. looks.items ≡ map (named_look stack.now dir.now) names.items) }
+{
+    let mut looks = Vec::new(alloc);
+    for name in names {
+        let path = dir.child(alloc, &name)?;
+        let look = stack.look(alloc, 0, &path)?;
+        looks.push((name, look))?;
+    }
+    Ok(looks)
+}
+
+// The entries of a piece's directory that are directories, as pieces.
+fn directories_in(
+    alloc: Global,
+    piece: &Piece,
+    looks: &[(Name, Look)],
+) -> Result<Vec<Piece>, AllocError>
+    ensures { IfOk result (λ kids. kids.items ≡ the_directories_in piece.now looks.now) }
+{
+    let mut kids = Vec::new(alloc);
+    for (name, look) in looks {
+        if is_directory(look) {
+            kids.push(Piece {
+                space: piece.space,
+                dir: piece.dir.child(alloc, name)?,
+            })?;
+        }
+    }
+    Ok(kids)
+}
+
+fn is_directory(look: &Look) -> bool
+    ensures { result ≡ is_shown_directory look.now }
+{
+    matches!(
+        look,
+        Look::Shown(Inode {
+            kind: Kind::Dir,
+            ..
+        })
+    )
+}
+
+/// The whole merged tree in path order: each path at which something is shown once, with what is shown there.
+/// The parcels are the plain walk of the work from `/` of space 0. Fails only for want of memory.
+pub fn finish_show(
+    alloc: Global,
+    work: &ShowWork<'_>,
+    parcels: Vec<Parcel<Vec<(Name, Look)>>>,
+) -> Result<Vec<(Path, Look)>, AllocError>
+    requires { IsShowWalk work.now (parcel_views (λ looks. looks.items) parcels.items) }
+    ensures { IfOk result (λ looks. IsMerged work.now looks.items) }
+{
+    let _layers = work.stack.layers();
+    let mut looks = all_looks(alloc, work.stack, parcels)?;
+    sort(&mut looks)?;
+    Ok(looks)
+}
+
+// What the root shows, and then what the parcels have put out.
+fn all_looks(
+    alloc: Global,
+    stack: &Stack,
+    parcels: Vec<Parcel<Vec<(Name, Look)>>>,
+) -> Result<Vec<(Path, Look)>, AllocError>
+    ensures { IfOk result (λ looks. looks.items ≡ ([], the_look stack.now [])
+        ∷ flat_map (λ parcel. looks_placed_in parcel.piece.dir parcel.out.items) parcels.items) }
+{
+    let mut looks = Vec::new(alloc);
+    let root = Path::root(alloc);
+    let look = stack.look(alloc, 0, &root)?;
+    looks.push((root, look))?;
+    for parcel in parcels {
+        let Parcel { piece, out, .. } = parcel;
+        push_placed(alloc, &piece.dir, out, &mut looks)?;
+    }
+    Ok(looks)
+}
+
+// Appends the entries of a directory, with their paths.
+fn push_placed(
+    alloc: Global,
+    dir: &Path,
+    found: Vec<(Name, Look)>,
+    looks: &mut Vec<(Path, Look)>,
+) -> Result<(), AllocError>
+    ensures { OnOk result (looks.new.items ≡ looks.old.items ++ looks_placed_in dir.now found.items) }
+{
+    for (name, look) in found {
+        looks.push((dir.child(alloc, &name)?, look))?;
+    }
+    Ok(())
+}
+
+fn sort(looks: &mut Vec<(Path, Look)>) -> Result<(), AllocError>
+    ensures same { IsPermutation looks.old.items looks.new.items }
+    ensures sorted { OnOk result (IsSorted look_cmp looks.new.items) }
+{
+    looks.sort_by(|one, other| one.0.cmp(&other.0))
+}
