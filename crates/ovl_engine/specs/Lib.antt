@@ -1,2 +1,4 @@
 pub mod Directories
+pub mod Outcomes
+pub mod Refusals
 pub mod Reports
