@@ -1,7 +1,0 @@
-use Rattle.std.proofs.Common.{◌≡◌, Ok, map, take}
-use Rattle.ovl_layers.specs.Shows.{layers_from}
-use Rattle.ovl_layers.proofs.shows.read_layers.Given as goal
-
--- the layers of the manifests so far
-abbrev pub invariant-loop-index : goal.invariant-loop-index
-invariant-loop-index l = layers_from 0 (map (λ manifest. manifest.items) (take l.index l.fn.manifests)) ≡ Ok l.layers.items
