@@ -15,17 +15,15 @@ rm -rf -- "$folder/crates"
 cp -r -- "$top/crates" "$top/crates.txt" "$folder/"
 sed -i 's/^ovl_layers:.*/& anyhow/' "$folder/crates.txt"
 cd -- "$folder/crates/ovl_layers"
-rm -rf -- src/*tests.rt src/samples.rt stdin stdout out
+rm -rf -- src proofs specs stdin stdout out
+mkdir src
 cat > src/main.rt <<'END'
 //! Prints what a stack of layers shows: the words are `show` and their manifests' files, the topmost first.
 #![tactic(auto)]
 
-mod faults;
-mod inputs;
-mod shows;
-
 use anyhow::{Context, Result, bail};
-use shows::show_stack;
+use ovl_engine::{Command, command};
+use ovl_pool::OpenGate;
 use std::io::Write;
 use std::{env, fs, io};
 
@@ -34,8 +32,8 @@ fn main(rt: HostRuntime) -> Result<()> {
     for word in env::args(&rt)?.skip(2) {
         manifests.push(fs::read(&rt, word.as_str()).context("a layer isn't read")?)?;
     }
-    match show_stack(rt.alloc(), &manifests) {
-        Ok(report) => Ok(io::writer(&rt).write_all(&report)?),
+    match command(&rt, rt.alloc(), Command::Show, &manifests, 4, &OpenGate) {
+        Ok(answer) => Ok(io::writer(&rt).write_all(&answer.report)?),
         Err(fault) => bail!("no report: {fault}"),
     }
 }

@@ -1,3 +1,5 @@
 pub mod Directories
 pub mod NamedBlobs
+pub mod Outcomes
+pub mod Refusals
 pub mod Reports

@@ -3,6 +3,7 @@ ghost use Rattle.ovl_lookup.specs.Merged.{IsMerged};
 ghost use Rattle.ovl_engine.specs.Directories.{show_root};
 
 use super::*;
+use crate::samples::{DIR, FILE, WHITEOUT, manifest_of};
 use ovl_board::{Core, Event, Parcel, Piece, plain_walk};
 use ovl_inode::{Attrs, Digest, Inode, Kind, Target};
 use ovl_lookup::{Look, Stack};
@@ -119,14 +120,7 @@ fn other_kinds_show_their_words_and_numbers(rt: HostRuntime) -> Result<(), Fail>
     Ok(())
 }
 
-const DIR: &str = "\"kind\":\"dir\",\"mode\":493";
-
-const FILE: &str =
-    "\"kind\":\"file\",\"mode\":420,\"size\":1,\"blob\":\"ca978112ca1bbdcafac231b39a23dc4da786eff8147c4e72b9807785afee48bb\"";
-
 const EMPTY: &str = "\"kind\":\"file\",\"mode\":420,\"size\":0";
-
-const WHITEOUT: &str = "\"kind\":\"char\",\"mode\":0,\"major\":0,\"minor\":0";
 
 const IS_OPAQUE: &str = "\"trusted.overlay.opaque\":\"79\"";
 
@@ -142,23 +136,7 @@ const IS_WHITEOUT: &str = "\"trusted.overlay.whiteout\":\"\"";
 
 // A layer of a root and these entries: the path, what its kind states, and the attributes of each.
 fn layer_of(alloc: Global, entries: &[(&str, &str, &str)]) -> Result<Layer, Fail> {
-    let mut text = String::from_str(alloc, "{\"overlay-layer\":1,\"entries\":[")?;
-    push_entry(alloc, &mut text, ("/", DIR, ""))?;
-    for entry in entries {
-        text.push_str(",")?;
-        push_entry(alloc, &mut text, *entry)?;
-    }
-    text.push_str("]}")?;
-    Ok(read_layer(alloc, text.as_bytes())?)
-}
-
-fn push_entry(alloc: Global, text: &mut String, entry: (&str, &str, &str)) -> Result<(), Fail> {
-    let (path, kind, attributes) = entry;
-    let entry = format!(in alloc;
-        "{{\"path\":\"{path}\",{kind},\"uid\":0,\"gid\":0,\"mtime\":0,\"xattrs\":{{{attributes}}}}}"
-    )?;
-    text.push_str(entry.as_str())?;
-    Ok(())
+    Ok(read_layer(alloc, &manifest_of(alloc, entries)?)?)
 }
 
 // Two directories, alone.

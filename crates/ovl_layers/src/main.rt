@@ -3,11 +3,7 @@
 
 mod faults;
 mod inputs;
-#[cfg(test)]
-mod samples;
 mod shows;
-#[cfg(test)]
-mod stack_tests;
 #[cfg(test)]
 mod tests;
 
@@ -15,6 +11,8 @@ use faults::ProgramFault;
 use std::env::{Env, FillError};
 use std::io;
 use std::process::ExitCode;
+use std::sync::Wait;
+use std::thread::Threads;
 
 fn main(rt: HostRuntime) -> ExitCode {
     match run(&rt) {
@@ -27,11 +25,13 @@ fn main(rt: HostRuntime) -> ExitCode {
     }
 }
 
-fn run(rt: &(impl Env + Input + Print + AllocGlobal)) -> Result<(), ProgramFault> {
+fn run<R: Env + Input + Print + AllocGlobal + Threads + Wait + Sync>(
+    rt: &R,
+) -> Result<(), ProgramFault> {
     if has_words(rt) {
         return Err(ProgramFault::Words);
     }
-    shows::show_input(rt.alloc(), &mut rt.reader(), &mut io::writer(rt))
+    shows::show_input(rt, rt.alloc(), &mut rt.reader(), &mut io::writer(rt))
 }
 
 // Whether the program was started with any word after its name, be it text or not.

@@ -1,7 +1,6 @@
 //! Worked stacks: what marks hide, and where directories that were moved are sought.
 
-use crate::samples::{DIR, FILE, UNREAD, WHITEOUT, shown};
-use crate::shows::show_stack;
+use crate::samples::{DIR, FILE, UNREAD, WHITEOUT, reported, shown};
 use std::test::Fail;
 
 // The attributes of an entry.
@@ -27,6 +26,7 @@ const EMPTY: &str = "\"kind\":\"file\",\"mode\":420,\"size\":0";
 fn an_empty_file_marked_as_whiteout_hides(rt: HostRuntime) -> Result<(), Fail> {
     assert_eq!(rt;
         shown(
+            &rt,
             rt.alloc(),
             &[&[("/f", EMPTY, IS_WHITEOUT)], &[("/f", FILE, "")]]
         )?
@@ -39,7 +39,7 @@ fn an_empty_file_marked_as_whiteout_hides(rt: HostRuntime) -> Result<(), Fail> {
 #[test]
 fn a_file_with_contents_is_no_whiteout(rt: HostRuntime) -> Result<(), Fail> {
     assert_eq!(rt;
-        shown(rt.alloc(), &[&[("/f", FILE, IS_WHITEOUT)], &[]])?.as_str(),
+        shown(&rt, rt.alloc(), &[&[("/f", FILE, IS_WHITEOUT)], &[]])?.as_str(),
         "dir 0755 0 0 0 - - /\n\
         file 0644 0 0 0 1 ca978112ca1bbdcafac231b39a23dc4da786eff8147c4e72b9807785afee48bb /f\n\
         entries 2\n"
@@ -51,7 +51,7 @@ fn a_file_with_contents_is_no_whiteout(rt: HostRuntime) -> Result<(), Fail> {
 fn an_opaque_directory_hides_what_lies_below(rt: HostRuntime) -> Result<(), Fail> {
     let lower: &[(&str, &str, &str)] = &[("/d", DIR, ""), ("/d/k", FILE, "")];
     assert_eq!(rt;
-        shown(rt.alloc(), &[&[("/d", DIR, IS_OPAQUE)], lower])?.as_str(),
+        shown(&rt, rt.alloc(), &[&[("/d", DIR, IS_OPAQUE)], lower])?.as_str(),
         "dir 0755 0 0 0 - - /\ndir 0755 0 0 0 - - /d\nentries 2\n"
     );
     Ok(())
@@ -61,7 +61,7 @@ fn an_opaque_directory_hides_what_lies_below(rt: HostRuntime) -> Result<(), Fail
 fn another_value_than_y_is_not_opaque(rt: HostRuntime) -> Result<(), Fail> {
     let lower: &[(&str, &str, &str)] = &[("/d", DIR, ""), ("/d/k", FILE, "")];
     assert_eq!(rt;
-        shown(rt.alloc(), &[&[("/d", DIR, IS_NOT_OPAQUE)], lower])?.as_str(),
+        shown(&rt, rt.alloc(), &[&[("/d", DIR, IS_NOT_OPAQUE)], lower])?.as_str(),
         "dir 0755 0 0 0 - - /\n\
         dir 0755 0 0 0 - - /d\n\
         file 0644 0 0 0 1 ca978112ca1bbdcafac231b39a23dc4da786eff8147c4e72b9807785afee48bb /d/k\n\
@@ -80,7 +80,7 @@ fn a_moved_directory_shows_what_it_came_from(rt: HostRuntime) -> Result<(), Fail
     ];
     let lower: &[(&str, &str, &str)] = &[("/x", DIR, ""), ("/x/r", DIR, ""), ("/x/r/k", FILE, "")];
     assert_eq!(rt;
-        shown(rt.alloc(), &[upper, lower])?.as_str(),
+        shown(&rt, rt.alloc(), &[upper, lower])?.as_str(),
         "dir 0755 0 0 0 - - /\n\
         dir 0755 0 0 0 - - /p\n\
         dir 0755 0 0 0 - - /p/q\n\
@@ -99,7 +99,7 @@ fn a_source_without_whiteout_is_shown_too(rt: HostRuntime) -> Result<(), Fail> {
     ];
     let lower: &[(&str, &str, &str)] = &[("/x", DIR, ""), ("/x/r", DIR, ""), ("/x/r/k", FILE, "")];
     assert_eq!(rt;
-        shown(rt.alloc(), &[upper, lower])?.as_str(),
+        shown(&rt, rt.alloc(), &[upper, lower])?.as_str(),
         "dir 0755 0 0 0 - - /\n\
         dir 0755 0 0 0 - - /p\n\
         dir 0755 0 0 0 - - /p/q\n\
@@ -125,7 +125,7 @@ fn an_absolute_redirect_leads_out_of_an_opaque_directory(rt: HostRuntime) -> Res
         ("/x/k", FILE, ""),
     ];
     assert_eq!(rt;
-        shown(rt.alloc(), &[upper, lower])?.as_str(),
+        shown(&rt, rt.alloc(), &[upper, lower])?.as_str(),
         "dir 0755 0 0 0 - - /\n\
         dir 0755 0 0 0 - - /n\n\
         dir 0755 0 0 0 - - /n/d\n\
@@ -144,7 +144,7 @@ fn an_opaque_directory_is_not_moved(rt: HostRuntime) -> Result<(), Fail> {
         ("/x/k", FILE, ""),
     ];
     assert_eq!(rt;
-        shown(rt.alloc(), &[&[("/d", DIR, OPAQUE_FROM_X)], lower])?.as_str(),
+        shown(&rt, rt.alloc(), &[&[("/d", DIR, OPAQUE_FROM_X)], lower])?.as_str(),
         "dir 0755 0 0 0 - - /\n\
         dir 0755 0 0 0 - - /d\n\
         dir 0755 0 0 0 - - /x\n\
@@ -158,7 +158,7 @@ fn an_opaque_directory_is_not_moved(rt: HostRuntime) -> Result<(), Fail> {
 fn a_metacopy_file_shows_the_data_below(rt: HostRuntime) -> Result<(), Fail> {
     let upper: &[(&str, &str, &str)] = &[("/f", UNREAD, HAS_METACOPY)];
     assert_eq!(rt;
-        shown(rt.alloc(), &[upper, upper, &[("/f", FILE, "")]])?.as_str(),
+        shown(&rt, rt.alloc(), &[upper, upper, &[("/f", FILE, "")]])?.as_str(),
         "dir 0755 0 0 0 - - /\n\
         file 0644 0 0 0 1 ca978112ca1bbdcafac231b39a23dc4da786eff8147c4e72b9807785afee48bb /f\n\
         entries 2\n"
@@ -170,7 +170,7 @@ fn a_metacopy_file_shows_the_data_below(rt: HostRuntime) -> Result<(), Fail> {
 fn a_metacopy_file_over_a_whiteout_misses_its_data(rt: HostRuntime) -> Result<(), Fail> {
     let upper: &[(&str, &str, &str)] = &[("/f", UNREAD, HAS_METACOPY)];
     assert_eq!(rt;
-        shown(rt.alloc(), &[upper, upper, &[("/f", WHITEOUT, "")]])?.as_str(),
+        shown(&rt, rt.alloc(), &[upper, upper, &[("/f", WHITEOUT, "")]])?.as_str(),
         "dir 0755 0 0 0 - - /\n\
         file 0644 0 0 0 1 missing /f\n\
         entries 2\n"
@@ -223,7 +223,7 @@ fn a_stack_shows_what_the_kernel_showed(rt: HostRuntime) -> Result<(), Fail> {
         manifests.push(String::from_str(alloc, text)?.into_bytes())?;
     }
     assert_eq!(rt;
-        String::from_utf8(show_stack(alloc, &manifests)?)?.as_str(),
+        reported(&rt, alloc, &manifests)?.as_str(),
         "dir 0755 0 0 1500000001 - - /\n\
         dir 0640 0 0 1623423760 - - /log\n\
         dir 0755 0 0 1512490298 - - /log/conf.d\n\

@@ -1,6 +1,6 @@
 use Rattle.std.proofs.Common.{◌≡◌, Ok, map, take}
-use Rattle.ovl_layers.specs.Shows.{layers_from}
-use Rattle.ovl_layers.proofs.shows.read_layers.Given as goal
+use Rattle.ovl_engine.specs.Refusals.{layers_from}
+use Rattle.ovl_engine.proofs.stacks.read_layers.Given as goal
 
 -- the layers of the manifests so far
 abbrev pub invariant-loop-index : goal.invariant-loop-index

@@ -1,15 +1,15 @@
 use Rattle.std.proofs.Common.{◌≡◌, ◌∙◌, ℕ, sym, ap, subst, Ok, List, map}
 use Rattle.ovl_manifest.specs.Manifest.{read_layer, IsFaultOf}
-use Rattle.ovl_layers.specs.Shows.{layers_from, IsLayersFault}
-use Rattle.ovl_layers.specs.declared.faults.ShowFault.{ShowFault}
-use Rattle.ovl_layers.proofs.ShowLemmas.{further, fails_here, told}
-use Rattle.ovl_layers.proofs.shows.read_layers.Goals as goal
+use Rattle.ovl_engine.specs.Refusals.{layers_from, IsUnread}
+use Rattle.ovl_engine.specs.declared.faults.EngineFault.{EngineFault}
+use Rattle.ovl_engine.proofs.ManifestLemmas.{further, fails_here, told}
+use Rattle.ovl_engine.proofs.stacks.read_layers.Goals as goal
 
 pub returns-in-Err : goal.returns-in-Err
 returns-in-Err c =
     let fails = fails_here (λ manifest. manifest.items) c.args.manifests.now c.loop-index.index c.index-manifests-index.result c.loop-index-test.true c.index-manifests-index.is c.loop-index.layers.items c.loop-index.invariant in
     let one = subst (λ (bytes : List ℕ). IsFaultOf (read_layer bytes) c.in-Err.fault) c.as_slice.ensures.value c.in-Err.ensures in
-    subst (λ (fault : ShowFault). IsLayersFault (layers_from 0 (map (λ manifest. manifest.items) c.args.manifests.now)) fault) (sym c.unread.ensures)
+    subst (λ (fault : EngineFault). IsUnread (layers_from 0 (map (λ manifest. manifest.items) c.args.manifests.now)) fault) (sym c.unread.ensures)
     (told c.loop-index.index (read_layer c.index-manifests-index.result.items) (layers_from 0 (map (λ manifest. manifest.items) c.args.manifests.now)) fails c.in-Err.fault one)
 
 pub loop-index-preserved : goal.loop-index-preserved

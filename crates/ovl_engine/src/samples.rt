@@ -1,8 +1,11 @@
 //! Small layers for tests, and what their stacks show.
 
-use crate::shows::show_stack;
+use crate::{Command, command};
+use ovl_pool::OpenGate;
 use std::alloc::Global;
+use std::sync::Wait;
 use std::test::Fail;
+use std::thread::Threads;
 
 // What an entry states of its kind.
 pub(crate) const DIR: &str = "\"kind\":\"dir\",\"mode\":493";
@@ -35,11 +38,29 @@ fn push_entry(alloc: Global, text: &mut String, entry: (&str, &str, &str)) -> Re
     Ok(())
 }
 
-// What `show` prints of these layers, the topmost first.
-pub(crate) fn shown(alloc: Global, layers: &[&[(&str, &str, &str)]]) -> Result<String, Fail> {
+// What `show` reports of these layers, the topmost first, alike by one worker and by four.
+pub(crate) fn shown<R: Threads + Wait + Sync>(
+    rt: &R,
+    alloc: Global,
+    layers: &[&[(&str, &str, &str)]],
+) -> Result<String, Fail> {
     let mut manifests = Vec::new(alloc);
     for entries in layers {
         manifests.push(manifest_of(alloc, entries)?)?;
     }
-    Ok(String::from_utf8(show_stack(alloc, &manifests)?)?)
+    reported(rt, alloc, &manifests)
+}
+
+// The same of manifests.
+pub(crate) fn reported<R: Threads + Wait + Sync>(
+    rt: &R,
+    alloc: Global,
+    manifests: &[Vec<u8>],
+) -> Result<String, Fail> {
+    let alone = command(rt, alloc, Command::Show, manifests, 1, &OpenGate)?;
+    let together = command(rt, alloc, Command::Show, manifests, 4, &OpenGate)?;
+    if alone != together {
+        return Err(Fail::new("four workers answer otherwise than one"));
+    }
+    Ok(String::from_utf8(alone.report)?)
 }

@@ -1,14 +1,13 @@
 -- Layers that are read one after another.
-use Rattle.std.proofs.Common.{◌≡◌, ℕ, zero, suc, ◌+◌, ◌<◌, List, [], ◌∷◌, ◌++◌, Result, Ok, Err, refl, sym, ap, ◌∙◌, length, take, drop, map, get_or, arith, length-take-le}
+use Rattle.std.proofs.Common.{◌≡◌, ℕ, zero, suc, ◌+◌, ◌<◌, List, [], ◌∷◌, ◌++◌, Result, Ok, Err, refl, sym, ap, ◌∙◌, subst, length, take, drop, map, get_or, arith, length-take-le}
 use Rattle.std.proofs.lemmas.List.{take_more, map-append, length-map}
 use Rattle.ovl_manifest.specs.Layers.{Entries}
 use Rattle.ovl_manifest.specs.Manifest.{read_layer, IsFaultOf}
 use Rattle.ovl_manifest.specs.declared.faults.LayerFault.{LayerFault}
 use Rattle.ovl_manifest.specs.declared.faults.LayerFault.TheVariants.{NotJson, Shape, Version, Count, Entry, Order, NoParent, Root, Escaped, Memory as UnreadMemory}
-use Rattle.ovl_layers.specs.declared.faults.ShowFault.{ShowFault}
-use Rattle.ovl_layers.specs.declared.faults.ShowFault.TheVariants.{Layer}
-use Rattle.ovl_layers.specs.Faults.{unread_layer}
-use Rattle.ovl_layers.specs.Shows.{layers_from, under_layer, IsLayersFault}
+use Rattle.ovl_engine.specs.declared.faults.EngineFault.{EngineFault}
+use Rattle.ovl_engine.specs.declared.faults.EngineFault.TheVariants.{Layers, Layer, Memory}
+use Rattle.ovl_engine.specs.Refusals.{layers_from, under_layer, unread_layer, IsUnread}
 
 -- the layers of one more manifest
 pub one_more : (k : ℕ) (read : List (List ℕ)) (layers : List Entries) (manifest : List ℕ) (layer : Entries) → layers_from k read ≡ Ok layers → read_layer manifest ≡ Ok layer → layers_from k (read ++ manifest ∷ []) ≡ Ok (layers ++ layer ∷ [])
@@ -17,7 +16,7 @@ one_more k [] layers manifest layer all one =
     rw (one, layers_from) (ap (λ (front : List Entries). Ok (front ++ layer ∷ [])) none)
 one_more k (first ∷ read) layers manifest layer all one = by (λ rest. one_more (suc k) read rest manifest layer) (read_layer first) refl
   where
-    below : ((rest : List Entries) → layers_from (suc k) read ≡ Ok rest → read_layer manifest ≡ Ok layer → layers_from (suc k) (read ++ manifest ∷ []) ≡ Ok (rest ++ layer ∷ [])) → (top : Entries) (r : Result (List Entries) ShowFault) → layers_from (suc k) read ≡ r → under_layer top r ≡ Ok layers → under_layer top (layers_from (suc k) (read ++ manifest ∷ [])) ≡ Ok (layers ++ layer ∷ [])
+    below : ((rest : List Entries) → layers_from (suc k) read ≡ Ok rest → read_layer manifest ≡ Ok layer → layers_from (suc k) (read ++ manifest ∷ []) ≡ Ok (rest ++ layer ∷ [])) → (top : Entries) (r : Result (List Entries) EngineFault) → layers_from (suc k) read ≡ r → under_layer top r ≡ Ok layers → under_layer top (layers_from (suc k) (read ++ manifest ∷ [])) ≡ Ok (layers ++ layer ∷ [])
     below more top (Ok rest) e is =
         let same : top ∷ rest ≡ layers = cc in
         ap (under_layer top) (more rest e one) ∙ ap (λ (front : List Entries). Ok (front ++ layer ∷ [])) same
@@ -38,7 +37,7 @@ unread k (first ∷ read) layers manifest more fault all is = by (λ rest. unrea
     next : (k n : ℕ) → suc k + n ≡ k + suc n
     next k n = omega arith
 
-    below : ((rest : List Entries) → layers_from (suc k) read ≡ Ok rest → read_layer manifest ≡ Err fault → layers_from (suc k) (read ++ manifest ∷ more) ≡ Err (Layer (suc k + length read) fault)) → (top : Entries) (r : Result (List Entries) ShowFault) → layers_from (suc k) read ≡ r → under_layer top r ≡ Ok layers → under_layer top (layers_from (suc k) (read ++ manifest ∷ more)) ≡ Err (Layer (k + suc (length read)) fault)
+    below : ((rest : List Entries) → layers_from (suc k) read ≡ Ok rest → read_layer manifest ≡ Err fault → layers_from (suc k) (read ++ manifest ∷ more) ≡ Err (Layer (suc k + length read) fault)) → (top : Entries) (r : Result (List Entries) EngineFault) → layers_from (suc k) read ≡ r → under_layer top r ≡ Ok layers → under_layer top (layers_from (suc k) (read ++ manifest ∷ more)) ≡ Err (Layer (k + suc (length read)) fault)
     below told top (Ok rest) e is_ok = ap (under_layer top) (told rest e is) ∙ ap (λ (n : ℕ). Err (Layer n fault)) (next k (length read))
     below told top (Err other) e is_ok = let bad : Err other ≡ Ok layers = is_ok in cc
 
@@ -47,7 +46,7 @@ unread k (first ∷ read) layers manifest more fault all is = by (λ rest. unrea
     by told (Err other) e = let bad : Err (Layer k other) ≡ Ok layers = rw (e, layers_from) at all in cc
 
 -- what is told of a layer that isn't read
-pub told : (index : ℕ) (one : Result Entries LayerFault) (all : Result (List Entries) ShowFault) → ((fault : LayerFault) → one ≡ Err fault → all ≡ Err (Layer index fault)) → (fault : LayerFault) → IsFaultOf one fault → IsLayersFault all (unread_layer index fault)
+pub told : (index : ℕ) (one : Result Entries LayerFault) (all : Result (List Entries) EngineFault) → ((fault : LayerFault) → one ≡ Err fault → all ≡ Err (Layer index fault)) → (fault : LayerFault) → IsFaultOf one fault → IsUnread all (unread_layer index fault)
 told index one all fails NotJson is = fails NotJson is
 told index one all fails Shape is = fails Shape is
 told index one all fails Version is = fails Version is
@@ -63,7 +62,7 @@ pub counted : (k : ℕ) (manifests : List (List ℕ)) (layers : List Entries) �
 counted k [] layers is = let none : [] ≡ layers = cc in ap length (sym none)
 counted k (first ∷ manifests) layers is = by (counted (suc k) manifests) (read_layer first) refl
   where
-    below : ((rest : List Entries) → layers_from (suc k) manifests ≡ Ok rest → length rest ≡ length manifests) → (top : Entries) (r : Result (List Entries) ShowFault) → layers_from (suc k) manifests ≡ r → under_layer top r ≡ Ok layers → length layers ≡ suc (length manifests)
+    below : ((rest : List Entries) → layers_from (suc k) manifests ≡ Ok rest → length rest ≡ length manifests) → (top : Entries) (r : Result (List Entries) EngineFault) → layers_from (suc k) manifests ≡ r → under_layer top r ≡ Ok layers → length layers ≡ suc (length manifests)
     below more top (Ok rest) e is_ok = let same : top ∷ rest ≡ layers = cc in ap length (sym same) ∙ ap suc (more rest e)
     below more top (Err fault) e is_ok = let bad : Err fault ≡ Ok layers = is_ok in cc
 

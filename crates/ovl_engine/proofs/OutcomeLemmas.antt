@@ -1,0 +1,35 @@
+-- What a run that fails is told as, and numbers within their limits.
+use Rattle.std.proofs.Common.{◌≡◌, ◌≢◌, ◌⊎◌, inl, inr, ℕ, ◌<◌, ◌≤◌, Err, List, refl, arith}
+use Rattle.ovl_manifest.specs.Layers.{Entries}
+use Rattle.ovl_board.specs.declared.pieces.Piece.{Piece}
+use Rattle.ovl_board.specs.declared.assembly.BoardFault.{BoardFault}
+use Rattle.ovl_board.specs.declared.assembly.BoardFault.TheVariants.{Double, Stranger, Missing, Memory as BoardMemory}
+use Rattle.ovl_pool.specs.declared.runs.RunFault.{RunFault}
+use Rattle.ovl_pool.specs.declared.runs.RunFault.TheVariants.{Workers, Gate, Board, Memory}
+use Rattle.ovl_engine.specs.declared.requests.Command.{Command}
+use Rattle.ovl_engine.specs.Refusals.{failed_run}
+use Rattle.ovl_engine.specs.Outcomes.{MayRefuse, IsRun}
+
+module _ (command : Command) (layers : List Entries) (may_refuse : Piece → Type 0) where
+  board_failed : (fault : BoardFault) → IsRun command layers may_refuse (Err (failed_run (Board fault)))
+  board_failed (Double p) = λ e. let bad : Double p ≡ BoardMemory = e in cc
+  board_failed (Stranger p) = λ e. let bad : Stranger p ≡ BoardMemory = e in cc
+  board_failed (Missing p) = λ e. let bad : Missing p ≡ BoardMemory = e in cc
+  board_failed BoardMemory = tt
+
+  -- a run that fails for another cause than its workers' number
+  pub failed : (fault : RunFault) → fault ≢ Workers → (fault ≡ Gate → MayRefuse command layers may_refuse) → IsRun command layers may_refuse (Err (failed_run fault))
+  failed Workers workers gate = absurd (workers refl)
+  failed Gate workers gate = gate refl
+  failed (Board fault) workers gate = board_failed fault
+  failed Memory workers gate = tt
+
+-- a number within a limit isn't outside of it
+pub not_beyond : (limit n : ℕ) → 0 < n → n ≤ limit → (n < 1) ⊎ (limit < n) → ⊥
+not_beyond limit n some few (inl none) = omega arith
+not_beyond limit n some few (inr many) = omega arith
+
+-- nor is one that equals it
+pub not_refused : (limit n m : ℕ) → n ≡ m → 0 < m → m ≤ limit → (n ≡ 0) ⊎ (limit < n) → ⊥
+not_refused limit n m same some few (inl none) = omega arith
+not_refused limit n m same some few (inr many) = omega arith

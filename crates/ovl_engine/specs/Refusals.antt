@@ -1,0 +1,67 @@
+-- Why a command is refused before any work is done.
+use Rattle.std.specs.Prelude.{◌≡◌, ⊤, ℕ, suc, Bool, ◌||◌, ◌==◌, Option, Some, None, Result, Ok, Err, List, [], ◌∷◌, if◌then◌else◌, length, nat_lt}
+use Rattle.ovl_manifest.specs.Layers.{Entries}
+use Rattle.ovl_manifest.specs.Manifest.{read_layer}
+use Rattle.ovl_manifest.specs.declared.faults.LayerFault.{LayerFault}
+use Rattle.ovl_manifest.specs.declared.faults.LayerFault.TheVariants.{Memory as UnreadMemory}
+use Rattle.ovl_board.specs.declared.assembly.BoardFault.TheVariants.{Memory as BoardMemory}
+use Rattle.ovl_pool.specs.declared.runs.RunFault.{RunFault}
+use Rattle.ovl_pool.specs.declared.runs.RunFault.TheVariants.{Board, Memory as RunMemory}
+use Rattle.ovl_lookup.specs.Stacks.{layer_limit}
+use Rattle.ovl_engine.specs.declared.faults.EngineFault.{EngineFault}
+use Rattle.ovl_engine.specs.declared.faults.EngineFault.TheVariants.{Workers, Layers, Layer, Run, Memory}
+
+-- the most workers
+abbrev pub worker_limit : ℕ
+worker_limit = 64
+
+-- a number is none, or over a limit
+abbrev pub is_outside : ℕ → ℕ → Bool
+is_outside limit number = number == 0 || nat_lt limit number
+
+-- one more layer on top
+abbrev pub under_layer : Entries → Result (List Entries) EngineFault → Result (List Entries) EngineFault
+under_layer layer (Ok layers) = Ok (layer ∷ layers)
+under_layer layer (Err fault) = Err fault
+
+-- the layers that manifests state, or the fault of the first that states none, with its index counted on from one
+abbrev pub layers_from : ℕ → List (List ℕ) → Result (List Entries) EngineFault
+layers_from index [] = Ok []
+layers_from index (manifest ∷ manifests) = elim (read_layer manifest) [
+  | Ok layer ↦ under_layer layer (layers_from (suc index) manifests)
+  | Err fault ↦ Err (Layer index fault)
+]
+
+-- the layers of manifests that all state one
+abbrev pub stated_layers : List (List ℕ) → List Entries
+stated_layers manifests = elim (layers_from 0 manifests) [ Ok layers ↦ layers | Err fault ↦ [] ]
+
+-- the fault of manifests of which one states no layer
+abbrev pub first_unread : List (List ℕ) → Option EngineFault
+first_unread manifests = elim (layers_from 0 manifests) [ Ok layers ↦ None | Err fault ↦ Some fault ]
+
+-- what a command is refused for, by these manifests and this number of workers: the first of three that holds
+abbrev pub first_refusal : List (List ℕ) → ℕ → Option EngineFault
+first_refusal manifests workers =
+    if is_outside worker_limit workers then Some Workers
+    else if is_outside layer_limit (length manifests) then Some Layers
+    else first_unread manifests
+
+-- the fault where the manifest of this index isn't read: want of memory is told as such
+abbrev pub unread_layer : ℕ → LayerFault → EngineFault
+unread_layer index UnreadMemory = Memory
+unread_layer index fault = Layer index fault
+
+-- the fault where a run gives no walk: want of memory is told as such
+abbrev pub failed_run : RunFault → EngineFault
+failed_run RunMemory = Memory
+failed_run (Board BoardMemory) = Memory
+failed_run fault = Run fault
+
+-- why manifests aren't all read; want of memory may come at any time
+abbrev pub IsUnread : Result (List Entries) EngineFault → EngineFault → Type 0
+IsUnread read (Layer index fault) = read ≡ Err (Layer index fault)
+IsUnread read Memory = ⊤
+IsUnread read Workers = ⊥
+IsUnread read Layers = ⊥
+IsUnread read (Run fault) = ⊥

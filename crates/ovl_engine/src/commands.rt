@@ -1,0 +1,84 @@
+ghost use Rattle.std.specs.Prelude.{◌≡◌, ◌↔◌, ◌<◌, ◌≤◌, true, false, Err, length, map};
+ghost use Rattle.ovl_lookup.specs.Stacks.{layer_limit};
+ghost use Rattle.ovl_engine.specs.declared.requests.Command.TheVariants.{Show};
+ghost use Rattle.ovl_engine.specs.declared.faults.EngineFault.TheVariants.{Workers, Layers};
+ghost use Rattle.ovl_engine.specs.Refusals.{worker_limit, is_outside as outside_test};
+ghost use Rattle.ovl_engine.specs.Outcomes.{IsOutcome, IsRun};
+
+use crate::faults::EngineFault;
+use crate::reports::report_of;
+use crate::requests::{Answer, Command};
+use crate::stacks::read_stack;
+use crate::works::{ShowWork, finish_show};
+use ovl_board::Piece;
+use ovl_lookup::Stack;
+use ovl_names::Path;
+use ovl_pool::{Gate, run};
+use std::alloc::Global;
+use std::sync::Wait;
+use std::thread::Threads;
+
+/// What a command gives of the layers that the manifests state, the topmost first, by 1 to 64 workers. The answer is
+/// the same for every number of workers and every order of their visits.
+///
+/// Refused before any worker starts where the workers are outside 1 to 64, else where the manifests are outside 1 to
+/// 128, else where one states no layer, the first of them, with its fault. `Run` comes where the gate refuses a piece,
+/// or the board can't assemble the parcels; `Memory` can come at any time but before the first two refusals. It waits
+/// for its workers, and returns only where each question to the gate does. The merged tree is that of the kernel's
+/// overlayfs.rst, as `docs/PROFILE.md` tells it, the reports are those of `docs/FORMATS.md`.
+pub fn command<G: Gate + Sync, R: Threads + Wait + Sync>(
+    rt: &R,
+    alloc: Global,
+    what: Command,
+    manifests: &[Vec<u8>],
+    workers: usize,
+    gate: &G,
+) -> Result<Answer, EngineFault>
+    ensures outcome { IsOutcome what (map (λ manifest. manifest.items) manifests.now) workers (G.may_refuse gate.now) result }
+    ensures workers { (result ≡ Err Workers) ↔ (outside_test worker_limit workers ≡ true) }
+    ensures layers { (result ≡ Err Layers)
+        ↔ ((outside_test worker_limit workers ≡ false) × (outside_test layer_limit (length manifests.now) ≡ true)) }
+{
+    if is_outside(64, workers) {
+        return Err(EngineFault::Workers);
+    }
+    if is_outside(128, manifests.len()) {
+        return Err(EngineFault::Layers);
+    }
+    let stack = read_stack(alloc, manifests)?;
+    match what {
+        Command::Show => show(rt, alloc, &stack, workers, gate),
+    }
+}
+
+// Whether a number is none, or over a limit.
+fn is_outside(limit: usize, number: usize) -> bool
+    ensures { result ≡ outside_test limit number }
+{
+    number == 0 || number > limit
+}
+
+// The report of the merged tree of a stack.
+fn show<G: Gate + Sync, R: Threads + Wait + Sync>(
+    rt: &R,
+    alloc: Global,
+    stack: &Stack,
+    workers: usize,
+    gate: &G,
+) -> Result<Answer, EngineFault>
+    requires { (0 < workers) × (workers ≤ worker_limit) }
+    ensures { IsRun Show stack.now.layers (G.may_refuse gate.now) result }
+{
+    let work = ShowWork::new(stack);
+    let root = Piece {
+        space: 0,
+        dir: Path::root(alloc),
+    };
+    let (parcels, _) = run(rt, alloc, &work, root, workers, gate)?;
+    let looks = finish_show(alloc, &work, parcels)?;
+    Ok(Answer {
+        report: report_of(alloc, &looks)?,
+        layers: Vec::new(alloc),
+        clean: true,
+    })
+}

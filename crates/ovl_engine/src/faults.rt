@@ -1,0 +1,74 @@
+ghost use Rattle.std.specs.Prelude.{◌≡◌};
+ghost use Rattle.ovl_engine.specs.declared.faults.EngineFault.TheVariants.{Memory};
+ghost use Rattle.ovl_engine.specs.Refusals.{unread_layer, failed_run};
+
+use ovl_board::BoardFault;
+use ovl_manifest::LayerFault;
+use ovl_pool::RunFault;
+use std::alloc::{AllocError, AllocFailed};
+use thiserror::Error;
+
+/// Why a command gives no answer. The first of `Workers`, `Layers` and `Layer` that holds is given before any work is
+/// done. Layers are counted from 0, the topmost first.
+#[derive(Debug, PartialEq, Eq, Drop, Error)]
+pub enum EngineFault {
+    #[error("workers must be 1 to 64")]
+    Workers,
+    #[error("layers must be 1 to 128")]
+    Layers,
+    #[error("layer {0}: {1}")]
+    Layer(usize, LayerFault),
+    #[error("{}", run_word(.0))]
+    Run(RunFault),
+    #[error("out of memory")]
+    Memory,
+}
+
+// What is told of a run that gave no walk.
+fn run_word(fault: &RunFault) -> &'static str {
+    match fault {
+        RunFault::Workers => "workers",
+        RunFault::Gate => "gate",
+        RunFault::Board(_) => "board",
+        RunFault::Memory => "out of memory",
+    }
+}
+
+impl EngineFault {
+    /// The fault where the manifest of this index states no layer. Want of memory is told as such.
+    pub(crate) fn unread(index: usize, fault: LayerFault) -> EngineFault
+        ensures { result ≡ unread_layer index fault }
+    {
+        match fault {
+            LayerFault::Memory => EngineFault::Memory,
+            _ => EngineFault::Layer(index, fault),
+        }
+    }
+}
+
+impl From<RunFault> for EngineFault {
+    ghost from_gives = { λ fault told. told ≡ failed_run fault };
+
+    fn from(fault: RunFault) -> EngineFault {
+        match fault {
+            RunFault::Memory | RunFault::Board(BoardFault::Memory) => EngineFault::Memory,
+            _ => EngineFault::Run(fault),
+        }
+    }
+}
+
+impl From<AllocError> for EngineFault {
+    ghost from_gives = { λ _ fault. fault ≡ Memory };
+
+    fn from(_: AllocError) -> EngineFault {
+        EngineFault::Memory
+    }
+}
+
+impl<T: Drop> From<AllocFailed<T>> for EngineFault {
+    ghost from_gives = { λ _ fault. fault ≡ Memory };
+
+    fn from(_: AllocFailed<T>) -> EngineFault {
+        EngineFault::Memory
+    }
+}

@@ -1,0 +1,17 @@
+/// What is done with a stack of layers. So far `show` alone.
+#[derive(Clone, Copy, Debug, PartialEq, Eq)]
+pub enum Command {
+    /// The report lists the merged tree. There is no new layer.
+    Show,
+}
+
+/// What a command gives.
+#[derive(Debug, PartialEq, Eq, Drop)]
+pub struct Answer {
+    /// The report, as `docs/FORMATS.md` tells it for each command.
+    pub report: Vec<u8>,
+    /// The manifests of the new layers, the topmost first; none where the command makes none.
+    pub layers: Vec<Vec<u8>>,
+    /// Whether no fault was found; true for each command that looks for none.
+    pub clean: bool,
+}
