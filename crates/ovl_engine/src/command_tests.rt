@@ -25,7 +25,15 @@ fn answer_of<R: Threads + Wait + Sync>(
     for _ in 0..layers {
         manifests.push(manifest_of(alloc, &[])?)?;
     }
-    Ok(command(rt, alloc, Command::Show, &manifests, workers, &OpenGate))
+    Ok(command(
+        rt,
+        alloc,
+        Command::Show,
+        &manifests,
+        &[],
+        workers,
+        &OpenGate,
+    ))
 }
 
 #[test]
@@ -79,7 +87,7 @@ fn the_first_layer_that_is_not_read_is_told(rt: HostRuntime) -> Result<(), Fail>
     let newer = String::from_str(alloc, "{\"overlay-layer\":2,\"entries\":[]}")?;
     let list = String::from_str(alloc, "[]")?;
     let manifests = [root, newer.into_bytes(), list.into_bytes()];
-    let answer = command(&rt, alloc, Command::Show, &manifests, 4, &OpenGate);
+    let answer = command(&rt, alloc, Command::Show, &manifests, &[], 4, &OpenGate);
     assert_eq!(rt;
         answer.err(),
         Some(EngineFault::Layer(1, LayerFault::Version))
@@ -96,6 +104,8 @@ fn a_fault_has_its_text(rt: HostRuntime) -> Result<(), Fail> {
             EngineFault::Layer(2, LayerFault::Order(7)),
             "layer 2: entry 7: out of order",
         ),
+        (EngineFault::BlobOrder, "blobs out of order"),
+        (EngineFault::BlobSize, "blobs over 268435456 bytes"),
         (EngineFault::from(RunFault::Gate), "gate"),
         (EngineFault::from(RunFault::Memory), "out of memory"),
     ] {
@@ -234,23 +244,39 @@ fn two_directories(alloc: Global) -> Result<Vec<u8>, Fail> {
 fn gated<R: Threads + Wait + Sync>(
     rt: &R,
     alloc: Global,
+    what: Command,
     workers: usize,
 ) -> Result<Option<EngineFault>, Fail> {
     let manifests = [two_directories(alloc)?, manifest_of(alloc, &[])?];
     let gate = gate_to_a_and_b(rt, alloc)?;
-    Ok(command(rt, alloc, Command::Show, &manifests, workers, &gate).err())
+    Ok(command(rt, alloc, what, &manifests, &[], workers, &gate).err())
 }
 
 #[test]
 fn two_workers_meet_at_the_gate(rt: HostRuntime) -> Result<(), Fail> {
-    assert_eq!(rt; gated(&rt, rt.alloc(), 2)?, None);
+    assert_eq!(rt; gated(&rt, rt.alloc(), Command::Show, 2)?, None);
+    Ok(())
+}
+
+#[test]
+fn two_workers_of_a_check_meet_at_the_gate(rt: HostRuntime) -> Result<(), Fail> {
+    assert_eq!(rt; gated(&rt, rt.alloc(), Command::Fsck, 2)?, None);
     Ok(())
 }
 
 #[test]
 fn one_worker_is_refused_at_the_gate(rt: HostRuntime) -> Result<(), Fail> {
     assert_eq!(rt;
-        gated(&rt, rt.alloc(), 1)?,
+        gated(&rt, rt.alloc(), Command::Show, 1)?,
+        Some(EngineFault::Run(RunFault::Gate))
+    );
+    Ok(())
+}
+
+#[test]
+fn one_worker_of_a_check_is_refused_at_the_gate(rt: HostRuntime) -> Result<(), Fail> {
+    assert_eq!(rt;
+        gated(&rt, rt.alloc(), Command::Fsck, 1)?,
         Some(EngineFault::Run(RunFault::Gate))
     );
     Ok(())
