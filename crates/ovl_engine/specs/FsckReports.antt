@@ -1,6 +1,6 @@
 -- The report of `fsck`: a line for each finding, in their order, and how many are faults and how many notes.
-use Rattle.std.specs.Prelude.{ℕ, Bool, ◌==◌, not, List, ◌++◌, if◌then◌else◌, length, filter, decimal, codes}
-use Rattle.std.specs.List.{flat_map}
+use Rattle.std.specs.Prelude.{ℕ, Bool, ◌==◌, not, List, ◌++◌, if◌then◌else◌, decimal, codes}
+use Rattle.std.specs.List.{flat_map, count_by}
 use Rattle.ovl_names.specs.Escapes.{shown_path}
 use Rattle.ovl_check.specs.declared.findings.Code.{Code}
 use Rattle.ovl_check.specs.declared.findings.Code.TheVariants.{RedirectForm, RedirectLost, RedirectKind, RedirectDouble, RedirectOpen, DataMissing, DataSize, BlobMissing, BlobSize, BlobDigest, OrphanWhiteout, WhiteoutInOpaque, WhiteoutUnmarked, ImpureMissing, MarkIgnored}
@@ -36,20 +36,20 @@ finding_line found =
     spaced (weight_word found.code) ++ spaced (code_word found.code) ++ spaced (decimal found.layer)
     ++ shown_path found.path ++ codes "\n"
 
--- the faults among findings, and the notes
-abbrev pub faults_among : List Finding → List Finding
-faults_among found = filter (λ one. is_fault one.code) found
+-- how many findings are faults, and how many are notes
+abbrev pub fault_count : List Finding → ℕ
+fault_count found = count_by (λ one. is_fault one.code) found
 
-abbrev pub notes_among : List Finding → List Finding
-notes_among found = filter (λ one. not (is_fault one.code)) found
+abbrev pub note_count : List Finding → ℕ
+note_count found = count_by (λ one. not (is_fault one.code)) found
 
 -- no finding is a fault
 abbrev pub is_clean : List Finding → Bool
-is_clean found = length (faults_among found) == 0
+is_clean found = fault_count found == 0
 
 -- the lines, and then `faults F notes N`
 abbrev pub fsck_report : List Finding → List ℕ
 fsck_report found =
     flat_map finding_line found
-    ++ codes "faults " ++ decimal (length (faults_among found))
-    ++ codes " notes " ++ decimal (length (notes_among found)) ++ codes "\n"
+    ++ codes "faults " ++ decimal (fault_count found)
+    ++ codes " notes " ++ decimal (note_count found) ++ codes "\n"

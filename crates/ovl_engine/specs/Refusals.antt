@@ -1,5 +1,6 @@
 -- Why a command is refused before any work is done.
-use Rattle.std.specs.Prelude.{◌≡◌, ⊤, ℕ, suc, Bool, ◌||◌, ◌==◌, not, Option, Some, None, Result, Ok, Err, List, [], ◌∷◌, if◌then◌else◌, length, map, sum, nat_lt}
+use Rattle.std.specs.Prelude.{◌≡◌, ⊤, ℕ, suc, Bool, ◌||◌, ◌==◌, not, Option, Some, None, Result, Ok, Err, List, [], ◌∷◌, if◌then◌else◌, length, nat_lt}
+use Rattle.std.specs.List.{sum_by}
 use Rattle.ovl_manifest.specs.Layers.{Entries}
 use Rattle.ovl_manifest.specs.Manifest.{read_layer}
 use Rattle.ovl_manifest.specs.declared.faults.LayerFault.{LayerFault}
@@ -46,7 +47,7 @@ abbrev pub blob_limit : ℕ
 blob_limit = 268435456
 
 abbrev pub blob_bytes : List BlobView → ℕ
-blob_bytes blobs = sum (map (λ blob. length blob.bytes) blobs)
+blob_bytes blobs = sum_by (λ blob. length blob.bytes) blobs
 
 -- the fault of blobs whose names don't ascend strictly, or that have too many bytes
 abbrev pub blob_refusal : List BlobView → Option EngineFault

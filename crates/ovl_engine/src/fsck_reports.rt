@@ -1,6 +1,5 @@
-ghost use Rattle.std.specs.Prelude.{◌≡◌, ◌++◌, IfOk, OnOk, not, length, filter, string_bytes};
-ghost use Rattle.ovl_check.specs.Codes.{is_fault as fault_test};
-ghost use Rattle.ovl_engine.specs.FsckReports.{code_word as the_code_word, weight_word as the_weight_word, finding_line, faults_among, notes_among, is_clean as clean_test, fsck_report};
+ghost use Rattle.std.specs.Prelude.{◌≡◌, ◌++◌, IfOk, OnOk, string_bytes};
+ghost use Rattle.ovl_engine.specs.FsckReports.{code_word as the_code_word, weight_word as the_weight_word, finding_line, fault_count, note_count, is_clean as clean_test, fsck_report};
 
 use crate::reports::{push_number, push_path, push_word};
 use ovl_check::{Code, Finding};
@@ -70,13 +69,13 @@ fn code_word(code: Code) -> &'static str
 }
 
 fn count_of_faults(found: &[Finding]) -> u64
-    ensures { result ≡ length (faults_among found.now) }
+    ensures { result ≡ fault_count found.now }
 {
     found.iter().filter(|one| one.code.is_fault()).count() as u64
 }
 
 fn count_of_notes(found: &[Finding]) -> u64
-    ensures { result ≡ length (notes_among found.now) }
+    ensures { result ≡ note_count found.now }
 {
     found.iter().filter(|one| !one.code.is_fault()).count() as u64
 }
