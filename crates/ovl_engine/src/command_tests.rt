@@ -282,26 +282,47 @@ fn one_worker_of_a_check_is_refused_at_the_gate(rt: HostRuntime) -> Result<(), F
     Ok(())
 }
 
-#[test]
-fn a_run_over_the_merged_tree_has_its_numbers(rt: HostRuntime) -> Result<(), Fail> {
-    let alloc = rt.alloc();
+fn stack_of_two_directories(alloc: Global) -> Result<Stack, Fail> {
     let mut layers = Vec::new(alloc);
     layers.push(read_layer(alloc, &two_directories(alloc)?)?)?;
-    let stack = Stack::of(layers)?;
-    let root = Piece {
+    Ok(Stack::of(layers)?)
+}
+
+fn root_piece(alloc: Global) -> Piece {
+    Piece {
         space: 0,
         dir: Path::root(alloc),
-    };
+    }
+}
+
+// The numbers of a run over three directories.
+const THREE: RunCount = RunCount {
+    known: 3,
+    delivered: 3,
+    taken: 3,
+    left: 0,
+};
+
+#[test]
+fn a_run_over_the_merged_tree_by_two_workers_has_its_numbers(rt: HostRuntime) -> Result<(), Fail> {
+    let alloc = rt.alloc();
+    let stack = stack_of_two_directories(alloc)?;
     let gate = gate_to_a_and_b(&rt, alloc)?;
-    let (_, count) = run(&rt, alloc, &ShowWork::new(&stack), root, 2, &gate)?;
-    assert_eq!(rt;
-        count,
-        RunCount {
-            known: 3,
-            delivered: 3,
-            taken: 3,
-            left: 0,
-        }
-    );
+    let work = ShowWork::new(&stack);
+    let (_, count) = run(&rt, alloc, &work, root_piece(alloc), 2, &gate)?;
+    assert_eq!(rt; count, THREE);
+    Ok(())
+}
+
+#[test]
+fn a_run_over_the_merged_tree_by_one_worker_has_its_numbers(rt: HostRuntime) -> Result<(), Fail> {
+    let alloc = rt.alloc();
+    let stack = stack_of_two_directories(alloc)?;
+    let work = ShowWork::new(&stack);
+    let (parcels, count) = run(&rt, alloc, &work, root_piece(alloc), 1, &OpenGate)?;
+    assert_eq!(rt; parcels.len(), 3);
+    assert_eq!(rt; count, THREE);
+    let refused = run(&rt, alloc, &work, root_piece(alloc), 0, &OpenGate);
+    assert_eq!(rt; refused.err(), Some(RunFault::Workers));
     Ok(())
 }
