@@ -79,17 +79,21 @@ pub(crate) fn reported<R: Threads + Wait + Sync>(
     Ok(String::from_utf8(answer.report)?)
 }
 
-// What `fsck` reports of these layers, the topmost first, with these blobs, and whether it says that there is no
-// fault, alike by one worker and by four.
+// What `fsck` reports of these layers, the topmost first, with these blobs, alike by one worker and by four. It is
+// clean where it has no fault.
 pub(crate) fn checked<R: Threads + Wait + Sync>(
     rt: &R,
     alloc: Global,
     layers: &[&[(&str, &str, &str)]],
     blobs: &[Blob],
-) -> Result<(String, bool), Fail> {
+) -> Result<String, Fail> {
     let manifests = manifests_of(alloc, layers)?;
     let answer = answered(rt, alloc, Command::Fsck, &manifests, blobs)?;
-    Ok((String::from_utf8(answer.report)?, answer.clean))
+    let report = String::from_utf8(answer.report)?;
+    if answer.clean != report.as_str().contains("faults 0 notes ") {
+        return Err(Fail::new("it isn't told whether there is a fault"));
+    }
+    Ok(report)
 }
 
 // What a command answers, alike by one worker and by four, with no new layer.
