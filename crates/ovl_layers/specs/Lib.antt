@@ -1,2 +1,4 @@
+pub mod Endings
 pub mod Faults
-pub mod Shows
+pub mod Folders
+pub mod Programs
