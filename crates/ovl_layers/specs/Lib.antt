@@ -1,4 +1,5 @@
 pub mod Endings
 pub mod Faults
 pub mod Folders
-pub mod Programs
+pub mod Lines
+pub mod Reported

@@ -1,6 +1,6 @@
 ghost use Rattle.std.specs.Prelude.{map};
 ghost use Rattle.ovl_check.specs.Blobs.{blob_views};
-ghost use Rattle.ovl_layers.specs.Programs.{IsReported};
+ghost use Rattle.ovl_layers.specs.Reported.{IsReported};
 
 use crate::endings::Ending;
 use crate::faults::ProgramFault;

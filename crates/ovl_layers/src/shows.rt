@@ -2,7 +2,7 @@ ghost use Rattle.std.specs.Prelude.{◌≢◌, ◌∷◌, [], IfErr, IfSome, OnO
 ghost use Rattle.std.specs.Io.KnownBytes.{Keeps};
 ghost use Rattle.ovl_engine.specs.declared.requests.Command.TheVariants.{Show};
 ghost use Rattle.ovl_layers.specs.declared.faults.ProgramFault.TheVariants.{Output};
-ghost use Rattle.ovl_layers.specs.Programs.{IsReported};
+ghost use Rattle.ovl_layers.specs.Reported.{IsReported};
 
 use crate::endings::Ending;
 use crate::faults::ProgramFault;

@@ -1,4 +1,4 @@
--- What the program makes of manifests and blobs.
+-- What the program makes of manifests and blobs that are read.
 use Rattle.std.specs.Prelude.{◌≡◌, ◌<◌, ℕ, Option, Result, Ok, Err, List, length, take}
 use Rattle.std.specs.Io.KnownBytes.{Appends, Keeps}
 use Rattle.ovl_board.specs.declared.pieces.Piece.{Piece}
