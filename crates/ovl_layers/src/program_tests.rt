@@ -1,5 +1,5 @@
 use crate::disks::Thing::{File, Folder};
-use crate::disks::{Disk, Thing};
+use crate::disks::{Disk, Full, Thing};
 use crate::endings::Ending;
 use crate::faults::ProgramFault;
 use crate::files::read_file;
@@ -9,7 +9,6 @@ use crate::programs::perform;
 use ovl_engine::{Command, EngineFault};
 use ovl_manifest::LayerFault;
 use std::alloc::{AllocError, Global};
-use std::io::{self, Error, Write};
 use std::os::unix::fs::symlink;
 use std::test::Fail;
 use std::{env, fs, process};
@@ -143,20 +142,6 @@ fn layers_are_read_before_blobs_and_blobs_before_all_else(rt: HostRuntime) -> Re
     assert_eq!(rt; perform(&disk, &asked, &mut output).err(), Some(fault));
     assert!(rt; output.is_empty());
     Ok(())
-}
-
-// Takes nothing, for want of the device's room.
-#[derive(Drop)]
-struct Full;
-
-impl Write for Full {
-    fn write(&mut self, _: &[u8]) -> io::Result<usize> {
-        Err(Error::from_raw_os_error(28))
-    }
-
-    fn flush(&mut self) -> io::Result<()> {
-        Ok(())
-    }
 }
 
 #[test]

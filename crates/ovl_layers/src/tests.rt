@@ -1,3 +1,4 @@
+use crate::disks::Full;
 use crate::endings::Ending;
 use crate::faults::ProgramFault;
 use crate::inputs::{INPUT_LIMIT, InputFault, read_limited};
@@ -5,7 +6,7 @@ use crate::shows::show_input;
 use ovl_engine::EngineFault;
 use ovl_manifest::LayerFault;
 use ovl_pool::RunFault;
-use std::io::{self, Cursor, Error, Read, Write};
+use std::io::{self, Cursor, Error, Read};
 use std::test::Fail;
 
 // The manifest of a root alone, and its report.
@@ -139,20 +140,6 @@ fn a_failed_read_is_told(rt: HostRuntime) -> Result<(), Fail> {
         assert_eq!(rt; read.err(), Some(InputFault::Device), "after {left}");
     }
     Ok(())
-}
-
-// Takes nothing, for want of the device's room.
-#[derive(Drop)]
-struct Full;
-
-impl Write for Full {
-    fn write(&mut self, _: &[u8]) -> io::Result<usize> {
-        Err(Error::from_raw_os_error(28))
-    }
-
-    fn flush(&mut self) -> io::Result<()> {
-        Ok(())
-    }
 }
 
 #[test]
