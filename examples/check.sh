@@ -1,5 +1,6 @@
 #!/usr/bin/env bash
-# Compares the program's report of each layer here with the `.show` file beside it, byte for byte.
+# Compares the program's report of each layer here with the `.show` file beside it, and its reports of the stacks here,
+# by several numbers of workers, with what is expected of them, byte for byte.
 set -uo pipefail
 
 here=$(dirname -- "$(readlink -f -- "${BASH_SOURCE[0]}")")
@@ -18,4 +19,5 @@ for layer in "$here"/*.json; do
     fi
 done
 echo "$same same, $other other"
+"$here/../bench/compare.sh" "$here/../ovl_layers" "$here/moved" "$here/faulty" || other=$((other + 1))
 ((other == 0 && same > 0))

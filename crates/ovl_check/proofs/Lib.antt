@@ -10,6 +10,7 @@ mod DoubleLemmas
 mod MemberLemmas
 mod FinishLemmas
 mod OrderLemmas
+mod SoundLemmas
 pub mod WalkLists
 mod Digests
 mod Rows

@@ -15,7 +15,7 @@ use Rattle.ovl_check.specs.declared.findings.Finding.{Finding}
 use Rattle.ovl_check.specs.declared.findings.Code.TheVariants.{RedirectForm, RedirectLost, RedirectKind, RedirectDouble, RedirectOpen, DataMissing, DataSize, BlobMissing, BlobSize, BlobDigest, OrphanWhiteout, WhiteoutInOpaque, WhiteoutUnmarked, ImpureMissing, MarkIgnored}
 use Rattle.ovl_check.specs.Blobs.{BlobView}
 use Rattle.ovl_check.specs.Findings.{finding, findings}
-use Rattle.ovl_check.proofs.Digests.{blob_a, digests_on_literals}
+use Rattle.ovl_check.proofs.Digests.{blob_a, digest_abc, digest_ab, changed_abc, blob_ab, digests_on_literals}
 
 -- a finding at a path of layer `i`, by its text
 abbrev at : ℕ → List ℕ → Code → Finding
@@ -91,3 +91,16 @@ metacopies-missing = refl
 metacopies-size : findings with_a (stack_of (layer_of ((path (codes "/f"), metacopy 2) ∷ []) ∷ layer_of ((path (codes "/f"), metacopy 1) ∷ []) ∷ layer_of ((path (codes "/f"), file_a) ∷ []) ∷ [])) ≡ at 0 (codes "/f") DataSize ∷ []
 unfolding inode_on_literals digests_on_literals
 metacopies-size = refl
+
+-- an empty file, and files whose blobs have other bytes, aren't there, and are shorter
+abbrev wrong_blobs : StackView
+wrong_blobs = stack_of (layer_of (
+    (path (codes "/e"), plain_inode (File 0 None) 0o644 [])
+    ∷ (path (codes "/k"), plain_inode (File 3 (Some digest_abc)) 0o644 [])
+    ∷ (path (codes "/m"), file_a)
+    ∷ (path (codes "/s"), plain_inode (File 3 (Some digest_ab)) 0o644 [])
+    ∷ []) ∷ [])
+
+wrong-blobs-faults : findings (changed_abc ∷ blob_ab ∷ []) wrong_blobs ≡ at 0 (codes "/k") BlobDigest ∷ at 0 (codes "/m") BlobMissing ∷ at 0 (codes "/s") BlobSize ∷ []
+unfolding inode_on_literals digests_on_literals
+wrong-blobs-faults = refl

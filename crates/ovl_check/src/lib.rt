@@ -6,6 +6,7 @@ mod checks;
 mod contents;
 mod findings;
 mod finish;
+pub mod laws;
 mod notes;
 mod places;
 mod redirects;

@@ -8,17 +8,18 @@ use Rattle.ovl_pool.specs.declared.runs.RunFault.{RunFault}
 use Rattle.ovl_pool.specs.declared.runs.RunFault.TheVariants.{Workers, Gate, Board, Memory}
 use Rattle.ovl_engine.specs.declared.requests.Command.{Command}
 use Rattle.ovl_engine.specs.Refusals.{failed_run}
-use Rattle.ovl_engine.specs.Outcomes.{MayRefuse, IsRun}
+use Rattle.ovl_check.specs.Blobs.{BlobView}
+use Rattle.ovl_engine.specs.Outcomes.{MayRefuse, IsFailure}
 
-module _ (command : Command) (layers : List Entries) (may_refuse : Piece → Type 0) where
-  board_failed : (fault : BoardFault) → IsRun command layers may_refuse (Err (failed_run (Board fault)))
+module _ (command : Command) (layers : List Entries) (blobs : List BlobView) (may_refuse : Piece → Type 0) where
+  board_failed : (fault : BoardFault) → IsFailure command layers blobs may_refuse (failed_run (Board fault))
   board_failed (Double p) = λ e. let bad : Double p ≡ BoardMemory = e in cc
   board_failed (Stranger p) = λ e. let bad : Stranger p ≡ BoardMemory = e in cc
   board_failed (Missing p) = λ e. let bad : Missing p ≡ BoardMemory = e in cc
   board_failed BoardMemory = tt
 
   -- a run that fails for another cause than its workers' number
-  pub failed : (fault : RunFault) → fault ≢ Workers → (fault ≡ Gate → MayRefuse command layers may_refuse) → IsRun command layers may_refuse (Err (failed_run fault))
+  pub failed : (fault : RunFault) → fault ≢ Workers → (fault ≡ Gate → MayRefuse command layers blobs may_refuse) → IsFailure command layers blobs may_refuse (failed_run fault)
   failed Workers workers gate = absurd (workers refl)
   failed Gate workers gate = gate refl
   failed (Board fault) workers gate = board_failed fault

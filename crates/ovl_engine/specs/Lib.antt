@@ -1,4 +1,5 @@
 pub mod Directories
+pub mod FsckReports
 pub mod NamedBlobs
 pub mod Outcomes
 pub mod Refusals

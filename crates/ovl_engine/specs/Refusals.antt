@@ -1,5 +1,6 @@
 -- Why a command is refused before any work is done.
-use Rattle.std.specs.Prelude.{◌≡◌, ⊤, ℕ, suc, Bool, ◌||◌, ◌==◌, Option, Some, None, Result, Ok, Err, List, [], ◌∷◌, if◌then◌else◌, length, nat_lt}
+use Rattle.std.specs.Prelude.{◌≡◌, ⊤, ℕ, suc, Bool, ◌||◌, ◌==◌, not, Option, Some, None, Result, Ok, Err, List, [], ◌∷◌, if◌then◌else◌, length, nat_lt}
+use Rattle.std.specs.List.{sum_by}
 use Rattle.ovl_manifest.specs.Layers.{Entries}
 use Rattle.ovl_manifest.specs.Manifest.{read_layer}
 use Rattle.ovl_manifest.specs.declared.faults.LayerFault.{LayerFault}
@@ -8,8 +9,9 @@ use Rattle.ovl_board.specs.declared.assembly.BoardFault.TheVariants.{Memory as B
 use Rattle.ovl_pool.specs.declared.runs.RunFault.{RunFault}
 use Rattle.ovl_pool.specs.declared.runs.RunFault.TheVariants.{Board, Memory as RunMemory}
 use Rattle.ovl_lookup.specs.Stacks.{layer_limit}
+use Rattle.ovl_check.specs.Blobs.{BlobView, are_in_order}
 use Rattle.ovl_engine.specs.declared.faults.EngineFault.{EngineFault}
-use Rattle.ovl_engine.specs.declared.faults.EngineFault.TheVariants.{Workers, Layers, Layer, Run, Memory}
+use Rattle.ovl_engine.specs.declared.faults.EngineFault.TheVariants.{Workers, Layers, Layer, BlobOrder, BlobSize, Run, Memory}
 
 -- the most workers
 abbrev pub worker_limit : ℕ
@@ -40,12 +42,30 @@ stated_layers manifests = elim (layers_from 0 manifests) [ Ok layers ↦ layers 
 abbrev pub first_unread : List (List ℕ) → Option EngineFault
 first_unread manifests = elim (layers_from 0 manifests) [ Ok layers ↦ None | Err fault ↦ Some fault ]
 
--- what a command is refused for, by these manifests and this number of workers: the first of three that holds
-abbrev pub first_refusal : List (List ℕ) → ℕ → Option EngineFault
-first_refusal manifests workers =
+-- the most bytes of all blobs, and how many blobs have
+abbrev pub blob_limit : ℕ
+blob_limit = 268435456
+
+abbrev pub blob_bytes : List BlobView → ℕ
+blob_bytes blobs = sum_by (λ blob. length blob.bytes) blobs
+
+-- the fault of blobs whose names don't ascend strictly, or that have too many bytes
+abbrev pub blob_refusal : List BlobView → Option EngineFault
+blob_refusal blobs =
+    if not (are_in_order blobs) then Some BlobOrder
+    else if nat_lt blob_limit (blob_bytes blobs) then Some BlobSize
+    else None
+
+-- what manifests and blobs are refused for
+abbrev pub input_refusal : List (List ℕ) → List BlobView → Option EngineFault
+input_refusal manifests blobs = elim (first_unread manifests) [ Some fault ↦ Some fault | None ↦ blob_refusal blobs ]
+
+-- what a command is refused for, by these manifests, blobs and number of workers: the first of five that holds
+abbrev pub first_refusal : List (List ℕ) → List BlobView → ℕ → Option EngineFault
+first_refusal manifests blobs workers =
     if is_outside worker_limit workers then Some Workers
     else if is_outside layer_limit (length manifests) then Some Layers
-    else first_unread manifests
+    else input_refusal manifests blobs
 
 -- the fault where the manifest of this index isn't read: want of memory is told as such
 abbrev pub unread_layer : ℕ → LayerFault → EngineFault
@@ -64,4 +84,6 @@ IsUnread read (Layer index fault) = read ≡ Err (Layer index fault)
 IsUnread read Memory = ⊤
 IsUnread read Workers = ⊥
 IsUnread read Layers = ⊥
+IsUnread read BlobOrder = ⊥
+IsUnread read BlobSize = ⊥
 IsUnread read (Run fault) = ⊥

@@ -25,7 +25,15 @@ fn answer_of<R: Threads + Wait + Sync>(
     for _ in 0..layers {
         manifests.push(manifest_of(alloc, &[])?)?;
     }
-    Ok(command(rt, alloc, Command::Show, &manifests, workers, &OpenGate))
+    Ok(command(
+        rt,
+        alloc,
+        Command::Show,
+        &manifests,
+        &[],
+        workers,
+        &OpenGate,
+    ))
 }
 
 #[test]
@@ -79,7 +87,7 @@ fn the_first_layer_that_is_not_read_is_told(rt: HostRuntime) -> Result<(), Fail>
     let newer = String::from_str(alloc, "{\"overlay-layer\":2,\"entries\":[]}")?;
     let list = String::from_str(alloc, "[]")?;
     let manifests = [root, newer.into_bytes(), list.into_bytes()];
-    let answer = command(&rt, alloc, Command::Show, &manifests, 4, &OpenGate);
+    let answer = command(&rt, alloc, Command::Show, &manifests, &[], 4, &OpenGate);
     assert_eq!(rt;
         answer.err(),
         Some(EngineFault::Layer(1, LayerFault::Version))
@@ -96,6 +104,8 @@ fn a_fault_has_its_text(rt: HostRuntime) -> Result<(), Fail> {
             EngineFault::Layer(2, LayerFault::Order(7)),
             "layer 2: entry 7: out of order",
         ),
+        (EngineFault::BlobOrder, "blobs out of order"),
+        (EngineFault::BlobSize, "blobs over 268435456 bytes"),
         (EngineFault::from(RunFault::Gate), "gate"),
         (EngineFault::from(RunFault::Memory), "out of memory"),
     ] {
@@ -210,10 +220,18 @@ impl<R: Wait> Gate for Meeting<'_, R> {
     }
 }
 
-// Lets `/a` and `/b` pass where they meet.
-fn gate_to_a_and_b<'a, R: Wait>(rt: &'a R, alloc: Global) -> Result<Meeting<'a, R>, Fail> {
+const TWO: [&str; 2] = ["/a", "/b"];
+
+const FOUR: [&str; 4] = ["/a", "/b", "/c", "/d"];
+
+// Lets these directories pass where they meet.
+fn gate_to<'a, R: Wait>(
+    rt: &'a R,
+    alloc: Global,
+    directories: &[&str],
+) -> Result<Meeting<'a, R>, Fail> {
     let mut asked = Vec::new(alloc);
-    for text in ["/a", "/b"] {
+    for text in directories {
         let piece = Piece {
             space: 0,
             dir: Path::parse(alloc, text)?,
@@ -226,56 +244,120 @@ fn gate_to_a_and_b<'a, R: Wait>(rt: &'a R, alloc: Global) -> Result<Meeting<'a, 
     })
 }
 
-fn two_directories(alloc: Global) -> Result<Vec<u8>, Fail> {
-    manifest_of(alloc, &[("/a", DIR, ""), ("/b", DIR, "")])
+// The manifest of a root and these directories.
+fn manifest_with(alloc: Global, directories: &[&str]) -> Result<Vec<u8>, Fail> {
+    let mut entries = Vec::new(alloc);
+    for path in directories {
+        entries.push((*path, DIR, ""))?;
+    }
+    manifest_of(alloc, &entries)
 }
 
 // How the command ends over two directories and a root under them, through the gate above.
 fn gated<R: Threads + Wait + Sync>(
     rt: &R,
     alloc: Global,
+    what: Command,
     workers: usize,
 ) -> Result<Option<EngineFault>, Fail> {
-    let manifests = [two_directories(alloc)?, manifest_of(alloc, &[])?];
-    let gate = gate_to_a_and_b(rt, alloc)?;
-    Ok(command(rt, alloc, Command::Show, &manifests, workers, &gate).err())
+    let manifests = [manifest_with(alloc, &TWO)?, manifest_of(alloc, &[])?];
+    let gate = gate_to(rt, alloc, &TWO)?;
+    Ok(command(rt, alloc, what, &manifests, &[], workers, &gate).err())
 }
 
 #[test]
 fn two_workers_meet_at_the_gate(rt: HostRuntime) -> Result<(), Fail> {
-    assert_eq!(rt; gated(&rt, rt.alloc(), 2)?, None);
+    assert_eq!(rt; gated(&rt, rt.alloc(), Command::Show, 2)?, None);
+    Ok(())
+}
+
+#[test]
+fn two_workers_of_a_check_meet_at_the_gate(rt: HostRuntime) -> Result<(), Fail> {
+    assert_eq!(rt; gated(&rt, rt.alloc(), Command::Fsck, 2)?, None);
     Ok(())
 }
 
 #[test]
 fn one_worker_is_refused_at_the_gate(rt: HostRuntime) -> Result<(), Fail> {
     assert_eq!(rt;
-        gated(&rt, rt.alloc(), 1)?,
+        gated(&rt, rt.alloc(), Command::Show, 1)?,
         Some(EngineFault::Run(RunFault::Gate))
     );
     Ok(())
 }
 
 #[test]
-fn a_run_over_the_merged_tree_has_its_numbers(rt: HostRuntime) -> Result<(), Fail> {
-    let alloc = rt.alloc();
+fn one_worker_of_a_check_is_refused_at_the_gate(rt: HostRuntime) -> Result<(), Fail> {
+    assert_eq!(rt;
+        gated(&rt, rt.alloc(), Command::Fsck, 1)?,
+        Some(EngineFault::Run(RunFault::Gate))
+    );
+    Ok(())
+}
+
+fn stack_with(alloc: Global, directories: &[&str]) -> Result<Stack, Fail> {
     let mut layers = Vec::new(alloc);
-    layers.push(read_layer(alloc, &two_directories(alloc)?)?)?;
-    let stack = Stack::of(layers)?;
-    let root = Piece {
+    layers.push(read_layer(alloc, &manifest_with(alloc, directories)?)?)?;
+    Ok(Stack::of(layers)?)
+}
+
+fn root_piece(alloc: Global) -> Piece {
+    Piece {
         space: 0,
         dir: Path::root(alloc),
-    };
-    let gate = gate_to_a_and_b(&rt, alloc)?;
-    let (_, count) = run(&rt, alloc, &ShowWork::new(&stack), root, 2, &gate)?;
-    assert_eq!(rt;
-        count,
-        RunCount {
-            known: 3,
-            delivered: 3,
-            taken: 3,
-            left: 0,
-        }
-    );
+    }
+}
+
+// The numbers of a run over this many directories.
+fn all_of(directories: u64) -> RunCount {
+    RunCount {
+        known: directories,
+        delivered: directories,
+        taken: directories,
+        left: 0,
+    }
+}
+
+// The numbers of a run over the merged tree of a root and these directories, or how it ends, where they must meet.
+fn run_to<R: Threads + Wait + Sync>(
+    rt: &R,
+    alloc: Global,
+    directories: &[&str],
+    workers: usize,
+) -> Result<Result<RunCount, RunFault>, Fail> {
+    let stack = stack_with(alloc, directories)?;
+    let gate = gate_to(rt, alloc, directories)?;
+    let work = ShowWork::new(&stack);
+    Ok(run(rt, alloc, &work, root_piece(alloc), workers, &gate).map(|(_, count)| count))
+}
+
+#[test]
+fn two_workers_meet_over_the_merged_tree(rt: HostRuntime) -> Result<(), Fail> {
+    assert_eq!(rt; run_to(&rt, rt.alloc(), &TWO, 2)?, Ok(all_of(3)));
+    Ok(())
+}
+
+#[test]
+fn four_workers_meet_over_the_merged_tree(rt: HostRuntime) -> Result<(), Fail> {
+    assert_eq!(rt; run_to(&rt, rt.alloc(), &FOUR, 4)?, Ok(all_of(5)));
+    Ok(())
+}
+
+#[test]
+fn three_workers_are_refused_where_four_meet(rt: HostRuntime) -> Result<(), Fail> {
+    assert_eq!(rt; run_to(&rt, rt.alloc(), &FOUR, 3)?, Err(RunFault::Gate));
+    Ok(())
+}
+
+#[test]
+fn one_worker_goes_over_the_merged_tree(rt: HostRuntime) -> Result<(), Fail> {
+    let alloc = rt.alloc();
+    let stack = stack_with(alloc, &TWO)?;
+    let work = ShowWork::new(&stack);
+    let (parcels, count) = run(&rt, alloc, &work, root_piece(alloc), 1, &OpenGate)?;
+    assert_eq!(rt; parcels.len(), 3);
+    assert_eq!(rt; count, all_of(3));
+    let refused = run(&rt, alloc, &work, root_piece(alloc), 0, &OpenGate);
+    assert_eq!(rt; refused.err(), Some(RunFault::Workers));
     Ok(())
 }

@@ -1,16 +1,20 @@
-ghost use Rattle.std.specs.Prelude.{◌≡◌, ◌↔◌, ◌<◌, ◌≤◌, true, false, Err, length, map};
+ghost use Rattle.std.specs.Prelude.{◌≡◌, ◌↔◌, ◌<◌, ◌≤◌, true, false, Err, List, length, map, nat_lt};
 ghost use Rattle.ovl_lookup.specs.Stacks.{layer_limit};
-ghost use Rattle.ovl_engine.specs.declared.requests.Command.TheVariants.{Show};
+ghost use Rattle.ovl_check.specs.Blobs.{BlobView, blob_views, are_in_order};
+ghost use Rattle.ovl_engine.specs.declared.requests.Command.TheVariants.{Show, Fsck};
 ghost use Rattle.ovl_engine.specs.declared.faults.EngineFault.TheVariants.{Workers, Layers};
-ghost use Rattle.ovl_engine.specs.Refusals.{worker_limit, is_outside as outside_test};
+ghost use Rattle.ovl_engine.specs.Refusals.{worker_limit, is_outside as outside_test, blob_limit, blob_bytes};
 ghost use Rattle.ovl_engine.specs.Outcomes.{IsOutcome, IsRun};
 
+use crate::checks::findings_of;
 use crate::faults::EngineFault;
+use crate::fsck_reports::{fsck_report_of, is_clean};
 use crate::reports::report_of;
 use crate::requests::{Answer, Command};
 use crate::stacks::read_stack;
 use crate::works::{ShowWork, finish_show};
 use ovl_board::Piece;
+use ovl_check::{Blob, blobs_in_order};
 use ovl_lookup::Stack;
 use ovl_names::Path;
 use ovl_pool::{Gate, run};
@@ -18,23 +22,26 @@ use std::alloc::Global;
 use std::sync::Wait;
 use std::thread::Threads;
 
-/// What a command gives of the layers that the manifests state, the topmost first, by 1 to 64 workers. The answer is
-/// the same for every number of workers and every order of their visits.
+/// What a command gives of the layers that the manifests state, the topmost first, and of the blobs, by 1 to 64
+/// workers. The answer is the same for every number of workers and every order of their visits.
 ///
 /// Refused before any worker starts where the workers are outside 1 to 64, else where the manifests are outside 1 to
-/// 128, else where one states no layer, the first of them, with its fault. `Run` comes where the gate refuses a piece,
-/// or the board can't assemble the parcels; `Memory` can come at any time but before the first two refusals. It waits
-/// for its workers, and returns only where each question to the gate does. The merged tree is that of the kernel's
-/// overlayfs.rst, as `docs/PROFILE.md` tells it, the reports are those of `docs/FORMATS.md`.
+/// 128, else where one states no layer, the first of them, with its fault, else where the names of the blobs don't
+/// ascend strictly, else where the blobs have more than 268,435,456 bytes in all. `Run` comes where the gate refuses a
+/// piece, or the board can't assemble the parcels; `Memory` can come at any time but before the first two refusals. It
+/// waits for its workers, and returns only where each question to the gate does. The merged tree is that of the
+/// kernel's overlayfs.rst, as `docs/PROFILE.md` tells it with what is checked; the reports are those of
+/// `docs/FORMATS.md`.
 pub fn command<G: Gate + Sync, R: Threads + Wait + Sync>(
     rt: &R,
     alloc: Global,
     what: Command,
     manifests: &[Vec<u8>],
+    blobs: &[Blob],
     workers: usize,
     gate: &G,
 ) -> Result<Answer, EngineFault>
-    ensures outcome { IsOutcome what (map (λ manifest. manifest.items) manifests.now) workers (G.may_refuse gate.now) result }
+    ensures outcome { IsOutcome what (map (λ manifest. manifest.items) manifests.now) (blob_views blobs.now) workers (G.may_refuse gate.now) result }
     ensures workers { (result ≡ Err Workers) ↔ (outside_test worker_limit workers ≡ true) }
     ensures layers { (result ≡ Err Layers)
         ↔ ((outside_test worker_limit workers ≡ false) × (outside_test layer_limit (length manifests.now) ≡ true)) }
@@ -46,8 +53,15 @@ pub fn command<G: Gate + Sync, R: Threads + Wait + Sync>(
         return Err(EngineFault::Layers);
     }
     let stack = read_stack(alloc, manifests)?;
+    if !blobs_in_order(blobs) {
+        return Err(EngineFault::BlobOrder);
+    }
+    if are_over_limit(blobs) {
+        return Err(EngineFault::BlobSize);
+    }
     match what {
         Command::Show => show(rt, alloc, &stack, workers, gate),
+        Command::Fsck => fsck(rt, alloc, &stack, blobs, workers, gate),
     }
 }
 
@@ -56,6 +70,23 @@ fn is_outside(limit: usize, number: usize) -> bool
     ensures { result ≡ outside_test limit number }
 {
     number == 0 || number > limit
+}
+
+/// The most bytes of all blobs.
+const BLOB_LIMIT: usize = 268_435_456;
+
+// Whether the blobs have more bytes in all than they may.
+fn are_over_limit(blobs: &[Blob]) -> bool
+    ensures { result ≡ nat_lt blob_limit (blob_bytes (blob_views blobs.now)) }
+{
+    let mut left = BLOB_LIMIT;
+    for blob in blobs {
+        if blob.bytes.len() > left {
+            return true;
+        }
+        left -= blob.bytes.len();
+    }
+    false
 }
 
 // The report of the merged tree of a stack.
@@ -67,7 +98,7 @@ fn show<G: Gate + Sync, R: Threads + Wait + Sync>(
     gate: &G,
 ) -> Result<Answer, EngineFault>
     requires { (0 < workers) × (workers ≤ worker_limit) }
-    ensures { IsRun Show stack.now.layers (G.may_refuse gate.now) result }
+    ensures { (blobs : List BlobView) → IsRun Show stack.now.layers blobs (G.may_refuse gate.now) result }
 {
     let work = ShowWork::new(stack);
     let root = Piece {
@@ -80,5 +111,26 @@ fn show<G: Gate + Sync, R: Threads + Wait + Sync>(
         report: report_of(alloc, &looks)?,
         layers: Vec::new(alloc),
         clean: true,
+    })
+}
+
+// The report of what is found in a stack with these blobs.
+fn fsck<G: Gate + Sync, R: Threads + Wait + Sync>(
+    rt: &R,
+    alloc: Global,
+    stack: &Stack,
+    blobs: &[Blob],
+    workers: usize,
+    gate: &G,
+) -> Result<Answer, EngineFault>
+    requires number { (0 < workers) × (workers ≤ worker_limit) }
+    requires ascend { are_in_order (blob_views blobs.now) ≡ true }
+    ensures { IsRun Fsck stack.now.layers (blob_views blobs.now) (G.may_refuse gate.now) result }
+{
+    let found = findings_of(rt, alloc, stack, blobs, workers, gate)?;
+    Ok(Answer {
+        report: fsck_report_of(alloc, &found)?,
+        layers: Vec::new(alloc),
+        clean: is_clean(&found),
     })
 }

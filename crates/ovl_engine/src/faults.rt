@@ -8,8 +8,8 @@ use ovl_pool::RunFault;
 use std::alloc::{AllocError, AllocFailed};
 use thiserror::Error;
 
-/// Why a command gives no answer. The first of `Workers`, `Layers` and `Layer` that holds is given before any work is
-/// done. Layers are counted from 0, the topmost first.
+/// Why a command gives no answer. The first of `Workers`, `Layers`, `Layer`, `BlobOrder` and `BlobSize` that holds is
+/// given before any work is done. Layers are counted from 0, the topmost first.
 #[derive(Debug, PartialEq, Eq, Drop, Error)]
 pub enum EngineFault {
     #[error("workers must be 1 to 64")]
@@ -18,6 +18,12 @@ pub enum EngineFault {
     Layers,
     #[error("layer {0}: {1}")]
     Layer(usize, LayerFault),
+    /// The names of the blobs don't ascend strictly.
+    #[error("blobs out of order")]
+    BlobOrder,
+    /// The blobs have more than 268,435,456 bytes in all.
+    #[error("blobs over 268435456 bytes")]
+    BlobSize,
     #[error("{}", run_word(.0))]
     Run(RunFault),
     #[error("out of memory")]

@@ -2,11 +2,15 @@
 #![tactic(auto)]
 
 mod blobs;
+mod checks;
 #[cfg(test)]
 mod command_tests;
 mod commands;
 mod emits;
 mod faults;
+mod fsck_reports;
+#[cfg(test)]
+mod fsck_tests;
 mod reports;
 mod requests;
 #[cfg(test)]
@@ -22,7 +26,8 @@ pub use blobs::named_blobs;
 pub use commands::command;
 pub use emits::{EmitFault, emit};
 pub use faults::EngineFault;
-pub use ovl_check::Blob;
+pub use fsck_reports::{fsck_report_of, is_clean};
+pub use ovl_check::{Blob, Code, Finding};
 pub use reports::report_of;
 pub use requests::{Answer, Command};
 pub use works::{ShowWork, finish_show};

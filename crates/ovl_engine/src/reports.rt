@@ -59,7 +59,7 @@ fn push_status(report: &mut String, inode: &Inode) -> Result<(), AllocError>
     push_word(report, itoa::Buffer::new().format(inode.mtime))
 }
 
-fn push_word(report: &mut String, word: &str) -> Result<(), AllocError>
+pub(crate) fn push_word(report: &mut String, word: &str) -> Result<(), AllocError>
     ensures { OnOk result (string_bytes report.new ≡ string_bytes report.old ++ spaced word.now) }
 {
     report.push_str(word)?;
@@ -97,7 +97,7 @@ fn octal_digit(number: u16) -> char
     (b'0' + (number % 8) as u8) as char
 }
 
-fn push_number(report: &mut String, number: u64) -> Result<(), AllocError>
+pub(crate) fn push_number(report: &mut String, number: u64) -> Result<(), AllocError>
     ensures { OnOk result (string_bytes report.new ≡ string_bytes report.old ++ decimal number) }
 {
     report.push_str(itoa::Buffer::new().format(number))
@@ -171,7 +171,7 @@ fn push_device(report: &mut String, major: u32, minor: u32) -> Result<(), AllocE
     push_number(report, u64::from(minor))
 }
 
-fn push_path(alloc: Global, report: &mut String, path: &Path) -> Result<(), AllocError>
+pub(crate) fn push_path(alloc: Global, report: &mut String, path: &Path) -> Result<(), AllocError>
     ensures { OnOk result (string_bytes report.new ≡ string_bytes report.old ++ shown_path path.now) }
 {
     if path.is_empty() {

@@ -1,26 +1,16 @@
 //! Worked stacks: what marks hide, and where directories that were moved are sought.
 
-use crate::samples::{DIR, FILE, UNREAD, WHITEOUT, reported, shown};
+use crate::samples::{
+    DIR, EMPTY, FILE, FROM_R_BESIDE, FROM_X, HAS_METACOPY, IS_WHITEOUT, OPAQUE_FROM_X, UNREAD,
+    WHITEOUT, reported, shown,
+};
 use std::test::Fail;
 
-// The attributes of an entry.
-const HAS_METACOPY: &str = "\"trusted.overlay.metacopy\":\"\"";
-
-const IS_WHITEOUT: &str = "\"trusted.overlay.whiteout\":\"\"";
-
+// Attributes of an entry.
 const IS_OPAQUE: &str = "\"trusted.overlay.opaque\":\"79\"";
 
 // A value that overlayfs doesn't take as opaque.
 const IS_NOT_OPAQUE: &str = "\"trusted.overlay.opaque\":\"78\"";
-
-const FROM_X: &str = "\"trusted.overlay.redirect\":\"2f78\"";
-
-const FROM_R_BESIDE: &str = "\"trusted.overlay.redirect\":\"72\"";
-
-const OPAQUE_FROM_X: &str =
-    "\"trusted.overlay.opaque\":\"79\",\"trusted.overlay.redirect\":\"2f78\"";
-
-const EMPTY: &str = "\"kind\":\"file\",\"mode\":420,\"size\":0";
 
 #[test]
 fn an_empty_file_marked_as_whiteout_hides(rt: HostRuntime) -> Result<(), Fail> {

@@ -1,0 +1,114 @@
+#!/usr/bin/env python3
+"""Measures `show` and `fsck` by several numbers of workers, on large layers and on many blobs.
+
+Python 3.11, standard library. In a temporary folder it makes three layers of the
+same number of entries (generate.py, seeds 1 to 3) and a folder of blobs with a
+layer that names each of them, runs the program several times, each run a fresh
+process, and prints Markdown tables: the least wall time of the runs and the
+largest peak memory of one run.
+
+    python3 bench/commands.py --program ./ovl_layers
+"""
+import argparse
+import hashlib
+import json
+import os
+import random
+import subprocess
+import sys
+import tempfile
+
+import run
+
+WORKERS = (1, 2, 4)
+
+
+def measure(command, statuses, repeats):
+    """(least seconds, largest peak) over the runs; a status that isn't expected ends the script."""
+    runs = []
+    for _ in range(repeats):
+        seconds, peak, status = run.one_run(command, os.devnull, os.devnull)
+        if status not in statuses:
+            sys.exit("commands.py: %s ended with status %d" % (" ".join(command[:4]), status))
+        runs.append((seconds, peak))
+    return min(s for s, _ in runs), max(p for _, p in runs)
+
+
+def make_layers(folder, entries):
+    files = []
+    for n in (1, 2, 3):
+        files.append(os.path.join(folder, "layer-%d.json" % n))
+        subprocess.run([sys.executable, run.GENERATE, "--entries", str(entries), "--seed", str(n),
+                        "--out", files[-1]], check=True)
+    return files
+
+
+def make_blobs(folder, count, size):
+    """A folder of blobs, and a layer with a file for each of them."""
+    blobs = os.path.join(folder, "blobs")
+    os.mkdir(blobs)
+    bits = random.Random(1)
+    entry = {"uid": 0, "gid": 0, "mtime": 0, "xattrs": {}}
+    entries = [dict(entry, path="/", kind="dir", mode=0o755)]
+    for n in range(count):
+        content = bits.randbytes(size)
+        name = hashlib.sha256(content).hexdigest()
+        with open(os.path.join(blobs, name), "wb") as file:
+            file.write(content)
+        entries.append(dict(entry, path="/f%07d" % n, kind="file", mode=0o644, size=size, blob=name))
+    layer = os.path.join(folder, "blobs.json")
+    with open(layer, "w") as file:
+        json.dump({"overlay-layer": 1, "entries": entries}, file)
+    return blobs, layer
+
+
+def table(head, rows):
+    print(run.row(head))
+    print(run.row(["---"] + ["---:"] * (len(head) - 1)))
+    for cells in rows:
+        print(run.row(cells))
+    print()
+
+
+def by_workers(name, command, statuses, repeats):
+    """Rows of one command, each with how many times as fast as one worker it is."""
+    rows, alone = [], None
+    for workers in WORKERS:
+        words = command[:2] + ["--workers", str(workers)] + command[2:]
+        seconds, peak = measure(words, statuses, repeats)
+        alone = alone or seconds
+        rows.append([name, str(workers), "%.2f" % seconds, "%.2f" % (alone / seconds), "{:,}".format(peak)])
+        print("commands.py: %s by %d workers done" % (name, workers), file=sys.stderr)
+    return rows
+
+
+def main():
+    words = argparse.ArgumentParser(description="Measures show and fsck by several numbers of workers.")
+    words.add_argument("--program", required=True, help="path of the program")
+    words.add_argument("--entries", type=int, default=100000, help="entries of each of three layers (default 100000)")
+    words.add_argument("--blobs", type=int, default=2000, help="how many blobs (default 2000)")
+    words.add_argument("--size", type=int, default=100000, help="bytes of each blob (default 100000)")
+    words.add_argument("--repeats", type=int, default=3, help="runs of each command (default 3)")
+    given = words.parse_args()
+    program = os.path.abspath(given.program)
+    head = ["Command", "Workers", "Wall time, s", "Times as fast as one", "Peak, bytes"]
+
+    with tempfile.TemporaryDirectory(prefix="ovl-bench-") as folder:
+        layers = make_layers(folder, given.entries)
+        none = os.path.join(folder, "none")
+        os.mkdir(none)
+        shows = by_workers("show", [program, "show"] + layers, (0,), given.repeats)
+        # The generated layers name blobs that aren't there: faults, and status 1.
+        checks = by_workers("fsck", [program, "fsck", "--blobs", none] + layers, (0, 1), given.repeats)
+        blobs, layer = make_blobs(folder, given.blobs, given.size)
+        digests = by_workers("fsck of blobs", [program, "fsck", "--blobs", blobs, layer], (0,), given.repeats)
+
+    print("Machine: %s. Least time of %d runs.\n" % (run.machine(), given.repeats))
+    print("Three layers of {:,} entries each:\n".format(given.entries))
+    table(head, shows + checks)
+    print("{:,} blobs of {:,} bytes each:\n".format(given.blobs, given.size))
+    table(head, digests)
+
+
+if __name__ == "__main__":
+    main()

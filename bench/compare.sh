@@ -1,0 +1,47 @@
+#!/usr/bin/env bash
+# Compares what PROGRAM makes of each folder's layers (l0.json, the topmost, l1.json and so on) by 1, 2, 7 and 64
+# workers with the files there, byte for byte: `show` with expected.show, and where there is a folder of blobs, `fsck`
+# with expected.fsck, or with a report that finds nothing where there is no such file.
+set -uo pipefail
+
+if (($# < 2)); then
+    echo "usage: $0 PROGRAM FOLDER.." >&2
+    exit 2
+fi
+program=$1
+shift
+report=$(mktemp)
+clean=$(mktemp)
+trap 'rm -f -- "$report" "$clean"' EXIT
+echo 'faults 0 notes 0' > "$clean"
+
+other=0
+# The same bytes as the file that is named first, by the words after it.
+compare() {
+    local expected=$1
+    shift
+    "$program" "$@" > "$report"
+    local status=$?
+    if ((status > 1)) || ! cmp -- "$report" "$expected"; then
+        echo "$*: other than $expected" >&2
+        other=$((other + 1))
+    fi
+}
+
+for folder in "$@"; do
+    layers=()
+    while [[ -f $folder/l${#layers[@]}.json ]]; do
+        layers+=("$folder/l${#layers[@]}.json")
+    done
+    found=$clean
+    [[ -f $folder/expected.fsck ]] && found=$folder/expected.fsck
+    for workers in 1 2 7 64; do
+        compare "$folder/expected.show" show --workers "$workers" "${layers[@]}"
+        if [[ -d $folder/blobs ]]; then
+            compare "$found" fsck --blobs "$folder/blobs" --workers "$workers" "${layers[@]}"
+        fi
+    done
+    echo "$folder: ${#layers[@]} layers compared"
+done
+echo "$other other"
+((other == 0))

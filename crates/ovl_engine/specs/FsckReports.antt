@@ -1,0 +1,55 @@
+-- The report of `fsck`: a line for each finding, in their order, and how many are faults and how many notes.
+use Rattle.std.specs.Prelude.{ℕ, Bool, ◌==◌, not, List, ◌++◌, if◌then◌else◌, decimal, codes}
+use Rattle.std.specs.List.{flat_map, count_by}
+use Rattle.ovl_names.specs.Escapes.{shown_path}
+use Rattle.ovl_check.specs.declared.findings.Code.{Code}
+use Rattle.ovl_check.specs.declared.findings.Code.TheVariants.{RedirectForm, RedirectLost, RedirectKind, RedirectDouble, RedirectOpen, DataMissing, DataSize, BlobMissing, BlobSize, BlobDigest, OrphanWhiteout, WhiteoutInOpaque, WhiteoutUnmarked, ImpureMissing, MarkIgnored}
+use Rattle.ovl_check.specs.declared.findings.Finding.{Finding}
+use Rattle.ovl_check.specs.Codes.{is_fault}
+use Rattle.ovl_engine.specs.Reports.{spaced}
+
+-- the word of a code
+abbrev pub code_word : Code → List ℕ
+code_word RedirectForm = codes "redirect-form"
+code_word RedirectLost = codes "redirect-lost"
+code_word RedirectKind = codes "redirect-kind"
+code_word RedirectDouble = codes "redirect-double"
+code_word RedirectOpen = codes "redirect-open"
+code_word DataMissing = codes "data-missing"
+code_word DataSize = codes "data-size"
+code_word BlobMissing = codes "blob-missing"
+code_word BlobSize = codes "blob-size"
+code_word BlobDigest = codes "blob-digest"
+code_word OrphanWhiteout = codes "orphan-whiteout"
+code_word WhiteoutInOpaque = codes "whiteout-in-opaque"
+code_word WhiteoutUnmarked = codes "whiteout-unmarked"
+code_word ImpureMissing = codes "impure-missing"
+code_word MarkIgnored = codes "mark-ignored"
+
+-- `fault` or `note`
+abbrev pub weight_word : Code → List ℕ
+weight_word code = if is_fault code then codes "fault" else codes "note"
+
+-- `fault CODE LAYER PATH` or `note CODE LAYER PATH`
+abbrev pub finding_line : Finding → List ℕ
+finding_line found =
+    spaced (weight_word found.code) ++ spaced (code_word found.code) ++ spaced (decimal found.layer)
+    ++ shown_path found.path ++ codes "\n"
+
+-- how many findings are faults, and how many are notes
+abbrev pub fault_count : List Finding → ℕ
+fault_count found = count_by (λ one. is_fault one.code) found
+
+abbrev pub note_count : List Finding → ℕ
+note_count found = count_by (λ one. not (is_fault one.code)) found
+
+-- no finding is a fault
+abbrev pub is_clean : List Finding → Bool
+is_clean found = fault_count found == 0
+
+-- the lines, and then `faults F notes N`
+abbrev pub fsck_report : List Finding → List ℕ
+fsck_report found =
+    flat_map finding_line found
+    ++ codes "faults " ++ decimal (fault_count found)
+    ++ codes " notes " ++ decimal (note_count found) ++ codes "\n"
