@@ -7,12 +7,12 @@ use Rattle.ovl_layers.specs.declared.faults.ProgramFault.{ProgramFault}
 use Rattle.ovl_layers.specs.declared.faults.ProgramFault.TheVariants.{Usage, Words, Input, Unread, Output, Engine}
 use Rattle.ovl_layers.specs.Faults.{IsUnread}
 use Rattle.ovl_layers.specs.Folders.{IsInFolder}
-use Rattle.ovl_layers.specs.Lines.{IsOfBlobs, IsRead, IsPerformed}
+use Rattle.ovl_layers.specs.Programs.{IsOfBlobs, IsReadFor, IsPerformed}
 use Rattle.ovl_layers.specs.Reported.{IsReported}
 
 -- a report of what was read
 pub performed : (line : Line) (before after : Option (List ℕ)) (result : Result Ending ProgramFault) (manifests : List (List ℕ)) (blobs : List BlobView)
-    → IsRead line manifests blobs → IsReported line.what manifests blobs line.workers before after result → IsPerformed line before after result
+    → IsReadFor line manifests blobs → IsReported line.what manifests blobs line.workers before after result → IsPerformed line before after result
 performed line before after (Ok ending) manifests blobs read reported = (manifests, blobs, (read, reported))
 performed line before after (Err Output) manifests blobs read reported = (manifests, blobs, (read, reported))
 performed line before after (Err (Engine fault)) manifests blobs read reported = (inr (manifests, blobs, (read, reported)), reported.1)

@@ -1,5 +1,5 @@
 pub mod Endings
 pub mod Faults
 pub mod Folders
-pub mod Lines
+pub mod Programs
 pub mod Reported

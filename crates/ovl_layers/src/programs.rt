@@ -1,7 +1,7 @@
 ghost use Rattle.std.specs.Prelude.{◌≡◌, [], true, IfOk, IfErr, IfNone};
 ghost use Rattle.ovl_check.specs.Blobs.{blob_views, are_in_order};
 ghost use Rattle.ovl_layers.specs.Faults.{IsUnread};
-ghost use Rattle.ovl_layers.specs.Lines.{IsOfBlobs, IsPerformed};
+ghost use Rattle.ovl_layers.specs.Programs.{IsOfBlobs, IsPerformed};
 
 use crate::endings::Ending;
 use crate::faults::ProgramFault;

@@ -20,7 +20,7 @@ abbrev pub IsOfLine : Line → List ℕ → Type 0
 IsOfLine line path = Contains (map string_bytes line.layers.items) path ⊎ IsOfBlobs line path
 
 -- what can be read for a line: a manifest for each layer, and blobs in order, none where the line has no folder of them
-pub record IsRead (line : Line) (manifests : List (List ℕ)) (blobs : List BlobView) : Type 0 where
+pub record IsReadFor (line : Line) (manifests : List (List ℕ)) (blobs : List BlobView) : Type 0 where
   pub each : length manifests ≡ length line.layers.items
   pub in_order : are_in_order blobs ≡ true
   pub none : IfNone line.blobs (blobs ≡ [])
@@ -29,7 +29,7 @@ pub record IsRead (line : Line) (manifests : List (List ℕ)) (blobs : List Blob
 abbrev pub IsDone : Line → Option (List ℕ) → Option (List ℕ) → Result Ending ProgramFault → Type 0
 IsDone line before after result =
     (manifests : List (List ℕ)) × (blobs : List BlobView)
-    × (IsRead line manifests blobs × IsReported line.what manifests blobs line.workers before after result)
+    × (IsReadFor line manifests blobs × IsReported line.what manifests blobs line.workers before after result)
 
 -- what comes of a line: it is done; or a file or a folder of it isn't read, or memory is wanting, and nothing is written
 abbrev pub IsPerformed : Line → Option (List ℕ) → Option (List ℕ) → Result Ending ProgramFault → Type 0
