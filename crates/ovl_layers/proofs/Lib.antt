@@ -1,1 +1,6 @@
+pub mod Accepted
 pub mod Limited
+pub mod Numbers
+pub mod Options
+pub mod Outcomes
+pub mod Taken

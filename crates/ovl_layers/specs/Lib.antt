@@ -1,2 +1,4 @@
 pub mod Faults
+pub mod Grammar
+pub mod Lines
 pub mod Shows

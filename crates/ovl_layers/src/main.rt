@@ -2,10 +2,16 @@
 #![tactic(auto)]
 
 mod faults;
+mod grammar;
 mod inputs;
+#[cfg(test)]
+mod line_tests;
+mod lines;
+mod requests;
 mod shows;
 #[cfg(test)]
 mod tests;
+mod words;
 
 use faults::ProgramFault;
 use std::env::{Env, FillError};
