@@ -1,6 +1,7 @@
 //! Offline tools for stacks of overlay layers: what layers show, and what is wrong with them.
 #![tactic(auto)]
 
+mod arguments;
 #[cfg(test)]
 mod disks;
 mod endings;
@@ -9,7 +10,10 @@ mod files;
 #[cfg(test)]
 mod folder_tests;
 mod folders;
+mod grammar;
 mod inputs;
+#[cfg(test)]
+mod line_tests;
 mod lines;
 #[cfg(test)]
 mod program_tests;
@@ -46,12 +50,12 @@ fn run<R: Env + Files + Input + Print + AllocGlobal + Clone + Drop + Threads + W
 ) -> Result<Ending, ProgramFault> {
     let alloc = rt.alloc();
     let mut writer = io::writer(rt);
-    if !words::are_there(rt) {
+    if !arguments::are_there(rt) {
         return shows::show_input(rt, alloc, &mut rt.reader(), &mut writer);
     }
-    let words = words::read(rt)?;
+    let words = arguments::read(rt)?;
     let texts: Vec<&str> = words.iter().map(|word| word.as_str()).collect(alloc)?;
-    match lines::line_of(alloc, &texts) {
+    match words::line(alloc, &texts) {
         Ok(line) => programs::perform(rt, &line, &mut writer),
         Err(LineFault::Help(text)) => match emit(&mut writer, text.as_bytes()) {
             Ok(()) => Ok(Ending::Clean),
