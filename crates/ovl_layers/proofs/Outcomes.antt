@@ -1,6 +1,6 @@
 -- What the outcome of a parse says of the line.
-use Rattle.std.proofs.Common.{◌≡◌, ◌∙◌, ◌<◌, ℕ, true, refl, sym, ap, subst, arith, inl, inr, List, [], slice_index, Option, Some, None}
-use Rattle.std.specs.Prelude.{option_map}
+use Rattle.std.proofs.Common.{◌≡◌, ◌∙◌, ◌==◌, ℕ, true, refl, sym, ap, subst, inl, inr, List, [], slice_index, Option, Some, None}
+use Rattle.std.specs.Prelude.{if◌then◌else◌, option_map}
 use Rattle.clap.specs.Kinds.{HasKind, IsAmong, Kinds}
 use Rattle.clap.specs.Faults.{fault_of, is_simple_and_free}
 use Rattle.clap.specs.Matches.{subcommand_name_of}
@@ -34,15 +34,17 @@ fault_by kinds error (Usage text) (inl memory) is = absurd (is.1 memory)
 fault_by kinds error (Usage text) (inr among) is = (kind_of error, is.0, among)
 fault_by kinds error Memory has is = tt
 
-apart : (a b : ℕ) → a ≡ b → a < b → ⊥
-apart a b same less = omega arith
+-- the command whose name begins with this letter
+abbrev by_letter : ℕ → Command
+by_letter letter = if letter == 115 then Show else Fsck
+
+by_its_letter : (what : Command) → by_letter (slice_index (name_of what) 0) ≡ what
+by_its_letter Show = refl
+by_its_letter Fsck = refl
 
 -- two commands of one name are one
 pub same_name : (a b : Command) → name_of a ≡ name_of b → a ≡ b
-same_name Show Show e = refl
-same_name Show Fsck e = absurd (apart 102 115 (ap (λ (t : Text). slice_index t 0) (sym e)) (omega arith))
-same_name Fsck Show e = absurd (apart 102 115 (ap (λ (t : Text). slice_index t 0) e) (omega arith))
-same_name Fsck Fsck e = refl
+same_name a b same = sym (by_its_letter a) ∙ ap (λ (name : Text). by_letter (slice_index name 0)) same ∙ by_its_letter b
 
 first_mapped : {B : Type 0} (f : B → Text × List Row) (o : Option B) (name : Text) (rows : List Row) → option_map f o ≡ Some (name, rows) → option_map (λ b. (f b).0) o ≡ Some name
 first_mapped f None name rows e = cc

@@ -10,9 +10,10 @@ use clap::error::ErrorKind;
 use ovl_engine::Command;
 use std::alloc::{AllocError, Global};
 
-/// The line that the words after the program's name ask for. The rules for the words, and the texts
-/// of help and of usage faults, are those of the module `grammar`. What is no command with its
-/// options is a usage fault, as a number of workers outside 1 to 64 or no layer.
+/// The line that the words after the program's name ask for. Which words those are, and the texts of
+/// help and of usage faults, the module `grammar` says. Words that no command takes are a usage
+/// fault, as a number of workers outside 1 to 64 or no layer at all. Where they ask for help, that
+/// is the fault. `Memory` may come at any words.
 pub fn line(alloc: Global, words: &[&str]) -> Result<Line, LineFault>
     ensures sound { IfOk result IsSound }
     ensures read { IsRead (map (λ word. word.now) words.now) result }
