@@ -1,5 +1,5 @@
 -- What comes of a line, by what comes of its parts.
-use Rattle.std.proofs.Common.{◌≡◌, ℕ, Option, Some, Result, Ok, Err, List, IfErr, inr, ◌∙◌, String, Global, string_bytes, ap}
+use Rattle.std.proofs.Common.{◌≡◌, ℕ, Option, Some, Result, Ok, Err, List, IfErr, inr, String, Global, string_bytes}
 use Rattle.ovl_check.specs.Blobs.{BlobView}
 use Rattle.ovl_layers.specs.declared.lines.Line.{Line}
 use Rattle.ovl_layers.specs.declared.endings.Ending.{Ending}

@@ -1,5 +1,5 @@
 -- Folders of blobs.
-use Rattle.std.specs.Prelude.{◌≡◌, ◌⊎◌, ◌∷◌, ◌++◌, ℕ, List, []}
+use Rattle.std.specs.Prelude.{◌≡◌, ◌⊎◌, ◌∷◌, ◌++◌, ℕ, List}
 use Rattle.hex.specs.Hex.{encode_lower}
 
 -- the path of the blob of this digest: the folder, a slash (47) and the digest's digits

@@ -1,4 +1,4 @@
-ghost use Rattle.std.specs.Prelude.{◌≡◌, ◌≢◌, ⊤};
+ghost use Rattle.std.specs.Prelude.{◌≡◌};
 ghost use Rattle.ovl_layers.specs.declared.inputs.InputFault.TheVariants.{Memory as InputMemory};
 ghost use Rattle.ovl_layers.specs.declared.faults.ProgramFault.TheVariants.{Engine};
 ghost use Rattle.ovl_engine.specs.declared.faults.EngineFault.TheVariants.{Memory};
