@@ -1,5 +1,5 @@
 -- What a command answers.
-use Rattle.std.specs.Prelude.{◌≡◌, ◌≢◌, ◌⊎◌, ◌<◌, ⊤, ℕ, true, Option, Some, None, Result, Ok, Err, List, [], length}
+use Rattle.std.specs.Prelude.{◌≡◌, ◌≢◌, ◌⊎◌, ◌<◌, ⊤, ℕ, true, Some, None, Result, Ok, Err, List, [], length}
 use Rattle.ovl_names.specs.Paths.{PathNames}
 use Rattle.ovl_manifest.specs.Layers.{Entries}
 use Rattle.ovl_lookup.specs.declared.looks.Look.{Look}

@@ -1,6 +1,6 @@
-ghost use Rattle.std.specs.Prelude.{◌≡◌, ◌↔◌, ◌<◌, ◌≤◌, true, false, Err, List, length, map, nat_lt};
+ghost use Rattle.std.specs.Prelude.{◌≡◌, ◌↔◌, ◌<◌, ◌≤◌, true, false, Err, [], length, map, nat_lt};
 ghost use Rattle.ovl_lookup.specs.Stacks.{layer_limit};
-ghost use Rattle.ovl_check.specs.Blobs.{BlobView, blob_views, are_in_order};
+ghost use Rattle.ovl_check.specs.Blobs.{blob_views, are_in_order};
 ghost use Rattle.ovl_engine.specs.declared.requests.Command.TheVariants.{Show, Fsck};
 ghost use Rattle.ovl_engine.specs.declared.faults.EngineFault.TheVariants.{Workers, Layers};
 ghost use Rattle.ovl_engine.specs.Refusals.{worker_limit, is_outside as outside_test, blob_limit, blob_bytes};
@@ -89,7 +89,7 @@ fn are_over_limit(blobs: &[Blob]) -> bool
     false
 }
 
-// The report of the merged tree of a stack.
+// The report of the merged tree of a stack, whatever the blobs.
 fn show<G: Gate + Sync, R: Threads + Wait + Sync>(
     rt: &R,
     alloc: Global,
@@ -98,7 +98,7 @@ fn show<G: Gate + Sync, R: Threads + Wait + Sync>(
     gate: &G,
 ) -> Result<Answer, EngineFault>
     requires { (0 < workers) × (workers ≤ worker_limit) }
-    ensures { (blobs : List BlobView) → IsRun Show stack.now.layers blobs (G.may_refuse gate.now) result }
+    ensures { IsRun Show stack.now.layers [] (G.may_refuse gate.now) result }
 {
     let work = ShowWork::new(stack);
     let root = Piece {

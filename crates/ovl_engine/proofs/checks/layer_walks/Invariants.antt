@@ -7,6 +7,6 @@ use Rattle.ovl_engine.proofs.checks.layer_walks.Given as goal
 
 -- the walks of the layers so far
 abbrev pub invariant-loop-i : goal.invariant-loop-i
-invariant-loop-i l =
+invariant-loop-i g l =
     (length l.walks.items ≡ l.i)
     × AreLayerWalks (check_view l.fn.work) 0 (map (λ parcels. parcel_views check_seen parcels.items) l.walks.items)
