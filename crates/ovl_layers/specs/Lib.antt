@@ -1,2 +1,7 @@
+pub mod Endings
 pub mod Faults
-pub mod Shows
+pub mod Folders
+pub mod Grammar
+pub mod Lines
+pub mod Programs
+pub mod Reported

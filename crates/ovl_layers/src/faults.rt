@@ -1,18 +1,28 @@
 ghost use Rattle.std.specs.Prelude.{◌≡◌};
+ghost use Rattle.ovl_layers.specs.declared.inputs.InputFault.TheVariants.{Memory as InputMemory};
 ghost use Rattle.ovl_layers.specs.declared.faults.ProgramFault.TheVariants.{Engine};
-ghost use Rattle.ovl_layers.specs.Faults.{unread_input, engine_status as status_of, program_status};
+ghost use Rattle.ovl_engine.specs.declared.faults.EngineFault.TheVariants.{Memory};
+ghost use Rattle.ovl_layers.specs.Faults.{IsUnread, unread_input, engine_status as status_of, program_status};
 
 use crate::inputs::InputFault;
 use ovl_engine::EngineFault;
+use std::alloc::{AllocError, AllocFailed, Global};
 use thiserror::Error;
 
 /// Why the program ends without having printed its report.
 #[derive(Debug, PartialEq, Eq, Drop, Error)]
 pub enum ProgramFault {
-    #[error("no words yet")]
+    /// The words are none of the program's; the text tells how they should be, and ends its last line itself.
+    #[error("{0}")]
+    Usage(String),
+    /// A word isn't UTF-8.
+    #[error("words must be UTF-8")]
     Words,
     #[error("cannot read standard input")]
     Input,
+    /// The file or folder of this path can't be read.
+    #[error("cannot read {0}")]
+    Unread(String),
     #[error("cannot write standard output")]
     Output,
     #[error(transparent)]
@@ -20,13 +30,27 @@ pub enum ProgramFault {
 }
 
 impl ProgramFault {
+    /// The fault where the file or folder of this path isn't read.
+    pub fn unread(alloc: Global, path: &str, fault: InputFault) -> ProgramFault
+        ensures told { IsUnread (λ told. told ≡ path.now) result }
+        ensures memory { fault ≡ InputMemory → result ≡ Engine Memory }
+    {
+        if fault == InputFault::Memory {
+            return ProgramFault::Engine(EngineFault::Memory);
+        }
+        match String::from_str(alloc, path) {
+            Ok(path) => ProgramFault::Unread(path),
+            Err(_) => ProgramFault::Engine(EngineFault::Memory),
+        }
+    }
+
     /// The status that the program ends with.
     pub fn status(&self) -> u8
         ensures { result ≡ program_status self.now }
     {
         match self {
-            ProgramFault::Words => 2,
-            ProgramFault::Input => 3,
+            ProgramFault::Usage(_) | ProgramFault::Words => 2,
+            ProgramFault::Input | ProgramFault::Unread(_) => 3,
             ProgramFault::Output => 4,
             ProgramFault::Engine(fault) => engine_status(fault),
         }
@@ -38,7 +62,10 @@ fn engine_status(fault: &EngineFault) -> u8
     ensures { result ≡ status_of fault.now }
 {
     match fault {
-        EngineFault::Layers | EngineFault::Layer(..) => 3,
+        EngineFault::Layers
+        | EngineFault::Layer(..)
+        | EngineFault::BlobOrder
+        | EngineFault::BlobSize => 3,
         EngineFault::Workers | EngineFault::Run(_) | EngineFault::Memory => 5,
     }
 }
@@ -59,5 +86,21 @@ impl From<EngineFault> for ProgramFault {
 
     fn from(fault: EngineFault) -> ProgramFault {
         ProgramFault::Engine(fault)
+    }
+}
+
+impl From<AllocError> for ProgramFault {
+    ghost from_gives = { λ _ told. told ≡ Engine Memory };
+
+    fn from(_: AllocError) -> ProgramFault {
+        ProgramFault::Engine(EngineFault::Memory)
+    }
+}
+
+impl<T: Drop> From<AllocFailed<T>> for ProgramFault {
+    ghost from_gives = { λ _ told. told ≡ Engine Memory };
+
+    fn from(_: AllocFailed<T>) -> ProgramFault {
+        ProgramFault::Engine(EngineFault::Memory)
     }
 }

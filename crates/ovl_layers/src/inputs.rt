@@ -1,16 +1,16 @@
 ghost use Rattle.std.specs.Prelude.{◌≡◌, ◌≢◌, ◌<◌, ◌≤◌, IfOk, IfSome, length, vec_len};
-ghost use Rattle.ovl_layers.specs.declared.inputs.InputFault.TheVariants.{TooLong};
+ghost use Rattle.ovl_layers.specs.declared.inputs.InputFault.TheVariants.{TooLong, Memory};
 
-use std::alloc::Global;
+use std::alloc::{AllocFailed, Global};
 use std::io::{Error, ErrorKind, Read};
 
 /// The most bytes that are read of one input.
 pub const INPUT_LIMIT: u32 = 268_435_456;
 
-/// Why an input isn't read.
+/// Why an input, a file or a folder isn't read.
 #[derive(Clone, Copy, Debug, PartialEq, Eq)]
 pub enum InputFault {
-    /// A read failed.
+    /// It can't be opened, or a read failed.
     Device,
     /// The input has more bytes than the limit.
     TooLong,
@@ -32,17 +32,27 @@ pub fn read_limited<R: Read>(
     match limited.read_to_end(&mut bytes) {
         Ok(_) if bytes.len() <= limit as usize => Ok(bytes),
         Ok(_) => Err(InputFault::TooLong),
-        Err(error) => Err(fault_of(&error)),
+        Err(error) => Err(InputFault::from(error)),
     }
 }
 
-// A system call's own want of memory is the device's.
-fn fault_of(error: &Error) -> InputFault
-    ensures { result ≢ TooLong }
-{
-    if error.raw_os_error().is_none() && error.kind() == ErrorKind::OutOfMemory {
+impl From<Error> for InputFault {
+    ghost from_gives = { λ _ fault. fault ≢ TooLong };
+
+    // A system call's own want of memory is the device's.
+    fn from(error: Error) -> InputFault {
+        if error.raw_os_error().is_none() && error.kind() == ErrorKind::OutOfMemory {
+            InputFault::Memory
+        } else {
+            InputFault::Device
+        }
+    }
+}
+
+impl<T: Drop> From<AllocFailed<T>> for InputFault {
+    ghost from_gives = { λ _ fault. fault ≡ Memory };
+
+    fn from(_: AllocFailed<T>) -> InputFault {
         InputFault::Memory
-    } else {
-        InputFault::Device
     }
 }

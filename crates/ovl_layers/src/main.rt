@@ -1,40 +1,75 @@
-//! Offline tools for stacks of overlay layers: prints what the layer of standard input's manifest shows.
+//! Offline tools for stacks of overlay layers: what layers show, and what is wrong with them.
 #![tactic(auto)]
 
+mod arguments;
+#[cfg(test)]
+mod disks;
+mod endings;
 mod faults;
+mod files;
+#[cfg(test)]
+mod folder_tests;
+mod folders;
+mod grammar;
 mod inputs;
+#[cfg(test)]
+mod line_tests;
+mod lines;
+#[cfg(test)]
+mod program_tests;
+mod programs;
+mod reports;
 mod shows;
 #[cfg(test)]
 mod tests;
+mod words;
 
+use endings::Ending;
 use faults::ProgramFault;
-use std::env::{Env, FillError};
+use lines::LineFault;
+use ovl_engine::{EngineFault, emit};
 use std::io;
 use std::process::ExitCode;
+use std::rt::{Env, Files};
 use std::sync::Wait;
 use std::thread::Threads;
 
 fn main(rt: HostRuntime) -> ExitCode {
     match run(&rt) {
-        Ok(()) => ExitCode::SUCCESS,
+        Ok(ending) => ExitCode::from(ending.status()),
         Err(fault) => {
-            // Where standard error can't be written either, the status says it.
-            let _ = eprintln!(rt; "ovl_layers: {fault}");
+            tell(&rt, &fault);
             ExitCode::from(fault.status())
         }
     }
 }
 
-fn run<R: Env + Input + Print + AllocGlobal + Threads + Wait + Sync>(
+// Does what the words ask for, or without any word what standard input asks for.
+fn run<R: Env + Files + Input + Print + AllocGlobal + Clone + Drop + Threads + Wait + Sync>(
     rt: &R,
-) -> Result<(), ProgramFault> {
-    if has_words(rt) {
-        return Err(ProgramFault::Words);
+) -> Result<Ending, ProgramFault> {
+    let alloc = rt.alloc();
+    let mut writer = io::writer(rt);
+    if !arguments::are_there(rt) {
+        return shows::show_input(rt, alloc, &mut rt.reader(), &mut writer);
     }
-    shows::show_input(rt, rt.alloc(), &mut rt.reader(), &mut io::writer(rt))
+    let words = arguments::read(rt)?;
+    let texts: Vec<&str> = words.iter().map(|word| word.as_str()).collect(alloc)?;
+    match words::line(alloc, &texts) {
+        Ok(line) => programs::perform(rt, &line, &mut writer),
+        Err(LineFault::Help(text)) => match emit(&mut writer, text.as_bytes()) {
+            Ok(()) => Ok(Ending::Clean),
+            Err(_) => Err(ProgramFault::Output),
+        },
+        Err(LineFault::Usage(text)) => Err(ProgramFault::Usage(text)),
+        Err(LineFault::Memory) => Err(ProgramFault::Engine(EngineFault::Memory)),
+    }
 }
 
-// Whether the program was started with any word after its name, be it text or not.
-fn has_words(rt: &impl Env) -> bool {
-    !matches!(rt.arg(1, &mut [0u8; 1]), Err(FillError::NotPresent))
+// Tells a fault on standard error. Where that can't be written either, the status says it.
+fn tell(rt: &impl Eprint, fault: &ProgramFault) {
+    let _ = match fault {
+        ProgramFault::Usage(text) => eprint!(rt; "{text}"),
+        _ => eprintln!(rt; "ovl_layers: {fault}"),
+    };
 }

@@ -1,12 +1,14 @@
 ghost use Rattle.std.specs.Prelude.{◌≢◌, ◌∷◌, [], IfErr, IfSome, OnOk};
-ghost use Rattle.std.specs.Io.KnownBytes.{Appends, Keeps};
+ghost use Rattle.std.specs.Io.KnownBytes.{Keeps};
+ghost use Rattle.ovl_engine.specs.declared.requests.Command.TheVariants.{Show};
 ghost use Rattle.ovl_layers.specs.declared.faults.ProgramFault.TheVariants.{Output};
-ghost use Rattle.ovl_layers.specs.Shows.{HasReport};
+ghost use Rattle.ovl_layers.specs.Reported.{IsReported};
 
+use crate::endings::Ending;
 use crate::faults::ProgramFault;
 use crate::inputs::{INPUT_LIMIT, read_limited};
-use ovl_engine::{Command, command, emit};
-use ovl_pool::OpenGate;
+use crate::reports::write_report;
+use ovl_engine::Command;
 use std::alloc::Global;
 use std::io::{Read, Write};
 use std::sync::Wait;
@@ -22,15 +24,11 @@ pub fn show_input<H: Threads + Wait + Sync, R: Read, W: Write>(
     alloc: Global,
     reader: &mut R,
     writer: &mut W,
-) -> Result<(), ProgramFault>
+) -> Result<Ending, ProgramFault>
     ensures shown { OnOk result (IfSome (R.remaining reader.old) (λ manifest.
-        HasReport (manifest ∷ []) 4 (λ report. Appends (W.contents writer.old) (W.contents writer.new) report))) }
+        IsReported Show (manifest ∷ []) [] 4 (W.contents writer.old) (W.contents writer.new) result)) }
     ensures silent { IfErr result (λ fault. fault ≢ Output → Keeps (W.contents writer.old) (W.contents writer.new)) }
 {
     let manifest = read_limited(alloc, reader, INPUT_LIMIT)?;
-    let answer = command(rt, alloc, Command::Show, &[manifest], WORKERS, &OpenGate)?;
-    match emit(writer, &answer.report) {
-        Ok(()) => Ok(()),
-        Err(_) => Err(ProgramFault::Output),
-    }
+    write_report(rt, alloc, Command::Show, &[manifest], &[], WORKERS, writer)
 }

@@ -1,10 +1,12 @@
+use crate::disks::Full;
+use crate::endings::Ending;
 use crate::faults::ProgramFault;
 use crate::inputs::{INPUT_LIMIT, InputFault, read_limited};
 use crate::shows::show_input;
 use ovl_engine::EngineFault;
 use ovl_manifest::LayerFault;
 use ovl_pool::RunFault;
-use std::io::{self, Cursor, Error, Read, Write};
+use std::io::{self, Cursor, Error, Read};
 use std::test::Fail;
 
 // The manifest of a root alone, and its report.
@@ -18,6 +20,8 @@ fn a_fault_of_the_engine_has_its_text_and_its_status(rt: HostRuntime) -> Result<
     for (fault, text, status) in [
         (EngineFault::Workers, "workers must be 1 to 64", 5),
         (EngineFault::Layers, "layers must be 1 to 128", 3),
+        (EngineFault::BlobOrder, "blobs out of order", 3),
+        (EngineFault::BlobSize, "blobs over 268435456 bytes", 3),
         (EngineFault::Run(RunFault::Gate), "gate", 5),
         (EngineFault::Memory, "out of memory", 5),
     ] {
@@ -62,8 +66,15 @@ fn a_layer_that_is_not_read_has_its_text(rt: HostRuntime) -> Result<(), Fail> {
 
 #[test]
 fn an_input_or_an_output_has_its_text_and_its_status(rt: HostRuntime) -> Result<(), Fail> {
+    let alloc = rt.alloc();
+    let usage = ProgramFault::Usage(String::from_str(alloc, "as it is\n")?);
+    assert_eq!(rt; usage.to_string(alloc)?.as_str(), "as it is\n");
+    assert_eq!(rt; usage.status(), 2);
+    let unread = ProgramFault::unread(alloc, "a/b c", InputFault::TooLong);
+    assert_eq!(rt; unread.to_string(alloc)?.as_str(), "cannot read a/b c");
+    assert_eq!(rt; unread.status(), 3);
     for (fault, text, status) in [
-        (ProgramFault::Words, "no words yet", 2),
+        (ProgramFault::Words, "words must be UTF-8", 2),
         (
             ProgramFault::from(InputFault::Device),
             "cannot read standard input",
@@ -75,6 +86,11 @@ fn an_input_or_an_output_has_its_text_and_its_status(rt: HostRuntime) -> Result<
             3,
         ),
         (ProgramFault::from(InputFault::Memory), "out of memory", 5),
+        (
+            ProgramFault::unread(alloc, "a", InputFault::Memory),
+            "out of memory",
+            5,
+        ),
         (ProgramFault::Output, "cannot write standard output", 4),
     ] {
         assert_eq!(rt; fault.to_string(rt.alloc())?.as_str(), text);
@@ -126,25 +142,12 @@ fn a_failed_read_is_told(rt: HostRuntime) -> Result<(), Fail> {
     Ok(())
 }
 
-// Takes nothing, for want of the device's room.
-#[derive(Drop)]
-struct Full;
-
-impl Write for Full {
-    fn write(&mut self, _: &[u8]) -> io::Result<usize> {
-        Err(Error::from_raw_os_error(28))
-    }
-
-    fn flush(&mut self) -> io::Result<()> {
-        Ok(())
-    }
-}
-
 #[test]
 fn an_input_is_shown_on_the_output(rt: HostRuntime) -> Result<(), Fail> {
     let alloc = rt.alloc();
     let mut output = Vec::new(alloc);
-    show_input(&rt, alloc, &mut Cursor::new(ROOT.as_bytes()), &mut output)?;
+    let ending = show_input(&rt, alloc, &mut Cursor::new(ROOT.as_bytes()), &mut output)?;
+    assert_eq!(rt; ending, Ending::Clean);
     assert_eq!(rt; output.as_slice(), ROOT_REPORT.as_bytes());
     let refused = show_input(&rt, alloc, &mut Cursor::new(ROOT.as_bytes()), &mut Full);
     assert_eq!(rt; refused.err(), Some(ProgramFault::Output));

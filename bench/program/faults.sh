@@ -1,0 +1,172 @@
+#!/usr/bin/env bash
+# Runs PROGRAM on files and folders that can't be read, on words that don't fit and on what its command refuses, and
+# compares status, standard output and standard error with what docs/FORMATS.md says. It takes some 600 MB of memory.
+set -uo pipefail
+
+if (($# != 1)); then
+    echo "usage: $0 PROGRAM" >&2
+    exit 2
+fi
+program=$(readlink -f -- "$1")
+folder=$(mktemp -d)
+trap 'rm -rf -- "$folder"' EXIT
+cd -- "$folder" || exit 1
+
+same=0 other=0
+# Told of the words after what is wanted; `told` and `printed` hold what was written.
+differs() {
+    local what=$1
+    shift
+    echo "$what: $*" >&2
+    echo "  standard output: $(head -c 300 printed)" >&2
+    echo "  standard error: $(head -c 300 told)" >&2
+    other=$((other + 1))
+}
+
+# By the words after STATUS and TEXT: this status, this line on standard error, nothing on standard output.
+refuses() {
+    local wanted=$1 text=$2
+    shift 2
+    "$program" "$@" < input > printed 2> told
+    local status=$?
+    if ((status != wanted)); then
+        differs "status $status, not $wanted" "$@"
+    elif [[ -s printed ]]; then
+        differs 'something on standard output' "$@"
+    elif ! printf '%s\n' "ovl_layers: $text" | cmp -s - told; then
+        differs "not the text '$text'" "$@"
+    else
+        same=$((same + 1))
+    fi
+}
+
+# By the words after it: status 2, a text that is no fault's line on standard error, nothing on standard output.
+misfits() {
+    "$program" "$@" < input > printed 2> told
+    local status=$?
+    if ((status != 2)); then
+        differs "status $status, not 2" "$@"
+    elif [[ -s printed ]]; then
+        differs 'something on standard output' "$@"
+    elif [[ ! -s told ]] || grep -q '^ovl_layers: ' told; then
+        differs 'no text of usage' "$@"
+    else
+        same=$((same + 1))
+    fi
+}
+
+# By the words after STATUS and TEXT: this status and text on standard output, nothing on standard error.
+prints() {
+    local wanted=$1 text=$2
+    shift 2
+    "$program" "$@" < input > printed 2> told
+    local status=$?
+    if ((status != wanted)); then
+        differs "status $status, not $wanted" "$@"
+    elif [[ -s told ]]; then
+        differs 'something on standard error' "$@"
+    elif ! printf "$text" | cmp -s - printed; then
+        differs "not the text '$text'" "$@"
+    else
+        same=$((same + 1))
+    fi
+}
+
+root='{"gid":0,"kind":"dir","mode":493,"mtime":0,"path":"/","uid":0,"xattrs":{}}'
+abc=ba7816bf8f01cfea414140de5dae2223b00361a396177a9cb410ff61f20015ad
+kept='{"blob":"'$abc'","gid":0,"kind":"file","mode":420,"mtime":0,"path":"/k","size":3,"uid":0,"xattrs":{}}'
+printf '{"entries":[%s],"overlay-layer":1}\n' "$root" | tee input > root.json
+printf '{"entries":[%s,%s],"overlay-layer":1}\n' "$root" "$kept" > k.json
+printf '[]' > shape.json
+: > empty.json
+mkdir blobs wrong none bad.utf8 large closed folder.json
+printf abc > "blobs/$abc"
+printf note > blobs/note
+mkdir "blobs/${abc//b/f}"
+ln -s "$abc" "blobs/${abc//b/0}"
+printf abd > "wrong/$abc"
+: > $'bad.utf8/\xff'
+truncate -s 268435457 long.json
+truncate -s 134217729 "large/$abc" "large/${abc//b/0}"
+
+# Done.
+prints 0 'dir 0755 0 0 0 - - /\nentries 1\n'
+prints 0 'dir 0755 0 0 0 - - /\nentries 1\n' show root.json
+prints 0 "dir 0755 0 0 0 - - /\nfile 0644 0 0 0 3 $abc /k\nentries 2\n" show --workers 64 root.json k.json
+prints 0 'faults 0 notes 0\n' fsck --blobs blobs k.json
+prints 0 'faults 0 notes 0\n' fsck --blobs blobs/ --workers 1 root.json k.json
+prints 1 'fault blob-digest 0 /k\nfaults 1 notes 0\n' fsck --blobs wrong k.json
+prints 1 'fault blob-missing 1 /k\nfaults 1 notes 0\n' fsck --blobs none root.json k.json
+
+# Files and folders.
+refuses 3 'cannot read missing.json' show missing.json
+refuses 3 'cannot read missing.json' show root.json missing.json lost.json
+refuses 3 'cannot read folder.json' show folder.json
+refuses 3 'cannot read long.json' show long.json
+refuses 3 'cannot read missing.json' fsck --blobs missing missing.json
+refuses 3 'cannot read missing' fsck --blobs missing shape.json
+refuses 3 'cannot read missing/' fsck --blobs missing/ root.json
+refuses 3 'cannot read root.json' fsck --blobs root.json root.json
+refuses 3 'cannot read bad.utf8' fsck --blobs bad.utf8 root.json
+if ((EUID != 0)); then
+    printf abc > "closed/$abc"
+    chmod 000 "closed/$abc"
+    refuses 3 "cannot read closed/$abc" fsck --blobs closed root.json
+    chmod 000 closed
+    refuses 3 'cannot read closed' fsck --blobs closed root.json
+    chmod 700 closed
+fi
+
+# The command.
+refuses 3 'layer 1: not JSON' show root.json empty.json
+refuses 3 'layer 0: wrong shape' fsck --blobs none shape.json
+refuses 3 'layer 0: wrong shape' fsck --blobs large shape.json
+refuses 3 'blobs over 268435456 bytes' fsck --blobs large root.json
+layers=()
+for ((i = 0; i < 129; i++)); do
+    layers+=(root.json)
+done
+refuses 3 'layers must be 1 to 128' show "${layers[@]}"
+prints 0 'dir 0755 0 0 0 - - /\nentries 1\n' show "${layers[@]:1}"
+
+# Words.
+for workers in 0 65 -1 x '' 4.0 18446744073709551616; do
+    misfits show --workers "$workers" root.json
+    misfits fsck --blobs none --workers "$workers" root.json
+done
+misfits show
+misfits show --workers
+misfits show --workers 4
+misfits show --blobs none root.json
+misfits fsck root.json
+misfits fsck --blobs none
+misfits fsck --blobs
+misfits show --unknown root.json
+misfits unknown root.json
+misfits ''
+refuses 2 'words must be UTF-8' show $'\xff'
+
+# The output. Standard output is a device without room.
+"$program" show root.json > /dev/full 2> told
+status=$?
+: > printed
+if ((status == 4)) && printf 'ovl_layers: cannot write standard output\n' | cmp -s - told; then
+    same=$((same + 1))
+else
+    differs "status $status, not 4" show root.json
+fi
+
+# Help goes to standard output.
+for words in --help 'show --help' 'fsck --help'; do
+    # shellcheck disable=SC2086
+    "$program" $words < input > printed 2> told
+    status=$?
+    if ((status == 0)) && [[ -s printed && ! -s told ]]; then
+        same=$((same + 1))
+    else
+        differs "status $status, not 0" "$words"
+    fi
+done
+
+echo "$same as they should be, $other not"
+((other == 0))

@@ -1,0 +1,11 @@
+-- Folders of blobs.
+use Rattle.std.specs.Prelude.{◌≡◌, ◌⊎◌, ◌∷◌, ◌++◌, ℕ, List}
+use Rattle.hex.specs.Hex.{encode_lower}
+
+-- the path of the blob of this digest: the folder, a slash (47) and the digest's digits
+abbrev pub blob_path : List ℕ → List ℕ → List ℕ
+blob_path folder name = folder ++ 47 ∷ encode_lower name
+
+-- the folder itself, or one of its blobs
+abbrev pub IsInFolder : List ℕ → List ℕ → Type 0
+IsInFolder folder path = (path ≡ folder) ⊎ ((name : List ℕ) × (path ≡ blob_path folder name))

@@ -1,0 +1,51 @@
+-- The words that the command line takes: each command, with its options and what they take.
+use Rattle.std.specs.Prelude.{true, false, [], ◌∷◌, Some, codes}
+use Rattle.clap.specs.Lexer.{usize_max}
+use Rattle.clap.specs.Words.{App, Rule, Shape, new_rule}
+use Rattle.clap.specs.Simple.{new_shape}
+use Rattle.clap.specs.declared.builder.action.ArgAction.TheVariants.{Append}
+use Rattle.clap.specs.declared.builder.value_parser.ValueParser.TheVariants.{Unsigned}
+
+-- `--workers N`, a whole number of 1 to 64, and 4 where it is left out
+abbrev pub workers_rule : Rule
+workers_rule = record (new_rule (codes "workers")) {
+  long = Some (codes "workers");
+  value_names = 1;
+  parser = Some (Unsigned 1 64);
+  defaults = codes "4" ∷ [];
+}
+
+-- `--blobs DIR`, which must be there
+abbrev pub blobs_rule : Rule
+blobs_rule = record (new_rule (codes "blobs")) {
+  long = Some (codes "blobs");
+  value_names = 1;
+  required = true;
+}
+
+-- one layer or more
+abbrev pub layers_rule : Rule
+layers_rule = record (new_rule (codes "layers")) {
+  action = Some Append;
+  range = Some (record { start_inclusive = 1; end_inclusive = usize_max });
+  value_names = 1;
+  required = true;
+}
+
+abbrev pub show_shape : Shape
+show_shape = record (new_shape (codes "show")) { rules = workers_rule ∷ layers_rule ∷ [] }
+
+abbrev pub fsck_shape : Shape
+fsck_shape = record (new_shape (codes "fsck")) { rules = blobs_rule ∷ workers_rule ∷ layers_rule ∷ [] }
+
+-- the words after the program's name, of which the first names a command
+abbrev pub tool_app : App
+tool_app = record {
+  top = record (new_shape (codes "ovl_layers")) {
+    is_leaf = false;
+    no_binary_name = true;
+    disable_help_subcommand = true;
+    subcommand_required = true;
+  };
+  subs = show_shape ∷ fsck_shape ∷ [];
+}

@@ -1,0 +1,80 @@
+-- What the words of a command line ask for.
+use Rattle.std.specs.Prelude.{◌≡◌, ◌≢◌, ◌<◌, ◌≤◌, ⊤, ℕ, Bool, true, false, List, [], map, Some, Result, Ok, Err, codes, is_some, length, option_map, string_bytes}
+use Rattle.std.specs.Str.Parse.{digits_value, without_leading_plus}
+use Rattle.clap.specs.Walk.{Row, Text, all_of, first_of, one_of}
+use Rattle.clap.specs.Simple.{subcommand_of}
+use Rattle.clap.specs.Values.{IsUnsignedIn}
+use Rattle.clap.specs.Kinds.{IsAmong, Kinds}
+use Rattle.clap.specs.Faults.{fault_of}
+use Rattle.clap.specs.declared.error.kind.ErrorKind.{ErrorKind}
+use Rattle.clap.specs.declared.error.kind.ErrorKind.TheVariants.{DisplayHelp, OutOfMemory}
+use Rattle.ovl_layers.specs.Grammar.{tool_app}
+use Rattle.ovl_engine.specs.declared.requests.Command.{Command}
+use Rattle.ovl_engine.specs.declared.requests.Command.TheVariants.{Show, Fsck}
+use Rattle.ovl_layers.specs.declared.lines.Line.{Line}
+use Rattle.ovl_layers.specs.declared.lines.LineFault.{LineFault}
+use Rattle.ovl_layers.specs.declared.lines.LineFault.TheVariants.{Help, Usage, Memory}
+
+-- the command's name on the command line
+abbrev pub name_of : Command → Text
+name_of Show = codes "show"
+name_of Fsck = codes "fsck"
+
+-- the name is a command's
+abbrev pub NamesCommand : Text → Type 0
+NamesCommand name = (what : Command) × (name ≡ name_of what)
+
+-- the command reads the contents of files
+abbrev pub takes_blobs : Command → Bool
+takes_blobs Show = false
+takes_blobs Fsck = true
+
+-- the command makes new layers
+abbrev pub makes_layers : Command → Bool
+makes_layers Show = false
+makes_layers Fsck = false
+
+-- what every line keeps to
+pub record IsSound (line : Line) : Type 0 where
+  pub some_worker : 1 ≤ line.workers
+  pub few_workers : line.workers ≤ 64
+  pub some_layer : 0 < length line.layers.items
+  pub blobs : is_some line.blobs ≡ takes_blobs line.what
+  pub out : is_some line.out ≡ makes_layers line.what
+
+-- the number that a text spells in decimal digits
+abbrev pub number_in : Text → ℕ
+number_in text = digits_value 10 (without_leading_plus text)
+
+-- the values of the options make a line of the command
+pub record IsGiven (what : Command) (rows : List Row) : Type 0 where
+  pub workers : (text : Text) × (one_of (codes "workers") rows ≡ Some text) × IsUnsignedIn 1 64 text
+  pub blobs : is_some (first_of (codes "blobs") rows) ≡ takes_blobs what
+  pub layers : (files : List Text) × (all_of (codes "layers") rows ≡ Some files) × (0 < length files)
+
+-- the line is a command with the values that its options have
+pub record HasValues (line : Line) (rows : List Row) : Type 0 where
+  pub workers : option_map number_in (one_of (codes "workers") rows) ≡ Some line.workers
+  pub blobs : option_map string_bytes line.blobs ≡ first_of (codes "blobs") rows
+  pub layers : all_of (codes "layers") rows ≡ Some (map string_bytes line.layers.items)
+
+-- the words name the line's command, with the line's values for its options
+abbrev pub IsLineOf : List Text → Line → Type 0
+IsLineOf words line = (rows : List Row) × (subcommand_of tool_app words ≡ Some (name_of line.what, rows)) × HasValues line rows
+
+-- the words give help where they ask for it, and else a usage fault; want of memory may come at any time
+abbrev pub IsFaultBy : Kinds → LineFault → Type 0
+IsFaultBy kinds (Help text) = IsAmong DisplayHelp kinds
+IsFaultBy kinds (Usage text) = (kind : ErrorKind) × (kind ≢ DisplayHelp) × IsAmong kind kinds
+IsFaultBy kinds Memory = ⊤
+
+-- the fault of an error of this kind
+abbrev pub IsFaultOf : ErrorKind → LineFault → Type 0
+IsFaultOf kind (Help text) = kind ≡ DisplayHelp
+IsFaultOf kind (Usage text) = (kind ≢ DisplayHelp) × (kind ≢ OutOfMemory)
+IsFaultOf kind Memory = ⊤
+
+-- what comes of words: a line only where nothing refuses them, and a fault by what does
+abbrev pub IsRead : List Text → Result Line LineFault → Type 0
+IsRead words (Ok line) = (fault_of tool_app words ≡ []) × IsLineOf words line
+IsRead words (Err fault) = IsFaultBy (fault_of tool_app words) fault

@@ -1,0 +1,112 @@
+//! The commands of the command line with their options, and the texts of their help.
+ghost use Rattle.std.specs.Prelude.{◌≡◌, IfOk, false};
+ghost use Rattle.clap.specs.Words.{app_of, rule_of};
+ghost use Rattle.clap.specs.declared.builder.command.Command.TheViews.{out-Command as fields_of};
+ghost use Rattle.ovl_layers.specs.Grammar.{blobs_rule, fsck_shape, layers_rule, show_shape, tool_app, workers_rule};
+ghost use Rattle.clap.specs.Simple.{shape_of};
+
+use clap::{Arg, ArgAction, Command, value_parser};
+use std::alloc::{AllocError, Global};
+
+const NAME: &str = "ovl_layers";
+
+const ABOUT: &str =
+    "Tells what a stack of overlay layers shows, from their JSON manifests. Nothing is mounted.";
+
+const SHOW: &str = "Lists each path that the overlay of the layers shows, with what is there";
+
+const FSCK: &str =
+    "Checks that the layers fit one another and that the contents of their files are whole";
+
+const WORKERS: &str = "How many workers share the directories, 1 to 64";
+
+const BLOBS: &str =
+    "Folder with the contents of the layers' files, each file named by its SHA-256 digest";
+
+const LAYERS: &str = "Manifest of a layer, the topmost layer first";
+
+const MORE: &str = "\
+What the commands take:
+  <LAYER>...     Manifest of a layer, the topmost layer first
+  --workers <N>  How many workers share the directories, 1 to 64 [default: 4]
+  --blobs <DIR>  For fsck: folder with the contents of the layers' files, each file named by its SHA-256 digest
+
+Examples:
+  ovl_layers show upper.json lower.json
+  ovl_layers fsck --blobs contents --workers 8 upper.json lower.json";
+
+const SHOW_EXAMPLE: &str = "\
+Example:
+  ovl_layers show --workers 8 upper.json lower.json";
+
+const FSCK_EXAMPLE: &str = "\
+Example:
+  ovl_layers fsck --blobs contents --workers 8 upper.json lower.json";
+
+/// The whole command line after the program's name.
+pub fn tool<'a>(alloc: Global) -> Result<Command<'a>, AllocError>
+    ensures { IfOk result (λ command. app_of command ≡ tool_app) }
+{
+    Command::new(alloc, NAME)
+        .bin_name(NAME)?
+        .no_binary_name(true)
+        .subcommand_required(true)
+        .disable_help_subcommand(true)
+        .about(ABOUT)
+        .after_help(MORE)
+        .subcommand(show(alloc)?)?
+        .subcommand(fsck(alloc)?)
+}
+
+fn show<'a>(alloc: Global) -> Result<Command<'a>, AllocError>
+    ensures { IfOk result (λ command. (shape_of command ≡ show_shape) × ((fields_of command).has_globals ≡ false)) }
+{
+    Command::new(alloc, "show")
+        .about(SHOW)
+        .after_help(SHOW_EXAMPLE)
+        .arg(workers(alloc))?
+        .arg(layers(alloc))
+}
+
+fn fsck<'a>(alloc: Global) -> Result<Command<'a>, AllocError>
+    ensures { IfOk result (λ command. (shape_of command ≡ fsck_shape) × ((fields_of command).has_globals ≡ false)) }
+{
+    Command::new(alloc, "fsck")
+        .about(FSCK)
+        .after_help(FSCK_EXAMPLE)
+        .arg(blobs(alloc))?
+        .arg(workers(alloc))?
+        .arg(layers(alloc))
+}
+
+fn workers<'a>(alloc: Global) -> Arg<'a>
+    ensures { (rule_of result ≡ workers_rule) × (result.global ≡ false) }
+{
+    Arg::new(alloc, "workers")
+        .long("workers")
+        .value_name("N")
+        .value_parser(value_parser!(usize).range(1..=64))
+        .default_value("4")
+        .help(WORKERS)
+}
+
+fn blobs<'a>(alloc: Global) -> Arg<'a>
+    ensures { (rule_of result ≡ blobs_rule) × (result.global ≡ false) }
+{
+    Arg::new(alloc, "blobs")
+        .long("blobs")
+        .value_name("DIR")
+        .required(true)
+        .help(BLOBS)
+}
+
+fn layers<'a>(alloc: Global) -> Arg<'a>
+    ensures { (rule_of result ≡ layers_rule) × (result.global ≡ false) }
+{
+    Arg::new(alloc, "layers")
+        .value_name("LAYER")
+        .required(true)
+        .action(ArgAction::Append)
+        .num_args(1..)
+        .help(LAYERS)
+}

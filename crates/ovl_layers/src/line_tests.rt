@@ -1,0 +1,188 @@
+use crate::lines::LineFault;
+use crate::words::line;
+use std::test::Fail;
+
+#[test]
+fn words_make_a_line(rt: HostRuntime) -> Result<(), Fail> {
+    let alloc = rt.alloc();
+    for (words, told) in [
+        (
+            ["show", "a.json"].as_slice(),
+            "Line { what: Show, workers: 4, blobs: None, out: None, layers: [\"a.json\"] }",
+        ),
+        (
+            ["fsck", "--blobs", "b", "--workers", "7", "a", "c"].as_slice(),
+            "Line { what: Fsck, workers: 7, blobs: Some(\"b\"), out: None, layers: [\"a\", \"c\"] }",
+        ),
+        (
+            ["show", "c", "a", "--workers=64"].as_slice(),
+            "Line { what: Show, workers: 64, blobs: None, out: None, layers: [\"c\", \"a\"] }",
+        ),
+        (
+            ["fsck", "a", "--workers", "1", "--blobs=", "a"].as_slice(),
+            "Line { what: Fsck, workers: 1, blobs: Some(\"\"), out: None, layers: [\"a\", \"a\"] }",
+        ),
+        (
+            ["show", "--", "--workers", "-"].as_slice(),
+            "Line { what: Show, workers: 4, blobs: None, out: None, layers: [\"--workers\", \"-\"] }",
+        ),
+    ] {
+        let read = line(alloc, words)?;
+        assert_eq!(rt; format!(in alloc; "{read:?}")?.as_str(), told);
+    }
+    Ok(())
+}
+
+#[test]
+fn words_that_no_command_takes_are_a_usage_fault(rt: HostRuntime) -> Result<(), Fail> {
+    let alloc = rt.alloc();
+    for (words, reason, usage) in [
+        (
+            ["show", "--workers", "65", "a.json"].as_slice(),
+            "invalid value '65' for '--workers <N>': 65 is not in 1..=64",
+            "",
+        ),
+        (
+            ["show", "--workers", "0", "a.json"].as_slice(),
+            "invalid value '0' for '--workers <N>': 0 is not in 1..=64",
+            "",
+        ),
+        (
+            ["show", "--workers", "x", "a.json"].as_slice(),
+            "invalid value 'x' for '--workers <N>': invalid digit found in string",
+            "",
+        ),
+        (
+            ["show", "a.json", "--workers"].as_slice(),
+            "a value is required for '--workers <N>' but none was supplied",
+            "",
+        ),
+        (
+            ["show"].as_slice(),
+            "the following required arguments were not provided:\n  <LAYER>...",
+            "Usage: ovl_layers show <LAYER>...\n\n",
+        ),
+        (
+            ["fsck", "a.json"].as_slice(),
+            "the following required arguments were not provided:\n  --blobs <DIR>",
+            "Usage: ovl_layers fsck --blobs <DIR> <LAYER>...\n\n",
+        ),
+        (
+            ["show", "--blobs", "b", "a.json"].as_slice(),
+            "unexpected argument '--blobs' found\n\n  tip: to pass '--blobs' as a value, use '-- --blobs'",
+            "Usage: ovl_layers show [OPTIONS] <LAYER>...\n\n",
+        ),
+        (
+            ["show", "--depth", "a.json"].as_slice(),
+            "unexpected argument '--depth' found\n\n  tip: to pass '--depth' as a value, use '-- --depth'",
+            "Usage: ovl_layers show [OPTIONS] <LAYER>...\n\n",
+        ),
+        (
+            ["mount", "a.json"].as_slice(),
+            "unrecognized subcommand 'mount'",
+            "Usage: ovl_layers <COMMAND>\n\n",
+        ),
+        (
+            [].as_slice(),
+            "'ovl_layers' requires a subcommand but one was not provided\n  [subcommands: show, fsck]",
+            "Usage: ovl_layers <COMMAND>\n\n",
+        ),
+    ] {
+        let text = format!(in alloc;
+            "error: {reason}\n\n{usage}For more information, try '--help'.\n"
+        )?;
+        assert_eq!(rt;
+            line(alloc, words).err(),
+            Some(LineFault::Usage(text)),
+            "at {words:?}"
+        );
+    }
+    Ok(())
+}
+
+const HELP: &str = "\
+Tells what a stack of overlay layers shows, from their JSON manifests. Nothing is mounted.
+
+Usage: ovl_layers <COMMAND>
+
+Commands:
+  show  Lists each path that the overlay of the layers shows, with what is there
+  fsck  Checks that the layers fit one another and that the contents of their files are whole
+
+Options:
+  -h, --help  Print help
+
+What the commands take:
+  <LAYER>...     Manifest of a layer, the topmost layer first
+  --workers <N>  How many workers share the directories, 1 to 64 [default: 4]
+  --blobs <DIR>  For fsck: folder with the contents of the layers' files, each file named by its SHA-256 digest
+
+Examples:
+  ovl_layers show upper.json lower.json
+  ovl_layers fsck --blobs contents --workers 8 upper.json lower.json
+";
+
+const SHOW_HELP: &str = "\
+Lists each path that the overlay of the layers shows, with what is there
+
+Usage: ovl_layers show [OPTIONS] <LAYER>...
+
+Arguments:
+  <LAYER>...  Manifest of a layer, the topmost layer first
+
+Options:
+      --workers <N>  How many workers share the directories, 1 to 64 [default: 4]
+  -h, --help         Print help
+
+Example:
+  ovl_layers show --workers 8 upper.json lower.json
+";
+
+const FSCK_HELP: &str = "\
+Checks that the layers fit one another and that the contents of their files are whole
+
+Usage: ovl_layers fsck [OPTIONS] --blobs <DIR> <LAYER>...
+
+Arguments:
+  <LAYER>...  Manifest of a layer, the topmost layer first
+
+Options:
+      --blobs <DIR>  Folder with the contents of the layers' files, each file named by its SHA-256 digest
+      --workers <N>  How many workers share the directories, 1 to 64 [default: 4]
+  -h, --help         Print help
+
+Example:
+  ovl_layers fsck --blobs contents --workers 8 upper.json lower.json
+";
+
+#[test]
+fn help_is_given_where_it_is_asked_for(rt: HostRuntime) -> Result<(), Fail> {
+    let alloc = rt.alloc();
+    for (words, text) in [
+        (["--help"].as_slice(), HELP),
+        (["-h"].as_slice(), HELP),
+        (["show", "--help"].as_slice(), SHOW_HELP),
+        (["show", "a.json", "-h"].as_slice(), SHOW_HELP),
+        (["fsck", "--help"].as_slice(), FSCK_HELP),
+    ] {
+        let help = LineFault::Help(String::from_str(alloc, text)?);
+        assert_eq!(rt; line(alloc, words).err(), Some(help), "at {words:?}");
+    }
+    Ok(())
+}
+
+#[test]
+fn a_fault_shows_its_text(rt: HostRuntime) -> Result<(), Fail> {
+    let alloc = rt.alloc();
+    for (fault, text) in [
+        (LineFault::Help(String::from_str(alloc, HELP)?), HELP),
+        (
+            LineFault::Usage(String::from_str(alloc, "error: no\n")?),
+            "error: no\n",
+        ),
+        (LineFault::Memory, "out of memory"),
+    ] {
+        assert_eq!(rt; fault.to_string(alloc)?.as_str(), text);
+    }
+    Ok(())
+}

@@ -1,0 +1,42 @@
+//! What the words of a command line ask for.
+ghost use Rattle.std.specs.Prelude.{◌≡◌};
+ghost use Rattle.ovl_layers.specs.declared.lines.LineFault.TheVariants.{Memory};
+
+use ovl_engine::Command;
+use std::alloc::AllocError;
+use thiserror::Error;
+
+/// A command, with what its options say.
+#[derive(Debug, PartialEq, Eq, Drop)]
+pub struct Line {
+    pub what: Command,
+    /// The number of workers, 1 to 64.
+    pub workers: usize,
+    /// The folder of the files' contents, for each command but `show`.
+    pub blobs: Option<String>,
+    /// The folder for new layers, for the commands that make some: so far for none.
+    pub out: Option<String>,
+    /// The files of the manifests, the topmost layer first. There is at least one.
+    pub layers: Vec<String>,
+}
+
+/// Why words give no line.
+#[derive(Debug, PartialEq, Eq, Drop, Error)]
+pub enum LineFault {
+    /// They ask for help, which is this text.
+    #[error("{0}")]
+    Help(String),
+    /// No command takes them, for the reason that this text tells.
+    #[error("{0}")]
+    Usage(String),
+    #[error("out of memory")]
+    Memory,
+}
+
+impl From<AllocError> for LineFault {
+    ghost from_gives = { λ _ told. told ≡ Memory };
+
+    fn from(_: AllocError) -> LineFault {
+        LineFault::Memory
+    }
+}

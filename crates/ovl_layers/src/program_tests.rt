@@ -1,0 +1,193 @@
+use crate::disks::Thing::{File, Folder};
+use crate::disks::{Disk, Full, Thing};
+use crate::endings::Ending;
+use crate::faults::ProgramFault;
+use crate::files::read_file;
+use crate::folders::read_blobs;
+use crate::lines::Line;
+use crate::programs::perform;
+use ovl_engine::{Command, EngineFault};
+use ovl_manifest::LayerFault;
+use std::alloc::{AllocError, Global};
+use std::os::unix::fs::symlink;
+use std::test::Fail;
+use std::{env, fs, process};
+
+// A root alone, and a root with a file of size 3 whose contents are those of the blob of `abc`.
+const ROOT: &[u8] =
+    b"{\"entries\":[{\"gid\":0,\"kind\":\"dir\",\"mode\":493,\"mtime\":0,\"path\":\"/\",\"uid\":0,\"xattrs\":{}}],\"overlay-layer\":1}";
+
+const KEPT: &[u8] = b"{\"entries\":[\
+    {\"gid\":0,\"kind\":\"dir\",\"mode\":493,\"mtime\":0,\"path\":\"/\",\"uid\":0,\"xattrs\":{}},\
+    {\"blob\":\"ba7816bf8f01cfea414140de5dae2223b00361a396177a9cb410ff61f20015ad\",\"gid\":0,\"kind\":\"file\",\
+    \"mode\":420,\"mtime\":0,\"path\":\"/k\",\"size\":3,\"uid\":0,\"xattrs\":{}}],\"overlay-layer\":1}";
+
+const ABC: &str = "ba7816bf8f01cfea414140de5dae2223b00361a396177a9cb410ff61f20015ad";
+
+const BLOB_ABC: &str = "b/ba7816bf8f01cfea414140de5dae2223b00361a396177a9cb410ff61f20015ad";
+
+const ABC_ALONE: &[u8] = b"ba7816bf8f01cfea414140de5dae2223b00361a396177a9cb410ff61f20015ad\0";
+
+const KEPT_REPORT: &str = "dir 0755 0 0 0 - - /\n\
+    file 0644 0 0 0 3 ba7816bf8f01cfea414140de5dae2223b00361a396177a9cb410ff61f20015ad /k\n\
+    entries 2\n";
+
+// A `show` of these layers, or an `fsck` where there is a folder of blobs.
+fn line(alloc: Global, blobs: Option<&str>, layers: &[&str]) -> Result<Line, AllocError> {
+    let mut paths = Vec::new(alloc);
+    for path in layers {
+        paths.push(String::from_str(alloc, path)?)?;
+    }
+    let (what, blobs) = match blobs {
+        Some(folder) => (Command::Fsck, Some(String::from_str(alloc, folder)?)),
+        None => (Command::Show, None),
+    };
+    Ok(Line {
+        what,
+        workers: 2,
+        blobs,
+        out: None,
+        layers: paths,
+    })
+}
+
+fn unread(alloc: Global, path: &str) -> Result<Option<ProgramFault>, AllocError> {
+    Ok(Some(ProgramFault::Unread(String::from_str(alloc, path)?)))
+}
+
+#[test]
+fn layers_are_shown_topmost_first(rt: HostRuntime) -> Result<(), Fail> {
+    let alloc = rt.alloc();
+    let things = [("low", File(KEPT)), ("top", File(ROOT))];
+    let disk = Disk {
+        rt: &rt,
+        things: &things,
+    };
+    for layers in [["top", "low"], ["low", "top"], ["low", "low"]] {
+        let mut output = Vec::new(alloc);
+        let ending = perform(&disk, &line(alloc, None, &layers)?, &mut output)?;
+        assert_eq!(rt; ending, Ending::Clean);
+        assert_eq!(rt; output.as_slice(), KEPT_REPORT.as_bytes());
+    }
+    Ok(())
+}
+
+#[test]
+fn layers_are_checked_with_their_blobs(rt: HostRuntime) -> Result<(), Fail> {
+    let alloc = rt.alloc();
+    let cases: [(&'static [u8], &'static [u8], Ending, &str); 4] = [
+        (ABC_ALONE, b"abc", Ending::Clean, "faults 0 notes 0\n"),
+        (
+            ABC_ALONE,
+            b"abd",
+            Ending::Faulty,
+            "fault blob-digest 0 /k\nfaults 1 notes 0\n",
+        ),
+        (
+            ABC_ALONE,
+            b"ab",
+            Ending::Faulty,
+            "fault blob-size 0 /k\nfault blob-digest 0 /k\nfaults 2 notes 0\n",
+        ),
+        (
+            b"",
+            b"abc",
+            Ending::Faulty,
+            "fault blob-missing 0 /k\nfaults 1 notes 0\n",
+        ),
+    ];
+    for (names, bytes, ending, report) in cases {
+        let things = [
+            ("b/", Folder(names)),
+            (BLOB_ABC, File(bytes)),
+            ("low", File(KEPT)),
+        ];
+        let disk = Disk {
+            rt: &rt,
+            things: &things,
+        };
+        let mut output = Vec::new(alloc);
+        let asked = line(alloc, Some("b"), &["low"])?;
+        assert_eq!(rt; perform(&disk, &asked, &mut output)?, ending);
+        assert_eq!(rt; output.as_slice(), report.as_bytes());
+    }
+    Ok(())
+}
+
+#[test]
+fn layers_are_read_before_blobs_and_blobs_before_all_else(rt: HostRuntime) -> Result<(), Fail> {
+    let alloc = rt.alloc();
+    let things: [(&'static str, Thing); 3] = [
+        ("top", File(b"[]")),
+        ("b/", Folder(ABC_ALONE)),
+        (BLOB_ABC, Folder(b"")),
+    ];
+    let disk = Disk {
+        rt: &rt,
+        things: &things,
+    };
+    let mut output = Vec::new(alloc);
+    for (folder, layer, told) in [
+        ("missing", "lost", "lost"),
+        ("missing", "top", "missing"),
+        ("b", "lost", "lost"),
+    ] {
+        let asked = line(alloc, Some(folder), &["top", layer])?;
+        let fault = perform(&disk, &asked, &mut output).err();
+        assert_eq!(rt; fault, unread(alloc, told)?);
+    }
+    // The blob is a folder, and so passed over.
+    let asked = line(alloc, Some("b"), &["top"])?;
+    let fault = ProgramFault::Engine(EngineFault::Layer(0, LayerFault::Shape));
+    assert_eq!(rt; perform(&disk, &asked, &mut output).err(), Some(fault));
+    assert!(rt; output.is_empty());
+    Ok(())
+}
+
+#[test]
+fn a_report_that_cannot_be_written_is_told(rt: HostRuntime) -> Result<(), Fail> {
+    let alloc = rt.alloc();
+    let things = [("b/", Folder(b"")), ("low", File(KEPT))];
+    let disk = Disk {
+        rt: &rt,
+        things: &things,
+    };
+    for blobs in [None, Some("b")] {
+        let asked = line(alloc, blobs, &["low"])?;
+        let fault = perform(&disk, &asked, &mut Full).err();
+        assert_eq!(rt; fault, Some(ProgramFault::Output));
+    }
+    Ok(())
+}
+
+#[test]
+fn files_and_folders_of_the_system_are_read(rt: HostRuntime) -> Result<(), Fail> {
+    let alloc = rt.alloc();
+    let parent = env::temp_dir(&rt)?;
+    let id = process::id(rt.process());
+    let folder = format!(in alloc; "{}/ovl_layers_tests.{id}", parent.as_str())?;
+    fs::create_dir(&rt, folder.as_str())?;
+    let layer = format!(in alloc; "{folder}/k.json")?;
+    fs::write(&rt, layer.as_str(), KEPT)?;
+    let blob = format!(in alloc; "{folder}/{ABC}")?;
+    fs::write(&rt, blob.as_str(), "abc")?;
+    let linked = format!(in alloc; "{folder}/{}", "0".repeat(alloc, 64)?)?;
+    symlink(&rt, blob.as_str(), linked.as_str())?;
+    let inner = format!(in alloc; "{folder}/{}", "f".repeat(alloc, 64)?)?;
+    fs::create_dir(&rt, inner.as_str())?;
+    let mut output = Vec::new(alloc);
+    let asked = line(alloc, Some(folder.as_str()), &[layer.as_str()])?;
+    let ending = perform(&rt, &asked, &mut output);
+    let blobs = read_blobs(&rt, folder.as_str());
+    let unread_folder = read_file(&rt, folder.as_str()).err();
+    let unread_blobs = read_blobs(&rt, layer.as_str()).err();
+    let missing = read_blobs(&rt, linked.as_str()).err();
+    fs::remove_dir_all(&rt, folder.as_str())?;
+    assert_eq!(rt; ending?, Ending::Clean);
+    assert_eq!(rt; output.as_slice(), b"faults 0 notes 0\n".as_slice());
+    assert_eq!(rt; blobs?.len(), 1);
+    assert_eq!(rt; unread_folder, unread(alloc, folder.as_str())?);
+    assert_eq!(rt; unread_blobs, unread(alloc, layer.as_str())?);
+    assert_eq!(rt; missing, unread(alloc, linked.as_str())?);
+    Ok(())
+}
