@@ -1,11 +1,10 @@
 -- The work of digesting blobs.
-use Rattle.std.proofs.Common.{◌≡◌, ℕ, ◌≤◌, ◌+◌, ◌-◌, ◌<◌, ◌⊎◌, inl, inr, Bool, true, false, cond, List, [], ◌∷◌, ◌++◌, map, length, get_or, take, refl, sym, ap, ◌∙◌, subst, arith, eq-eqb}
+use Rattle.std.proofs.Common.{◌≡◌, ℕ, ◌≤◌, ◌+◌, ◌<◌, inl, inr, Bool, true, false, cond, List, [], ◌∷◌, ◌++◌, map, length, get_or, take, refl, sym, ap, ◌∙◌, subst, arith}
 use Rattle.std.specs.Prelude.{◌==◌, ◌&&◌, ◌||◌, filter, AllPairs, All}
 use Rattle.std.specs.List.{flat_map}
-use Rattle.std.specs.declared.cmp.Ordering.{Ordering}
-use Rattle.std.specs.declared.cmp.Ordering.TheVariants.{Less, Equal, Greater}
+use Rattle.std.specs.declared.cmp.Ordering.TheVariants.{Less, Equal}
 use Rattle.std.specs.Cmp.Lexicographic.{nat_list_cmp_total, bytes_decides}
-use Rattle.std.specs.Ordering.{ordering_then, is_ge}
+use Rattle.std.specs.Ordering.{ordering_then}
 use Rattle.std.specs.List.{AllAdjacentBelow, list_any}
 use Rattle.std.specs.BTreeSet.{insert_key}
 use Rattle.std.proofs.lemmas.List.{take_more, map-append}
@@ -19,9 +18,9 @@ use Rattle.ovl_board.specs.declared.pieces.Piece.{Piece}
 use Rattle.ovl_board.specs.Pieces.{IsBefore, IsOneBelow, AreLawfulKids, HasLawfulKids}
 use Rattle.ovl_names.proofs.Ascending.{both}
 use Rattle.ovl_board.proofs.CountLemmas.{piece_eq}
-use Rattle.ovl_board.proofs.Members.{In, Every, Rises, All-Every, AllPairs-Rises, In-map, In-map-cases, In-flat_map, In-flat_map-cases, Contains-In, Rises-from_adjacent}
+use Rattle.ovl_board.proofs.Members.{In, Rises, All-Every, AllPairs-Rises, In-map, In-map-cases, In-flat_map, In-flat_map-cases, Contains-In, Rises-from_adjacent}
 use Rattle.ovl_board.specs.Walks.{Reached, start, next, ToKid}
-use Rattle.ovl_board.specs.Parcels.{ParcelView, IsPlain, pieces_of, own_view}
+use Rattle.ovl_board.specs.Parcels.{ParcelView, IsPlain, own_view}
 use Rattle.ovl_check.specs.declared.blobs.Blob.{Blob}
 use Rattle.ovl_check.proofs.Plain.{own-view, has-view}
 use Rattle.ovl_check.specs.Blobs.{BlobView, blob_space, blob_root, digits_piece, digits_of_names, digest_cmp, blob_cmp, are_in_order, blob_view, blob_views, is_wrong, wrong_names, wrong_names_under, blob_kids, blob_out, out_at, first_digits}

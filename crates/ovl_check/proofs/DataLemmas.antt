@@ -9,8 +9,7 @@ use Rattle.ovl_inode.specs.declared.inodes.Kind.{Kind}
 use Rattle.ovl_inode.specs.declared.inodes.Kind.TheVariants.{File}
 use Rattle.ovl_inode.specs.declared.marks.Mark.{Mark}
 use Rattle.ovl_inode.specs.declared.marks.Mark.TheVariants.{Meta}
-use Rattle.ovl_inode.specs.Marks.{mark_of, is_metacopy, is_metacopy_mark, is_directory, is_regular, has_metacopy}
-use Rattle.ovl_inode.specs.Inodes.{visible}
+use Rattle.ovl_inode.specs.Marks.{mark_of, is_metacopy, is_metacopy_mark, is_regular, has_metacopy}
 use Rattle.ovl_manifest.specs.Layers.{Entries, entry_at}
 use Rattle.ovl_lookup.specs.declared.steps.Step.{Step}
 use Rattle.ovl_lookup.specs.Walk.{walk, mark_at}

@@ -1,5 +1,5 @@
 -- Digests of small blobs, by computation.
-use Rattle.std.specs.Prelude.{◌≡◌, ⊤, ℕ, Bool, true, false, List, [], ◌∷◌, codes, refl}
+use Rattle.std.specs.Prelude.{◌≡◌, ⊤, ℕ, true, false, List, [], ◌∷◌, codes, refl}
 use Rattle.sha2.specs.Sha256.{sha256, digest_bytes, hash_after, compress, rounds, schedule, first_words}
 use Rattle.ovl_lookup.proofs.Notation.{digest_a}
 use Rattle.ovl_check.specs.Blobs.{BlobView, are_in_order, is_wrong}

@@ -1,7 +1,6 @@
 -- Blobs and names that are sought among ascending ones.
-use Rattle.std.proofs.Common.{◌≡◌, ℕ, ◌+◌, ◌<◌, ◌≤◌, ◌⊎◌, inl, inr, Bool, true, false, cond, Option, Some, None, Result, Ok, Err, List, [], ◌∷◌, map, length, get_or, refl, sym, ap, ◌∙◌, subst, arith, add-one, suc, nat_lt, ltb-true, ltb-false}
-use Rattle.std.specs.Prelude.{not, filter}
-use Rattle.std.specs.List.{find, list_any}
+use Rattle.std.proofs.Common.{◌≡◌, ℕ, ◌<◌, ◌≤◌, ◌⊎◌, inl, inr, Bool, true, false, cond, Option, Some, None, Result, Ok, Err, List, [], ◌∷◌, length, get_or, refl, sym, ap, ◌∙◌, subst, arith, add-one, suc, nat_lt, ltb-true, ltb-false}
+use Rattle.std.specs.Prelude.{filter}
 use Rattle.std.specs.List.Sorted.{IsBinarySearchResult, IsSearchInRange, IsNonDecreasingBy}
 use Rattle.std.specs.Ordering.{is_lt, ordering_index, ordering_reverse}
 use Rattle.std.specs.Str.{bytes_eq}

@@ -1,10 +1,9 @@
 -- What is found along the walks of all layers.
-use Rattle.std.proofs.Common.{◌≡◌, ℕ, zero, suc, ◌+◌, ◌⊎◌, inl, inr, Bool, true, Option, Some, List, [], ◌∷◌, ◌++◌, map, drop, length, refl, sym, ap, ◌∙◌, subst, arith, append_assoc, add-one}
+use Rattle.std.proofs.Common.{◌≡◌, ℕ, zero, suc, ◌+◌, inl, inr, List, [], ◌∷◌, ◌++◌, map, drop, length, refl, sym, ap, ◌∙◌, subst, arith, append_assoc, add-one}
 use Rattle.std.specs.Prelude.{slice_get, unwrap_or}
 use Rattle.std.specs.List.{flat_map, All}
 use Rattle.std.proofs.lemmas.List.{flat_map_more}
 use Rattle.ovl_manifest.specs.Layers.{Entries, IsLayer}
-use Rattle.ovl_lookup.specs.Stacks.{StackView}
 use Rattle.ovl_lookup.proofs.ChildLemmas.{all-first, all-rest}
 use Rattle.ovl_board.proofs.Members.{In, In-left, In-right, In-cases}
 use Rattle.ovl_check.specs.declared.findings.Finding.{Finding}

@@ -1,25 +1,19 @@
 -- A layer of a stack: its entries one by one, and the directories in a directory.
-use Rattle.std.proofs.Common.{◌≡◌, ℕ, zero, suc, ◌+◌, ◌-◌, ◌<◌, ◌≤◌, ◌⊎◌, inl, inr, Bool, true, false, cond, Option, Some, None, List, [], ◌∷◌, ◌++◌, map, length, refl, sym, ap, ◌∙◌, subst, arith}
-use Rattle.std.specs.Prelude.{filter, not, slice_get, unwrap_or, AllPairs, All}
-use Rattle.std.specs.Map.{lookup}
-use Rattle.std.specs.List.{filter_map, cons_option, list_all, list_any}
-use Rattle.std.specs.Ordering.{ordering_then, nat_cmp}
-use Rattle.std.specs.Cmp.Lexicographic.{nat_list_cmp_total, lists_total, bytes_decides, pointwise_decides}
+use Rattle.std.proofs.Common.{◌≡◌, ℕ, zero, suc, ◌≤◌, ◌⊎◌, inl, inr, Bool, true, false, cond, Option, Some, None, List, [], ◌∷◌, map, length, refl, sym, ap, ◌∙◌, subst}
+use Rattle.std.specs.Prelude.{filter, slice_get, unwrap_or, All}
+use Rattle.std.specs.List.{cons_option}
+use Rattle.std.specs.Ordering.{ordering_then}
+use Rattle.std.specs.Cmp.Lexicographic.{nat_list_cmp_total, bytes_decides}
 use Rattle.std.proofs.lemmas.Cmp.{tied_itself, nat_cmp_total}
-use Rattle.std.specs.declared.cmp.Ordering.{Ordering}
-use Rattle.std.specs.declared.cmp.Ordering.TheVariants.{Less, Equal}
+use Rattle.std.specs.declared.cmp.Ordering.TheVariants.{Less}
 use Rattle.ovl_names.specs.Names.{PathName, name_eq, name_cmp}
-use Rattle.ovl_names.specs.Paths.{PathNames, child_path, path_eq, path_cmp, depth_limit}
-use Rattle.ovl_names.specs.Order.{ascends}
-use Rattle.ovl_inode.specs.declared.inodes.Inode.{Inode}
-use Rattle.ovl_inode.specs.Marks.{is_directory}
-use Rattle.ovl_manifest.specs.Layers.{Entries, Entry, IsLayer, entry_at, entry_cmp, is_directory_at, name_below, names_below}
-use Rattle.ovl_lookup.specs.Stacks.{StackView}
+use Rattle.ovl_names.specs.Paths.{PathNames, child_path, path_cmp, depth_limit}
+use Rattle.ovl_manifest.specs.Layers.{Entries, Entry, IsLayer, entry_cmp, is_directory_at, name_below, names_below}
 use Rattle.ovl_lookup.proofs.ChildLemmas.{directory-limited, all-first, all-rest}
 use Rattle.ovl_board.specs.declared.pieces.Piece.{Piece}
-use Rattle.ovl_board.specs.Pieces.{IsBefore, IsOneBelow, AreLawfulKids, HasLawfulKids}
+use Rattle.ovl_board.specs.Pieces.{IsBefore, IsOneBelow, HasLawfulKids}
 use Rattle.ovl_board.proofs.PieceOrder.{siblings, fork_before}
-use Rattle.ovl_board.proofs.Members.{In, Every, Rises, All-Every, AllPairs-Rises, In-map-cases}
+use Rattle.ovl_board.proofs.Members.{In, Rises, All-Every, AllPairs-Rises, In-map-cases}
 use Rattle.ovl_check.specs.Checks.{CheckView, layer_at, directory_piece, check_kids}
 use Rattle.ovl_check.proofs.Ascent.{Rises-ascends, Rises-filter, In-filter-cases}
 

@@ -1,10 +1,9 @@
 -- What is found along the walk of a layer is what its definition says.
-use Rattle.std.proofs.Common.{◌≡◌, ℕ, ◌+◌, ◌⊎◌, inl, inr, Bool, true, false, cond, Option, Some, None, List, [], ◌∷◌, ◌++◌, map, refl, sym, ap, ◌∙◌, subst, append-nil, append_assoc}
+use Rattle.std.proofs.Common.{◌≡◌, ℕ, inl, inr, Bool, true, false, cond, Option, Some, None, List, [], ◌∷◌, ◌++◌, refl, sym, ap, ◌∙◌, subst, append-nil, append_assoc}
 use Rattle.std.specs.Prelude.{◌&&◌, ◌||◌, not, filter}
 use Rattle.std.specs.List.{list_any, flat_map, All}
 use Rattle.std.specs.Ordering.{is_lt, ordering_then, nat_cmp}
-use Rattle.std.specs.declared.cmp.Ordering.{Ordering}
-use Rattle.std.specs.declared.cmp.Ordering.TheVariants.{Less, Equal, Greater}
+use Rattle.std.specs.declared.cmp.Ordering.TheVariants.{Less}
 use Rattle.std.proofs.lemmas.Cmp.{tied_itself, nat_cmp_total}
 use Rattle.std.specs.Cmp.Lexicographic.{nat_list_cmp_total, lists_total}
 use Rattle.ovl_names.specs.Names.{PathName}
@@ -26,7 +25,7 @@ use Rattle.ovl_board.specs.Walks.{Reached, start, next, ToKid}
 use Rattle.ovl_board.specs.Parcels.{IsPlain, pieces_of, own_view}
 use Rattle.ovl_board.proofs.PieceOrder.{path_eq_decides, snoc_view}
 use Rattle.ovl_board.proofs.CountLemmas.{piece_eq}
-use Rattle.ovl_board.proofs.Members.{In, Every, Rises, In-left, In-right, In-cases, In-map, In-map-cases, In-flat_map, In-flat_map-cases, In-Contains, Contains-In, Every-All, Rises-AllPairs}
+use Rattle.ovl_board.proofs.Members.{In, Rises, In-left, In-right, In-cases, In-map, In-map-cases, In-flat_map, In-flat_map-cases, In-Contains, Contains-In, Every-All, Rises-AllPairs}
 use Rattle.ovl_check.specs.declared.findings.Finding.{Finding}
 use Rattle.ovl_check.specs.declared.findings.Code.{Code}
 use Rattle.ovl_check.specs.declared.findings.Code.TheVariants.{RedirectDouble}
@@ -38,8 +37,8 @@ use Rattle.ovl_check.specs.Walks.{View, doubles_after, found_along}
 use Rattle.ovl_check.proofs.Ascent.{In-filter, In-filter-cases, less_never, list_all-Every}
 use Rattle.ovl_check.proofs.Plain.{own-view, has-view}
 use Rattle.ovl_check.proofs.BlobLemmas.{any-In}
-use Rattle.ovl_check.proofs.LayerFacts.{kid-directory, kid_at, layer-ascends, below-In}
-use Rattle.ovl_check.proofs.DoubleLemmas.{ViewBefore, IsDoubleAt, doubles-cases, doubles-In}
+use Rattle.ovl_check.proofs.LayerFacts.{kid-directory, kid_at, layer-ascends}
+use Rattle.ovl_check.proofs.DoubleLemmas.{ViewBefore, doubles-cases, doubles-In}
 
 -- ---- entries and what stands at their paths
 

@@ -1,8 +1,8 @@
 -- The order of findings: by layer, then by path, then by code.
-use Rattle.std.proofs.Common.{◌≡◌, ℕ, ◌+◌, ◌<◌, ◌≤◌, ◌⊎◌, inl, inr, Bool, true, List, [], ◌∷◌, map, refl, sym, ap, ◌∙◌, subst, arith}
+use Rattle.std.proofs.Common.{◌≡◌, ℕ, ◌+◌, ◌<◌, ◌≤◌, inl, inr, Bool, true, List, [], ◌∷◌, map, refl, sym, ap, ◌∙◌, subst, arith}
 use Rattle.std.specs.Prelude.{filter}
 use Rattle.std.specs.List.{All}
-use Rattle.std.specs.Ordering.{nat_cmp, ordering_then, ordering_reverse, match_ordering, MatchOrdering, is_eq, eq_by_cmp}
+use Rattle.std.specs.Ordering.{nat_cmp, ordering_then, ordering_reverse, MatchOrdering, is_eq, eq_by_cmp}
 use Rattle.std.specs.Cmp.{IsTotalOrder, IsEquivalence}
 use Rattle.std.specs.Cmp.Lexicographic.{nat_list_cmp_total, lists_total}
 use Rattle.std.specs.FinMap.{nat_cmp-IsAntisymmetric}
@@ -10,10 +10,10 @@ use Rattle.std.specs.declared.cmp.Ordering.{Ordering}
 use Rattle.std.specs.declared.cmp.Ordering.TheVariants.{Less, Equal, Greater}
 use Rattle.std.proofs.lemmas.Cmp.{tied_itself, nat_cmp_total, ranked}
 use Rattle.ovl_names.specs.Paths.{PathNames, path_cmp}
-use Rattle.ovl_manifest.specs.Layers.{Entries, Entry, IsLayer, entry_cmp}
+use Rattle.ovl_manifest.specs.Layers.{Entries, IsLayer, entry_cmp}
 use Rattle.ovl_lookup.specs.Stacks.{StackView}
 use Rattle.ovl_lookup.proofs.ChildLemmas.{all-first, all-rest}
-use Rattle.ovl_board.proofs.Members.{In, Every, Rises, Rises-append, Rises-flat_map, In-cases, In-map-cases, In-flat_map-cases}
+use Rattle.ovl_board.proofs.Members.{In, Rises, Rises-append, Rises-flat_map, In-cases, In-map-cases, In-flat_map-cases}
 use Rattle.ovl_check.specs.declared.findings.Finding.{Finding}
 use Rattle.ovl_check.specs.declared.findings.Code.{Code}
 use Rattle.ovl_check.specs.declared.findings.Code.TheVariants.{RedirectForm, RedirectLost, RedirectKind, RedirectDouble, RedirectOpen, DataMissing, DataSize, BlobMissing, BlobSize, BlobDigest, OrphanWhiteout, WhiteoutInOpaque, WhiteoutUnmarked, ImpureMissing, MarkIgnored}
@@ -27,7 +27,7 @@ use Rattle.ovl_check.specs.Codes.{all_codes}
 use Rattle.ovl_check.specs.Blobs.{BlobView}
 use Rattle.ovl_check.specs.Conditions.{holds}
 use Rattle.ovl_check.specs.Findings.{finding, findings_at, findings_in, findings_from}
-use Rattle.ovl_check.proofs.Ascent.{Rises-ascends, Rises-filter, In-filter-cases}
+use Rattle.ovl_check.proofs.Ascent.{Rises-ascends, Rises-filter}
 use Rattle.ovl_check.proofs.DoubleLemmas.{same_path}
 
 abbrev pub finding_cmp : Finding → Finding → Ordering

@@ -7,7 +7,7 @@ use Rattle.ovl_lookup.specs.Walk.{walk, mark_at}
 use Rattle.ovl_lookup.specs.Sound.{is_moved}
 use Rattle.ovl_board.specs.declared.pieces.Piece.{Piece}
 use Rattle.ovl_check.specs.declared.findings.Finding.{Finding}
-use Rattle.ovl_check.specs.Checks.{CheckView, CheckSeen, layer_at, directory_findings, check_out, no_seen}
+use Rattle.ovl_check.specs.Checks.{CheckView, layer_at, directory_findings, check_out, no_seen}
 
 module _ (work : CheckView) (piece : Piece) where
   pub seen-same : (found : List Finding) (step : Step) (place : Option PathNames) (moved : Bool)

@@ -1,11 +1,11 @@
 -- The parcels of a plain walk: each is the work's own, and each reached piece has one.
-use Rattle.std.proofs.Common.{◌≡◌, List, [], ◌∷◌, map, refl, sym, ap, ◌∙◌, subst}
+use Rattle.std.proofs.Common.{◌≡◌, List, [], ◌∷◌, refl, sym, ap, ◌∙◌, subst}
 use Rattle.std.specs.List.{flat_map}
 use Rattle.std.proofs.Common.{◌++◌}
 use Rattle.ovl_board.specs.declared.pieces.Piece.{Piece}
 use Rattle.ovl_board.specs.declared.works.Parcel.{Parcel}
 use Rattle.ovl_board.specs.Walks.{Reached, ToKid}
-use Rattle.ovl_board.specs.Parcels.{ParcelView, IsPlain, AreOwn, pieces_of, own_view, parcel_view, parcel_views}
+use Rattle.ovl_board.specs.Parcels.{ParcelView, IsPlain, AreOwn, pieces_of, own_view, parcel_views}
 use Rattle.ovl_board.proofs.Members.{In, In-map, In-map-cases, In-Contains}
 
 module _ {S : Type 0} (kids : Piece → List Piece) (out : Piece → S) where

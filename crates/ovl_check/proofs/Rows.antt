@@ -1,18 +1,13 @@
 -- The findings of worked examples, by computation.
-use Rattle.std.specs.Prelude.{◌≡◌, ℕ, Bool, true, false, List, [], ◌∷◌, ◌++◌, codes, Some, None, refl, map, take}
-use Rattle.ovl_names.specs.Paths.{PathNames}
-use Rattle.ovl_inode.specs.declared.inodes.Inode.{Inode}
-use Rattle.ovl_inode.specs.declared.inodes.Kind.TheVariants.{Dir, File}
-use Rattle.ovl_inode.specs.Attributes.{overlay_prefix, opaque_name, redirect_name, metacopy_name, whiteout_name}
+use Rattle.std.specs.Prelude.{◌≡◌, ℕ, List, [], ◌∷◌, codes, Some, None, refl}
+use Rattle.ovl_inode.specs.declared.inodes.Kind.TheVariants.{File}
 use Rattle.ovl_inode.proofs.OnLiterals.{inode_on_literals}
-use Rattle.ovl_manifest.specs.Layers.{Entries}
 use Rattle.ovl_lookup.specs.Stacks.{StackView}
-use Rattle.ovl_lookup.specs.Sound.{are_sound}
-use Rattle.ovl_lookup.proofs.Notation.{plain_inode, directory, opaque, marked_x, moved, opaque_moved, file_a, metacopy, whiteout, empty_whiteout, full_whiteout, digest_a, path, layer_of}
+use Rattle.ovl_lookup.proofs.Notation.{plain_inode, directory, marked_x, moved, file_a, metacopy, whiteout, empty_whiteout, full_whiteout, path, layer_of}
 use Rattle.ovl_lookup.proofs.RowStacks.{stack_of, root_alone, covered, one_over, moved_twice, moved_twice_shown, opaque_with_redirect, metacopies_over}
 use Rattle.ovl_check.specs.declared.findings.Code.{Code}
 use Rattle.ovl_check.specs.declared.findings.Finding.{Finding}
-use Rattle.ovl_check.specs.declared.findings.Code.TheVariants.{RedirectForm, RedirectLost, RedirectKind, RedirectDouble, RedirectOpen, DataMissing, DataSize, BlobMissing, BlobSize, BlobDigest, OrphanWhiteout, WhiteoutInOpaque, WhiteoutUnmarked, ImpureMissing, MarkIgnored}
+use Rattle.ovl_check.specs.declared.findings.Code.TheVariants.{RedirectForm, RedirectLost, RedirectKind, RedirectDouble, RedirectOpen, DataMissing, DataSize, BlobMissing, BlobSize, BlobDigest, OrphanWhiteout, WhiteoutUnmarked, MarkIgnored}
 use Rattle.ovl_check.specs.Blobs.{BlobView}
 use Rattle.ovl_check.specs.Findings.{finding, findings}
 use Rattle.ovl_check.proofs.Digests.{blob_a, digest_abc, digest_ab, changed_abc, blob_ab, digests_on_literals}

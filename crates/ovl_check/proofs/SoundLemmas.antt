@@ -1,11 +1,13 @@
 -- Which stacks are sound, told by their findings.
-use Rattle.std.proofs.Common.{◌≡◌, ℕ, ◌+◌, Bool, true, false, ◌&&◌, ◌||◌, not, List, [], ◌∷◌, ◌++◌, refl, sym, ap, ◌∙◌, map, filter}
+use Rattle.std.proofs.Common.{◌≡◌, ℕ, ◌+◌, Bool, true, false, ◌&&◌, ◌||◌, not, List, [], ◌∷◌, refl, sym, ap, ◌∙◌, map, filter, if◌then◌else◌}
 use Rattle.std.specs.List.{list_any, list_all, flat_map}
 use Rattle.std.proofs.lemmas.List.Folds.{list_any-append}
 use Rattle.ovl_manifest.specs.Layers.{Entries, Entry}
 use Rattle.ovl_lookup.specs.Stacks.{StackView}
-use Rattle.ovl_lookup.specs.Sound.{is_faulty, are_sound}
+use Rattle.ovl_names.specs.Paths.{PathNames}
+use Rattle.ovl_lookup.specs.Sound.{redirect_is_malformed, redirect_is_lost, redirect_is_of_wrong_kind, redirect_is_double, redirect_is_open, data_is_missing, data_is_of_other_size, is_faulty, are_sound}
 use Rattle.ovl_check.specs.declared.findings.Code.{Code}
+use Rattle.ovl_check.specs.declared.findings.Code.TheVariants.{RedirectForm, RedirectLost, RedirectKind, RedirectDouble, RedirectOpen, DataMissing, DataSize, BlobMissing, BlobSize, BlobDigest, OrphanWhiteout, WhiteoutInOpaque, WhiteoutUnmarked, ImpureMissing, MarkIgnored}
 use Rattle.ovl_check.specs.declared.findings.Finding.{Finding}
 use Rattle.ovl_check.specs.Codes.{all_codes}
 use Rattle.ovl_check.specs.Blobs.{BlobView}
@@ -19,13 +21,13 @@ any-map : {X Y : Type 0} (f : X → Y) (p : Y → Bool) (xs : List X) → list_a
 any-map f p [] = refl
 any-map f p (x ∷ xs) = ap (λ b. p (f x) || b) (any-map f p xs)
 
+kept : {X : Type 0} (p : X → Bool) (x : X) (xs : List X) (b : Bool) → list_any p (if b then x ∷ xs else xs) ≡ ((b && p x) || list_any p xs)
+kept p x xs true = refl
+kept p x xs false = refl
+
 any-filter : {X : Type 0} (h p : X → Bool) (xs : List X) → list_any p (filter h xs) ≡ list_any (λ x. h x && p x) xs
 any-filter h p [] = refl
-any-filter {X} h p (x ∷ xs) = by (h x) refl
-  where
-    by : (b : Bool) → h x ≡ b → list_any p (filter h (x ∷ xs)) ≡ ((h x && p x) || list_any (λ y. h y && p y) xs)
-    by true e = rw (e) (ap (λ b. p x || b) (any-filter h p xs))
-    by false e = rw (e) (any-filter h p xs)
+any-filter h p (x ∷ xs) = kept p x (filter h xs) (h x) ∙ ap (λ b. (h x && p x) || b) (any-filter h p xs)
 
 not-or : (a b : Bool) → not (a || b) ≡ (not a && not b)
 not-or true b = refl
@@ -49,39 +51,80 @@ first-seven : (a b c d e f g k l m n o p q r : Bool) →
     || ((k && false) || ((l && false) || ((m && false) || ((n && false) || ((o && false) || ((p && false) || ((q && false) || ((r && false) || false)))))))))))))))
     ≡ (a || (b || (c || (d || (e || (f || g))))))
 first-seven a b c d e f g k l m n o p q r =
-    rw (and-true a, and-true b, and-true c, and-true d, and-true e, and-true f, and-true g,
-    and-false k, and-false l, and-false m, and-false n, and-false o, and-false p, and-false q, and-false r, or-false g) refl
+    rw (
+      and-true a,
+      and-true b,
+      and-true c,
+      and-true d,
+      and-true e,
+      and-true f,
+      and-true g,
+      and-false k,
+      and-false l,
+      and-false m,
+      and-false n,
+      and-false o,
+      and-false p,
+      and-false q,
+      and-false r,
+      or-false g,
+    ) refl
 
 -- ---- an entry, a layer, a stack
 
 abbrev tells : Finding → Bool
 tells found = is_layer_fault found.code
 
-at_entry : (blobs : List BlobView) (i : ℕ) (layer : Entries) (below : StackView) (entry : Entry) → list_any tells (findings_at blobs i layer below entry) ≡ is_faulty layer below entry
-at_entry blobs i layer below entry =
-    any-map (finding i entry.0) tells (filter (holds blobs layer below entry) all_codes)
-    ∙ any-filter (holds blobs layer below entry) is_layer_fault all_codes
-    ∙ first-seven _ _ _ _ _ _ _ _ _ _ _ _ _ _ _
+-- what any test of codes says of the findings by which it makes itself known
+by_codes : (holding : Code → Bool) (i : ℕ) (path : PathNames) → list_any tells (map (finding i path) (filter holding all_codes))
+    ≡ (holding RedirectForm || (holding RedirectLost || (holding RedirectKind || (holding RedirectDouble || (holding RedirectOpen || (holding DataMissing || holding DataSize))))))
+by_codes holding i path =
+    any-map (finding i path) tells (filter holding all_codes)
+    ∙ any-filter holding is_layer_fault all_codes
+    ∙ first-seven (holding RedirectForm) (holding RedirectLost) (holding RedirectKind) (holding RedirectDouble) (holding RedirectOpen) (holding DataMissing) (holding DataSize)
+    (holding BlobMissing) (holding BlobSize) (holding BlobDigest) (holding OrphanWhiteout) (holding WhiteoutInOpaque) (holding WhiteoutUnmarked) (holding ImpureMissing) (holding MarkIgnored)
 
-at_entries : (blobs : List BlobView) (i : ℕ) (layer : Entries) (below : StackView) (entries : Entries) → list_all (λ entry. not (is_faulty layer below entry)) entries ≡ not (list_any tells (flat_map (findings_at blobs i layer below) entries))
-at_entries blobs i layer below [] = refl
-at_entries blobs i layer below (entry ∷ entries) =
+-- the same, from the left
+regrouped : (a b c d e f g : Bool) → (a || (b || (c || (d || (e || (f || g)))))) ≡ ((((((a || b) || c) || d) || e) || f) || g)
+regrouped true b c d e f g = refl
+regrouped false true c d e f g = refl
+regrouped false false true d e f g = refl
+regrouped false false false true e f g = refl
+regrouped false false false false true f g = refl
+regrouped false false false false false f g = refl
+
+module _ (blobs : List BlobView) (layer : Entries) (below : StackView) (entry : Entry) where
+  conditions : (holds blobs layer below entry RedirectForm || (holds blobs layer below entry RedirectLost || (holds blobs layer below entry RedirectKind
+      || (holds blobs layer below entry RedirectDouble || (holds blobs layer below entry RedirectOpen || (holds blobs layer below entry DataMissing || holds blobs layer below entry DataSize))))))
+      ≡ is_faulty layer below entry
+  conditions = regrouped
+      (redirect_is_malformed layer entry.0) (redirect_is_lost layer below entry.0) (redirect_is_of_wrong_kind layer below entry.0) (redirect_is_double layer entry.0)
+      (redirect_is_open layer entry.0) (data_is_missing layer below entry.0 entry.1) (data_is_of_other_size layer below entry.0 entry.1)
+
+  at_entry : (i : ℕ) → list_any tells (findings_at blobs i layer below entry) ≡ is_faulty layer below entry
+  at_entry i = by_codes (holds blobs layer below entry) i entry.0 ∙ conditions
+
+-- findings of entries, where those of each tell whether it is faulty
+over_entries : (found : Entry → List Finding) (faulty : Entry → Bool) → ((entry : Entry) → list_any tells (found entry) ≡ faulty entry) → (entries : Entries) →
+    list_all (λ entry. not (faulty entry)) entries ≡ not (list_any tells (flat_map found entries))
+over_entries found faulty one [] = refl
+over_entries found faulty one (entry ∷ entries) =
     sym (
-      ap not (list_any-append tells (findings_at blobs i layer below entry) (flat_map (findings_at blobs i layer below) entries))
-      ∙ not-or _ _
-      ∙ ap (λ b. not b && not (list_any tells (flat_map (findings_at blobs i layer below) entries))) (at_entry blobs i layer below entry)
-      ∙ ap (λ b. not (is_faulty layer below entry) && b) (sym (at_entries blobs i layer below entries))
+    ap not (list_any-append tells (found entry) (flat_map found entries))
+    ∙ not-or (list_any tells (found entry)) (list_any tells (flat_map found entries))
+    ∙ ap (λ b. not b && not (list_any tells (flat_map found entries))) (one entry)
+    ∙ ap (λ b. not (faulty entry) && b) (sym (over_entries found faulty one entries))
     )
 
 from_layers : (blobs : List BlobView) (i : ℕ) (layers : List Entries) → are_sound layers ≡ not (list_any tells (findings_from blobs i layers))
 from_layers blobs i [] = refl
 from_layers blobs i (layer ∷ layers) =
-    let below = record { layers = layers } in
+    let below : StackView = record { layers = layers } in
     sym (
-      ap not (list_any-append tells (findings_in blobs i layer below) (findings_from blobs (i + 1) layers))
-      ∙ not-or _ _
-      ∙ ap (λ b. b && not (list_any tells (findings_from blobs (i + 1) layers))) (sym (at_entries blobs i layer below layer))
-      ∙ ap (λ b. list_all (λ entry. not (is_faulty layer below entry)) layer && b) (sym (from_layers blobs (i + 1) layers))
+    ap not (list_any-append tells (findings_in blobs i layer below) (findings_from blobs (i + 1) layers))
+    ∙ not-or (list_any tells (findings_in blobs i layer below)) (list_any tells (findings_from blobs (i + 1) layers))
+    ∙ ap (λ b. b && not (list_any tells (findings_from blobs (i + 1) layers))) (sym (over_entries (findings_at blobs i layer below) (is_faulty layer below) (λ entry. at_entry blobs layer below entry i) layer))
+    ∙ ap (λ b. list_all (λ entry. not (is_faulty layer below entry)) layer && b) (sym (from_layers blobs (i + 1) layers))
     )
 
 pub findings-tell : FindingsTellSoundness

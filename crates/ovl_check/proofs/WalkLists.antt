@@ -1,5 +1,5 @@
 -- Lists of plain walks, one layer after another.
-use Rattle.std.proofs.Common.{◌≡◌, ℕ, zero, suc, ◌+◌, List, [], ◌∷◌, ◌++◌, map, length, refl, sym, ap, ◌∙◌, subst, arith}
+use Rattle.std.proofs.Common.{◌≡◌, ℕ, suc, ◌+◌, List, [], ◌∷◌, ◌++◌, map, length, refl, sym, ap, subst, arith}
 use Rattle.std.proofs.lemmas.List.{map-append}
 use Rattle.ovl_board.specs.Parcels.{IsPlain}
 use Rattle.ovl_check.specs.Checks.{CheckView, check_kids, check_out, directory_piece}

@@ -6,7 +6,6 @@ use Rattle.std.specs.Coded.{Coded-set, coded_option, coded_list, coded_ℕ}
 use Rattle.ovl_check.specs.contracts.findings.Code as code_type
 use Rattle.std.specs.Prelude.{ℕ, ◌+◌, Bool, false, not, ◌&&◌, Option, Some, None, List, [], ◌++◌, if◌then◌else◌, map, filter, slice_get, unwrap_or}
 use Rattle.std.specs.List.{flat_map}
-use Rattle.ovl_names.specs.Names.{PathName}
 use Rattle.ovl_names.specs.Paths.{PathNames, child_path}
 use Rattle.ovl_manifest.specs.Layers.{Entries, Entry, entry_at, is_directory_at, names_below}
 use Rattle.ovl_inode.specs.declared.inodes.Kind.TheVariants.{File}

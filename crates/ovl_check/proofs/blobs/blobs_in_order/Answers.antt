@@ -2,7 +2,7 @@ use Rattle.std.proofs.Common.{◌≡◌, ◌-◌, ◌∙◌, true, false, Bool, 
 use Rattle.std.specs.Ordering.{is_lt}
 use Rattle.std.proofs.lemmas.List.{get_or_read}
 use Rattle.ovl_check.specs.Blobs.{are_in_order, blob_views, digest_cmp}
-use Rattle.ovl_check.proofs.BlobLemmas.{NameBefore, in_order, in_order-pairs}
+use Rattle.ovl_check.proofs.BlobLemmas.{in_order, in_order-pairs}
 use Rattle.ovl_check.proofs.blobs.blobs_in_order.Goals as goal
 
 pub returns : goal.returns

@@ -1,7 +1,7 @@
 use Rattle.std.proofs.Common.{◌≡◌, ◌∙◌, sym, ap, subst, Option, Some, None, List, ℕ, true, Contains, IsTrue, ◌↔◌}
 use Rattle.ovl_names.specs.Order.{ascends}
 use Rattle.std.proofs.Common.{Bool, false}
-use Rattle.ovl_check.specs.Blobs.{blob_view, blob_views, digest_cmp, wrong_names, is_wrong}
+use Rattle.ovl_check.specs.Blobs.{blob_view, blob_views, digest_cmp, is_wrong}
 use Rattle.ovl_check.specs.Conditions.{has_blob, find_blob}
 use Rattle.ovl_check.proofs.FindLemmas.{wrong-names-ascend, wrong-among}
 use Rattle.ovl_check.proofs.contents.blob_is_wrong.Goals as goal

@@ -1,4 +1,4 @@
-use Rattle.std.proofs.Common.{◌∙◌, sym, ap}
+use Rattle.std.proofs.Common.{◌∙◌, ap}
 use Rattle.ovl_check.specs.Checks.{size_shown, layer_at, layers_below}
 use Rattle.ovl_check.proofs.DataLemmas.{data-size}
 use Rattle.ovl_check.proofs.contents.data_size.Goals as goal

@@ -1,4 +1,4 @@
-use Rattle.std.proofs.Common.{rules, tests, ap}
+use Rattle.std.proofs.Common.{rules, tests}
 use Rattle.std.proofs.lemmas.Fn.{always_returns_same}
 use Rattle.ovl_check.specs.Blobs.{digest_cmp}
 use Rattle.ovl_check.proofs.FindLemmas.{found-blob, missing-blob}

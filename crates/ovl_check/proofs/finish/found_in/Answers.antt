@@ -1,4 +1,4 @@
-use Rattle.std.proofs.Common.{◌∙◌, ◌++◌, [], ap}
+use Rattle.std.proofs.Common.{◌++◌, []}
 use Rattle.ovl_board.specs.Parcels.{parcel_views}
 use Rattle.ovl_check.specs.Checks.{check_seen}
 use Rattle.ovl_check.specs.Walks.{doubles_after, found_along}
