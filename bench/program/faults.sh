@@ -23,50 +23,53 @@ differs() {
     other=$((other + 1))
 }
 
+# Runs the words after STATUS and FILE; true where the program ends with this status and leaves this file empty.
+ends() {
+    local wanted=$1 silent=$2
+    shift 2
+    "$program" "$@" < input > printed 2> told
+    local status=$?
+    if ((status != wanted)); then
+        differs "status $status, not $wanted" "$@"
+    elif [[ -s $silent ]]; then
+        differs "something in $silent" "$@"
+    else
+        return 0
+    fi
+    return 1
+}
+
+# Counts the run of the words after FILE and TEXT by whether the file has this text.
+says() {
+    local file=$1 text=$2
+    shift 2
+    if printf '%s' "$text" | cmp -s - "$file"; then
+        same=$((same + 1))
+    else
+        differs "not the text '$text'" "$@"
+    fi
+}
+
 # By the words after STATUS and TEXT: this status, this line on standard error, nothing on standard output.
 refuses() {
     local wanted=$1 text=$2
     shift 2
-    "$program" "$@" < input > printed 2> told
-    local status=$?
-    if ((status != wanted)); then
-        differs "status $status, not $wanted" "$@"
-    elif [[ -s printed ]]; then
-        differs 'something on standard output' "$@"
-    elif ! printf '%s\n' "ovl_layers: $text" | cmp -s - told; then
-        differs "not the text '$text'" "$@"
-    else
-        same=$((same + 1))
-    fi
-}
-
-# By the words after it: status 2, a text that is no fault's line on standard error, nothing on standard output.
-misfits() {
-    "$program" "$@" < input > printed 2> told
-    local status=$?
-    if ((status != 2)); then
-        differs "status $status, not 2" "$@"
-    elif [[ -s printed ]]; then
-        differs 'something on standard output' "$@"
-    elif [[ ! -s told ]] || grep -q '^ovl_layers: ' told; then
-        differs 'no text of usage' "$@"
-    else
-        same=$((same + 1))
-    fi
+    ends "$wanted" printed "$@" && says told "ovl_layers: $text"$'\n' "$@"
 }
 
 # By the words after STATUS and TEXT: this status and text on standard output, nothing on standard error.
 prints() {
-    local wanted=$1 text=$2
+    local wanted=$1 text
+    printf -v text '%b' "$2"
     shift 2
-    "$program" "$@" < input > printed 2> told
-    local status=$?
-    if ((status != wanted)); then
-        differs "status $status, not $wanted" "$@"
-    elif [[ -s told ]]; then
-        differs 'something on standard error' "$@"
-    elif ! printf "$text" | cmp -s - printed; then
-        differs "not the text '$text'" "$@"
+    ends "$wanted" told "$@" && says printed "$text" "$@"
+}
+
+# By the words after it: status 2, a text that is no fault's line on standard error, nothing on standard output.
+misfits() {
+    ends 2 printed "$@" || return
+    if [[ ! -s told ]] || grep -q '^ovl_layers: ' told; then
+        differs 'no text of usage' "$@"
     else
         same=$((same + 1))
     fi
