@@ -72,8 +72,8 @@ fn is_outside(limit: usize, number: usize) -> bool
     number == 0 || number > limit
 }
 
-/// The most bytes of all blobs.
-const BLOB_LIMIT: usize = 268_435_456;
+/// The most bytes that all blobs of a command have together.
+pub const BLOB_LIMIT: usize = 268_435_456;
 
 // Whether the blobs have more bytes in all than they may.
 fn are_over_limit(blobs: &[Blob]) -> bool

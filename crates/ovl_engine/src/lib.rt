@@ -23,7 +23,7 @@ mod tests;
 mod works;
 
 pub use blobs::named_blobs;
-pub use commands::command;
+pub use commands::{BLOB_LIMIT, command};
 pub use emits::{EmitFault, emit};
 pub use faults::EngineFault;
 pub use fsck_reports::{fsck_report_of, is_clean};

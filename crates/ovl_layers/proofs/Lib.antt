@@ -1,5 +1,6 @@
 pub mod Accepted
 pub mod Ascending
+pub mod Held
 pub mod Limited
 pub mod Numbers
 pub mod Options
