@@ -1,7 +1,9 @@
 #!/usr/bin/env bash
 # Runs PROGRAM on files and folders that can't be read, on words that don't fit and on what its command refuses, and
-# compares status, standard output and standard error with what docs/FORMATS.md says. It takes some 600 MB of memory.
+# compares status, standard output and standard error with what docs/FORMATS.md says. The program may take 3 GB of
+# memory, fewer than the blobs of one of the folders have.
 set -uo pipefail
+ulimit -v 3000000
 
 if (($# != 1)); then
     echo "usage: $0 PROGRAM" >&2
@@ -82,7 +84,7 @@ printf '{"entries":[%s],"overlay-layer":1}\n' "$root" | tee input > root.json
 printf '{"entries":[%s,%s],"overlay-layer":1}\n' "$root" "$kept" > k.json
 printf '[]' > shape.json
 : > empty.json
-mkdir blobs wrong none bad.utf8 large closed folder.json
+mkdir blobs wrong none bad.utf8 large flood closed folder.json
 printf abc > "blobs/$abc"
 printf note > blobs/note
 mkdir "blobs/${abc//b/f}"
@@ -91,6 +93,10 @@ printf abd > "wrong/$abc"
 : > $'bad.utf8/\xff'
 truncate -s 268435457 long.json
 truncate -s 134217729 "large/$abc" "large/${abc//b/0}"
+for ((i = 0; i < 24; i++)); do
+    printf -v name '%064x' "$i"
+    truncate -s 200000000 "flood/$name"
+done
 
 # Done.
 prints 0 'dir 0755 0 0 0 - - /\nentries 1\n'
@@ -125,6 +131,8 @@ refuses 3 'layer 1: not JSON' show root.json empty.json
 refuses 3 'layer 0: wrong shape' fsck --blobs none shape.json
 refuses 3 'layer 0: wrong shape' fsck --blobs large shape.json
 refuses 3 'blobs over 268435456 bytes' fsck --blobs large root.json
+refuses 3 'blobs over 268435456 bytes' fsck --blobs flood root.json
+refuses 3 'layer 0: wrong shape' fsck --blobs flood shape.json
 layers=()
 for ((i = 0; i < 129; i++)); do
     layers+=(root.json)

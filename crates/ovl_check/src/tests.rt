@@ -9,7 +9,7 @@ use super::*;
 use ovl_board::{Parcel, Piece, Work, plain_walk};
 use ovl_inode::Digest;
 use ovl_lookup::Stack;
-use ovl_manifest::read_layer;
+use ovl_manifest::{Layer, read_layer};
 use ovl_names::Path;
 use std::alloc::Global;
 use std::test::Fail;
@@ -76,21 +76,32 @@ fn the_blob_with_wrong_bytes_is_found(rt: HostRuntime) -> Result<(), Fail> {
 fn blobs_are_digested_by_their_first_two_digits(rt: HostRuntime) -> Result<(), Fail> {
     let blobs = two_blobs(rt.alloc())?;
     let work = BlobWork::new(&blobs);
-    let mut piece = Piece {
-        space: BLOB_SPACE,
-        dir: Path::root(rt.alloc()),
-    };
-    let (kids, out) = work.visit(rt.alloc(), &piece)?;
-    assert!(rt; out.is_empty());
-    let mut text = String::new(rt.alloc());
-    for kid in &kids {
-        text.push_str(kid.dir.shown(rt.alloc())?.as_str())?;
+    for (text, kids, wrong) in [("/", "/ba/fb", 0), ("/ba", "", 1), ("/fb", "", 0)] {
+        let piece = Piece {
+            space: BLOB_SPACE,
+            dir: Path::parse(rt.alloc(), text)?,
+        };
+        let (found, out) = work.visit(rt.alloc(), &piece)?;
+        assert_eq!(rt; shown(rt.alloc(), &found)?.as_str(), kids, "at {text:?}");
+        assert_eq!(rt; out.len(), wrong, "at {text:?}");
     }
-    assert_eq!(rt; text.as_str(), "/ba/fb");
-    piece.dir = Path::parse(rt.alloc(), "/ba")?;
-    let (_, out) = work.visit(rt.alloc(), &piece)?;
-    assert_eq!(rt; out.len(), 1);
-    assert_eq!(rt; work.deepest(), 1);
+    Ok(())
+}
+
+// The paths of these pieces, one after another.
+fn shown(alloc: Global, pieces: &[Piece]) -> Result<String, Fail> {
+    let mut text = String::new(alloc);
+    for piece in pieces {
+        text.push_str(piece.dir.shown(alloc)?.as_str())?;
+    }
+    Ok(text)
+}
+
+#[test]
+fn no_work_goes_deeper_than_it_says(rt: HostRuntime) -> Result<(), Fail> {
+    let stack = moved_twice(rt.alloc())?;
+    assert_eq!(rt; BlobWork::new(&[]).deepest(), 1);
+    assert_eq!(rt; CheckWork::new(&stack, &[], &[]).deepest(), 64);
     Ok(())
 }
 
@@ -102,48 +113,59 @@ fn push_entry(alloc: Global, text: &mut String, path: &str, attributes: &str) ->
     Ok(())
 }
 
+// A layer of a root and these directories: the path and the attributes of each.
+fn layer_of(alloc: Global, directories: &[(&str, &str)]) -> Result<Layer, Fail> {
+    let mut text = String::from_str(alloc, "{\"overlay-layer\":1,\"entries\":[")?;
+    push_entry(alloc, &mut text, "/", "")?;
+    for (path, attributes) in directories {
+        text.push_str(",")?;
+        push_entry(alloc, &mut text, path, attributes)?;
+    }
+    text.push_str("]}")?;
+    Ok(read_layer(alloc, text.as_bytes())?)
+}
+
 // Two directories that were moved from one place, over that place.
 fn moved_twice(alloc: Global) -> Result<Stack, Fail> {
-    let mut upper = String::from_str(alloc, "{\"overlay-layer\":1,\"entries\":[")?;
-    push_entry(alloc, &mut upper, "/", "")?;
-    upper.push_str(",")?;
-    push_entry(alloc, &mut upper, "/a", TO_X)?;
-    upper.push_str(",")?;
-    push_entry(alloc, &mut upper, "/b", TO_X)?;
-    upper.push_str("]}")?;
-    let mut lower = String::from_str(alloc, "{\"overlay-layer\":1,\"entries\":[")?;
-    push_entry(alloc, &mut lower, "/", "")?;
-    lower.push_str(",")?;
-    push_entry(alloc, &mut lower, "/x", "")?;
-    lower.push_str("]}")?;
     let mut layers = Vec::new(alloc);
-    layers.push(read_layer(alloc, upper.as_bytes())?)?;
-    layers.push(read_layer(alloc, lower.as_bytes())?)?;
+    layers.push(layer_of(alloc, &[("/a", TO_X), ("/b", TO_X)])?)?;
+    layers.push(layer_of(alloc, &[("/x", "")])?)?;
     Ok(Stack::of(layers)?)
 }
 
-#[test]
-fn a_directory_is_checked_with_its_files(rt: HostRuntime) -> Result<(), Fail> {
-    let stack = moved_twice(rt.alloc())?;
-    let blobs = Vec::new(rt.alloc());
+// What comes of a directory of the upper of these layers: how many kids, and the output.
+fn checked(alloc: Global, path: &str) -> Result<(usize, CheckOut), Fail> {
+    let stack = moved_twice(alloc)?;
+    let blobs = Vec::new(alloc);
     if !blobs_in_order(&blobs) {
         return Err(Fail::from("the names do not ascend"));
     }
-    let wrong = wrong_of(rt.alloc(), &blobs)?;
+    let wrong = wrong_of(alloc, &blobs)?;
     let work = CheckWork::new(&stack, &blobs, &wrong);
-    let mut piece = Piece {
+    let piece = Piece {
         space: 0,
-        dir: Path::root(rt.alloc()),
+        dir: Path::parse(alloc, path)?,
     };
-    let (kids, _) = work.visit(rt.alloc(), &piece)?;
-    assert_eq!(rt; kids.len(), 2);
-    piece.dir = Path::parse(rt.alloc(), "/b")?;
-    let (_, out) = work.visit(rt.alloc(), &piece)?;
+    let (kids, out) = work.visit(alloc, &piece)?;
+    Ok((kids.len(), out))
+}
+
+#[test]
+fn a_root_has_its_directories_as_kids(rt: HostRuntime) -> Result<(), Fail> {
+    let (kids, out) = checked(rt.alloc(), "/")?;
+    assert_eq!(rt; kids, 2);
+    assert!(rt; out.findings.is_empty() && !out.moved);
+    Ok(())
+}
+
+#[test]
+fn a_moved_directory_tells_where_it_goes_on(rt: HostRuntime) -> Result<(), Fail> {
+    let (kids, out) = checked(rt.alloc(), "/b")?;
+    assert_eq!(rt; kids, 0);
     assert_eq!(rt; out.findings.len(), 1);
     assert_eq!(rt; out.findings[0].code, Code::RedirectOpen);
-    assert!(rt; out.moved);
     assert_eq!(rt; out.place, Some(Path::parse(rt.alloc(), "/x")?));
-    assert_eq!(rt; work.deepest(), 64);
+    assert!(rt; out.moved);
     Ok(())
 }
 

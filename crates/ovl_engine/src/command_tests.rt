@@ -1,6 +1,6 @@
 ghost use Rattle.std.specs.Prelude.{◌≡◌, []};
 
-use crate::samples::{DIR, manifest_of, reported};
+use crate::samples::{manifest_of, reported};
 use crate::{Answer, Command, EngineFault, ShowWork, command};
 use ovl_board::{BoardFault, Piece};
 use ovl_lookup::Stack;
@@ -23,7 +23,7 @@ fn answer_of<R: Threads + Wait + Sync>(
 ) -> Result<Result<Answer, EngineFault>, Fail> {
     let mut manifests = Vec::new(alloc);
     for _ in 0..layers {
-        manifests.push(manifest_of(alloc, &[])?)?;
+        manifests.push(manifest_of(alloc, "")?)?;
     }
     Ok(command(
         rt,
@@ -83,7 +83,7 @@ fn workers_are_refused_before_layers(rt: HostRuntime) -> Result<(), Fail> {
 #[test]
 fn the_first_layer_that_is_not_read_is_told(rt: HostRuntime) -> Result<(), Fail> {
     let alloc = rt.alloc();
-    let root = manifest_of(alloc, &[])?;
+    let root = manifest_of(alloc, "")?;
     let newer = String::from_str(alloc, "{\"overlay-layer\":2,\"entries\":[]}")?;
     let list = String::from_str(alloc, "[]")?;
     let manifests = [root, newer.into_bytes(), list.into_bytes()];
@@ -220,21 +220,22 @@ impl<R: Wait> Gate for Meeting<'_, R> {
     }
 }
 
-const TWO: [&str; 2] = ["/a", "/b"];
+const TWO: &str = "dir /a, dir /b";
 
-const FOUR: [&str; 4] = ["/a", "/b", "/c", "/d"];
+const FOUR: &str = "dir /a, dir /b, dir /c, dir /d";
 
 // Lets these directories pass where they meet.
 fn gate_to<'a, R: Wait>(
     rt: &'a R,
     alloc: Global,
-    directories: &[&str],
+    directories: &str,
 ) -> Result<Meeting<'a, R>, Fail> {
     let mut asked = Vec::new(alloc);
-    for text in directories {
+    for entry in directories.split(", ") {
+        let (_, path) = entry.split_once(' ').unwrap_or(("", entry));
         let piece = Piece {
             space: 0,
-            dir: Path::parse(alloc, text)?,
+            dir: Path::parse(alloc, path)?,
         };
         asked.push((piece, 0))?;
     }
@@ -244,15 +245,6 @@ fn gate_to<'a, R: Wait>(
     })
 }
 
-// The manifest of a root and these directories.
-fn manifest_with(alloc: Global, directories: &[&str]) -> Result<Vec<u8>, Fail> {
-    let mut entries = Vec::new(alloc);
-    for path in directories {
-        entries.push((*path, DIR, ""))?;
-    }
-    manifest_of(alloc, &entries)
-}
-
 // How the command ends over two directories and a root under them, through the gate above.
 fn gated<R: Threads + Wait + Sync>(
     rt: &R,
@@ -260,44 +252,27 @@ fn gated<R: Threads + Wait + Sync>(
     what: Command,
     workers: usize,
 ) -> Result<Option<EngineFault>, Fail> {
-    let manifests = [manifest_with(alloc, &TWO)?, manifest_of(alloc, &[])?];
-    let gate = gate_to(rt, alloc, &TWO)?;
+    let manifests = [manifest_of(alloc, TWO)?, manifest_of(alloc, "")?];
+    let gate = gate_to(rt, alloc, TWO)?;
     Ok(command(rt, alloc, what, &manifests, &[], workers, &gate).err())
 }
 
 #[test]
-fn two_workers_meet_at_the_gate(rt: HostRuntime) -> Result<(), Fail> {
-    assert_eq!(rt; gated(&rt, rt.alloc(), Command::Show, 2)?, None);
+fn workers_of_a_command_meet_at_the_gate(rt: HostRuntime) -> Result<(), Fail> {
+    for what in [Command::Show, Command::Fsck] {
+        assert_eq!(rt; gated(&rt, rt.alloc(), what, 2)?, None, "at {what:?}");
+        assert_eq!(rt;
+            gated(&rt, rt.alloc(), what, 1)?,
+            Some(EngineFault::Run(RunFault::Gate)),
+            "at {what:?}"
+        );
+    }
     Ok(())
 }
 
-#[test]
-fn two_workers_of_a_check_meet_at_the_gate(rt: HostRuntime) -> Result<(), Fail> {
-    assert_eq!(rt; gated(&rt, rt.alloc(), Command::Fsck, 2)?, None);
-    Ok(())
-}
-
-#[test]
-fn one_worker_is_refused_at_the_gate(rt: HostRuntime) -> Result<(), Fail> {
-    assert_eq!(rt;
-        gated(&rt, rt.alloc(), Command::Show, 1)?,
-        Some(EngineFault::Run(RunFault::Gate))
-    );
-    Ok(())
-}
-
-#[test]
-fn one_worker_of_a_check_is_refused_at_the_gate(rt: HostRuntime) -> Result<(), Fail> {
-    assert_eq!(rt;
-        gated(&rt, rt.alloc(), Command::Fsck, 1)?,
-        Some(EngineFault::Run(RunFault::Gate))
-    );
-    Ok(())
-}
-
-fn stack_with(alloc: Global, directories: &[&str]) -> Result<Stack, Fail> {
+fn stack_with(alloc: Global, directories: &str) -> Result<Stack, Fail> {
     let mut layers = Vec::new(alloc);
-    layers.push(read_layer(alloc, &manifest_with(alloc, directories)?)?)?;
+    layers.push(read_layer(alloc, &manifest_of(alloc, directories)?)?)?;
     Ok(Stack::of(layers)?)
 }
 
@@ -322,7 +297,7 @@ fn all_of(directories: u64) -> RunCount {
 fn run_to<R: Threads + Wait + Sync>(
     rt: &R,
     alloc: Global,
-    directories: &[&str],
+    directories: &str,
     workers: usize,
 ) -> Result<Result<RunCount, RunFault>, Fail> {
     let stack = stack_with(alloc, directories)?;
@@ -332,27 +307,27 @@ fn run_to<R: Threads + Wait + Sync>(
 }
 
 #[test]
-fn two_workers_meet_over_the_merged_tree(rt: HostRuntime) -> Result<(), Fail> {
-    assert_eq!(rt; run_to(&rt, rt.alloc(), &TWO, 2)?, Ok(all_of(3)));
+fn workers_meet_over_the_merged_tree(rt: HostRuntime) -> Result<(), Fail> {
+    for (directories, workers, count) in [(TWO, 2, 3), (FOUR, 4, 5)] {
+        let counted = run_to(&rt, rt.alloc(), directories, workers)?;
+        assert_eq!(rt; counted, Ok(all_of(count)), "by {workers} workers");
+    }
     Ok(())
 }
 
 #[test]
-fn four_workers_meet_over_the_merged_tree(rt: HostRuntime) -> Result<(), Fail> {
-    assert_eq!(rt; run_to(&rt, rt.alloc(), &FOUR, 4)?, Ok(all_of(5)));
-    Ok(())
-}
-
-#[test]
-fn three_workers_are_refused_where_four_meet(rt: HostRuntime) -> Result<(), Fail> {
-    assert_eq!(rt; run_to(&rt, rt.alloc(), &FOUR, 3)?, Err(RunFault::Gate));
+fn one_worker_fewer_is_refused(rt: HostRuntime) -> Result<(), Fail> {
+    for (directories, workers) in [(TWO, 1), (FOUR, 3)] {
+        let counted = run_to(&rt, rt.alloc(), directories, workers)?;
+        assert_eq!(rt; counted, Err(RunFault::Gate), "by {workers} workers");
+    }
     Ok(())
 }
 
 #[test]
 fn one_worker_goes_over_the_merged_tree(rt: HostRuntime) -> Result<(), Fail> {
     let alloc = rt.alloc();
-    let stack = stack_with(alloc, &TWO)?;
+    let stack = stack_with(alloc, TWO)?;
     let work = ShowWork::new(&stack);
     let (parcels, count) = run(&rt, alloc, &work, root_piece(alloc), 1, &OpenGate)?;
     assert_eq!(rt; parcels.len(), 3);

@@ -7,61 +7,96 @@ use std::sync::Wait;
 use std::test::Fail;
 use std::thread::Threads;
 
-// What an entry states of its kind.
-pub(crate) const DIR: &str = "\"kind\":\"dir\",\"mode\":493";
+// What an entry states of its kind, by a word: `bare` files are those of which the contents lie elsewhere.
+fn kind_of(word: &str) -> Result<&'static str, Fail> {
+    match word {
+        "dir" => Ok("\"kind\":\"dir\",\"mode\":493"),
+        "file" => Ok(
+            "\"kind\":\"file\",\"mode\":420,\"size\":1,\"blob\":\"ca978112ca1bbdcafac231b39a23dc4da786eff8147c4e72b9807785afee48bb\"",
+        ),
+        "file-ab" => Ok(
+            "\"kind\":\"file\",\"mode\":420,\"size\":3,\"blob\":\"fb8e20fc2e4c3f248c60c39bd652f3c1347298bb977b8b4d5903b85055620603\"",
+        ),
+        "file-abc" => Ok(
+            "\"kind\":\"file\",\"mode\":420,\"size\":3,\"blob\":\"ba7816bf8f01cfea414140de5dae2223b00361a396177a9cb410ff61f20015ad\"",
+        ),
+        "empty" => Ok("\"kind\":\"file\",\"mode\":420,\"size\":0"),
+        "bare" => Ok("\"kind\":\"file\",\"mode\":420,\"size\":1"),
+        "bare-2" => Ok("\"kind\":\"file\",\"mode\":420,\"size\":2"),
+        "whiteout" => Ok("\"kind\":\"char\",\"mode\":0,\"major\":0,\"minor\":0"),
+        "console" => Ok("\"kind\":\"char\",\"mode\":384,\"major\":0,\"minor\":1"),
+        _ => Err(Fail::new("no kind has this word")),
+    }
+}
 
-pub(crate) const FILE: &str =
-    "\"kind\":\"file\",\"mode\":420,\"size\":1,\"blob\":\"ca978112ca1bbdcafac231b39a23dc4da786eff8147c4e72b9807785afee48bb\"";
-
-pub(crate) const UNREAD: &str = "\"kind\":\"file\",\"mode\":420,\"size\":1";
-
-pub(crate) const EMPTY: &str = "\"kind\":\"file\",\"mode\":420,\"size\":0";
-
-pub(crate) const WHITEOUT: &str = "\"kind\":\"char\",\"mode\":0,\"major\":0,\"minor\":0";
-
-// The attributes of an entry.
-pub(crate) const HAS_METACOPY: &str = "\"trusted.overlay.metacopy\":\"\"";
-
-pub(crate) const IS_WHITEOUT: &str = "\"trusted.overlay.whiteout\":\"\"";
-
-pub(crate) const FROM_X: &str = "\"trusted.overlay.redirect\":\"2f78\"";
-
-pub(crate) const FROM_R_BESIDE: &str = "\"trusted.overlay.redirect\":\"72\"";
-
-pub(crate) const OPAQUE_FROM_X: &str =
-    "\"trusted.overlay.opaque\":\"79\",\"trusted.overlay.redirect\":\"2f78\"";
-
-// The manifest of a root and these entries: the path, what its kind states, and the attributes of each.
-pub(crate) fn manifest_of(alloc: Global, entries: &[(&str, &str, &str)]) -> Result<Vec<u8>, Fail> {
+// The manifest of these entries, with commas between them, under a root of mode 0755 where none of them is one. An
+// entry is the word of its kind, its path and the overlay's attributes, as `dir /d redirect=/x`.
+pub(crate) fn manifest_of(alloc: Global, entries: &str) -> Result<Vec<u8>, Fail> {
     let mut text = String::from_str(alloc, "{\"overlay-layer\":1,\"entries\":[")?;
-    push_entry(alloc, &mut text, ("/", DIR, ""))?;
-    for entry in entries {
-        text.push_str(",")?;
-        push_entry(alloc, &mut text, *entry)?;
+    if !entries.starts_with("dir / ") {
+        push_entry(alloc, &mut text, "dir /")?;
+    }
+    for entry in entries.split(", ") {
+        if entry.is_empty() {
+            continue;
+        }
+        if text.as_str().ends_with('}') {
+            text.push_str(",")?;
+        }
+        push_entry(alloc, &mut text, entry)?;
     }
     text.push_str("]}")?;
     Ok(text.into_bytes())
 }
 
-fn push_entry(alloc: Global, text: &mut String, entry: (&str, &str, &str)) -> Result<(), Fail> {
-    let (path, kind, attributes) = entry;
-    let entry = format!(in alloc;
-        "{{\"path\":\"{path}\",{kind},\"uid\":0,\"gid\":0,\"mtime\":0,\"xattrs\":{{{attributes}}}}}"
+fn push_entry(alloc: Global, text: &mut String, entry: &str) -> Result<(), Fail> {
+    let (word, more) = entry.split_once(' ').unwrap_or((entry, ""));
+    let (path, marks) = more.split_once(' ').unwrap_or((more, ""));
+    let kind = kind_of(word)?;
+    let marks = attributes_of(alloc, marks)?;
+    let stated = format!(in alloc;
+        "{{\"path\":\"{path}\",{kind},\"uid\":0,\"gid\":0,\"mtime\":0,\"xattrs\":{{{marks}}}}}"
     )?;
-    text.push_str(entry.as_str())?;
+    text.push_str(stated.as_str())?;
     Ok(())
+}
+
+// The overlay's attributes, as a manifest states them, of words such as `opaque=y`.
+fn attributes_of(alloc: Global, marks: &str) -> Result<String, Fail> {
+    let mut text = String::new(alloc);
+    for mark in marks.split(' ') {
+        let Some((name, value)) = mark.split_once('=') else {
+            continue;
+        };
+        if !text.is_empty() {
+            text.push_str(",")?;
+        }
+        let value = hex::encode(alloc, value.as_bytes())?;
+        let stated = format!(in alloc; "\"trusted.overlay.{name}\":\"{value}\"")?;
+        text.push_str(stated.as_str())?;
+    }
+    Ok(text)
+}
+
+// A text in which `[a]` stands for the digest of `a`.
+pub(crate) fn in_full(alloc: Global, text: &str) -> Result<String, Fail> {
+    Ok(text.replace(
+        alloc,
+        "[a]",
+        "ca978112ca1bbdcafac231b39a23dc4da786eff8147c4e72b9807785afee48bb",
+    )?)
 }
 
 // What `show` reports of these layers, the topmost first, alike by one worker and by four.
 pub(crate) fn shown<R: Threads + Wait + Sync>(
     rt: &R,
     alloc: Global,
-    layers: &[&[(&str, &str, &str)]],
+    layers: &[&str],
 ) -> Result<String, Fail> {
     reported(rt, alloc, &manifests_of(alloc, layers)?)
 }
 
-fn manifests_of(alloc: Global, layers: &[&[(&str, &str, &str)]]) -> Result<Vec<Vec<u8>>, Fail> {
+fn manifests_of(alloc: Global, layers: &[&str]) -> Result<Vec<Vec<u8>>, Fail> {
     let mut manifests = Vec::new(alloc);
     for entries in layers {
         manifests.push(manifest_of(alloc, entries)?)?;
@@ -84,7 +119,7 @@ pub(crate) fn reported<R: Threads + Wait + Sync>(
 pub(crate) fn checked<R: Threads + Wait + Sync>(
     rt: &R,
     alloc: Global,
-    layers: &[&[(&str, &str, &str)]],
+    layers: &[&str],
     blobs: &[Blob],
 ) -> Result<String, Fail> {
     let manifests = manifests_of(alloc, layers)?;

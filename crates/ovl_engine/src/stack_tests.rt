@@ -1,170 +1,109 @@
 //! Worked stacks: what marks hide, and where directories that were moved are sought.
 
-use crate::samples::{
-    DIR, EMPTY, FILE, FROM_R_BESIDE, FROM_X, HAS_METACOPY, IS_WHITEOUT, OPAQUE_FROM_X, UNREAD,
-    WHITEOUT, reported, shown,
-};
+use crate::samples::{in_full, reported, shown};
 use std::test::Fail;
 
-// Attributes of an entry.
-const IS_OPAQUE: &str = "\"trusted.overlay.opaque\":\"79\"";
-
-// A value that overlayfs doesn't take as opaque.
-const IS_NOT_OPAQUE: &str = "\"trusted.overlay.opaque\":\"78\"";
-
 #[test]
-fn an_empty_file_marked_as_whiteout_hides(rt: HostRuntime) -> Result<(), Fail> {
-    assert_eq!(rt;
-        shown(
-            &rt,
-            rt.alloc(),
-            &[&[("/f", EMPTY, IS_WHITEOUT)], &[("/f", FILE, "")]]
-        )?
-        .as_str(),
-        "dir 0755 0 0 0 - - /\nentries 1\n"
-    );
+fn whiteouts_and_opaque_directories_hide(rt: HostRuntime) -> Result<(), Fail> {
+    let alloc = rt.alloc();
+    for (what, layers, report) in [
+        (
+            "an empty file marked as whiteout hides",
+            ["empty /f whiteout=", "file /f"].as_slice(),
+            "dir 0755 0 0 0 - - /\nentries 1\n",
+        ),
+        (
+            "a file with contents is no whiteout",
+            ["file /f whiteout=", ""].as_slice(),
+            "dir 0755 0 0 0 - - /\nfile 0644 0 0 0 1 [a] /f\nentries 2\n",
+        ),
+        (
+            "an opaque directory hides what lies below",
+            ["dir /d opaque=y", "dir /d, file /d/k"].as_slice(),
+            "dir 0755 0 0 0 - - /\ndir 0755 0 0 0 - - /d\nentries 2\n",
+        ),
+        (
+            "another value than y is not opaque",
+            ["dir /d opaque=x", "dir /d, file /d/k"].as_slice(),
+            "dir 0755 0 0 0 - - /\ndir 0755 0 0 0 - - /d\nfile 0644 0 0 0 1 [a] /d/k\nentries 3\n",
+        ),
+    ] {
+        let shown = shown(&rt, alloc, layers)?;
+        assert_eq!(rt; shown, in_full(alloc, report)?, "where {what}");
+    }
     Ok(())
 }
 
 #[test]
-fn a_file_with_contents_is_no_whiteout(rt: HostRuntime) -> Result<(), Fail> {
-    assert_eq!(rt;
-        shown(&rt, rt.alloc(), &[&[("/f", FILE, IS_WHITEOUT)], &[]])?.as_str(),
-        "dir 0755 0 0 0 - - /\n\
-        file 0644 0 0 0 1 ca978112ca1bbdcafac231b39a23dc4da786eff8147c4e72b9807785afee48bb /f\n\
-        entries 2\n"
-    );
+fn moved_directories_show_what_they_came_from(rt: HostRuntime) -> Result<(), Fail> {
+    let alloc = rt.alloc();
+    for (what, layers, report) in [
+        (
+            "a directory in a moved one is moved beside itself",
+            [
+                "dir /p redirect=/x, dir /p/q redirect=r, whiteout /p/r, whiteout /x",
+                "dir /x, dir /x/r, file /x/r/k",
+            ]
+            .as_slice(),
+            "dir 0755 0 0 0 - - /\ndir 0755 0 0 0 - - /p\ndir 0755 0 0 0 - - /p/q\n\
+            file 0644 0 0 0 1 [a] /p/q/k\nentries 4\n",
+        ),
+        (
+            "its old place isn't hidden",
+            [
+                "dir /p redirect=/x, dir /p/q redirect=r, whiteout /x",
+                "dir /x, dir /x/r, file /x/r/k",
+            ]
+            .as_slice(),
+            "dir 0755 0 0 0 - - /\ndir 0755 0 0 0 - - /p\ndir 0755 0 0 0 - - /p/q\n\
+            file 0644 0 0 0 1 [a] /p/q/k\ndir 0755 0 0 0 - - /p/r\n\
+            file 0644 0 0 0 1 [a] /p/r/k\nentries 6\n",
+        ),
+        (
+            "an absolute redirect leads out of an opaque directory",
+            [
+                "dir /n opaque=y, dir /n/d redirect=/x, whiteout /x",
+                "dir /n, file /n/z, dir /x, file /x/k",
+            ]
+            .as_slice(),
+            "dir 0755 0 0 0 - - /\ndir 0755 0 0 0 - - /n\ndir 0755 0 0 0 - - /n/d\n\
+            file 0644 0 0 0 1 [a] /n/d/k\nentries 4\n",
+        ),
+        (
+            "an opaque directory is not moved",
+            [
+                "dir /d opaque=y redirect=/x",
+                "dir /d, file /d/k, dir /x, file /x/k",
+            ]
+            .as_slice(),
+            "dir 0755 0 0 0 - - /\ndir 0755 0 0 0 - - /d\ndir 0755 0 0 0 - - /x\n\
+            file 0644 0 0 0 1 [a] /x/k\nentries 4\n",
+        ),
+    ] {
+        let shown = shown(&rt, alloc, layers)?;
+        assert_eq!(rt; shown, in_full(alloc, report)?, "where {what}");
+    }
     Ok(())
 }
 
 #[test]
-fn an_opaque_directory_hides_what_lies_below(rt: HostRuntime) -> Result<(), Fail> {
-    let lower: &[(&str, &str, &str)] = &[("/d", DIR, ""), ("/d/k", FILE, "")];
-    assert_eq!(rt;
-        shown(&rt, rt.alloc(), &[&[("/d", DIR, IS_OPAQUE)], lower])?.as_str(),
-        "dir 0755 0 0 0 - - /\ndir 0755 0 0 0 - - /d\nentries 2\n"
-    );
-    Ok(())
-}
-
-#[test]
-fn another_value_than_y_is_not_opaque(rt: HostRuntime) -> Result<(), Fail> {
-    let lower: &[(&str, &str, &str)] = &[("/d", DIR, ""), ("/d/k", FILE, "")];
-    assert_eq!(rt;
-        shown(&rt, rt.alloc(), &[&[("/d", DIR, IS_NOT_OPAQUE)], lower])?.as_str(),
-        "dir 0755 0 0 0 - - /\n\
-        dir 0755 0 0 0 - - /d\n\
-        file 0644 0 0 0 1 ca978112ca1bbdcafac231b39a23dc4da786eff8147c4e72b9807785afee48bb /d/k\n\
-        entries 3\n"
-    );
-    Ok(())
-}
-
-#[test]
-fn a_moved_directory_shows_what_it_came_from(rt: HostRuntime) -> Result<(), Fail> {
-    let upper: &[(&str, &str, &str)] = &[
-        ("/p", DIR, FROM_X),
-        ("/p/q", DIR, FROM_R_BESIDE),
-        ("/p/r", WHITEOUT, ""),
-        ("/x", WHITEOUT, ""),
-    ];
-    let lower: &[(&str, &str, &str)] = &[("/x", DIR, ""), ("/x/r", DIR, ""), ("/x/r/k", FILE, "")];
-    assert_eq!(rt;
-        shown(&rt, rt.alloc(), &[upper, lower])?.as_str(),
-        "dir 0755 0 0 0 - - /\n\
-        dir 0755 0 0 0 - - /p\n\
-        dir 0755 0 0 0 - - /p/q\n\
-        file 0644 0 0 0 1 ca978112ca1bbdcafac231b39a23dc4da786eff8147c4e72b9807785afee48bb /p/q/k\n\
-        entries 4\n"
-    );
-    Ok(())
-}
-
-#[test]
-fn a_source_without_whiteout_is_shown_too(rt: HostRuntime) -> Result<(), Fail> {
-    let upper: &[(&str, &str, &str)] = &[
-        ("/p", DIR, FROM_X),
-        ("/p/q", DIR, FROM_R_BESIDE),
-        ("/x", WHITEOUT, ""),
-    ];
-    let lower: &[(&str, &str, &str)] = &[("/x", DIR, ""), ("/x/r", DIR, ""), ("/x/r/k", FILE, "")];
-    assert_eq!(rt;
-        shown(&rt, rt.alloc(), &[upper, lower])?.as_str(),
-        "dir 0755 0 0 0 - - /\n\
-        dir 0755 0 0 0 - - /p\n\
-        dir 0755 0 0 0 - - /p/q\n\
-        file 0644 0 0 0 1 ca978112ca1bbdcafac231b39a23dc4da786eff8147c4e72b9807785afee48bb /p/q/k\n\
-        dir 0755 0 0 0 - - /p/r\n\
-        file 0644 0 0 0 1 ca978112ca1bbdcafac231b39a23dc4da786eff8147c4e72b9807785afee48bb /p/r/k\n\
-        entries 6\n"
-    );
-    Ok(())
-}
-
-#[test]
-fn an_absolute_redirect_leads_out_of_an_opaque_directory(rt: HostRuntime) -> Result<(), Fail> {
-    let upper: &[(&str, &str, &str)] = &[
-        ("/n", DIR, IS_OPAQUE),
-        ("/n/d", DIR, FROM_X),
-        ("/x", WHITEOUT, ""),
-    ];
-    let lower: &[(&str, &str, &str)] = &[
-        ("/n", DIR, ""),
-        ("/n/z", FILE, ""),
-        ("/x", DIR, ""),
-        ("/x/k", FILE, ""),
-    ];
-    assert_eq!(rt;
-        shown(&rt, rt.alloc(), &[upper, lower])?.as_str(),
-        "dir 0755 0 0 0 - - /\n\
-        dir 0755 0 0 0 - - /n\n\
-        dir 0755 0 0 0 - - /n/d\n\
-        file 0644 0 0 0 1 ca978112ca1bbdcafac231b39a23dc4da786eff8147c4e72b9807785afee48bb /n/d/k\n\
-        entries 4\n"
-    );
-    Ok(())
-}
-
-#[test]
-fn an_opaque_directory_is_not_moved(rt: HostRuntime) -> Result<(), Fail> {
-    let lower: &[(&str, &str, &str)] = &[
-        ("/d", DIR, ""),
-        ("/d/k", FILE, ""),
-        ("/x", DIR, ""),
-        ("/x/k", FILE, ""),
-    ];
-    assert_eq!(rt;
-        shown(&rt, rt.alloc(), &[&[("/d", DIR, OPAQUE_FROM_X)], lower])?.as_str(),
-        "dir 0755 0 0 0 - - /\n\
-        dir 0755 0 0 0 - - /d\n\
-        dir 0755 0 0 0 - - /x\n\
-        file 0644 0 0 0 1 ca978112ca1bbdcafac231b39a23dc4da786eff8147c4e72b9807785afee48bb /x/k\n\
-        entries 4\n"
-    );
-    Ok(())
-}
-
-#[test]
-fn a_metacopy_file_shows_the_data_below(rt: HostRuntime) -> Result<(), Fail> {
-    let upper: &[(&str, &str, &str)] = &[("/f", UNREAD, HAS_METACOPY)];
-    assert_eq!(rt;
-        shown(&rt, rt.alloc(), &[upper, upper, &[("/f", FILE, "")]])?.as_str(),
-        "dir 0755 0 0 0 - - /\n\
-        file 0644 0 0 0 1 ca978112ca1bbdcafac231b39a23dc4da786eff8147c4e72b9807785afee48bb /f\n\
-        entries 2\n"
-    );
-    Ok(())
-}
-
-#[test]
-fn a_metacopy_file_over_a_whiteout_misses_its_data(rt: HostRuntime) -> Result<(), Fail> {
-    let upper: &[(&str, &str, &str)] = &[("/f", UNREAD, HAS_METACOPY)];
-    assert_eq!(rt;
-        shown(&rt, rt.alloc(), &[upper, upper, &[("/f", WHITEOUT, "")]])?.as_str(),
-        "dir 0755 0 0 0 - - /\n\
-        file 0644 0 0 0 1 missing /f\n\
-        entries 2\n"
-    );
+fn metacopy_files_show_the_data_below(rt: HostRuntime) -> Result<(), Fail> {
+    let alloc = rt.alloc();
+    for (what, layers, report) in [
+        (
+            "there is data under two of them",
+            ["bare /f metacopy=", "bare /f metacopy=", "file /f"].as_slice(),
+            "dir 0755 0 0 0 - - /\nfile 0644 0 0 0 1 [a] /f\nentries 2\n",
+        ),
+        (
+            "a whiteout lies under them",
+            ["bare /f metacopy=", "bare /f metacopy=", "whiteout /f"].as_slice(),
+            "dir 0755 0 0 0 - - /\nfile 0644 0 0 0 1 missing /f\nentries 2\n",
+        ),
+    ] {
+        let shown = shown(&rt, alloc, layers)?;
+        assert_eq!(rt; shown, in_full(alloc, report)?, "where {what}");
+    }
     Ok(())
 }
 

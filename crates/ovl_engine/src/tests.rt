@@ -3,7 +3,7 @@ ghost use Rattle.ovl_lookup.specs.Merged.{IsMerged};
 ghost use Rattle.ovl_engine.specs.Directories.{show_root};
 
 use super::*;
-use crate::samples::{DIR, FILE, WHITEOUT, manifest_of};
+use crate::samples::manifest_of;
 use ovl_board::{Core, Event, Parcel, Piece, plain_walk};
 use ovl_inode::{Attrs, Digest, Inode, Kind, Target};
 use ovl_lookup::{Look, Stack};
@@ -34,123 +34,149 @@ fn text_of(alloc: Global, looks: &[(Path, Look)]) -> Result<String, Fail> {
     Ok(String::from_utf8(report_of(alloc, looks)?)?)
 }
 
+// The report of one path, at which this is shown.
+fn line_of(alloc: Global, path: &str, look: Look) -> Result<String, Fail> {
+    text_of(alloc, &[(Path::parse(alloc, path)?, look)])
+}
+
 #[test]
-fn a_report_has_a_line_for_each_path_and_their_number(rt: HostRuntime) -> Result<(), Fail> {
+fn the_last_line_has_the_number_of_paths(rt: HostRuntime) -> Result<(), Fail> {
     let alloc = rt.alloc();
-    assert_eq!(rt; text_of(alloc, &[])?.as_str(), "entries 0\n");
-    let root = Look::Shown(inode_of(alloc, 0o755, Kind::Dir));
-    let blob = Some(Digest::parse(DIGEST_OF_A)?);
+    let mut looks = Vec::new(alloc);
+    assert_eq!(rt; text_of(alloc, &looks)?.as_str(), "entries 0\n");
+    for path in ["/", "/d"] {
+        let look = Look::Shown(inode_of(alloc, 0o755, Kind::Dir));
+        looks.push((Path::parse(alloc, path)?, look))?;
+    }
+    assert_eq!(rt;
+        text_of(alloc, &looks)?.as_str(),
+        "dir 0755 0 0 0 - - /\ndir 0755 0 0 0 - - /d\nentries 2\n"
+    );
+    Ok(())
+}
+
+#[test]
+fn each_kind_has_its_word_and_its_numbers(rt: HostRuntime) -> Result<(), Fail> {
+    let alloc = rt.alloc();
+    let large = Kind::File {
+        size: (1 << 63) - 1,
+        blob: Some(Digest::parse(DIGEST_OF_A)?),
+    };
     let empty = Kind::File {
         size: 0,
         blob: None,
     };
-    let large = Kind::File {
-        size: (1 << 63) - 1,
-        blob,
+    let device = Kind::Block {
+        major: 8,
+        minor: u32::MAX,
     };
+    for (path, mode, kind, report) in [
+        (
+            "/z",
+            0o4755,
+            large,
+            "file 4755 0 0 0 9223372036854775807 ca978112ca1bbdcafac231b39a23dc4da786eff8147c4e72b9807785afee48bb /z\nentries 1\n",
+        ),
+        (
+            "/é",
+            0o644,
+            empty,
+            "file 0644 0 0 0 0 - /\\xc3\\xa9\nentries 1\n",
+        ),
+        (
+            "/b",
+            0o60,
+            device,
+            "block 0060 0 0 0 - 8:4294967295 /b\nentries 1\n",
+        ),
+        (
+            "/p q",
+            0,
+            Kind::Fifo,
+            "fifo 0000 0 0 0 - - /p\\x20q\nentries 1\n",
+        ),
+        (
+            "/s",
+            0o7777,
+            Kind::Socket,
+            "socket 7777 0 0 0 - - /s\nentries 1\n",
+        ),
+    ] {
+        let look = Look::Shown(inode_of(alloc, mode, kind));
+        assert_eq!(rt; line_of(alloc, path, look)?.as_str(), report);
+    }
+    Ok(())
+}
+
+#[test]
+fn a_broken_file_misses_its_contents(rt: HostRuntime) -> Result<(), Fail> {
     let lost = Kind::File {
         size: 1,
         blob: None,
     };
-    let target = Target::from(String::from_str(alloc, "a b")?);
-    let mut link = inode_of(alloc, 0o777, Kind::Symlink { target });
-    link.attrs.put("user.k", &[1])?;
+    let look = Look::Broken(inode_of(rt.alloc(), 0o644, lost));
     assert_eq!(rt;
-        text_of(
-            alloc,
-            &[
-                (Path::root(alloc), root),
-                (
-                    Path::parse(alloc, "/f")?,
-                    Look::Broken(inode_of(alloc, 0o644, lost))
-                ),
-                (Path::parse(alloc, "/l")?, Look::Shown(link)),
-                (
-                    Path::parse(alloc, "/z")?,
-                    Look::Shown(inode_of(alloc, 0o4755, large))
-                ),
-                (
-                    Path::parse(alloc, "/é")?,
-                    Look::Shown(inode_of(alloc, 0o644, empty))
-                ),
-            ]
-        )?
-        .as_str(),
-        "dir 0755 0 0 0 - - /\n\
-        file 0644 0 0 0 1 missing /f\n\
-        symlink 0777 0 0 0 - a\\x20b /l user.k=01\n\
-        file 4755 0 0 0 9223372036854775807 ca978112ca1bbdcafac231b39a23dc4da786eff8147c4e72b9807785afee48bb /z\n\
-        file 0644 0 0 0 0 - /\\xc3\\xa9\n\
-        entries 5\n"
+        line_of(rt.alloc(), "/f", look)?.as_str(),
+        "file 0644 0 0 0 1 missing /f\nentries 1\n"
     );
     Ok(())
 }
 
 #[test]
-fn other_kinds_show_their_words_and_numbers(rt: HostRuntime) -> Result<(), Fail> {
+fn a_link_shows_its_target_and_its_attributes(rt: HostRuntime) -> Result<(), Fail> {
     let alloc = rt.alloc();
-    let device = Kind::Block {
-        major: 8,
-        minor: u32::MAX,
-    };
-    let mut block = inode_of(alloc, 0o60, device);
-    block.uid = u32::MAX;
-    block.gid = 6;
-    block.mtime = i64::MIN;
-    let mut fifo = inode_of(alloc, 0, Kind::Fifo);
-    fifo.mtime = 1732233600;
-    let mut socket = inode_of(alloc, 0o7777, Kind::Socket);
-    socket.attrs.put("user.b c", &[0, 255])?;
-    socket.attrs.put("user.a", &[])?;
+    let target = Target::from(String::from_str(alloc, "a b")?);
+    let mut link = inode_of(alloc, 0o777, Kind::Symlink { target });
+    link.attrs.put("user.b c", &[0, 255])?;
+    link.attrs.put("user.a", &[])?;
     assert_eq!(rt;
-        text_of(
-            alloc,
-            &[
-                (Path::parse(alloc, "/b")?, Look::Shown(block)),
-                (Path::parse(alloc, "/p q")?, Look::Shown(fifo)),
-                (Path::parse(alloc, "/s")?, Look::Shown(socket)),
-            ]
-        )?
-        .as_str(),
-        "block 0060 4294967295 6 -9223372036854775808 - 8:4294967295 /b\n\
-        fifo 0000 0 0 1732233600 - - /p\\x20q\n\
-        socket 7777 0 0 0 - - /s user.a= user.b\\x20c=00ff\n\
-        entries 3\n"
+        line_of(alloc, "/l", Look::Shown(link))?.as_str(),
+        "symlink 0777 0 0 0 - a\\x20b /l user.a= user.b\\x20c=00ff\nentries 1\n"
     );
     Ok(())
 }
 
-const EMPTY: &str = "\"kind\":\"file\",\"mode\":420,\"size\":0";
+#[test]
+fn owner_group_and_time_are_decimal(rt: HostRuntime) -> Result<(), Fail> {
+    for (uid, gid, mtime, report) in [
+        (
+            u32::MAX,
+            6,
+            i64::MIN,
+            "dir 0755 4294967295 6 -9223372036854775808 - - /\nentries 1\n",
+        ),
+        (
+            0,
+            1000,
+            1732233600,
+            "dir 0755 0 1000 1732233600 - - /\nentries 1\n",
+        ),
+    ] {
+        let mut inode = inode_of(rt.alloc(), 0o755, Kind::Dir);
+        inode.uid = uid;
+        inode.gid = gid;
+        inode.mtime = mtime;
+        assert_eq!(rt;
+            line_of(rt.alloc(), "/", Look::Shown(inode))?.as_str(),
+            report
+        );
+    }
+    Ok(())
+}
 
-const IS_OPAQUE: &str = "\"trusted.overlay.opaque\":\"79\"";
-
-const HOLDS_WHITEOUTS: &str = "\"trusted.overlay.opaque\":\"78\"";
-
-const TO_X: &str = "\"trusted.overlay.redirect\":\"2f78\"";
-
-const BESIDE_R: &str = "\"trusted.overlay.redirect\":\"72\"";
-
-const OPAQUE_TO_X: &str = "\"trusted.overlay.opaque\":\"79\",\"trusted.overlay.redirect\":\"2f78\"";
-
-const IS_WHITEOUT: &str = "\"trusted.overlay.whiteout\":\"\"";
-
-// A layer of a root and these entries: the path, what its kind states, and the attributes of each.
-fn layer_of(alloc: Global, entries: &[(&str, &str, &str)]) -> Result<Layer, Fail> {
+// A layer of a root and these entries.
+fn layer_of(alloc: Global, entries: &str) -> Result<Layer, Fail> {
     Ok(read_layer(alloc, &manifest_of(alloc, entries)?)?)
 }
 
 // Two directories, alone.
 fn two_directories(alloc: Global) -> Result<Stack, Fail> {
     let mut layers = Vec::new(alloc);
-    layers.push(layer_of(alloc, &[("/a", DIR, ""), ("/b", DIR, "")])?)?;
+    layers.push(layer_of(alloc, "dir /a, dir /b")?)?;
     Ok(Stack::of(layers)?)
 }
 
-fn stack_of(
-    alloc: Global,
-    upper: &[(&str, &str, &str)],
-    lower: &[(&str, &str, &str)],
-) -> Result<Stack, Fail> {
+fn stack_of(alloc: Global, upper: &str, lower: &str) -> Result<Stack, Fail> {
     let mut layers = Vec::new(alloc);
     layers.push(layer_of(alloc, upper)?)?;
     layers.push(layer_of(alloc, lower)?)?;
@@ -159,19 +185,11 @@ fn stack_of(
 
 // An absolute redirect in an opaque directory, over what it hides and what it comes from.
 fn moved_in_opaque(alloc: Global) -> Result<Stack, Fail> {
-    let upper: &[(&str, &str, &str)] = &[
-        ("/n", DIR, IS_OPAQUE),
-        ("/n/d", DIR, TO_X),
-        ("/x", WHITEOUT, ""),
-    ];
-    let lower: &[(&str, &str, &str)] = &[
-        ("/n", DIR, ""),
-        ("/n/z", FILE, ""),
-        ("/n-a", FILE, ""),
-        ("/x", DIR, ""),
-        ("/x/k", FILE, ""),
-    ];
-    stack_of(alloc, upper, lower)
+    stack_of(
+        alloc,
+        "dir /n opaque=y, dir /n/d redirect=/x, whiteout /x",
+        "dir /n, file /n/z, file /n-a, dir /x, file /x/k",
+    )
 }
 
 fn root_piece(alloc: Global) -> Piece
@@ -208,11 +226,7 @@ fn the_walk_over_a_stack_gives_its_merged_tree(rt: HostRuntime) -> Result<(), Fa
 }
 
 // The paths that a stack of two layers shows, with a space after each.
-fn shown_paths(
-    alloc: Global,
-    upper: &[(&str, &str, &str)],
-    lower: &[(&str, &str, &str)],
-) -> Result<String, Fail> {
+fn shown_paths(alloc: Global, upper: &str, lower: &str) -> Result<String, Fail> {
     let stack = stack_of(alloc, upper, lower)?;
     let mut text = String::new(alloc);
     for (path, _) in &walked(alloc, &stack)? {
@@ -223,30 +237,25 @@ fn shown_paths(
 }
 
 #[test]
-fn whiteouts_and_opaque_directories_hide(rt: HostRuntime) -> Result<(), Fail> {
-    let files: &[(&str, &str, &str)] = &[("/d", DIR, ""), ("/d/k", FILE, "")];
-    let hidden = shown_paths(rt.alloc(), &[("/d", EMPTY, IS_WHITEOUT)], files)?;
-    assert_eq!(rt; hidden.as_str(), "/ ");
-    let opaque = shown_paths(rt.alloc(), &[("/d", DIR, IS_OPAQUE)], files)?;
-    assert_eq!(rt; opaque.as_str(), "/ /d ");
-    let merged = shown_paths(rt.alloc(), &[("/d", DIR, HOLDS_WHITEOUTS)], files)?;
-    assert_eq!(rt; merged.as_str(), "/ /d /d/k ");
-    Ok(())
-}
-
-#[test]
-fn redirects_are_followed_but_on_opaque_directories(rt: HostRuntime) -> Result<(), Fail> {
-    let lower: &[(&str, &str, &str)] = &[("/x", DIR, ""), ("/x/r", DIR, ""), ("/x/r/k", FILE, "")];
-    let upper: &[(&str, &str, &str)] = &[
-        ("/p", DIR, TO_X),
-        ("/p/q", DIR, BESIDE_R),
-        ("/p/r", WHITEOUT, ""),
-        ("/x", WHITEOUT, ""),
-    ];
-    let moved = shown_paths(rt.alloc(), upper, lower)?;
-    assert_eq!(rt; moved.as_str(), "/ /p /p/q /p/q/k ");
-    let opaque = shown_paths(rt.alloc(), &[("/d", DIR, OPAQUE_TO_X)], lower)?;
-    assert_eq!(rt; opaque.as_str(), "/ /d /x /x/r /x/r/k ");
+fn one_thread_finds_the_paths_that_are_shown(rt: HostRuntime) -> Result<(), Fail> {
+    for (upper, lower, paths) in [
+        ("empty /d whiteout=", "dir /d, file /d/k", "/ "),
+        ("dir /d opaque=y", "dir /d, file /d/k", "/ /d "),
+        ("dir /d opaque=x", "dir /d, file /d/k", "/ /d /d/k "),
+        (
+            "dir /p redirect=/x, dir /p/q redirect=r, whiteout /p/r, whiteout /x",
+            "dir /x, dir /x/r, file /x/r/k",
+            "/ /p /p/q /p/q/k ",
+        ),
+        (
+            "dir /d opaque=y redirect=/x",
+            "dir /x, dir /x/r, file /x/r/k",
+            "/ /d /x /x/r /x/r/k ",
+        ),
+    ] {
+        let shown = shown_paths(rt.alloc(), upper, lower)?;
+        assert_eq!(rt; shown.as_str(), paths, "of {upper:?}");
+    }
     Ok(())
 }
 

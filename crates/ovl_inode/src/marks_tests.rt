@@ -17,7 +17,7 @@ fn inode_of(alloc: Global, kind: Kind, attribute: &str, value: &[u8]) -> Result<
 }
 
 #[test]
-fn redirects_are_read_or_refused_by_their_first_fault(rt: HostRuntime) -> Result<(), Fail> {
+fn redirects_are_read_as_paths_or_names(rt: HostRuntime) -> Result<(), Fail> {
     match read_redirect(rt.alloc(), b"/x/y")? {
         Redirect::To(path) => assert_eq!(rt; path, Path::parse(rt.alloc(), "/x/y")?),
         Redirect::Beside(_) => assert!(rt; false),
@@ -26,6 +26,11 @@ fn redirects_are_read_or_refused_by_their_first_fault(rt: HostRuntime) -> Result
         Redirect::To(_) => assert!(rt; false),
         Redirect::Beside(name) => assert_eq!(rt; name, Name::of(rt.alloc(), "r")?),
     }
+    Ok(())
+}
+
+#[test]
+fn redirects_are_refused_by_their_first_fault(rt: HostRuntime) -> Result<(), Fail> {
     let long = [b'a'; 256];
     for (value, fault) in [
         (b"".as_slice(), RedirectFault::Empty),
@@ -48,26 +53,58 @@ fn redirects_are_read_or_refused_by_their_first_fault(rt: HostRuntime) -> Result
     Ok(())
 }
 
+const DEVICE: Kind = Kind::Char { major: 0, minor: 0 };
+
+const FILE: Kind = Kind::File {
+    size: 1,
+    blob: None,
+};
+
 #[test]
-fn marks_are_the_first_case_that_holds(rt: HostRuntime) -> Result<(), Fail> {
-    let opaque = inode_of(rt.alloc(), Kind::Dir, "trusted.overlay.opaque", b"y")?;
-    assert!(rt; matches!(mark_of(rt.alloc(), &opaque)?, Mark::DirOpaque));
-    assert!(rt; is_directory(&opaque));
-    assert!(rt; !is_whiteout(&opaque));
+fn a_moved_directory_has_its_redirect_in_its_mark(rt: HostRuntime) -> Result<(), Fail> {
     let moved = inode_of(rt.alloc(), Kind::Dir, "trusted.overlay.redirect", b"/x")?;
     let mark = mark_of(rt.alloc(), &moved)?;
     let path = Path::parse(rt.alloc(), "/x")?;
     assert!(rt; matches!(&mark, Mark::DirMoved(Redirect::To(to)) if *to == path));
-    let device = Kind::Char { major: 0, minor: 0 };
-    let whiteout = inode_of(rt.alloc(), device, "user.k", b"")?;
-    assert!(rt; matches!(mark_of(rt.alloc(), &whiteout)?, Mark::Whiteout));
-    assert!(rt; is_whiteout(&whiteout));
-    let file = Kind::File {
-        size: 1,
-        blob: None,
-    };
-    let meta = inode_of(rt.alloc(), file, "trusted.overlay.metacopy", b"")?;
-    assert!(rt; matches!(mark_of(rt.alloc(), &meta)?, Mark::Meta(None)));
-    assert!(rt; !is_directory(&meta));
+    Ok(())
+}
+
+#[test]
+fn marks_are_the_first_case_that_holds(rt: HostRuntime) -> Result<(), Fail> {
+    let alloc = rt.alloc();
+    for (kind, attribute, value, shown) in [
+        (
+            Kind::Dir,
+            "trusted.overlay.opaque",
+            b"y".as_slice(),
+            "DirOpaque",
+        ),
+        (
+            Kind::Dir,
+            "trusted.overlay.opaque",
+            b"x".as_slice(),
+            "DirPlain",
+        ),
+        (
+            Kind::Dir,
+            "trusted.overlay.redirect",
+            b"".as_slice(),
+            "DirBad",
+        ),
+        (DEVICE, "user.k", b"".as_slice(), "Whiteout"),
+        (
+            FILE,
+            "trusted.overlay.metacopy",
+            b"".as_slice(),
+            "Meta(None)",
+        ),
+        (FILE, "trusted.overlay.whiteout", b"".as_slice(), "Leaf"),
+    ] {
+        let inode = inode_of(alloc, kind, attribute, value)?;
+        let mark = mark_of(alloc, &inode)?;
+        assert_eq!(rt; format!(in alloc; "{mark:?}")?.as_str(), shown);
+        assert_eq!(rt; is_whiteout(&inode), shown == "Whiteout");
+        assert_eq!(rt; is_directory(&inode), shown.starts_with("Dir"));
+    }
     Ok(())
 }

@@ -5,14 +5,6 @@ use std::test::Fail;
 // The SHA-256 digest of the one byte `a`.
 const DIGEST_OF_A: &str = "ca978112ca1bbdcafac231b39a23dc4da786eff8147c4e72b9807785afee48bb";
 
-fn repeated(alloc: Global, part: &str, times: usize) -> Result<String, AllocError> {
-    let mut text = String::new(alloc);
-    for _ in 0..times {
-        text.push_str(part)?;
-    }
-    Ok(text)
-}
-
 // An inode of mode 0644, owner 0 and time 0 without attributes.
 fn plain(alloc: Global, kind: Kind) -> Inode {
     Inode {
@@ -62,17 +54,34 @@ fn digests_are_read_or_refused_by_their_first_fault(rt: HostRuntime) -> Result<(
 }
 
 #[test]
-fn attributes_are_put_found_and_listed_in_order(rt: HostRuntime) -> Result<(), Fail> {
+fn attributes_are_put_and_found(rt: HostRuntime) -> Result<(), Fail> {
     let mut attrs = Attrs::new(rt.alloc());
     assert_eq!(rt; attrs.put("user.k", &[1]), Ok(()));
     assert_eq!(rt; attrs.get("user.k"), Some([1].as_slice()));
     assert_eq!(rt; attrs.get("user.l"), None);
-    let too_long = repeated(rt.alloc(), "a", 256)?;
+    Ok(())
+}
+
+#[test]
+fn names_of_attributes_have_1_to_255_bytes_without_nul(rt: HostRuntime) -> Result<(), Fail> {
+    let longest = "a".repeat(rt.alloc(), 255)?;
+    let too_long = "a".repeat(rt.alloc(), 256)?;
+    let mut attrs = Attrs::new(rt.alloc());
     for name in ["", "user\0", too_long.as_str()] {
         assert_eq!(rt; attrs.put(name, &[2]), Err(AttrFault::Name), "at {name:?}");
+        assert_eq!(rt; AttrName::of(rt.alloc(), name).err(), Some(AttrFault::Name));
     }
-    assert_eq!(rt; attrs.pairs().len(), 1);
-    for (name, value) in [("user.l", 3), ("user.a", 4), ("user.k", 5)] {
+    assert_eq!(rt; attrs.pairs().len(), 0);
+    for name in ["a", longest.as_str()] {
+        assert_eq!(rt; AttrName::of(rt.alloc(), name)?.as_str(), name);
+    }
+    Ok(())
+}
+
+#[test]
+fn attributes_are_copied_and_listed_in_order(rt: HostRuntime) -> Result<(), Fail> {
+    let mut attrs = Attrs::new(rt.alloc());
+    for (name, value) in [("user.k", 1), ("user.l", 3), ("user.a", 4), ("user.k", 5)] {
         attrs.put(name, &[value])?;
     }
     let copied = attrs.copy(rt.alloc())?;
@@ -91,25 +100,26 @@ fn attributes_are_put_found_and_listed_in_order(rt: HostRuntime) -> Result<(), F
 #[test]
 fn names_and_values_of_attributes_are_copied(rt: HostRuntime) -> Result<(), Fail> {
     let name = AttrName::of(rt.alloc(), "user.k")?;
-    assert_eq!(rt; name.as_str(), "user.k");
     assert_eq!(rt; name.copy(rt.alloc())?, name);
     assert!(rt; AttrName::of(rt.alloc(), "user.j")? < name);
-    assert_eq!(rt; AttrName::of(rt.alloc(), "").err(), Some(AttrFault::Name));
-    let longest = repeated(rt.alloc(), "a", 255)?;
-    assert_eq!(rt;
-        AttrName::of(rt.alloc(), longest.as_str())?.as_str(),
-        longest.as_str()
-    );
     let bytes = Bytes::copy_of(rt.alloc(), &[0, 255])?;
     assert_eq!(rt; bytes.as_slice(), [0, 255].as_slice());
     Ok(())
 }
 
 #[test]
-fn targets_and_kinds_are_copied(rt: HostRuntime) -> Result<(), Fail> {
+fn targets_are_copied(rt: HostRuntime) -> Result<(), Fail> {
     let target = Target::from(String::from_str(rt.alloc(), "a b")?);
-    assert_eq!(rt; target.as_str(), "a b");
-    assert_eq!(rt; target.copy(rt.alloc())?.into_string().as_str(), "a b");
+    assert_eq!(rt;
+        target.copy(rt.alloc())?.into_string().as_str(),
+        target.as_str()
+    );
+    Ok(())
+}
+
+#[test]
+fn kinds_are_copied(rt: HostRuntime) -> Result<(), Fail> {
+    let link = symlink(rt.alloc(), "a b")?;
     for (kind, shown) in [
         (Kind::Dir, "Dir"),
         (
@@ -119,10 +129,7 @@ fn targets_and_kinds_are_copied(rt: HostRuntime) -> Result<(), Fail> {
             },
             "File { size: 7, blob: None }",
         ),
-        (
-            Kind::Symlink { target },
-            "Symlink { target: Target { text: \"a b\" } }",
-        ),
+        (link, "Symlink { target: Target { text: \"a b\" } }"),
         (
             Kind::Char { major: 0, minor: 1 },
             "Char { major: 0, minor: 1 }",
@@ -140,102 +147,56 @@ fn targets_and_kinds_are_copied(rt: HostRuntime) -> Result<(), Fail> {
     Ok(())
 }
 
+// An opaque directory with an attribute of its own.
+fn opaque(alloc: Global) -> Result<Inode, AttrFault> {
+    let mut inode = plain(alloc, Kind::Dir);
+    inode.attrs.put("trusted.overlay.opaque", b"y")?;
+    inode.attrs.put("user.k", &[1])?;
+    Ok(inode)
+}
+
 #[test]
-fn an_opaque_directory_is_copied_and_shown_without_its_mark(rt: HostRuntime) -> Result<(), Fail> {
-    let mut opaque = plain(rt.alloc(), Kind::Dir);
-    opaque.attrs.put("trusted.overlay.opaque", b"y")?;
+fn an_inode_is_copied_with_its_attributes(rt: HostRuntime) -> Result<(), Fail> {
+    let opaque = opaque(rt.alloc())?;
     let copied = opaque.copy(rt.alloc())?;
-    assert_eq!(rt;
-        copied.attrs.get("trusted.overlay.opaque"),
-        Some(b"y".as_slice())
-    );
     assert_eq!(rt;
         format!(in rt.alloc(); "{copied:?}")?.as_str(),
         format!(in rt.alloc(); "{opaque:?}")?.as_str()
     );
+    Ok(())
+}
+
+#[test]
+fn an_inode_is_shown_without_the_overlays_attributes(rt: HostRuntime) -> Result<(), Fail> {
+    let opaque = opaque(rt.alloc())?;
     let shown = visible(rt.alloc(), &opaque)?;
-    assert_eq!(rt;
-        format!(in rt.alloc(); "{shown:?}")?.as_str(),
-        format!(in rt.alloc(); "{:?}", plain(rt.alloc(), Kind::Dir))?.as_str()
-    );
-    opaque.attrs.put("user.k", &[1])?;
+    assert_eq!(rt; shown.attrs.get("trusted.overlay.opaque"), None);
+    assert_eq!(rt; shown.attrs.get("user.k"), Some([1].as_slice()));
+    assert_eq!(rt; shown.mode, 0o644);
     assert_eq!(rt; opaque.attrs.visible(rt.alloc())?.pairs().len(), 1);
     Ok(())
 }
 
 #[test]
-fn inodes_are_sound_or_not(rt: HostRuntime) -> Result<(), Fail> {
+fn files_have_contents_exactly_where_they_have_a_size(rt: HostRuntime) -> Result<(), Fail> {
     let digest = Digest::parse(DIGEST_OF_A)?;
-    let longest = repeated(rt.alloc(), "t", 4095)?;
-    let too_long = repeated(rt.alloc(), "t", 4096)?;
-    for (kind, wanted) in [
-        (Kind::Dir, true),
-        (
-            Kind::File {
-                size: 0,
-                blob: None,
-            },
-            true,
-        ),
-        (
-            Kind::File {
-                size: 1,
-                blob: Some(digest),
-            },
-            true,
-        ),
-        (
-            Kind::File {
-                size: (1 << 63) - 1,
-                blob: Some(digest),
-            },
-            true,
-        ),
-        (symlink(rt.alloc(), "a b")?, true),
-        (symlink(rt.alloc(), longest.as_str())?, true),
-        (Kind::Char { major: 0, minor: 0 }, true),
-        (
-            Kind::Block {
-                major: 1,
-                minor: 0xffff_ffff,
-            },
-            true,
-        ),
-        (Kind::Fifo, true),
-        (Kind::Socket, true),
-        (
-            Kind::File {
-                size: 1,
-                blob: None,
-            },
-            false,
-        ),
-        (
-            Kind::File {
-                size: 0,
-                blob: Some(digest),
-            },
-            false,
-        ),
-        (
-            Kind::File {
-                size: 1 << 63,
-                blob: Some(digest),
-            },
-            false,
-        ),
-        (symlink(rt.alloc(), "")?, false),
-        (symlink(rt.alloc(), "a\0")?, false),
-        (symlink(rt.alloc(), too_long.as_str())?, false),
+    for (size, blob, wanted) in [
+        (0, None, true),
+        (1, Some(digest), true),
+        ((1 << 63) - 1, Some(digest), true),
+        (1, None, false),
+        (0, Some(digest), false),
+        (1 << 63, Some(digest), false),
     ] {
-        let inode = plain(rt.alloc(), kind);
+        let inode = plain(rt.alloc(), Kind::File { size, blob });
         assert_eq!(rt; sound(&inode), wanted, "at {inode:?}");
     }
-    for (mode, wanted) in [(0, true), (0o7777, true), (4096, false)] {
-        let mut inode = plain(rt.alloc(), Kind::Dir);
-        inode.mode = mode;
-        assert_eq!(rt; sound(&inode), wanted, "at mode {mode}");
-    }
+    Ok(())
+}
+
+#[test]
+fn metacopy_files_have_no_contents(rt: HostRuntime) -> Result<(), Fail> {
+    let digest = Digest::parse(DIGEST_OF_A)?;
     for (size, blob, wanted) in [
         (1, None, true),
         (0, None, true),
@@ -245,6 +206,44 @@ fn inodes_are_sound_or_not(rt: HostRuntime) -> Result<(), Fail> {
         let mut inode = plain(rt.alloc(), Kind::File { size, blob });
         inode.attrs.put("trusted.overlay.metacopy", &[])?;
         assert_eq!(rt; sound(&inode), wanted, "at {inode:?}");
+    }
+    Ok(())
+}
+
+#[test]
+fn targets_of_links_have_1_to_4095_bytes_without_nul(rt: HostRuntime) -> Result<(), Fail> {
+    let longest = "t".repeat(rt.alloc(), 4095)?;
+    let too_long = "t".repeat(rt.alloc(), 4096)?;
+    for (target, wanted) in [
+        ("a b", true),
+        (longest.as_str(), true),
+        ("", false),
+        ("a\0", false),
+        (too_long.as_str(), false),
+    ] {
+        let inode = plain(rt.alloc(), symlink(rt.alloc(), target)?);
+        assert_eq!(rt; sound(&inode), wanted, "at {inode:?}");
+    }
+    Ok(())
+}
+
+#[test]
+fn other_kinds_are_sound_by_their_mode(rt: HostRuntime) -> Result<(), Fail> {
+    for kind in [
+        Kind::Dir,
+        Kind::Char { major: 0, minor: 0 },
+        Kind::Block {
+            major: 1,
+            minor: 0xffff_ffff,
+        },
+        Kind::Fifo,
+        Kind::Socket,
+    ] {
+        let mut inode = plain(rt.alloc(), kind);
+        for (mode, wanted) in [(0, true), (0o7777, true), (4096, false)] {
+            inode.mode = mode;
+            assert_eq!(rt; sound(&inode), wanted, "at {inode:?}");
+        }
     }
     Ok(())
 }

@@ -10,6 +10,7 @@ use ovl_engine::{Command, EngineFault};
 use ovl_manifest::LayerFault;
 use std::alloc::{AllocError, Global};
 use std::os::unix::fs::symlink;
+use std::rt::{Env, Files};
 use std::test::Fail;
 use std::{env, fs, process};
 
@@ -160,34 +161,69 @@ fn a_report_that_cannot_be_written_is_told(rt: HostRuntime) -> Result<(), Fail> 
     Ok(())
 }
 
+// Names of blobs of which the contents aren't known.
+const OF_ZEROS: &str = "0000000000000000000000000000000000000000000000000000000000000000";
+
+const OF_ONES: &str = "1111111111111111111111111111111111111111111111111111111111111111";
+
+// A new folder among the system's temporary ones.
+fn new_folder<R: Env + Files + AllocGlobal>(rt: &R, id: u32, name: &str) -> Result<String, Fail> {
+    let parent = env::temp_dir(rt)?;
+    let folder = format!(in rt.alloc(); "{}/ovl_layers_tests.{id}.{name}", parent.as_str())?;
+    fs::create_dir(rt, folder.as_str())?;
+    Ok(folder)
+}
+
+// A new file in a folder.
+fn new_file<R: Files + AllocGlobal>(
+    rt: &R,
+    folder: &str,
+    name: &str,
+    bytes: &[u8],
+) -> Result<String, Fail> {
+    let path = format!(in rt.alloc(); "{folder}/{name}")?;
+    fs::write(rt, path.as_str(), bytes)?;
+    Ok(path)
+}
+
 #[test]
-fn files_and_folders_of_the_system_are_read(rt: HostRuntime) -> Result<(), Fail> {
+fn a_stack_in_files_of_the_system_is_checked(rt: HostRuntime) -> Result<(), Fail> {
     let alloc = rt.alloc();
-    let parent = env::temp_dir(&rt)?;
-    let id = process::id(rt.process());
-    let folder = format!(in alloc; "{}/ovl_layers_tests.{id}", parent.as_str())?;
-    fs::create_dir(&rt, folder.as_str())?;
-    let layer = format!(in alloc; "{folder}/k.json")?;
-    fs::write(&rt, layer.as_str(), KEPT)?;
-    let blob = format!(in alloc; "{folder}/{ABC}")?;
-    fs::write(&rt, blob.as_str(), "abc")?;
-    let linked = format!(in alloc; "{folder}/{}", "0".repeat(alloc, 64)?)?;
-    symlink(&rt, blob.as_str(), linked.as_str())?;
-    let inner = format!(in alloc; "{folder}/{}", "f".repeat(alloc, 64)?)?;
-    fs::create_dir(&rt, inner.as_str())?;
+    let folder = new_folder(&rt, process::id(rt.process()), "stack")?;
+    let layer = new_file(&rt, folder.as_str(), "k.json", KEPT)?;
+    new_file(&rt, folder.as_str(), ABC, b"abc")?;
     let mut output = Vec::new(alloc);
     let asked = line(alloc, Some(folder.as_str()), &[layer.as_str()])?;
     let ending = perform(&rt, &asked, &mut output);
-    let blobs = read_blobs(&rt, folder.as_str());
-    let unread_folder = read_file(&rt, folder.as_str()).err();
-    let unread_blobs = read_blobs(&rt, layer.as_str()).err();
-    let missing = read_blobs(&rt, linked.as_str()).err();
     fs::remove_dir_all(&rt, folder.as_str())?;
     assert_eq!(rt; ending?, Ending::Clean);
     assert_eq!(rt; output.as_slice(), b"faults 0 notes 0\n".as_slice());
+    Ok(())
+}
+
+#[test]
+fn links_and_folders_of_the_system_are_no_blobs(rt: HostRuntime) -> Result<(), Fail> {
+    let folder = new_folder(&rt, process::id(rt.process()), "blobs")?;
+    let blob = new_file(&rt, folder.as_str(), ABC, b"abc")?;
+    let link = format!(in rt.alloc(); "{folder}/{OF_ZEROS}")?;
+    symlink(&rt, blob.as_str(), link.as_str())?;
+    let inner = format!(in rt.alloc(); "{folder}/{OF_ONES}")?;
+    fs::create_dir(&rt, inner.as_str())?;
+    let blobs = read_blobs(&rt, folder.as_str());
+    fs::remove_dir_all(&rt, folder.as_str())?;
     assert_eq!(rt; blobs?.len(), 1);
-    assert_eq!(rt; unread_folder, unread(alloc, folder.as_str())?);
-    assert_eq!(rt; unread_blobs, unread(alloc, layer.as_str())?);
-    assert_eq!(rt; missing, unread(alloc, linked.as_str())?);
+    Ok(())
+}
+
+#[test]
+fn a_file_of_the_system_is_no_folder_nor_a_folder_a_file(rt: HostRuntime) -> Result<(), Fail> {
+    let alloc = rt.alloc();
+    let folder = new_folder(&rt, process::id(rt.process()), "kinds")?;
+    let file = new_file(&rt, folder.as_str(), "k.json", KEPT)?;
+    let of_folder = read_file(&rt, folder.as_str()).err();
+    let of_file = read_blobs(&rt, file.as_str()).err();
+    fs::remove_dir_all(&rt, folder.as_str())?;
+    assert_eq!(rt; of_folder, unread(alloc, folder.as_str())?);
+    assert_eq!(rt; of_file, unread(alloc, file.as_str())?);
     Ok(())
 }

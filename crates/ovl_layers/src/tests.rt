@@ -65,14 +65,16 @@ fn a_layer_that_is_not_read_has_its_text(rt: HostRuntime) -> Result<(), Fail> {
 }
 
 #[test]
+fn a_usage_fault_is_told_as_it_is(rt: HostRuntime) -> Result<(), Fail> {
+    let usage = ProgramFault::Usage(String::from_str(rt.alloc(), "as it is\n")?);
+    assert_eq!(rt; usage.to_string(rt.alloc())?.as_str(), "as it is\n");
+    assert_eq!(rt; usage.status(), 2);
+    Ok(())
+}
+
+#[test]
 fn an_input_or_an_output_has_its_text_and_its_status(rt: HostRuntime) -> Result<(), Fail> {
     let alloc = rt.alloc();
-    let usage = ProgramFault::Usage(String::from_str(alloc, "as it is\n")?);
-    assert_eq!(rt; usage.to_string(alloc)?.as_str(), "as it is\n");
-    assert_eq!(rt; usage.status(), 2);
-    let unread = ProgramFault::unread(alloc, "a/b c", InputFault::TooLong);
-    assert_eq!(rt; unread.to_string(alloc)?.as_str(), "cannot read a/b c");
-    assert_eq!(rt; unread.status(), 3);
     for (fault, text, status) in [
         (ProgramFault::Words, "words must be UTF-8", 2),
         (
@@ -86,6 +88,11 @@ fn an_input_or_an_output_has_its_text_and_its_status(rt: HostRuntime) -> Result<
             3,
         ),
         (ProgramFault::from(InputFault::Memory), "out of memory", 5),
+        (
+            ProgramFault::unread(alloc, "a/b c", InputFault::TooLong),
+            "cannot read a/b c",
+            3,
+        ),
         (
             ProgramFault::unread(alloc, "a", InputFault::Memory),
             "out of memory",

@@ -1,28 +1,16 @@
 use super::*;
 use std::test::Fail;
 
-fn repeated(
-    alloc: std::alloc::Global,
-    part: &str,
-    times: usize,
-) -> Result<String, std::alloc::AllocError> {
-    let mut text = String::new(alloc);
-    for _ in 0..times {
-        text.push_str(part)?;
-    }
-    Ok(text)
-}
-
 #[test]
 fn names_are_read_or_refused_by_their_first_fault(rt: HostRuntime) -> Result<(), Fail> {
     assert_eq!(rt; Name::of(rt.alloc(), "a")?.as_str(), "a");
-    let long = repeated(rt.alloc(), "a", 255)?;
+    let long = "a".repeat(rt.alloc(), 255)?;
     assert_eq!(rt;
         Name::of(rt.alloc(), long.as_str())?.as_str(),
         long.as_str()
     );
-    let too_long = repeated(rt.alloc(), "a", 256)?;
-    let longer = repeated(rt.alloc(), "a/", 150)?;
+    let too_long = "a".repeat(rt.alloc(), 256)?;
+    let longer = "a/".repeat(rt.alloc(), 150)?;
     for (text, fault) in [
         ("", NameFault::Empty),
         (too_long.as_str(), NameFault::TooLong),
@@ -42,24 +30,17 @@ fn names_are_read_or_refused_by_their_first_fault(rt: HostRuntime) -> Result<(),
 }
 
 #[test]
-fn paths_are_read_or_refused_by_their_first_fault(rt: HostRuntime) -> Result<(), Fail> {
-    assert_eq!(rt; Path::parse(rt.alloc(), "/")?.len(), 0);
-    assert!(rt; Path::parse(rt.alloc(), "/")?.is_empty());
-    assert_eq!(rt; Path::parse(rt.alloc(), "/a/b")?.len(), 2);
-    let name = repeated(rt.alloc(), "n", 255)?;
-    let mut full = String::new(rt.alloc());
-    for _ in 0..15 {
-        full.push_str("/")?;
-        full.push_str(name.as_str())?;
+fn paths_are_read_by_their_names(rt: HostRuntime) -> Result<(), Fail> {
+    for (text, len) in [("/", 0), ("/a/b", 2)] {
+        let path = Path::parse(rt.alloc(), text)?;
+        assert_eq!(rt; path.len(), len);
+        assert_eq!(rt; path.is_empty(), len == 0);
     }
-    let shorter = repeated(rt.alloc(), "n", 254)?;
-    let at_limit = format!(in rt.alloc(); "{full}/{shorter}")?;
-    assert_eq!(rt; at_limit.len(), 4095);
-    assert_eq!(rt; Path::parse(rt.alloc(), at_limit.as_str())?.len(), 16);
-    let past_limit = format!(in rt.alloc(); "{full}/{name}")?;
-    let deep = repeated(rt.alloc(), "/d", 64)?;
-    assert_eq!(rt; Path::parse(rt.alloc(), deep.as_str())?.len(), 64);
-    let too_deep = repeated(rt.alloc(), "/d", 65)?;
+    Ok(())
+}
+
+#[test]
+fn paths_are_refused_by_their_first_fault(rt: HostRuntime) -> Result<(), Fail> {
     for (text, fault) in [
         ("a", PathFault::NotAbsolute),
         ("", PathFault::NotAbsolute),
@@ -67,8 +48,6 @@ fn paths_are_read_or_refused_by_their_first_fault(rt: HostRuntime) -> Result<(),
         ("//", PathFault::EmptyPart),
         ("/../", PathFault::EmptyPart),
         ("/a/..", PathFault::BadPart),
-        (too_deep.as_str(), PathFault::TooDeep),
-        (past_limit.as_str(), PathFault::TooLong),
     ] {
         assert_eq!(rt;
             Path::parse(rt.alloc(), text).err(),
@@ -80,23 +59,67 @@ fn paths_are_read_or_refused_by_their_first_fault(rt: HostRuntime) -> Result<(),
 }
 
 #[test]
-fn paths_go_down_and_up(rt: HostRuntime) -> Result<(), Fail> {
-    let root = Path::root(rt.alloc());
-    let a = root.child(rt.alloc(), &Name::of(rt.alloc(), "a")?)?;
-    let b = a.child(rt.alloc(), &Name::of(rt.alloc(), "b")?)?;
-    assert_eq!(rt; b, Path::parse(rt.alloc(), "/a/b")?);
-    assert_eq!(rt; b.names().len(), 2);
-    assert_eq!(rt; b.parent(rt.alloc())?, Some(a.copy(rt.alloc())?));
-    assert_eq!(rt; root.parent(rt.alloc())?, None);
-    assert_eq!(rt; a.copy(rt.alloc())?, a);
-    assert_eq!(rt; a.names()[0].copy(rt.alloc())?, Name::of(rt.alloc(), "a")?);
+fn paths_have_at_most_64_names(rt: HostRuntime) -> Result<(), Fail> {
+    let deep = "/d".repeat(rt.alloc(), 64)?;
+    assert_eq!(rt; Path::parse(rt.alloc(), deep.as_str())?.len(), 64);
+    let deeper = "/d".repeat(rt.alloc(), 65)?;
     assert_eq!(rt;
-        b.joined(rt.alloc(), a.names())?,
-        Path::parse(rt.alloc(), "/a/b/a")?
+        Path::parse(rt.alloc(), deeper.as_str()).err(),
+        Some(PathFault::TooDeep)
     );
-    let mut path = a.copy(rt.alloc())?;
-    path.push(Name::of(rt.alloc(), "b")?)?;
-    assert_eq!(rt; path, b);
+    Ok(())
+}
+
+// Sixteen names have 16 slashes too: fifteen of 255 bytes and one of 254 are 4,095 bytes of text.
+#[test]
+fn paths_have_at_most_4095_bytes(rt: HostRuntime) -> Result<(), Fail> {
+    let mut part = "n".repeat(rt.alloc(), 255)?;
+    part.push_str("/")?;
+    let names = part.as_str().repeat(rt.alloc(), 15)?;
+    let last = "n".repeat(rt.alloc(), 254)?;
+    let full = format!(in rt.alloc(); "/{names}{last}")?;
+    assert_eq!(rt; full.len(), 4095);
+    assert_eq!(rt; Path::parse(rt.alloc(), full.as_str())?.len(), 16);
+    let longer = format!(in rt.alloc(); "{full}n")?;
+    assert_eq!(rt;
+        Path::parse(rt.alloc(), longer.as_str()).err(),
+        Some(PathFault::TooLong)
+    );
+    Ok(())
+}
+
+#[test]
+fn a_child_is_one_name_below_its_parent(rt: HostRuntime) -> Result<(), Fail> {
+    let alloc = rt.alloc();
+    for (parent, name, child) in [("/", "a", "/a"), ("/a", "b", "/a/b")] {
+        let parent = Path::parse(alloc, parent)?;
+        let made = parent.child(alloc, &Name::of(alloc, name)?)?;
+        assert_eq!(rt; made.shown(alloc)?.as_str(), child);
+        assert_eq!(rt; made.names().len(), parent.len() + 1);
+        assert_eq!(rt; made.parent(alloc)?, Some(parent));
+    }
+    assert_eq!(rt; Path::root(alloc).parent(alloc)?, None);
+    Ok(())
+}
+
+#[test]
+fn paths_are_lengthened_and_joined(rt: HostRuntime) -> Result<(), Fail> {
+    let alloc = rt.alloc();
+    let mut path = Path::parse(alloc, "/a")?;
+    path.push(Name::of(alloc, "b")?)?;
+    assert_eq!(rt; path, Path::parse(alloc, "/a/b")?);
+    let joined = path.joined(alloc, path.names())?;
+    assert_eq!(rt; joined.shown(alloc)?.as_str(), "/a/b/a/b");
+    Ok(())
+}
+
+#[test]
+fn copies_equal_what_they_are_copied_from(rt: HostRuntime) -> Result<(), Fail> {
+    let alloc = rt.alloc();
+    let path = Path::parse(alloc, "/a/b")?;
+    assert_eq!(rt; path.copy(alloc)?, path);
+    let name = Name::of(alloc, "a")?;
+    assert_eq!(rt; name.copy(alloc)?, name);
     Ok(())
 }
 
