@@ -37,7 +37,11 @@ fn nothing_is_found_in_sound_stacks(rt: HostRuntime) -> Result<(), Fail> {
         ("there is a root alone", [""].as_slice()),
         (
             "files are covered",
-            ["whiteout /f, console /g", "file /f, file /g"].as_slice(),
+            [
+                "whiteout /f, console /g, link /l user.k=\u{1}",
+                "file /f, file /g",
+            ]
+            .as_slice(),
         ),
         (
             "moved directories are hidden",

@@ -23,6 +23,7 @@ fn kind_of(word: &str) -> Result<&'static str, Fail> {
         "empty" => Ok("\"kind\":\"file\",\"mode\":420,\"size\":0"),
         "bare" => Ok("\"kind\":\"file\",\"mode\":420,\"size\":1"),
         "bare-2" => Ok("\"kind\":\"file\",\"mode\":420,\"size\":2"),
+        "link" => Ok("\"kind\":\"symlink\",\"mode\":511,\"target\":\"a b\""),
         "whiteout" => Ok("\"kind\":\"char\",\"mode\":0,\"major\":0,\"minor\":0"),
         "console" => Ok("\"kind\":\"char\",\"mode\":384,\"major\":0,\"minor\":1"),
         _ => Err(Fail::new("no kind has this word")),
@@ -30,7 +31,8 @@ fn kind_of(word: &str) -> Result<&'static str, Fail> {
 }
 
 // The manifest of these entries, with commas between them, under a root of mode 0755 where none of them is one. An
-// entry is the word of its kind, its path and the overlay's attributes, as `dir /d redirect=/x`.
+// entry is the word of its kind, its path and its attributes, the overlay's without their prefix, as
+// `dir /d redirect=/x user.k=v`.
 pub(crate) fn manifest_of(alloc: Global, entries: &str) -> Result<Vec<u8>, Fail> {
     let mut text = String::from_str(alloc, "{\"overlay-layer\":1,\"entries\":[")?;
     if !entries.starts_with("dir / ") {
@@ -61,7 +63,7 @@ fn push_entry(alloc: Global, text: &mut String, entry: &str) -> Result<(), Fail>
     Ok(())
 }
 
-// The overlay's attributes, as a manifest states them, of words such as `opaque=y`.
+// Attributes, as a manifest states them, of words such as `opaque=y`.
 fn attributes_of(alloc: Global, marks: &str) -> Result<String, Fail> {
     let mut text = String::new(alloc);
     for mark in marks.split(' ') {
@@ -71,8 +73,13 @@ fn attributes_of(alloc: Global, marks: &str) -> Result<String, Fail> {
         if !text.is_empty() {
             text.push_str(",")?;
         }
+        let prefix = if name.starts_with("user.") {
+            ""
+        } else {
+            "trusted.overlay."
+        };
         let value = hex::encode(alloc, value.as_bytes())?;
-        let stated = format!(in alloc; "\"trusted.overlay.{name}\":\"{value}\"")?;
+        let stated = format!(in alloc; "\"{prefix}{name}\":\"{value}\"")?;
         text.push_str(stated.as_str())?;
     }
     Ok(text)

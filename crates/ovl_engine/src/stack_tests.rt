@@ -8,13 +8,23 @@ fn whiteouts_and_opaque_directories_hide(rt: HostRuntime) -> Result<(), Fail> {
     let alloc = rt.alloc();
     for (what, layers, report) in [
         (
+            "a whiteout hides a file and a device covers one",
+            [
+                "whiteout /f, console /g, link /l user.k=\u{1}",
+                "file /f, file /g",
+            ]
+            .as_slice(),
+            "dir 0755 0 0 0 - - /\nchar 0600 0 0 0 - 0:1 /g\n\
+            symlink 0777 0 0 0 - a\\x20b /l user.k=01\nentries 3\n",
+        ),
+        (
             "an empty file marked as whiteout hides",
             ["empty /f whiteout=", "file /f"].as_slice(),
             "dir 0755 0 0 0 - - /\nentries 1\n",
         ),
         (
             "a file with contents is no whiteout",
-            ["file /f whiteout=", ""].as_slice(),
+            ["file /f whiteout=", "file /f"].as_slice(),
             "dir 0755 0 0 0 - - /\nfile 0644 0 0 0 1 [a] /f\nentries 2\n",
         ),
         (

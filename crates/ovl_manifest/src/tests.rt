@@ -345,13 +345,28 @@ fn a_lone_root_is_made_of_its_entry(rt: HostRuntime) -> Result<(), Fail> {
 }
 
 #[test]
-fn inodes_and_names_are_found_by_path(rt: HostRuntime) -> Result<(), Fail> {
+fn inodes_are_found_by_path(rt: HostRuntime) -> Result<(), Fail> {
     let alloc = rt.alloc();
     let text = with_root(alloc, &[CHAR, DIR, IN_DIR, FILE])?;
     let layer = read_layer(alloc, text.as_bytes())?;
-    let file = Path::parse(alloc, "/f")?;
-    assert_eq!(rt; layer.at(&file).map(|inode| inode.mtime), Some(-7));
-    assert!(rt; layer.at(&Path::parse(alloc, "/f/g")?).is_none());
+    for (path, mtime) in [("/f", Some(-7)), ("/f/g", None), ("/g", None)] {
+        let path = Path::parse(alloc, path)?;
+        let found = layer.at(&path).map(|inode| inode.mtime);
+        assert_eq!(rt; found, mtime, "at {path:?}");
+        assert_eq!(rt;
+            layer.place(&path).is_some(),
+            mtime.is_some(),
+            "at {path:?}"
+        );
+    }
+    Ok(())
+}
+
+#[test]
+fn the_names_in_a_directory_are_in_order(rt: HostRuntime) -> Result<(), Fail> {
+    let alloc = rt.alloc();
+    let text = with_root(alloc, &[CHAR, DIR, IN_DIR, FILE])?;
+    let layer = read_layer(alloc, text.as_bytes())?;
     let names = layer.children(alloc, &Path::root(alloc))?;
     assert_eq!(rt; names.len(), 3);
     assert_eq!(rt; names[1].as_str(), "d");
@@ -363,13 +378,13 @@ fn a_cursor_goes_down_by_names(rt: HostRuntime) -> Result<(), Fail> {
     let alloc = rt.alloc();
     let text = with_root(alloc, &[CHAR, DIR, IN_DIR])?;
     let layer = read_layer(alloc, text.as_bytes())?;
-    let Some(directory) = layer.root().child(&Name::of(alloc, "d")?) else {
-        return Err(Fail::from("no /d"));
-    };
-    assert!(rt; matches!(directory.inode().kind, Kind::Dir));
-    assert_eq!(rt; directory.names(alloc)?.len(), 1);
-    assert!(rt; directory.child(&Name::of(alloc, "f")?).is_none());
-    assert!(rt; layer.place(&Path::parse(alloc, "/d/e")?).is_some());
+    for (name, count) in [("d", Some(1)), ("e", None)] {
+        let count_there = match layer.root().child(&Name::of(alloc, name)?) {
+            Some(directory) => Some(directory.names(alloc)?.len()),
+            None => None,
+        };
+        assert_eq!(rt; count_there, count, "at {name:?}");
+    }
     Ok(())
 }
 

@@ -12,7 +12,7 @@ pub loop-name-preserved : goal.loop-name-preserved
 loop-name-preserved g c =
     let blob : Blob = record { name = c.in-Some.name; bytes = c.kept-bytes.result } in
     let within : (length c.kept-bytes.result.items ≤ 268435456) × (c.loop-name.held + length c.kept-bytes.result.items ≤ 536870912) =
-      kept_within c.loop-name.held c.in_ok-read_file.field-0.items c.kept-bytes.result.items c.kept-bytes.ensures (omega (arith, c.in_ok-read_file.ensures, c.in_ok-read_file.field-0.ok.0)) c.loop-name.invariant.most in
+    kept_within c.loop-name.held c.in_ok-read_file.field-0.items c.kept-bytes.result.items c.kept-bytes.ensures (omega (arith, c.in_ok-read_file.ensures, c.in_ok-read_file.field-0.ok.0)) c.loop-name.invariant.most in
     record {
       names =
           ap (map (λ (blob : Blob). blob.name)) c.in_ok-push.ensures.items
