@@ -1,4 +1,6 @@
-ghost use Rattle.std.specs.Prelude.{◌≡◌, ◌≢◌, ◌<◌, ◌≤◌, IfOk, IfSome, length, vec_len};
+ghost use Rattle.std.specs.Prelude.{◌≡◌, ◌≢◌, ◌↔◌, ◌<◌, ◌≤◌, None, IfOk, IfSome, length, vec_len};
+ghost use Rattle.std.specs.IoError.{error_kind, raw_os_error};
+ghost use Rattle.std.specs.declared.io.ErrorKind.TheVariants.{OutOfMemory};
 ghost use Rattle.ovl_layers.specs.declared.inputs.InputFault.TheVariants.{TooLong, Memory};
 
 use std::alloc::{AllocFailed, Global};
@@ -37,7 +39,8 @@ pub fn read_limited<R: Read>(
 }
 
 impl From<Error> for InputFault {
-    ghost from_gives = { λ _ fault. fault ≢ TooLong };
+    ghost from_gives = { λ error fault. (fault ≢ TooLong)
+        × ((fault ≡ Memory) ↔ ((raw_os_error error ≡ None) × (error_kind error ≡ OutOfMemory))) };
 
     // A system call's own want of memory is the device's.
     fn from(error: Error) -> InputFault {
