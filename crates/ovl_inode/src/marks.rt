@@ -5,10 +5,10 @@ ghost use Rattle.ovl_names.specs.Names.{slash};
 ghost use Rattle.ovl_names.specs.Paths.{parts_between};
 ghost use Rattle.ovl_inode.specs.declared.marks.RedirectFault.TheVariants.{Memory};
 ghost use Rattle.ovl_inode.specs.Redirects.{redirect_fault, redirect_of, redirect_refusal, is_absolute, is_bad_part as bad_part_test};
-ghost use Rattle.ovl_inode.specs.Marks.{mark_of as the_mark, is_whiteout as the_whiteout, is_directory as the_directory, is_regular as the_regular, redirect_reading as the_reading};
+ghost use Rattle.ovl_inode.specs.Marks.{mark_of as the_mark, is_whiteout as the_whiteout, is_directory as the_directory, is_regular as the_regular, is_data as data_test, redirect_reading as the_reading};
 
-use crate::{Inode, Kind};
-use ovl_names::{Name, Path};
+use crate::{Inode, Kind, overlay};
+use ovl_names::{NAME_LIMIT, Name, Path, has_empty_part};
 use std::alloc::{AllocError, Global};
 use thiserror::Error;
 
@@ -24,14 +24,19 @@ pub enum Redirect {
 /// Why the value of a `redirect` is malformed; where several hold, the first of them is given.
 #[derive(Clone, Copy, Debug, PartialEq, Eq, Error)]
 pub enum RedirectFault {
+    /// It has no bytes.
     #[error("the redirect is empty")]
     Empty,
+    /// It is no UTF-8 text, or holds NUL.
     #[error("the redirect is not UTF-8 text without NUL")]
     Text,
+    /// It has an empty part, or is a name beside that holds `/`.
     #[error("the redirect has a separator out of place")]
     Slash,
+    /// A part is `.` or `..`, or has more than [`NAME_LIMIT`] bytes.
     #[error("the redirect has a part that is no name")]
     Part,
+    /// No memory was left.
     #[error("out of memory")]
     Memory,
 }
@@ -45,7 +50,7 @@ impl From<AllocError> for RedirectFault {
 }
 
 /// What an inode means to the overlay: the first of these that holds.
-/// overlayfs.rst: "whiteouts and opaque directories", "redirect_dir", "Metadata only copy up".
+/// overlayfs.rst: "whiteouts and opaque directories", "renaming directories", "Metadata only copy up".
 #[derive(Debug, Drop)]
 pub enum Mark {
     /// A char device 0:0, or an empty regular file with the attribute `whiteout`.
@@ -69,7 +74,8 @@ pub enum Mark {
 /// What the value of a `redirect` says: one that begins with `/` is a path from the root of the overlay, every other
 /// a name in the same directory. Otherwise the first fault in the order of [`RedirectFault`], each looked for in the
 /// whole value before the next. A path may have any number of names.
-/// overlayfs.rst: "redirect_dir"; which values are malformed is this profile's.
+/// overlayfs.rst: "renaming directories"; that a name lies beside the directory, and which values are malformed, is
+/// this profile's.
 pub fn read_redirect(alloc: Global, value: &[u8]) -> Result<Redirect, RedirectFault>
     ensures { MatchResult result
         (λ redirect. (redirect ≡ redirect_of value.now) × (redirect_fault value.now ≡ None))
@@ -112,18 +118,13 @@ fn path_to(alloc: Global, rest: &str) -> Result<Path, RedirectFault>
     }
     let mut path = Path::root(alloc);
     for part in rest.split('/') {
+        // The part is a name: it isn't empty, holds no NUL and isn't bad.
         let Ok(name) = Name::of(alloc, part) else {
             return Err(RedirectFault::Memory);
         };
         path.push(name)?;
     }
     Ok(path)
-}
-
-fn has_empty_part(rest: &str) -> bool
-    ensures { result ≡ list_any (λ part. length part == 0) (parts_between rest.now) }
-{
-    rest.split('/').any(|part| part.is_empty())
 }
 
 fn has_bad_part(rest: &str) -> bool
@@ -147,6 +148,7 @@ fn name_beside(alloc: Global, text: &str) -> Result<Name, RedirectFault>
     if is_bad_part(text) {
         return Err(RedirectFault::Part);
     }
+    // The text is a name: it isn't empty, holds no separator and no NUL, and isn't bad.
     let Ok(name) = Name::of(alloc, text) else {
         return Err(RedirectFault::Memory);
     };
@@ -156,7 +158,7 @@ fn name_beside(alloc: Global, text: &str) -> Result<Name, RedirectFault>
 fn is_bad_part(part: &str) -> bool
     ensures { result ≡ bad_part_test part.now }
 {
-    part == "." || part == ".." || part.len() > 255
+    part == "." || part == ".." || part.len() > NAME_LIMIT
 }
 
 /// What an inode means to the overlay, see [`Mark`]; fails only for want of memory.
@@ -180,9 +182,7 @@ pub fn is_whiteout(inode: &Inode) -> bool
 {
     match &inode.kind {
         Kind::Char { major, minor } => *major == 0 && *minor == 0,
-        Kind::File { size, .. } => {
-            *size == 0 && inode.attrs.get("trusted.overlay.whiteout").is_some()
-        }
+        Kind::File { size, .. } => *size == 0 && inode.attrs.get(overlay::WHITEOUT).is_some(),
         _ => false,
     }
 }
@@ -194,17 +194,25 @@ pub fn is_directory(inode: &Inode) -> bool
     matches!(&inode.kind, Kind::Dir)
 }
 
+/// Whether the inode is a regular file without the attribute `metacopy`, whose contents are its own.
+/// overlayfs.rst: "Metadata only copy up".
+pub fn is_data(inode: &Inode) -> bool
+    ensures { result ≡ data_test inode.now }
+{
+    matches!(&inode.kind, Kind::File { .. }) && inode.attrs.get(overlay::METACOPY).is_none()
+}
+
 fn directory_mark(alloc: Global, inode: &Inode) -> Result<Mark, AllocError>
     requires { the_directory inode.now ≡ true }
     ensures { IfOk result (λ mark. mark ≡ the_mark inode.now) }
 {
-    if inode.attrs.get("trusted.overlay.opaque") == Some(b"y".as_slice()) {
+    if inode.attrs.get(overlay::OPAQUE) == Some(b"y".as_slice()) {
         return Ok(Mark::DirOpaque);
     }
     Ok(match redirect_reading(alloc, inode)? {
-        None => Mark::DirPlain,
-        Some(None) => Mark::DirBad,
-        Some(Some(redirect)) => Mark::DirMoved(redirect),
+        Reading::Absent => Mark::DirPlain,
+        Reading::Malformed => Mark::DirBad,
+        Reading::Says(redirect) => Mark::DirMoved(redirect),
     })
 }
 
@@ -213,28 +221,35 @@ fn file_mark(alloc: Global, inode: &Inode) -> Result<Mark, AllocError>
     requires no_whiteout { the_whiteout inode.now ≡ false }
     ensures { IfOk result (λ mark. mark ≡ the_mark inode.now) }
 {
-    if inode.attrs.get("trusted.overlay.metacopy").is_none() {
+    if inode.attrs.get(overlay::METACOPY).is_none() {
         return Ok(Mark::Leaf);
     }
     Ok(match redirect_reading(alloc, inode)? {
-        None => Mark::Meta(None),
-        Some(None) => Mark::MetaBad,
-        Some(Some(redirect)) => Mark::Meta(Some(redirect)),
+        Reading::Absent => Mark::Meta(None),
+        Reading::Malformed => Mark::MetaBad,
+        Reading::Says(redirect) => Mark::Meta(Some(redirect)),
     })
 }
 
-// How `redirect` reads: absent, malformed, or what it says.
-fn redirect_reading(alloc: Global, inode: &Inode) -> Result<Option<Option<Redirect>>, AllocError>
+// How the attribute `redirect` of an inode reads.
+#[derive(Drop)]
+enum Reading {
+    Absent,
+    Malformed,
+    Says(Redirect),
+}
+
+fn redirect_reading(alloc: Global, inode: &Inode) -> Result<Reading, AllocError>
     ensures { IfOk result (λ reading. reading ≡ the_reading inode.now) }
 {
-    let Some(value) = inode.attrs.get("trusted.overlay.redirect") else {
-        return Ok(None);
+    let Some(value) = inode.attrs.get(overlay::REDIRECT) else {
+        return Ok(Reading::Absent);
     };
     match read_redirect(alloc, value) {
-        Ok(redirect) => Ok(Some(Some(redirect))),
+        Ok(redirect) => Ok(Reading::Says(redirect)),
         Err(RedirectFault::Memory) => Err(AllocError),
         Err(
             RedirectFault::Empty | RedirectFault::Text | RedirectFault::Slash | RedirectFault::Part,
-        ) => Ok(Some(None)),
+        ) => Ok(Reading::Malformed),
     }
 }

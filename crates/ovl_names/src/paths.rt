@@ -15,19 +15,31 @@ use std::cmp::Ordering;
 use std::marker::Model;
 use thiserror::Error;
 
+/// The most names of a path that is read from text.
+pub const DEPTH_LIMIT: usize = 64;
+
+/// The most bytes of a text that is read as a path.
+pub const TEXT_LIMIT: usize = 4095;
+
 /// Why a text is no path; where several hold, the first of them is given.
 #[derive(Clone, Copy, Debug, PartialEq, Eq, Error)]
 pub enum PathFault {
+    /// It does not begin with `/`.
     #[error("the path does not begin with `/`")]
     NotAbsolute,
+    /// Nothing stands between two separators, or behind the last.
     #[error("the path has an empty part")]
     EmptyPart,
+    /// A part is no name, see [`NameFault`](crate::NameFault).
     #[error("the path has a part that is no name")]
     BadPart,
-    #[error("the path has more than 64 names")]
+    /// It has more than [`DEPTH_LIMIT`] names.
+    #[error("the path has more than {max} names", max = DEPTH_LIMIT)]
     TooDeep,
-    #[error("the path has more than 4095 bytes")]
+    /// It has more than [`TEXT_LIMIT`] bytes.
+    #[error("the path has more than {max} bytes", max = TEXT_LIMIT)]
     TooLong,
+    /// No memory was left.
     #[error("out of memory")]
     Memory,
 }
@@ -47,12 +59,6 @@ impl<T: Drop> From<AllocFailed<T>> for PathFault {
         PathFault::Memory
     }
 }
-
-/// The most names of a path that is read from text.
-const DEPTH_LIMIT: usize = 64;
-
-/// The most bytes of a text that is read as a path.
-const TEXT_LIMIT: usize = 4095;
 
 /// A path from the root of a layer or an overlay, as its names from the root down; the root has none.
 /// Paths are ordered name by name as bytes, and a path comes before its continuations.
@@ -100,6 +106,7 @@ impl Path {
         }
         let mut names = Vec::new(alloc);
         for part in rest.split('/') {
+            // No part is at fault, so that reading it as a name can fail only for want of memory.
             let Ok(name) = Name::of(alloc, part) else {
                 return Err(PathFault::Memory);
             };
@@ -219,10 +226,11 @@ fn parts_fault(rest: &str) -> Option<PathFault>
     }
 }
 
-fn has_empty_part(rest: &str) -> bool
-    ensures { result ≡ list_any (λ part. length part == 0) (parts_between rest.now) }
+/// Whether nothing stands before, behind or between separators `/` of a text; the empty text has such a part.
+pub fn has_empty_part(text: &str) -> bool
+    ensures { result ≡ list_any (λ part. length part == 0) (parts_between text.now) }
 {
-    rest.split('/').any(|part| part.is_empty())
+    text.split('/').any(|part| part.is_empty())
 }
 
 fn has_bad_part(rest: &str) -> bool
