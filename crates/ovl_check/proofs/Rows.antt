@@ -2,7 +2,7 @@
 use Rattle.std.specs.Prelude.{◌≡◌, ℕ, List, [], ◌∷◌, codes, Some, None, refl}
 use Rattle.ovl_inode.specs.declared.inodes.Inode.{Inode}
 use Rattle.ovl_inode.specs.declared.inodes.Kind.TheVariants.{Dir, File}
-use Rattle.ovl_inode.specs.Attributes.{Attributes, opaque_name, redirect_name, metacopy_name}
+use Rattle.ovl_inode.specs.Attributes.{Attributes, opaque_name, redirect_name, metacopy_name, impure_name, origin_name}
 use Rattle.ovl_inode.proofs.OnLiterals.{inode_on_literals}
 use Rattle.ovl_lookup.specs.Stacks.{StackView}
 use Rattle.ovl_lookup.proofs.Notation.{plain_inode, directory, marked_x, opaque, moved, digest_a, file_a, metacopy, metacopy_moved, whiteout, empty_whiteout, full_whiteout, path, layer_of}
@@ -11,7 +11,6 @@ use Rattle.ovl_check.specs.declared.findings.Code.{Code}
 use Rattle.ovl_check.specs.declared.findings.Finding.{Finding}
 use Rattle.ovl_check.specs.declared.findings.Code.TheVariants.{RedirectForm, RedirectLost, RedirectKind, RedirectDouble, RedirectOpen, DataMissing, DataSize, BlobMissing, BlobSize, BlobDigest, OrphanWhiteout, WhiteoutInOpaque, WhiteoutUnmarked, ImpureMissing, MarkIgnored}
 use Rattle.ovl_check.specs.Blobs.{BlobView}
-use Rattle.ovl_check.specs.Conditions.{impure_name, origin_name}
 use Rattle.ovl_check.specs.Findings.{finding, findings}
 use Rattle.ovl_check.proofs.Digests.{blob_a, digest_abc, digest_ab, changed_abc, blob_ab, digests_on_literals}
 

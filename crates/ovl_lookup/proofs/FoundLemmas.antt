@@ -8,13 +8,13 @@ use Rattle.ovl_inode.specs.declared.inodes.Kind.{Kind}
 use Rattle.ovl_inode.specs.declared.inodes.Kind.TheVariants.{Dir, File}
 use Rattle.ovl_inode.specs.declared.marks.Mark.TheVariants.{Whiteout, DirOpaque, Leaf}
 use Rattle.ovl_inode.specs.declared.marks.Redirect.{Redirect}
-use Rattle.ovl_inode.specs.Marks.{is_metacopy, is_metacopy_mark, is_directory, is_regular, is_whiteout, has_opaque, has_metacopy, redirect_reading, directory_mark, metacopy_mark}
+use Rattle.ovl_inode.specs.Marks.{is_metacopy, is_metacopy_mark, is_directory, is_regular, is_whiteout, has_opaque, has_metacopy, redirect_reading, directory_mark, metacopy_mark, is_data}
 use Rattle.ovl_names.proofs.Ascending.{both}
 use Rattle.ovl_manifest.specs.Layers.{Entries}
 use Rattle.ovl_lookup.specs.declared.steps.Step.{Step}
 use Rattle.ovl_lookup.specs.Walk.{walk}
 use Rattle.ovl_lookup.specs.Trace.{walks, things_found, leading_files, leading_directories}
-use Rattle.ovl_lookup.specs.Merged.{is_data, data_of, last_of, shown_of, without_blob}
+use Rattle.ovl_lookup.specs.Merged.{data_of, last_of, shown_of, without_blob}
 use Rattle.ovl_inode.specs.Inodes.{visible}
 use Rattle.ovl_lookup.specs.declared.looks.Look.{Look}
 use Rattle.ovl_lookup.specs.declared.looks.Look.TheVariants.{Shown, Broken}

@@ -9,16 +9,12 @@ use Rattle.ovl_names.specs.Paths.{PathNames, child_path, path_eq, path_cmp}
 use Rattle.ovl_inode.specs.declared.inodes.Inode.{Inode}
 use Rattle.ovl_inode.specs.declared.inodes.Kind.{Kind}
 use Rattle.ovl_inode.specs.declared.inodes.Kind.TheVariants.{File}
-use Rattle.ovl_inode.specs.Marks.{is_regular, is_directory, has_metacopy}
+use Rattle.ovl_inode.specs.Marks.{is_regular, is_directory, has_metacopy, is_data}
 use Rattle.ovl_inode.specs.Inodes.{visible}
 use Rattle.ovl_lookup.specs.declared.looks.Look.{Look}
 use Rattle.ovl_lookup.specs.declared.looks.Look.TheVariants.{Nothing, Shown, Broken}
 use Rattle.ovl_lookup.specs.Stacks.{StackView}
 use Rattle.ovl_lookup.specs.Trace.{things_found, hits_of}
-
--- a regular file that has its contents itself
-abbrev pub is_data : Inode → Bool
-is_data inode = is_regular inode && not (has_metacopy inode)
 
 -- the data among the things found: the last hit, where that is a regular file without `metacopy`;
 -- overlayfs.rst, "Metadata only copy up" and "Data-only lower layers"

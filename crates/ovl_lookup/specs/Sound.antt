@@ -1,14 +1,14 @@
 -- Sound stacks: no redirect and no metacopy file is at fault. Each condition is that of an entry of one layer,
 -- over the stack of the layers below it.
-use Rattle.std.specs.Prelude.{◌≡◌, ℕ, Bool, true, false, ◌&&◌, ◌||◌, ◌==◌, not, Option, Some, None, List, [], ◌∷◌, if◌then◌else◌, is_some, is_none}
+use Rattle.std.specs.Prelude.{◌≡◌, Bool, true, false, ◌&&◌, ◌||◌, ◌==◌, not, Option, Some, None, List, [], ◌∷◌, if◌then◌else◌, is_some, is_none}
 use Rattle.std.specs.List.{list_any, list_all}
 use Rattle.std.specs.Ordering.{is_lt}
 use Rattle.ovl_names.specs.Names.{PathName}
 use Rattle.ovl_names.specs.Paths.{PathNames, path_eq, path_cmp}
 use Rattle.ovl_inode.specs.declared.inodes.Inode.{Inode}
-use Rattle.ovl_inode.specs.declared.inodes.Kind.TheVariants.{File}
 use Rattle.ovl_inode.specs.declared.marks.Mark.{Mark}
 use Rattle.ovl_inode.specs.declared.marks.Mark.TheVariants.{DirMoved, DirBad, DirPlain, Meta, MetaBad}
+use Rattle.ovl_inode.specs.Kinds.{size_of}
 use Rattle.ovl_inode.specs.Marks.{is_directory}
 use Rattle.ovl_manifest.specs.Layers.{Entries, Entry}
 use Rattle.ovl_lookup.specs.declared.looks.Look.{Look}
@@ -34,10 +34,6 @@ is_meta _ = false
 abbrev pub is_plain : Option Mark → Bool
 is_plain (Some DirPlain) = true
 is_plain _ = false
-
--- a file's size
-abbrev pub size_of : Inode → ℕ
-size_of inode = elim inode.kind [ File size blob ↦ size | _ ↦ 0 ]
 
 -- what the layers below show where a path of this layer goes on
 abbrev pub look_below : Entries → StackView → PathNames → Look

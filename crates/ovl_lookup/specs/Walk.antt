@@ -5,7 +5,7 @@ use Rattle.ovl_names.specs.Names.{PathName}
 use Rattle.ovl_names.specs.Paths.{PathNames, child_path, parent_path, longest}
 use Rattle.ovl_inode.specs.declared.inodes.Inode.{Inode}
 use Rattle.ovl_inode.specs.declared.marks.Mark.{Mark}
-use Rattle.ovl_inode.specs.declared.marks.Mark.TheVariants.{DirOpaque, DirMoved, DirBad, DirPlain, Meta}
+use Rattle.ovl_inode.specs.declared.marks.Mark.TheVariants.{Whiteout, DirOpaque, DirMoved, DirBad, DirPlain, Meta, MetaBad, Leaf}
 use Rattle.ovl_inode.specs.declared.marks.Redirect.TheVariants.{To, Beside}
 use Rattle.ovl_inode.specs.Marks.{mark_of, is_whiteout}
 use Rattle.ovl_manifest.specs.Layers.{Entries, entry_at, is_directory_at}
@@ -71,7 +71,13 @@ abbrev pub walk_to_file : Inode → Mark → PathNames → Bool → PathName →
 walk_to_file inode (Meta None) turned shut name = found_at_end inode (child_path turned name) shut
 walk_to_file inode (Meta (Some (To origin))) turned shut name = found_at_end inode origin false
 walk_to_file inode (Meta (Some (Beside origin))) turned shut name = found_at_end inode (child_path turned origin) shut
-walk_to_file inode _ turned shut name = found_at_end inode (child_path turned name) true
+walk_to_file inode MetaBad turned shut name = found_at_end inode (child_path turned name) true
+walk_to_file inode Leaf turned shut name = found_at_end inode (child_path turned name) true
+walk_to_file inode Whiteout turned shut name = found_at_end inode (child_path turned name) true
+walk_to_file inode DirOpaque turned shut name = found_at_end inode (child_path turned name) true
+walk_to_file inode (DirMoved redirect) turned shut name = found_at_end inode (child_path turned name) true
+walk_to_file inode DirBad turned shut name = found_at_end inode (child_path turned name) true
+walk_to_file inode DirPlain turned shut name = found_at_end inode (child_path turned name) true
 
 -- `name` and then `rest` below a directory with this turn, where `name` is no directory;
 -- overlayfs.rst, "Upper and Lower" and "whiteouts and opaque directories"; that a whiteout or a file on the way

@@ -4,12 +4,9 @@ ghost use Rattle.ovl_lookup.specs.Merged.{AreKids, IsMerged};
 ghost use Rattle.ovl_lookup.specs.Passes.{own_names_along, put_names, kids_along, looks_from, looks_placed};
 
 use crate::{Look, Stack, Step};
-use ovl_names::{Name, Path};
+use ovl_names::{DEPTH_LIMIT, Name, Path};
 use std::alloc::{AllocError, Global};
 use std::collections::BTreeSet;
-
-/// The most names of a path in a manifest.
-const LAYER_DEPTH: usize = 64;
 
 impl Stack {
     /// The names that a directory has in the merged tree of the layers with index `from` and up, in order; none where
@@ -32,7 +29,7 @@ impl Stack {
         let _ = &self.layers;
         let mut looks = Vec::new(alloc);
         let root = Path::root(alloc);
-        self.push_looks(alloc, &root, LAYER_DEPTH * self.layers() + 1, &mut looks)?;
+        self.push_looks(alloc, &root, DEPTH_LIMIT * self.layers() + 1, &mut looks)?;
         Ok(looks)
     }
 

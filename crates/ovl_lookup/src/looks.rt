@@ -2,11 +2,11 @@ ghost use Rattle.std.specs.Prelude.{◌≡◌, ◌≤◌, ◌∷◌, ◌&&◌, t
 ghost use Rattle.ovl_inode.specs.Marks.{is_metacopy as the_metacopy, is_regular, has_metacopy};
 ghost use Rattle.ovl_lookup.specs.Stacks.{from_layer};
 ghost use Rattle.ovl_lookup.specs.Trace.{things_found};
-ghost use Rattle.ovl_lookup.specs.Merged.{look as the_look, shown_of, data_of as the_data, is_data as data_test, is_nothing as nothing_test, is_shown_directory as directory_test, without_blob as kind_without_blob};
+ghost use Rattle.ovl_lookup.specs.Merged.{look as the_look, shown_of, data_of as the_data, is_nothing as nothing_test, is_shown_directory as directory_test, without_blob as kind_without_blob};
 ghost use Rattle.ovl_lookup.specs.Passes.{found_on, data_below};
 
 use crate::{Stack, Step};
-use ovl_inode::{Inode, Kind, Mark, is_directory, mark_of, visible};
+use ovl_inode::{Inode, Kind, Mark, is_data, is_directory, mark_of, overlay, visible};
 use ovl_names::Path;
 use std::alloc::{AllocError, Global};
 
@@ -151,16 +151,7 @@ fn with_kind(inode: Inode, kind: Kind) -> Inode
 fn lacks_contents(inode: &Inode) -> bool
     ensures { result ≡ (is_regular inode.now && has_metacopy inode.now) }
 {
-    matches!(&inode.kind, Kind::File { .. })
-        && inode.attrs.get("trusted.overlay.metacopy").is_some()
-}
-
-// Whether the inode is a regular file without `metacopy`.
-fn is_data(inode: &Inode) -> bool
-    ensures { result ≡ data_test inode.now }
-{
-    matches!(&inode.kind, Kind::File { .. })
-        && inode.attrs.get("trusted.overlay.metacopy").is_none()
+    matches!(&inode.kind, Kind::File { .. }) && inode.attrs.get(overlay::METACOPY).is_some()
 }
 
 fn is_metacopy(alloc: Global, inode: &Inode) -> Result<bool, AllocError>
