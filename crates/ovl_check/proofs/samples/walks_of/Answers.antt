@@ -1,4 +1,4 @@
-use Rattle.std.proofs.Common.{◌≡◌, ◌+◌, ◌∙◌, ℕ, sym, ap, subst, map, length, length-append, [], ◌∷◌}
+use Rattle.std.proofs.Common.{◌+◌, ◌∙◌, ℕ, sym, ap, subst, map, length, length-append, [], ◌∷◌}
 use Rattle.ovl_names.specs.Paths.{PathNames}
 use Rattle.ovl_board.specs.Parcels.{IsPlain, parcel_views}
 use Rattle.ovl_check.specs.Checks.{check_seen, check_kids, check_out, directory_piece}
