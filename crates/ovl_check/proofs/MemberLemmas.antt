@@ -4,6 +4,7 @@ use Rattle.std.specs.Prelude.{◌&&◌, ◌||◌, not, filter}
 use Rattle.std.specs.List.{list_any, flat_map, All}
 use Rattle.std.specs.Ordering.{is_lt, ordering_then, nat_cmp}
 use Rattle.std.specs.declared.cmp.Ordering.TheVariants.{Less}
+use Rattle.std.proofs.Math.Bool.{or-true}
 use Rattle.std.proofs.lemmas.Cmp.{tied_itself, nat_cmp_total}
 use Rattle.std.specs.Cmp.Lexicographic.{nat_list_cmp_total, lists_total}
 use Rattle.ovl_names.specs.Names.{PathName}
@@ -14,6 +15,8 @@ use Rattle.ovl_inode.specs.declared.marks.Mark.{Mark}
 use Rattle.ovl_inode.specs.Marks.{mark_of, is_directory, is_whiteout, is_regular, has_opaque, has_metacopy, redirect_reading, directory_mark, metacopy_mark}
 use Rattle.ovl_inode.specs.declared.marks.Mark.TheVariants.{Whiteout, DirOpaque, Leaf}
 use Rattle.ovl_inode.specs.declared.marks.Redirect.{Redirect}
+use Rattle.ovl_inode.specs.Attributes.{attribute, redirect_name}
+use Rattle.ovl_inode.specs.Redirects.{read_redirect}
 use Rattle.ovl_manifest.specs.Layers.{Entries, Entry, IsLayer, entry_at, entry_cmp, is_directory_at, names_below, has_parent}
 use Rattle.ovl_lookup.specs.Walk.{walk, mark_at}
 use Rattle.ovl_lookup.specs.Sound.{is_moved, goes_on_there, redirect_is_double}
@@ -73,11 +76,7 @@ any-some {X} test (y ∷ xs) is = by (any-some test xs) (test y) refl is
 some-any : {X : Type 0} (test : X → Bool) (x : X) (xs : List X) → In x xs → test x ≡ true → list_any test xs ≡ true
 some-any test x [] h is = absurd h
 some-any test x (y ∷ xs) (inl e) is = ap (λ b. b || list_any test xs) (ap test (sym e) ∙ is)
-some-any test x (y ∷ xs) (inr h) is = ap (λ b. test y || b) (some-any test x xs h is) ∙ or_true (test y)
-  where
-    or_true : (b : Bool) → (b || true) ≡ true
-    or_true true = refl
-    or_true false = refl
+some-any test x (y ∷ xs) (inr h) is = ap (λ b. test y || b) (some-any test x xs h is) ∙ or-true (test y)
 
 double-code : (code : Code) → is_double code ≡ true → code ≡ RedirectDouble
 double-code RedirectDouble is = refl
@@ -86,20 +85,31 @@ double-code _ is = let bad : false ≡ true = is in cc
 before-path : (p q : Piece) → p.space ≡ q.space → IsBefore p q → path_cmp p.dir q.dir ≡ Less
 before-path p q same before = sym (ap (λ o. ordering_then o (path_cmp p.dir q.dir)) (ap (nat_cmp p.space) (sym same) ∙ tied_itself nat_cmp_total p.space)) ∙ before
 
+-- however its `redirect` reads, a metacopy file's mark is that of no moved directory
+metacopy_mark-still : (inode : Inode) → is_moved (Some (metacopy_mark (redirect_reading inode))) ≡ false
+metacopy_mark-still inode = by (attribute inode.attrs redirect_name) refl
+  where
+    said : (value : List ℕ) → attribute inode.attrs redirect_name ≡ Some value → (redirect : Option Redirect) → read_redirect value ≡ redirect → is_moved (Some (metacopy_mark (redirect_reading inode))) ≡ false
+    said value e None f = rw (e, redirect_reading) (rw f refl)
+    said value e (Some redirect) f = rw (e, redirect_reading) (rw f refl)
+
+    by : (found : Option (List ℕ)) → attribute inode.attrs redirect_name ≡ found → is_moved (Some (metacopy_mark (redirect_reading inode))) ≡ false
+    by None e = rw (e, redirect_reading) refl
+    by (Some value) e = said value e (read_redirect value) refl
+
 -- a moved directory is one
-moved_cases : (whiteout directory opaque file : Bool) (reading : Option (Option Redirect)) → is_moved (Some (cond whiteout Whiteout (cond (directory && opaque) DirOpaque (cond directory (directory_mark reading) (cond file (metacopy_mark reading) Leaf))))) ≡ true → directory ≡ true
-moved_cases true directory opaque file reading is = let bad : false ≡ true = is in cc
-moved_cases false true opaque file reading is = refl
-moved_cases false false opaque true None is = let bad : false ≡ true = is in cc
-moved_cases false false opaque true (Some None) is = let bad : false ≡ true = is in cc
-moved_cases false false opaque true (Some (Some redirect)) is = let bad : false ≡ true = is in cc
-moved_cases false false opaque false reading is = let bad : false ≡ true = is in cc
+moved_cases : (whiteout directory opaque file : Bool) (of_directory of_file : Mark) → is_moved (Some of_file) ≡ false → is_moved (Some (cond whiteout Whiteout (cond (directory && opaque) DirOpaque (cond directory of_directory (cond file of_file Leaf))))) ≡ true → directory ≡ true
+moved_cases true directory opaque file of_directory of_file still is = let bad : false ≡ true = is in cc
+moved_cases false true opaque file of_directory of_file still is = refl
+moved_cases false false opaque true of_directory of_file still is = let bad : false ≡ true = sym still ∙ is in cc
+moved_cases false false opaque false of_directory of_file still is = let bad : false ≡ true = is in cc
 
 moved-directory : (layer : Entries) (path : PathNames) (inode : Inode) → entry_at layer path ≡ Some inode → is_moved (mark_at layer path) ≡ true → is_directory_at layer path ≡ true
 moved-directory layer [] inode here is = let bad : false ≡ true = is in cc
 moved-directory layer (name ∷ names) inode here is =
     ap (λ (o : Option Inode). elim o as (λ _. Bool) [ Some n ↦ is_directory n | None ↦ false ]) here
-    ∙ moved_cases (is_whiteout inode) (is_directory inode) (has_opaque inode) (is_regular inode && has_metacopy inode) (redirect_reading inode)
+    ∙ moved_cases (is_whiteout inode) (is_directory inode) (has_opaque inode) (is_regular inode && has_metacopy inode)
+    (directory_mark (redirect_reading inode)) (metacopy_mark (redirect_reading inode)) (metacopy_mark-still inode)
     (sym (ap (λ (o : Option Inode). is_moved (elim o as (λ _. Option Mark) [ Some n ↦ Some (mark_of n) | None ↦ None ])) here) ∙ is)
 
 parent-directory : (layer : Entries) (d : PathNames) (name : PathName) → has_parent layer (child_path d name) ≡ true → is_directory_at layer d ≡ true

@@ -21,17 +21,14 @@ use crate::notes::{
 };
 use crate::places::{inode_at, mark_at, mark_of_entry, names_in, step_of};
 use crate::redirects::{
-    is_malformed, redirect_is_lost, redirect_is_of_wrong_kind, redirect_is_open,
+    is_malformed, is_moved, redirect_is_lost, redirect_is_of_wrong_kind, redirect_is_open,
 };
 use crate::subjects::{CheckOut, CheckWork};
 use ovl_board::{Piece, Work};
 use ovl_inode::{Digest, Inode, Mark, is_directory};
 use ovl_lookup::{Stack, Step};
-use ovl_names::{Name, Path};
+use ovl_names::{DEPTH_LIMIT, Name, Path};
 use std::alloc::{AllocError, Global};
-
-/// The most names of a path in a manifest.
-const LAYER_DEPTH: u32 = 64;
 
 /// All codes, in their order.
 const CODES: [Code; 15] = [
@@ -102,7 +99,7 @@ impl<'a> Work for CheckWork<'a> {
     fn deepest(&self) -> u32 {
         // Each layer of a stack is within the limits of a manifest.
         let _layers = self.stack.layers();
-        LAYER_DEPTH
+        DEPTH_LIMIT as u32
     }
 }
 
@@ -177,7 +174,10 @@ fn is_moved_at(alloc: Global, stack: &Stack, i: usize, dir: &Path) -> Result<boo
     requires { i < length stack.now.layers }
     ensures { IfOk result (λ moved. moved ≡ moved_test (the_mark (layer_at stack.now i) dir.now)) }
 {
-    Ok(matches!(mark_at(alloc, stack, i, dir)?, Some(Mark::DirMoved(_))))
+    match mark_at(alloc, stack, i, dir)? {
+        Some(mark) => Ok(is_moved(&mark)),
+        None => Ok(false),
+    }
 }
 
 // The path that goes on from a walk that is open.

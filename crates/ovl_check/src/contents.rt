@@ -2,15 +2,16 @@ ghost use Rattle.std.specs.Prelude.{◌≡◌, ◌<◌, ◌↔◌, true, Some, I
 ghost use Rattle.std.specs.Option.{option_map};
 ghost use Rattle.ovl_names.specs.Order.{ascends};
 ghost use Rattle.ovl_manifest.specs.Layers.{entry_at};
+ghost use Rattle.ovl_inode.specs.Kinds.{size_of};
 ghost use Rattle.ovl_lookup.specs.Walk.{mark_at as the_mark};
-ghost use Rattle.ovl_lookup.specs.Sound.{is_meta as meta_test, size_of, data_at, data_is_missing as the_missing, data_is_of_other_size as the_other_size};
+ghost use Rattle.ovl_lookup.specs.Sound.{is_meta as meta_test, data_at, data_is_missing as the_missing, data_is_of_other_size as the_other_size};
 ghost use Rattle.ovl_check.specs.Blobs.{blob_view, blob_views, are_in_order, wrong_names, digest_cmp};
-ghost use Rattle.ovl_check.specs.Conditions.{find_blob as the_blob, blob_of as the_blob_of, blob_is_missing as the_blob_missing, blob_is_of_other_size as the_blob_size, blob_is_wrong as the_blob_wrong};
+ghost use Rattle.ovl_check.specs.Conditions.{find_blob as the_blob, blob_is_missing as the_blob_missing, blob_is_of_other_size as the_blob_size, blob_is_wrong as the_blob_wrong};
 ghost use Rattle.ovl_check.specs.Checks.{layer_at, layers_below, size_shown};
 
 use crate::blobs::Blob;
 use crate::places::{look_below, step_of};
-use ovl_inode::{Digest, Inode, Kind, Mark};
+use ovl_inode::{Digest, Inode, Kind, Mark, blob_of, file_size};
 use ovl_lookup::{Look, Stack};
 use ovl_names::Path;
 use std::alloc::{AllocError, Global};
@@ -96,25 +97,6 @@ fn shown_size(look: &Look) -> Option<u64>
             Kind::File { size, .. } => Some(*size),
             _ => None,
         },
-        _ => None,
-    }
-}
-
-fn file_size(inode: &Inode) -> u64
-    ensures { result ≡ size_of inode.now }
-{
-    match &inode.kind {
-        Kind::File { size, .. } => *size,
-        _ => 0,
-    }
-}
-
-// The digest that a file names as its contents.
-fn blob_of(inode: &Inode) -> Option<Digest>
-    ensures { result ≡ the_blob_of inode.now }
-{
-    match &inode.kind {
-        Kind::File { blob, .. } => *blob,
         _ => None,
     }
 }

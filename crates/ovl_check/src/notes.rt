@@ -7,9 +7,8 @@ ghost use Rattle.ovl_lookup.specs.Walk.{mark_at as the_mark};
 ghost use Rattle.ovl_check.specs.Conditions.{is_opaque as opaque_test, is_any_meta as any_meta_test, is_empty_file as empty_file_test, is_in_opaque as in_opaque_test, is_in_marked as in_marked_test, has_origin_at as origin_test, whiteout_is_orphan as the_orphan, whiteout_is_in_opaque as the_in_opaque, whiteout_is_unmarked as the_unmarked, impure_is_missing as the_impure, opaque_is_ignored as opaque_ignored, redirect_is_ignored as redirect_ignored, metacopy_is_ignored as metacopy_ignored, whiteout_is_ignored as whiteout_ignored};
 ghost use Rattle.ovl_check.specs.Checks.{layer_at, layers_below};
 
-use crate::places::{inode_at, look_below, mark_at, names_in, parent_of, step_of};
-use crate::redirects::is_nothing;
-use ovl_inode::{Inode, Kind, Mark, is_directory, is_whiteout};
+use crate::places::{inode_at, look_below, mark_at, names_in, natural_path, parent_of};
+use ovl_inode::{Inode, Kind, Mark, is_directory, is_whiteout, overlay};
 use ovl_lookup::Stack;
 use ovl_names::Path;
 use std::alloc::{AllocError, Global};
@@ -45,7 +44,7 @@ fn is_in_marked(alloc: Global, stack: &Stack, i: usize, path: &Path) -> Result<b
 {
     let parent = parent_of(alloc, path)?;
     match inode_at(stack, i, &parent) {
-        Some(inode) => Ok(attribute_is(inode, "trusted.overlay.opaque", b"x")),
+        Some(inode) => Ok(attribute_is(inode, overlay::OPAQUE, b"x")),
         None => Ok(false),
     }
 }
@@ -67,14 +66,11 @@ pub(crate) fn whiteout_is_orphan(
     if is_in_opaque(alloc, stack, i, path)? {
         return Ok(false);
     }
-    let parent = parent_of(alloc, path)?;
-    let step = step_of(alloc, stack, i, &parent)?;
-    if step.closed {
+    let Some(natural) = natural_path(alloc, stack, i, path)? else {
         return Ok(true);
-    }
-    let natural = step.next.joined(alloc, &path.names()[parent.len()..])?;
+    };
     let look = look_below(alloc, stack, i, &natural)?;
-    Ok(is_nothing(&look))
+    Ok(look.is_nothing())
 }
 
 // Whether it is a whiteout in an opaque directory.
@@ -132,7 +128,7 @@ pub(crate) fn impure_is_missing(
     if !is_directory(inode) {
         return Ok(false);
     }
-    if attribute_is(inode, "trusted.overlay.impure", b"y") {
+    if attribute_is(inode, overlay::IMPURE, b"y") {
         return Ok(false);
     }
     holds_origin(alloc, stack, i, path)
@@ -158,7 +154,7 @@ fn has_origin(stack: &Stack, i: usize, path: &Path) -> bool
     ensures { result ≡ origin_test (layer_at stack.now i) path.now }
 {
     match inode_at(stack, i, path) {
-        Some(inode) => has_attribute(inode, "trusted.overlay.origin"),
+        Some(inode) => has_attribute(inode, overlay::ORIGIN),
         None => false,
     }
 }
@@ -177,16 +173,16 @@ pub(crate) fn mark_is_ignored(path: &Path, inode: &Inode, mark: &Mark) -> bool
 fn opaque_is_ignored(path: &Path, inode: &Inode) -> bool
     ensures { result ≡ opaque_ignored path.now inode.now }
 {
-    let is_y = attribute_is(inode, "trusted.overlay.opaque", b"y");
-    let is_x = attribute_is(inode, "trusted.overlay.opaque", b"x");
-    has_attribute(inode, "trusted.overlay.opaque")
+    let is_y = attribute_is(inode, overlay::OPAQUE, b"y");
+    let is_x = attribute_is(inode, overlay::OPAQUE, b"x");
+    has_attribute(inode, overlay::OPAQUE)
         && (!is_directory(inode) || !(is_y || is_x) || (is_y && path.is_empty()))
 }
 
 fn redirect_is_ignored(path: &Path, inode: &Inode, mark: &Mark) -> bool
     ensures { result ≡ redirect_ignored path.now inode.now (Some mark.now) }
 {
-    has_attribute(inode, "trusted.overlay.redirect")
+    has_attribute(inode, overlay::REDIRECT)
         && (path.is_empty()
             || matches!(mark, Mark::DirOpaque)
             || (!is_directory(inode) && !is_any_meta(mark)))
@@ -195,13 +191,13 @@ fn redirect_is_ignored(path: &Path, inode: &Inode, mark: &Mark) -> bool
 fn metacopy_is_ignored(inode: &Inode, mark: &Mark) -> bool
     ensures { result ≡ metacopy_ignored inode.now (Some mark.now) }
 {
-    has_attribute(inode, "trusted.overlay.metacopy") && !is_any_meta(mark)
+    has_attribute(inode, overlay::METACOPY) && !is_any_meta(mark)
 }
 
 fn whiteout_is_ignored(inode: &Inode) -> bool
     ensures { result ≡ whiteout_ignored inode.now }
 {
-    has_attribute(inode, "trusted.overlay.whiteout") && !is_empty_file(inode)
+    has_attribute(inode, overlay::WHITEOUT) && !is_empty_file(inode)
 }
 
 fn is_any_meta(mark: &Mark) -> bool

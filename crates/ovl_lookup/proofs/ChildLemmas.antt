@@ -5,6 +5,7 @@ use Rattle.std.specs.List.{cons_option, list_any, All}
 use Rattle.std.proofs.lemmas.List.{append-nil}
 use Rattle.std.proofs.lemmas.List.Folds.{list_any-append}
 use Rattle.std.proofs.lemmas.Bool.{leb-true}
+use Rattle.std.proofs.Math.Bool.{or-true}
 use Rattle.std.specs.Cmp.Lexicographic.{pointwise_decides, bytes_decides}
 use Rattle.ovl_names.specs.Names.{PathName, name_eq}
 use Rattle.ovl_names.specs.Paths.{PathNames, path_eq, path_text, child_path, longest, depth_limit, text_limit}
@@ -81,13 +82,9 @@ pub name_below-child : (path : PathNames) (name : PathName) → name_below path 
 name_below-child [] name = refl
 name_below-child (first ∷ path) name = ap (λ b. cond b (name_below path (child_path path name)) None) (name_eq-same first) ∙ name_below-child path name
 
-or_true : (b : Bool) → (b || true) ≡ true
-or_true true = refl
-or_true false = refl
-
 any-cons_option : (name : PathName) (own : Option PathName) (names : List PathName) → list_any (name_eq name) names ≡ true → list_any (name_eq name) (cons_option own names) ≡ true
 any-cons_option name None names has = has
-any-cons_option name (Some own) names has = ap (λ b. name_eq name own || b) has ∙ or_true (name_eq name own)
+any-cons_option name (Some own) names has = ap (λ b. name_eq name own || b) has ∙ or-true (name_eq name own)
 
 is_entry : Option Inode → Bool
 is_entry None = false
@@ -157,7 +154,7 @@ any-front : (name : PathName) (one other : List PathName) → list_any (name_eq 
 any-front name one other has = list_any-append (name_eq name) one other ∙ ap (λ b. b || list_any (name_eq name) other) has
 
 any-back : (name : PathName) (one other : List PathName) → list_any (name_eq name) other ≡ true → list_any (name_eq name) (one ++ other) ≡ true
-any-back name one other has = list_any-append (name_eq name) one other ∙ (ap (λ b. list_any (name_eq name) one || b) has ∙ or_true (list_any (name_eq name) one))
+any-back name one other has = list_any-append (name_eq name) one other ∙ (ap (λ b. list_any (name_eq name) one || b) has ∙ or-true (list_any (name_eq name) one))
 
 -- where something is found with one more name, a directory is found first without it,
 -- and the name is one of the layers' own along the walks

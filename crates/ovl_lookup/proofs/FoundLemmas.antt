@@ -7,14 +7,17 @@ use Rattle.ovl_inode.specs.declared.inodes.Inode.{Inode}
 use Rattle.ovl_inode.specs.declared.inodes.Kind.{Kind}
 use Rattle.ovl_inode.specs.declared.inodes.Kind.TheVariants.{Dir, File}
 use Rattle.ovl_inode.specs.declared.marks.Mark.TheVariants.{Whiteout, DirOpaque, Leaf}
+use Rattle.ovl_inode.specs.declared.marks.Mark.{Mark}
 use Rattle.ovl_inode.specs.declared.marks.Redirect.{Redirect}
-use Rattle.ovl_inode.specs.Marks.{is_metacopy, is_metacopy_mark, is_directory, is_regular, is_whiteout, has_opaque, has_metacopy, redirect_reading, directory_mark, metacopy_mark}
+use Rattle.ovl_inode.specs.Attributes.{attribute, redirect_name}
+use Rattle.ovl_inode.specs.Redirects.{read_redirect}
+use Rattle.ovl_inode.specs.Marks.{is_metacopy, is_metacopy_mark, is_directory, is_regular, is_whiteout, has_opaque, has_metacopy, redirect_reading, directory_mark, metacopy_mark, is_data}
 use Rattle.ovl_names.proofs.Ascending.{both}
 use Rattle.ovl_manifest.specs.Layers.{Entries}
 use Rattle.ovl_lookup.specs.declared.steps.Step.{Step}
 use Rattle.ovl_lookup.specs.Walk.{walk}
 use Rattle.ovl_lookup.specs.Trace.{walks, things_found, leading_files, leading_directories}
-use Rattle.ovl_lookup.specs.Merged.{is_data, data_of, last_of, shown_of, without_blob}
+use Rattle.ovl_lookup.specs.Merged.{data_of, last_of, shown_of, without_blob}
 use Rattle.ovl_inode.specs.Inodes.{visible}
 use Rattle.ovl_lookup.specs.declared.looks.Look.{Look}
 use Rattle.ovl_lookup.specs.declared.looks.Look.TheVariants.{Shown, Broken}
@@ -71,24 +74,37 @@ drop_past (x ∷ xs) (suc i) past = drop_past xs i (omega arith)
 
 -- ---- the data of a metacopy file
 
+-- however its `redirect` reads, a directory's mark is that of no metacopy file
+directory_mark-plain : (inode : Inode) → is_metacopy_mark (directory_mark (redirect_reading inode)) ≡ false
+directory_mark-plain inode = by (attribute inode.attrs redirect_name) refl
+  where
+    said : (value : List ℕ) → attribute inode.attrs redirect_name ≡ Some value → (redirect : Option Redirect) → read_redirect value ≡ redirect → is_metacopy_mark (directory_mark (redirect_reading inode)) ≡ false
+    said value e None f = rw (e, redirect_reading) (rw f refl)
+    said value e (Some redirect) f = rw (e, redirect_reading) (rw f refl)
+
+    by : (found : Option (List ℕ)) → attribute inode.attrs redirect_name ≡ found → is_metacopy_mark (directory_mark (redirect_reading inode)) ≡ false
+    by None e = rw (e, redirect_reading) refl
+    by (Some value) e = said value e (read_redirect value) refl
+
 -- a metacopy file's mark is that of no directory, and says `metacopy`
-metacopy_cases : (whiteout directory opaque file : Bool) (reading : Option (Option Redirect)) → is_metacopy_mark (cond whiteout Whiteout (cond (directory && opaque) DirOpaque (cond directory (directory_mark reading) (cond file (metacopy_mark reading) Leaf)))) ≡ true → (directory ≡ false) × (file ≡ true)
-metacopy_cases true directory opaque file reading is = let bad : false ≡ true = is in cc
-metacopy_cases false true true file reading is = let bad : false ≡ true = is in cc
-metacopy_cases false true false file None is = let bad : false ≡ true = is in cc
-metacopy_cases false true false file (Some None) is = let bad : false ≡ true = is in cc
-metacopy_cases false true false file (Some (Some redirect)) is = let bad : false ≡ true = is in cc
-metacopy_cases false false opaque true reading is = (refl, refl)
-metacopy_cases false false opaque false reading is = let bad : false ≡ true = is in cc
+metacopy_cases : (whiteout directory opaque file : Bool) (of_directory of_file : Mark) → is_metacopy_mark of_directory ≡ false → is_metacopy_mark (cond whiteout Whiteout (cond (directory && opaque) DirOpaque (cond directory of_directory (cond file of_file Leaf)))) ≡ true → (directory ≡ false) × (file ≡ true)
+metacopy_cases true directory opaque file of_directory of_file plain is = let bad : false ≡ true = is in cc
+metacopy_cases false true true file of_directory of_file plain is = let bad : false ≡ true = is in cc
+metacopy_cases false true false file of_directory of_file plain is = let bad : false ≡ true = sym plain ∙ is in cc
+metacopy_cases false false opaque true of_directory of_file plain is = (refl, refl)
+metacopy_cases false false opaque false of_directory of_file plain is = let bad : false ≡ true = is in cc
 
 pub metacopy-file : (inode : Inode) → is_metacopy inode ≡ true → (is_directory inode ≡ false) × ((is_regular inode && has_metacopy inode) ≡ true)
-metacopy-file inode is = metacopy_cases (is_whiteout inode) (is_directory inode) (has_opaque inode) (is_regular inode && has_metacopy inode) (redirect_reading inode) is
+metacopy-file inode is =
+    metacopy_cases (is_whiteout inode) (is_directory inode) (has_opaque inode) (is_regular inode && has_metacopy inode)
+    (directory_mark (redirect_reading inode)) (metacopy_mark (redirect_reading inode)) (directory_mark-plain inode) is
 
 regular-kind : (kind : Kind) → (elim kind as (λ _. Bool) [ File size blob ↦ true | _ ↦ false ]) ≡ true → (elim kind as (λ _. Bool) [ Dir ↦ true | _ ↦ false ]) ≡ false
 regular-kind Dir is = let bad : false ≡ true = is in cc
 regular-kind _ is = refl
 
-directory-kind : (kind : Kind) → (elim kind as (λ _. Bool) [ Dir ↦ true | _ ↦ false ]) ≡ true → (elim kind as (λ _. Bool) [ File size blob ↦ true | _ ↦ false ]) ≡ false
+-- a directory is no regular file
+pub directory-kind : (kind : Kind) → (elim kind as (λ _. Bool) [ Dir ↦ true | _ ↦ false ]) ≡ true → (elim kind as (λ _. Bool) [ File size blob ↦ true | _ ↦ false ]) ≡ false
 directory-kind Dir is = refl
 directory-kind (File size blob) is = let bad : false ≡ true = is in cc
 directory-kind _ is = refl

@@ -2,6 +2,7 @@
 use Rattle.std.proofs.Common.{◌≡◌, ℕ, Bool, true, false, cond, List, [], ◌∷◌, ◌++◌, refl, sym, ap, ◌∙◌, zero, suc, ◌+◌, ◌<◌, length, drop, arith, add-one}
 use Rattle.std.specs.Prelude.{◌||◌, ◌&&◌, filter, slice_get, IfSome}
 use Rattle.std.specs.List.{list_any, list_all, All}
+use Rattle.std.proofs.Math.Bool.{and-false, or-false}
 use Rattle.std.specs.Ordering.{is_lt, ordering_reverse, match_ordering}
 use Rattle.std.specs.BTreeSet.{insert_key}
 use Rattle.std.specs.Cmp.Lexicographic.{nat_list_cmp_total, bytes_decides}
@@ -77,10 +78,6 @@ turn_about true false c = refl
 turn_about false true c = refl
 turn_about false false c = refl
 
-and_false : (b : Bool) → (b && false) ≡ false
-and_false true = refl
-and_false false = refl
-
 any-insert : (q name : PathName) (names : List PathName) → list_any (name_eq q) (insert_key name_cmp names name) ≡ (name_eq q name || list_any (name_eq q) names)
 any-insert q name [] = refl
 any-insert q name (first ∷ names) = by (any-insert q name names) (name_cmp name first) refl
@@ -93,11 +90,7 @@ any-insert q name (first ∷ names) = by (any-insert q name names) (name_cmp nam
     by later Greater e = ap (λ b. name_eq q first || b) later ∙ swap (name_eq q first) (name_eq q name) (list_any (name_eq q) names)
 
 pub any-put : (q : PathName) (names more : List PathName) → list_any (name_eq q) (put_names names more) ≡ (list_any (name_eq q) names || list_any (name_eq q) more)
-any-put q names [] = or_false (list_any (name_eq q) names)
-  where
-    or_false : (b : Bool) → b ≡ (b || false)
-    or_false true = refl
-    or_false false = refl
+any-put q names [] = sym (or-false (list_any (name_eq q) names))
 any-put q names (name ∷ more) =
     any-put q (insert_key name_cmp names name) more
     ∙ (ap (λ b. b || list_any (name_eq q) more) (any-insert q name names)
@@ -116,7 +109,7 @@ any-filter q test (name ∷ names) = by (any-filter q test names) (test name) re
         (λ j. e j || later j) ∙ sym (λ j. (e j || list_any (name_eq q) names) && test q)
     by later false t true e =
         let same : test q ≡ false = ap test ((bytes_decides q name).0 e) ∙ t in
-        later ∙ ((λ j. list_any (name_eq q) names && same j) ∙ (and_false (list_any (name_eq q) names) ∙ sym (λ j. (e j || list_any (name_eq q) names) && same j)))
+        later ∙ ((λ j. list_any (name_eq q) names && same j) ∙ (and-false (list_any (name_eq q) names) ∙ sym (λ j. (e j || list_any (name_eq q) names) && same j)))
     by later false t false e = later ∙ sym (λ j. (e j || list_any (name_eq q) names) && test q)
 
 -- ---- the layers' own names along the walks, below which something is shown, are the directory's
@@ -135,7 +128,7 @@ kids-same stack each path name =
   where
     by : (b : Bool) → shows stack (child_path path name) ≡ b → (list_any (name_eq name) (own_names_along stack.layers path) && b) ≡ b
     by true e = ap (λ b. b && true) (child_found stack.layers each path name (sym (shows-found stack (child_path path name)) ∙ e)).1
-    by false e = and_false (list_any (name_eq name) (own_names_along stack.layers path))
+    by false e = and-false (list_any (name_eq name) (own_names_along stack.layers path))
 
 pub are-kids : (stack : StackView) → All IsLayer stack.layers → (path : PathNames) (names : List PathName) → names ≡ kids_along stack path → AreKids stack path names
 are-kids stack each path names is = record {

@@ -6,13 +6,13 @@ use Rattle.ovl_names.specs.Names.{PathName, name_cmp}
 use Rattle.ovl_names.specs.Paths.{PathNames, child_path}
 use Rattle.ovl_inode.specs.declared.inodes.Inode.{Inode}
 use Rattle.ovl_inode.specs.declared.marks.Mark.{Mark}
-use Rattle.ovl_inode.specs.Marks.{is_metacopy}
+use Rattle.ovl_inode.specs.Marks.{is_metacopy, is_data}
 use Rattle.ovl_manifest.specs.Layers.{Entries, names_below}
 use Rattle.ovl_lookup.specs.declared.looks.Look.{Look}
 use Rattle.ovl_lookup.specs.Walk.{walk, origin_path, name_in_lower, is_closing}
 use Rattle.ovl_lookup.specs.Stacks.{StackView}
 use Rattle.ovl_lookup.specs.Trace.{things_found}
-use Rattle.ovl_lookup.specs.Merged.{is_data, look, shows}
+use Rattle.ovl_lookup.specs.Merged.{look, shows}
 
 -- the path and the flag in a directory of this mark, by those of its parent
 abbrev pub entered_path : Mark → PathNames → PathName → PathNames

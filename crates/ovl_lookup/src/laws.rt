@@ -1,3 +1,4 @@
+//! Laws of the merged tree; the contract of each is its statement.
 ghost use Rattle.ovl_lookup.specs.Laws.{ShowsParents, ShowsWithinDepth};
 
 /// The merged tree is closed under parents: where something is shown in a directory, that directory is shown.
