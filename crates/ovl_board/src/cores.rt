@@ -70,7 +70,7 @@ impl<'a, W: Work> Core<'a, W> {
     }
 
     /// Does one event exactly, or refuses it: as not possible where it isn't, else for want of memory. A refused
-    /// step changes nothing.
+    /// step changes nothing: its parcels are the same ones, outputs and all.
     pub fn step(&mut self, alloc: Global, event: Event) -> Result<(), CoreFault>
         ensures done { OnOk result
             (after (W.kids_of (work_of self.old)) (W.out_of (work_of self.old)) (state_of W.seen self.old) event
@@ -79,6 +79,7 @@ impl<'a, W: Work> Core<'a, W> {
             (after (W.kids_of (work_of self.old)) (W.out_of (work_of self.old)) (state_of W.seen self.old) event
             ≡ None) }
         ensures same { OnErr result (state_of W.seen self.new ≡ state_of W.seen self.old) }
+        ensures parcels { OnErr result (parcels_of self.new ≡ parcels_of self.old) }
         ensures given { (work_of self.new ≡ work_of self.old) × (root_of self.new ≡ root_of self.old) }
     {
         match event {
@@ -97,6 +98,7 @@ impl<'a, W: Work> Core<'a, W> {
         ensures refused { (result ≡ Err NotPossible) ↔
             ((desk_of (state_of W.seen self.old).desks worker).hand ≡ None) }
         ensures same { OnErr result (state_of W.seen self.new ≡ state_of W.seen self.old) }
+        ensures parcels { OnErr result (parcels_of self.new ≡ parcels_of self.old) }
         ensures given { (work_of self.new ≡ work_of self.old) × (root_of self.new ≡ root_of self.old) }
     {
         if worker >= self.desks.len() {
