@@ -13,12 +13,16 @@ use thiserror::Error;
 /// Why parcels are no walk; where several hold, the first of them is given, with its least piece.
 #[derive(Debug, PartialEq, Eq, Drop, Error)]
 pub enum BoardFault {
+    /// Two parcels have this piece.
     #[error("two parcels have one piece")]
     Double(Piece),
+    /// A parcel has this piece, to which no kids lead from the root.
     #[error("a parcel has a piece to which no kids lead from the root")]
     Stranger(Piece),
+    /// Kids lead to this piece from the root, and no parcel has it.
     #[error("no parcel has a piece to which kids lead from the root")]
     Missing(Piece),
+    /// Memory is wanted.
     #[error("out of memory")]
     Memory,
 }

@@ -5,6 +5,7 @@ mod assembly;
 mod cores;
 mod desks;
 mod events;
+/// Laws of the plain walk, of parcels in balance and of their assembly, each the contract of a function that does nothing.
 pub mod laws;
 mod pieces;
 mod plain;
