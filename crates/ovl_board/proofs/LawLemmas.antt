@@ -11,7 +11,7 @@ use Rattle.ovl_board.specs.Balance.{HasKid}
 use Rattle.ovl_board.specs.Assembly.{bare}
 use Rattle.ovl_board.specs.Machine.{start_state}
 use Rattle.ovl_board.specs.Laws.{ReachedByNames, HasReachedPieces, KeepsBalance, BalancedHaveNoFault, OwnAssemble, InOrderHaveNoFault}
-use Rattle.ovl_board.proofs.Members.{In, Rises, Contains-In, In-Contains, Every-All, Rises-AllPairs}
+use Rattle.ovl_board.proofs.Members.{In, Rises, Contains-In, In-Contains, Every-All, Rises-AllPairs, rising_same}
 use Rattle.ovl_board.proofs.PieceOrder.{before_trans}
 use Rattle.ovl_board.proofs.CountLemmas.{mark, less_differs, times_rising, once, all_reached, all_there, piece_eq}
 use Rattle.ovl_board.proofs.MachineLemmas.{start_kept, all_kept}
@@ -52,21 +52,9 @@ module _ (kids : Piece → List Piece) where
 pub ReachedByNames-holds : ReachedByNames
 ReachedByNames-holds kids deepest law root p = (by_names kids deepest law root p, from_names kids deepest law root p)
 
--- two ascending lists with the same members are one
-rising_same : (ps qs : List Piece) → Rises IsBefore ps → Rises IsBefore qs → ((x : Piece) → In x ps → In x qs) → ((x : Piece) → In x qs → In x ps) → ps ≡ qs
-rising_same [] [] a b f g = refl
-rising_same [] (q ∷ qs) a b f g = absurd (g q (inl refl))
-rising_same (p ∷ ps) [] a b f g = absurd (f p (inl refl))
-rising_same (p ∷ ps) (q ∷ qs) a b f g =
-    let same = heads (f p (inl refl)) (g q (inl refl)) in
-    ap (λ x. x ∷ ps) same ∙ ap (λ xs. q ∷ xs) (rising_same ps qs a.1 b.1
-    (λ x i. elim (f x (inr i)) [ inl e ↦ absurd (less_differs p x (a.0 x i) (same ∙ sym e)) | inr k ↦ k ])
-    (λ x i. elim (g x (inr i)) [ inl e ↦ absurd (less_differs q x (b.0 x i) (sym same ∙ sym e)) | inr k ↦ k ]))
-  where
-    heads : In p (q ∷ qs) → In q (p ∷ ps) → p ≡ q
-    heads (inl e) k = e
-    heads (inr i) (inl e) = sym e
-    heads (inr i) (inr k) = absurd (less_differs p p (before_trans p q p (a.0 q k) (b.0 p i)) refl)
+-- two ascending lists of pieces with the same members are one
+same_pieces : (ps qs : List Piece) → Rises IsBefore ps → Rises IsBefore qs → ((x : Piece) → In x ps → In x qs) → ((x : Piece) → In x qs → In x ps) → ps ≡ qs
+same_pieces = rising_same IsBefore (λ x lt. less_differs x x lt refl) before_trans
 
 module _ {S : Type 0} (kids : Piece → List Piece) (out : Piece → S) where
   pub HasReachedPieces-holds : HasReachedPieces kids out
@@ -75,7 +63,7 @@ module _ {S : Type 0} (kids : Piece → List Piece) (out : Piece → S) where
     plain.walk.ascend,
     (λ p. times_rising p (pieces_of views) (Rises-AllPairs IsBefore (pieces_of views) plain.walk.ascend)),
     (λ others other.
-        let same : pieces_of others ≡ pieces_of views = rising_same (pieces_of others) (pieces_of views)
+        let same : pieces_of others ≡ pieces_of views = same_pieces (pieces_of others) (pieces_of views)
         (Rises-AllPairs IsBefore (pieces_of others) other.walk.ascend) (Rises-AllPairs IsBefore (pieces_of views) plain.walk.ascend)
         (λ p h. In-Contains p (pieces_of views) (plain.walk.whole p (Every-All (Reached (ToKid kids) root) (pieces_of others) other.walk.reached p h)))
         (λ p h. In-Contains p (pieces_of others) (other.walk.whole p (Every-All (Reached (ToKid kids) root) (pieces_of views) plain.walk.reached p h))) in

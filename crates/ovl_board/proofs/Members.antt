@@ -1,5 +1,5 @@
 -- Members of lists, by recursion, and the words of std in terms of them.
-use Rattle.std.proofs.Common.{◌≡◌, ℕ, zero, suc, ◌+◌, ◌<◌, ◌⊎◌, inl, inr, List, [], ◌∷◌, ◌++◌, length, get_or, map, refl, sym, ap, subst, arith, All, Contains, AllPairs}
+use Rattle.std.proofs.Common.{◌≡◌, ℕ, zero, suc, ◌+◌, ◌<◌, ◌⊎◌, inl, inr, Bool, true, false, cond, List, [], ◌∷◌, ◌++◌, length, get_or, map, filter, refl, sym, ap, ◌∙◌, subst, arith, All, Contains, AllPairs}
 use Rattle.std.specs.List.{flat_map, AllAdjacentBelow}
 
 -- x is an element of the list
@@ -127,3 +127,40 @@ module _ {X : Type 0} (R : X → X → Type 0) (trans : (x y z : X) → R x y �
     where
       by : Rises R (y ∷ ys) → R x y → Rises R (x ∷ (y ∷ ys))
       by more first = ((λ z h. elim h [ inl e ↦ subst (R x) (sym e) first | inr i ↦ trans x y z first (more.0 z i) ]), more)
+
+-- ---- what passes a test
+
+pub In-filter-cases : {X : Type 0} (test : X → Bool) (x : X) (xs : List X) → In x (filter test xs) → In x xs × (test x ≡ true)
+In-filter-cases test x [] h = absurd h
+In-filter-cases {X} test x (y ∷ xs) h = by (In-filter-cases test x xs) (test y) refl h
+  where
+    by : (In x (filter test xs) → In x xs × (test x ≡ true)) → (b : Bool) → test y ≡ b → In x (cond b (y ∷ filter test xs) (filter test xs)) → In x (y ∷ xs) × (test x ≡ true)
+    by later true t (inl e) = (inl e, ap test e ∙ t)
+    by later true t (inr k) = (inr (later k).0, (later k).1)
+    by later false t k = (inr (later k).0, (later k).1)
+
+pub Rises-filter : {X : Type 0} (R : X → X → Type 0) (test : X → Bool) (xs : List X) → Rises R xs → Rises R (filter test xs)
+Rises-filter R test [] up = tt
+Rises-filter {X} R test (x ∷ xs) up = by (test x) (Rises-filter R test xs up.1)
+  where
+    by : (b : Bool) → Rises R (filter test xs) → Rises R (cond b (x ∷ filter test xs) (filter test xs))
+    by true later = ((λ y h. up.0 y (In-filter-cases test y xs h).0), later)
+    by false later = later
+
+-- ---- strictly ascending lists with the same members
+
+module _ {X : Type 0} (R : X → X → Type 0) (never : (x : X) → R x x → ⊥) (trans : (x y z : X) → R x y → R y z → R x z) where
+  pub rising_same : (ps qs : List X) → Rises R ps → Rises R qs → ((x : X) → In x ps → In x qs) → ((x : X) → In x qs → In x ps) → ps ≡ qs
+  rising_same [] [] a b f g = refl
+  rising_same [] (q ∷ qs) a b f g = absurd (g q (inl refl))
+  rising_same (p ∷ ps) [] a b f g = absurd (f p (inl refl))
+  rising_same (p ∷ ps) (q ∷ qs) a b f g =
+      let same = heads (f p (inl refl)) (g q (inl refl)) in
+      ap (λ x. x ∷ ps) same ∙ ap (λ xs. q ∷ xs) (rising_same ps qs a.1 b.1
+      (λ x i. elim (f x (inr i)) [ inl e ↦ absurd (never x (subst (λ y. R y x) (same ∙ sym e) (a.0 x i))) | inr k ↦ k ])
+      (λ x i. elim (g x (inr i)) [ inl e ↦ absurd (never x (subst (λ y. R y x) (sym same ∙ sym e) (b.0 x i))) | inr k ↦ k ]))
+    where
+      heads : In p (q ∷ qs) → In q (p ∷ ps) → p ≡ q
+      heads (inl e) k = e
+      heads (inr i) (inl e) = sym e
+      heads (inr i) (inr k) = absurd (never p (trans p q p (a.0 q k) (b.0 p i)))

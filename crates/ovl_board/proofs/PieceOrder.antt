@@ -86,11 +86,3 @@ snoc_same [] [] m n h = refl
 snoc_same [] (y ∷ e) m n h = absurd (omega (arith, ap length h, length-append e (n ∷ [])))
 snoc_same (x ∷ d) [] m n h = absurd (omega (arith, ap length h, length-append d (m ∷ [])))
 snoc_same (x ∷ d) (y ∷ e) m n h = let t : d ++ m ∷ [] ≡ e ++ n ∷ [] = cc in let a = snoc_same d e m n t in cc
-
--- what a test of the names above a piece's last one says
-pub below-decides : (p q : Piece) (names above own : PathNames) (name : PathName) (r : Bool) → p.space ≡ q.space → names ≡ q.dir → names ≡ above ++ name ∷ [] → own ≡ p.dir → r ≡ path_eq above own
-    → (r ≡ true → IsOneBelow p q) × (IsOneBelow p q → r ≡ true)
-below-decides p q names above own name r s n l o e = (
-  (λ t. (sym s, (name, sym n ∙ l ∙ ap (λ d. d ++ name ∷ []) ((path_eq_decides above own).0 (sym e ∙ t) ∙ o)))),
-  (λ b. e ∙ (path_eq_decides above own).1 (snoc_same above p.dir name b.1.0 (sym l ∙ n ∙ b.1.1) ∙ sym o)),
-)

@@ -12,15 +12,12 @@ use Rattle.std.specs.FinMap.{slice_cmp-IsAntisymmetric, nat_cmp-IsAntisymmetric}
 use Rattle.std.proofs.lemmas.Cmp.{tied_itself}
 use Rattle.ovl_names.specs.Names.{PathName, name_cmp, name_eq}
 use Rattle.ovl_names.specs.Paths.{PathNames, path_cmp, path_eq, is_root, parent_path, parent_of, child_path}
+use Rattle.ovl_names.proofs.Ascending.{both}
 use Rattle.ovl_board.specs.declared.pieces.Piece.{Piece}
 use Rattle.ovl_board.specs.Pieces.{IsBefore, IsOneBelow, AreLawfulKids, HasLawfulKids}
 use Rattle.ovl_board.specs.Trees.{HasTreeShape, EachFollows, is_child, is_next, children, tree_piece, tree_kids, deepest_path}
-use Rattle.ovl_board.proofs.Members.{In, Rises, In-map-cases, All-Every, AllPairs-Rises, Rises-AllPairs, Rises-from_adjacent}
+use Rattle.ovl_board.proofs.Members.{In, Rises, In-map-cases, In-filter-cases, Rises-filter, All-Every, AllPairs-Rises, Rises-AllPairs, Rises-from_adjacent}
 use Rattle.ovl_board.proofs.PieceOrder.{snoc_view, path_eq_decides, prefix_before}
-
-and_both : (a b : Bool) → (a && b) ≡ true → (a ≡ true) × (b ≡ true)
-and_both true b e = (refl, e)
-and_both false b e = absurd (cc)
 
 -- the path above a path's last name
 parent-snoc : (d : PathNames) (n : PathName) → parent_path (d ++ n ∷ []) ≡ d
@@ -33,28 +30,25 @@ root_empty d e = ap (λ (p : PathNames). not (is_root p)) e
 
 pub child_is : (d e : PathNames) → is_child d e ≡ true → (n : PathName) × (e ≡ child_path d n)
 child_is d e h =
-    let both = and_both (not (is_root e)) (path_eq (parent_path e) d) h in
+    let parts = both {a = not (is_root e)} {b = path_eq (parent_path e) d} h in
     elim (snoc_view e) [
-      | inl empty ↦ (let no : true ≡ false = sym both.0 ∙ root_empty e empty in absurd (cc))
-      | inr w ↦ (w.1.0, w.1.1 ∙ ap (λ p. p ++ w.1.0 ∷ []) (sym (parent-snoc w.0 w.1.0) ∙ (ap parent_path (sym w.1.1) ∙ (path_eq_decides (parent_path e) d).0 both.1)))
+      | inl empty ↦ (let no : true ≡ false = sym parts.0 ∙ root_empty e empty in absurd (cc))
+      | inr w ↦ (w.1.0, w.1.1 ∙ ap (λ p. p ++ w.1.0 ∷ []) (sym (parent-snoc w.0 w.1.0) ∙ (ap parent_path (sym w.1.1) ∙ (path_eq_decides (parent_path e) d).0 parts.1)))
     ]
 
-filter_in : {X : Type 0} (p : X → Bool) (x : X) (xs : List X) → In x (filter p xs) → In x xs × (p x ≡ true)
-filter_in p x [] h = absurd h
-filter_in p x (y ∷ xs) h = by (filter_in p x xs) (p y) refl h
+is_child-child : (d : PathNames) (n : PathName) → is_child d (child_path d n) ≡ true
+is_child-child d n = (λ j. not (no_root d j) && (path_eq_decides (parent_path (child_path d n)) d).1 (parent-snoc d n) j)
   where
-    by : (In x (filter p xs) → In x xs × (p x ≡ true)) → (b : Bool) → p y ≡ b → In x (cond b (y ∷ filter p xs) (filter p xs)) → In x (y ∷ xs) × (p x ≡ true)
-    by more true e (inl i) = (inl i, ap p i ∙ e)
-    by more true e (inr i) = let r = more i in (inr r.0, r.1)
-    by more false e i = let r = more i in (inr r.0, r.1)
+    no_root : (e : PathNames) → is_root (e ++ n ∷ []) ≡ false
+    no_root [] = refl
+    no_root (x ∷ e) = refl
 
-filter_rises : {X : Type 0} (R : X → X → Type 0) (p : X → Bool) (xs : List X) → Rises R xs → Rises R (filter p xs)
-filter_rises R p [] r = tt
-filter_rises R p (x ∷ xs) r = by (filter_rises R p xs r.1) (p x)
-  where
-    by : Rises R (filter p xs) → (b : Bool) → Rises R (cond b (x ∷ filter p xs) (filter p xs))
-    by more true = ((λ y i. r.0 y (filter_in p y xs i).0), more)
-    by more false = more
+-- what a test of their paths says of two pieces in one space
+pub one_below-decides : (p q : Piece) → p.space ≡ q.space → (is_child p.dir q.dir ≡ true → IsOneBelow p q) × (IsOneBelow p q → is_child p.dir q.dir ≡ true)
+one_below-decides p q same = (
+  (λ t. (sym same, child_is p.dir q.dir t)),
+  (λ b. ap (is_child p.dir) b.1.1 ∙ is_child-child p.dir b.1.0),
+)
 
 -- d comes before e
 abbrev pub IsLess : PathNames → PathNames → Type 0
@@ -80,7 +74,7 @@ module _ (paths : List PathNames) (up : AllPairs IsLess paths) where
   kid_is : (p q : Piece) → In q (map tree_piece (children paths p.dir)) → (q.space ≡ 0) × ((n : PathName) × (q.dir ≡ child_path p.dir n)) × (length q.dir ≤ deepest_path paths)
   kid_is p q i =
       let c = In-map-cases tree_piece q (children paths p.dir) i in
-      let f = filter_in (λ e. is_child p.dir e) c.0 paths c.1.0 in
+      let f = In-filter-cases (λ e. is_child p.dir e) c.0 paths c.1.0 in
       let n = child_is p.dir c.0 f.1 in
       let dir = ap (λ (r : Piece). r.dir) c.1.1 in (
         ap (λ (r : Piece). r.space) c.1.1,
@@ -93,7 +87,7 @@ module _ (paths : List PathNames) (up : AllPairs IsLess paths) where
       let kids = map tree_piece (children paths p.dir) in (
         record {
           below = All-Every (IsOneBelow p) kids (λ q i. let k = kid_is p q i in (k.0 ∙ sym (eqb-true p.space 0 e), k.1));
-          ascend = AllPairs-Rises IsBefore kids (map_rises (children paths p.dir) (filter_rises IsLess (λ d. is_child p.dir d) paths (Rises-AllPairs IsLess paths up)));
+          ascend = AllPairs-Rises IsBefore kids (map_rises (children paths p.dir) (Rises-filter IsLess (λ d. is_child p.dir d) paths (Rises-AllPairs IsLess paths up)));
         },
         All-Every (λ (q : Piece). length q.dir ≤ deepest_path paths) kids (λ q i. (kid_is p q i).2),
       )
@@ -125,8 +119,8 @@ lt_less Greater = ((λ e. absurd (cc)), λ e. absurd (cc))
 
 next_gives : (x e : PathNames) → is_next x e ≡ true → IsLess x e × IsPrefix (parent_path e) x
 next_gives x e h =
-    let both = and_both (is_lt (path_cmp x e)) (starts_with name_eq x (parent_path e)) h in
-    ((lt_less (path_cmp x e)).0 both.0, (starts-decides x (parent_path e)).0 both.1)
+    let parts = both {a = is_lt (path_cmp x e)} {b = starts_with name_eq x (parent_path e)} h in
+    ((lt_less (path_cmp x e)).0 parts.0, (starts-decides x (parent_path e)).0 parts.1)
 
 next_from : (x e : PathNames) → IsLess x e → IsPrefix (parent_path e) x → is_next x e ≡ true
 next_from x e l p = ap (λ b. b && starts_with name_eq x (parent_path e)) ((lt_less (path_cmp x e)).1 l) ∙ (starts-decides x (parent_path e)).1 p

@@ -5,7 +5,7 @@ ghost use Rattle.ovl_board.specs.Parcels.{pieces_of};
 ghost use Rattle.ovl_board.specs.Balance.{AllLawful, kids_in, times};
 ghost use Rattle.ovl_board.specs.Assembly.{IsBoardFault, IsInOrder, IsLeast, IsAbsent, AreExpected, IsListFault, bare};
 
-use crate::pieces::Piece;
+use crate::pieces::{Piece, copies};
 use crate::works::Parcel;
 use std::alloc::{AllocError, AllocFailed, Global};
 use thiserror::Error;
@@ -13,12 +13,16 @@ use thiserror::Error;
 /// Why parcels are no walk; where several hold, the first of them is given, with its least piece.
 #[derive(Debug, PartialEq, Eq, Drop, Error)]
 pub enum BoardFault {
+    /// Two parcels have this piece.
     #[error("two parcels have one piece")]
     Double(Piece),
+    /// A parcel has this piece, to which no kids lead from the root.
     #[error("a parcel has a piece to which no kids lead from the root")]
     Stranger(Piece),
+    /// Kids lead to this piece from the root, and no parcel has it.
     #[error("no parcel has a piece to which kids lead from the root")]
     Missing(Piece),
+    /// Memory is wanted.
     #[error("out of memory")]
     Memory,
 }
@@ -100,19 +104,10 @@ fn expected_pieces<T>(
     let mut expected = Vec::new(alloc);
     expected.push(root.copy(alloc)?)?;
     for parcel in parcels {
-        push_copies(alloc, &mut expected, &parcel.kids)?;
+        expected.append(&mut copies(alloc, &parcel.kids)?)?;
     }
     expected.sort()?;
     Ok(expected)
-}
-
-fn push_copies(alloc: Global, pieces: &mut Vec<Piece>, more: &[Piece]) -> Result<(), AllocError>
-    ensures { OnOk result (pieces.new.items ≡ pieces.old.items ++ more.now) }
-{
-    for piece in more {
-        pieces.push(piece.copy(alloc)?)?;
-    }
-    Ok(())
 }
 
 // The least piece that stands twice in a sorted list.

@@ -20,8 +20,10 @@ pub enum Event {
 /// Why a core refused a call; where both hold, the first is given.
 #[derive(Clone, Copy, Debug, PartialEq, Eq, Error)]
 pub enum CoreFault {
+    /// The step, or the number of workers, isn't possible.
     #[error("the step is not possible")]
     NotPossible,
+    /// Memory is wanted.
     #[error("out of memory")]
     Memory,
 }

@@ -5,6 +5,7 @@ mod assembly;
 mod cores;
 mod desks;
 mod events;
+/// Laws of the plain walk, of parcels in balance and of their assembly, each the contract of a function that does nothing.
 pub mod laws;
 mod pieces;
 mod plain;
@@ -14,9 +15,9 @@ mod trees;
 mod works;
 
 pub use assembly::{BoardFault, assemble};
-pub use cores::Core;
+pub use cores::{Core, WORKER_LIMIT};
 pub use events::{CoreFault, Event};
-pub use pieces::Piece;
+pub use pieces::{Piece, copies};
 pub use plain::plain_walk;
 pub use trees::{Tree, TreeFault};
 pub use works::{Parcel, Work, kids_lawful};

@@ -1,4 +1,5 @@
 ghost use Rattle.std.specs.Prelude.{◌≡◌, IfOk, IsTrue, ◌↔◌};
+ghost use Rattle.ovl_board.specs.Trees.{is_child};
 
 use ovl_names::Path;
 use std::alloc::{AllocError, Global};
@@ -7,7 +8,9 @@ use std::alloc::{AllocError, Global};
 /// Pieces are ordered by space, and then by path.
 #[derive(Debug, PartialEq, Eq, PartialOrd, Ord, Drop)]
 pub struct Piece {
+    /// Whose paths are meant.
     pub space: u16,
+    /// The directory's path in that space.
     pub dir: Path,
 }
 
@@ -28,9 +31,27 @@ impl Piece {
     pub fn is_parent_of(&self, kid: &Piece) -> bool
         ensures { IsTrue result ↔ IsOneBelow self.now kid.now }
     {
-        match kid.dir.names().split_last() {
-            None => false,
-            Some((_, above)) => self.space == kid.space && above == self.dir.names(),
-        }
+        self.space == kid.space && lies_below(&self.dir, &kid.dir)
     }
+}
+
+/// Whether the path lies one name below the directory.
+pub(crate) fn lies_below(dir: &Path, path: &Path) -> bool
+    ensures { result ≡ is_child dir.now path.now }
+{
+    match path.names().split_last() {
+        None => false,
+        Some((_, above)) => above == dir.names(),
+    }
+}
+
+/// Pieces equal to these, in their order; fails only for want of memory.
+pub fn copies(alloc: Global, pieces: &[Piece]) -> Result<Vec<Piece>, AllocError>
+    ensures { IfOk result (λ copied. copied.items ≡ pieces.now) }
+{
+    let mut copied = Vec::with_capacity(alloc, pieces.len())?;
+    for piece in pieces {
+        copied.push(piece.copy(alloc)?)?;
+    }
+    Ok(copied)
 }

@@ -177,28 +177,30 @@ fn assembled(alloc: Global, texts: &str) -> Result<Result<Vec<Parcel<()>>, Board
     Ok(assemble(alloc, &root, parcels))
 }
 
+fn fault_of(alloc: Global, texts: &str) -> Result<Option<BoardFault>, Fail> {
+    Ok(assembled(alloc, texts)?.err())
+}
+
 #[test]
-fn assembly_names_the_first_fault_with_its_least_piece(rt: HostRuntime) -> Result<(), Fail> {
-    let double = assembled(rt.alloc(), "/ /a /a /z")?;
-    assert_eq!(rt;
-        double.err(),
-        Some(BoardFault::Double(piece(rt.alloc(), "/a")?))
-    );
-    let stranger = assembled(rt.alloc(), "/ /a /z")?;
-    assert_eq!(rt;
-        stranger.err(),
-        Some(BoardFault::Stranger(piece(rt.alloc(), "/z")?))
-    );
-    let missing = assembled(rt.alloc(), "/ /a")?;
-    assert_eq!(rt;
-        missing.err(),
-        Some(BoardFault::Missing(piece(rt.alloc(), "/b")?))
-    );
-    let none = assembled(rt.alloc(), "")?;
-    assert_eq!(rt;
-        none.err(),
-        Some(BoardFault::Missing(piece(rt.alloc(), "/")?))
-    );
+fn a_double_piece_is_the_first_fault(rt: HostRuntime) -> Result<(), Fail> {
+    let fault = BoardFault::Double(piece(rt.alloc(), "/a")?);
+    assert_eq!(rt; fault_of(rt.alloc(), "/ /a /a /z")?, Some(fault));
+    Ok(())
+}
+
+#[test]
+fn a_stranger_is_a_fault_before_a_missing_piece(rt: HostRuntime) -> Result<(), Fail> {
+    let fault = BoardFault::Stranger(piece(rt.alloc(), "/z")?);
+    assert_eq!(rt; fault_of(rt.alloc(), "/ /a /z")?, Some(fault));
+    Ok(())
+}
+
+#[test]
+fn a_missing_piece_is_the_last_fault(rt: HostRuntime) -> Result<(), Fail> {
+    for (texts, missing) in [("/ /a", "/b"), ("", "/")] {
+        let fault = BoardFault::Missing(piece(rt.alloc(), missing)?);
+        assert_eq!(rt; fault_of(rt.alloc(), texts)?, Some(fault), "at {texts:?}");
+    }
     Ok(())
 }
 
@@ -226,38 +228,57 @@ fn a_core_has_1_to_64_workers(rt: HostRuntime) -> Result<(), Fail> {
 }
 
 #[test]
-fn a_core_does_possible_steps_alone(rt: HostRuntime) -> Result<(), Fail> {
+fn a_new_core_refuses_all_but_a_take_from_its_first_lane(rt: HostRuntime) -> Result<(), Fail> {
     let small = tree(rt.alloc(), "/ /a /b")??;
     let mut core = Core::start(rt.alloc(), &small, piece(rt.alloc(), "/")?, 2)?;
-    for (event, answer) in [
-        (Event::Pop(1), Err(CoreFault::NotPossible)),
-        (Event::Steal(0, 0), Err(CoreFault::NotPossible)),
-        (Event::Steal(2, 0), Err(CoreFault::NotPossible)),
-        (Event::Work(0), Err(CoreFault::NotPossible)),
-        (Event::Push(0), Err(CoreFault::NotPossible)),
-        (Event::Pop(0), Ok(())),
-        (Event::Work(0), Ok(())),
-        (Event::Push(0), Ok(())),
-        (Event::Pop(0), Err(CoreFault::NotPossible)),
-        (Event::Push(0), Ok(())),
-        (Event::Steal(1, 0), Ok(())),
-        (Event::Pop(0), Ok(())),
-        (Event::Work(0), Ok(())),
-        (Event::Work(1), Ok(())),
-        (Event::Pop(0), Err(CoreFault::NotPossible)),
+    for event in [
+        Event::Pop(1),
+        Event::Steal(0, 0),
+        Event::Steal(2, 0),
+        Event::Work(0),
+        Event::Push(0),
     ] {
-        assert_eq!(rt; core.step(rt.alloc(), event), answer, "at {event:?}");
+        let answer = core.step(rt.alloc(), event);
+        assert_eq!(rt; answer, Err(CoreFault::NotPossible), "at {event:?}");
     }
-    assert!(rt; core.idle());
-    let Ok(parcels) = core.finish() else {
-        return Err(Fail::from("open"));
-    };
+    assert_eq!(rt; core.step(rt.alloc(), Event::Steal(1, 0)), Ok(()));
+    Ok(())
+}
+
+// The parcels of two workers' core after these steps of the small tree, in the order in which they came.
+fn finished(alloc: Global, steps: &[Event]) -> Result<Vec<Parcel<()>>, Fail> {
+    let small = tree(alloc, "/ /a /b")??;
+    let mut core = Core::start(alloc, &small, piece(alloc, "/")?, 2)?;
+    for step in steps {
+        core.step(alloc, *step)?;
+    }
+    core.finish().map_err(|_| Fail::from("open"))
+}
+
+const STEPS: [Event; 8] = [
+    Event::Pop(0),
+    Event::Work(0),
+    Event::Push(0),
+    Event::Push(0),
+    Event::Steal(1, 0),
+    Event::Pop(0),
+    Event::Work(0),
+    Event::Work(1),
+];
+
+#[test]
+fn a_core_gives_its_parcels_in_the_order_of_the_steps(rt: HostRuntime) -> Result<(), Fail> {
     let arrived = small_parcels(rt.alloc(), "/ /b /a")?;
-    assert_eq!(rt; parcels, arrived);
+    assert_eq!(rt; finished(rt.alloc(), &STEPS)?, arrived);
+    Ok(())
+}
+
+#[test]
+fn the_parcels_of_a_core_are_assembled_in_their_order(rt: HostRuntime) -> Result<(), Fail> {
     let root = piece(rt.alloc(), "/")?;
-    let assembled = assemble(rt.alloc(), &root, checked(rt.alloc(), parcels)?)?;
+    let parcels = checked(rt.alloc(), finished(rt.alloc(), &STEPS)?)?;
     let ordered = small_parcels(rt.alloc(), "/ /a /b")?;
-    assert_eq!(rt; assembled, ordered);
+    assert_eq!(rt; assemble(rt.alloc(), &root, parcels), Ok(ordered));
     Ok(())
 }
 

@@ -2,9 +2,9 @@ ghost use Rattle.std.specs.Prelude.{◌≡◌, ◌↔◌, IfOk, IsTrue, AllPairs
 ghost use Rattle.std.specs.declared.cmp.Ordering.TheVariants.{Less};
 ghost use Rattle.ovl_names.specs.Paths.{path_cmp};
 ghost use Rattle.ovl_board.specs.declared.trees.TreeFault.TheVariants.{Shape};
-ghost use Rattle.ovl_board.specs.Trees.{HasTreeShape, EachFollows, is_child, is_next, children, deepest_path};
+ghost use Rattle.ovl_board.specs.Trees.{HasTreeShape, EachFollows, is_next, children, deepest_path};
 
-use crate::pieces::Piece;
+use crate::pieces::{Piece, lies_below};
 use crate::works::Work;
 use ovl_names::Path;
 use std::alloc::{AllocError, Global};
@@ -14,8 +14,10 @@ use thiserror::Error;
 /// Why listed paths are no tree; where both hold, the first is given.
 #[derive(Clone, Copy, Debug, PartialEq, Eq, Error)]
 pub enum TreeFault {
+    /// The first path isn't `/`, or one doesn't come after the one before it, or has no parent among them.
     #[error("the paths do not begin with `/`, do not ascend, or lack a parent")]
     Shape,
+    /// Memory is wanted, or a path has 2^32 names or more.
     #[error("out of memory")]
     Memory,
 }
@@ -105,16 +107,6 @@ fn paths_under<'a>(paths: &'a [Path], dir: &Path) -> &'a [Path]
     let later = &paths[start..];
     let end = later.partition_point(|path| path.names().starts_with(dir.names()));
     &later[..end]
-}
-
-// Whether the path lies one name below the directory.
-fn lies_below(dir: &Path, path: &Path) -> bool
-    ensures { result ≡ is_child dir.now path.now }
-{
-    match path.names().split_last() {
-        None => false,
-        Some((_, above)) => above == dir.names(),
-    }
 }
 
 fn most_names(paths: &[Path]) -> usize

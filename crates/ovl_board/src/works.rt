@@ -40,8 +40,11 @@ pub trait Work {
 /// What came of a piece: its kids, and the output of its visit.
 #[derive(Debug, PartialEq, Eq, Drop)]
 pub struct Parcel<T> {
+    /// The piece that was visited.
     pub piece: Piece,
+    /// The pieces that come after it.
     pub kids: Vec<Piece>,
+    /// What its visit put out.
     pub out: T,
 }
 

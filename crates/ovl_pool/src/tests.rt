@@ -2,10 +2,10 @@ ghost use Rattle.std.specs.Prelude.{◌≡◌, []};
 ghost use Rattle.ovl_board.specs.Trees.{tree_kids, deepest_path};
 
 use super::*;
-use ovl_board::{Piece, Tree, Work, plain_walk};
+use ovl_board::{Parcel, Piece, Tree, Work};
 use ovl_names::Path;
 use std::alloc::{AllocError, Global};
-use std::sync::atomic::{AtomicBool, Ordering};
+use std::sync::atomic::{AtomicBool, AtomicU64, Ordering};
 use std::sync::{Mutex, Wait};
 use std::test::Fail;
 use std::thread::Threads;
@@ -13,6 +13,10 @@ use std::thread::Threads;
 const SMALL: &str = "/ /a /b";
 
 const WIDE: &str = "/ /a /b /c /d";
+
+const WIDEST: &str = "/ /a /b /c /d /e /f /g";
+
+type Answer = Result<(Vec<Parcel<()>>, RunCount), RunFault>;
 
 const LOOKS_OF_A_GATE: u32 = 20_000_000;
 
@@ -31,6 +35,39 @@ fn tree(alloc: Global, texts: &str) -> Result<Tree, Fail> {
         paths.push(Path::parse(alloc, text)?)?;
     }
     Ok(Tree::of(paths)?)
+}
+
+// The listed pieces but the root.
+fn below_root(alloc: Global, texts: &str) -> Result<Vec<Piece>, Fail> {
+    let mut pieces = Vec::new(alloc);
+    for text in texts.split_whitespace() {
+        if text != "/" {
+            pieces.push(piece(alloc, text)?)?;
+        }
+    }
+    Ok(pieces)
+}
+
+// What a run gives of a root and the kids that it lists: their parcels, and as many pieces known, delivered and taken.
+fn whole(alloc: Global, texts: &str) -> Result<Answer, Fail> {
+    let mut parcels = Vec::new(alloc);
+    for text in texts.split_whitespace() {
+        let kids = below_root(alloc, if text == "/" { texts } else { "" })?;
+        let piece = piece(alloc, text)?;
+        parcels.push(Parcel {
+            piece,
+            kids,
+            out: (),
+        })?;
+    }
+    let pieces = parcels.len() as u64;
+    let count = RunCount {
+        known: pieces,
+        delivered: pieces,
+        taken: pieces,
+        left: 0,
+    };
+    Ok(Ok((parcels, count)))
 }
 
 #[test]
@@ -80,20 +117,122 @@ fn there_are_1_to_64_workers(rt: HostRuntime) -> Result<(), Fail> {
 fn a_run_gives_the_plain_walk_and_its_counts(rt: HostRuntime) -> Result<(), Fail> {
     let work = tree(rt.alloc(), SMALL)?;
     let root = piece(rt.alloc(), "/")?;
-    let (walk, count) = run(&rt, rt.alloc(), &work, root, 1, &OpenGate)?;
-    let wanted = plain_walk(rt.alloc(), &work, piece(rt.alloc(), "/")?)?;
-    assert_eq!(rt; walk, wanted);
-    assert_eq!(rt; count, counts(3));
+    let wanted = whole(rt.alloc(), SMALL)?;
+    assert_eq!(rt; run(&rt, rt.alloc(), &work, root, 1, &OpenGate), wanted);
     Ok(())
 }
 
-fn counts(pieces: u64) -> RunCount {
-    RunCount {
-        known: pieces,
-        delivered: pieces,
-        taken: pieces,
-        left: 0,
+// Refuses `/` alone.
+struct Shut;
+
+impl Gate for Shut {
+    ghost may_refuse = { λ _ p. p.dir ≡ [] };
+
+    fn pass(&self, piece: &Piece) -> bool {
+        !piece.dir.is_empty()
     }
+}
+
+#[test]
+fn a_run_is_refused_where_the_gate_refuses_the_root(rt: HostRuntime) -> Result<(), Fail> {
+    for workers in [1, 2] {
+        let work = tree(rt.alloc(), SMALL)?;
+        let root = piece(rt.alloc(), "/")?;
+        let answer = run(&rt, rt.alloc(), &work, root, workers, &Shut);
+        assert_eq!(rt; answer, Err(RunFault::Gate), "at {workers}");
+    }
+    Ok(())
+}
+
+// A piece: how often the gate was asked for it, and whether that was once when its visit began.
+#[derive(Drop)]
+struct Turn {
+    piece: Piece,
+    asked: AtomicU64,
+    in_turn: AtomicBool,
+}
+
+// A tree that is also the gate to its pieces, and lets all pass.
+#[derive(Drop)]
+struct Watched {
+    tree: Tree,
+    turns: Vec<Turn>,
+}
+
+impl Watched {
+    fn of(alloc: Global, texts: &str) -> Result<Watched, Fail> {
+        let mut turns = Vec::new(alloc);
+        for text in texts.split_whitespace() {
+            turns.push(Turn {
+                piece: piece(alloc, text)?,
+                asked: AtomicU64::new(0),
+                in_turn: AtomicBool::new(false),
+            })?;
+        }
+        let tree = tree(alloc, texts)?;
+        Ok(Watched { tree, turns })
+    }
+
+    fn turn(&self, piece: &Piece) -> Option<&Turn> {
+        self.turns.iter().find(|turn| turn.piece == *piece)
+    }
+
+    // Whether the gate was asked for each piece once, before its visit.
+    fn was_in_turn(&self) -> bool {
+        self.turns.iter().all(|turn| {
+            turn.in_turn.load(Ordering::SeqCst) && turn.asked.load(Ordering::SeqCst) == 1
+        })
+    }
+}
+
+impl Gate for Watched {
+    ghost may_refuse = { λ _ _. ⊥ };
+
+    fn pass(&self, piece: &Piece) -> bool {
+        if let Some(turn) = self.turn(piece) {
+            turn.asked.fetch_add(1, Ordering::SeqCst);
+        }
+        true
+    }
+}
+
+impl Work for Watched {
+    type Out = ();
+
+    ghost Seen = { Unit {0} };
+
+    ghost seen_set = { Prim.hlevel };
+
+    ghost seen = { λ _. tt };
+
+    ghost kids_of = { λ work. tree_kids work.tree };
+
+    ghost out_of = { λ _ _. tt };
+
+    ghost deepest_of = { λ work. deepest_path work.tree };
+
+    fn visit(&self, alloc: Global, piece: &Piece) -> Result<(Vec<Piece>, ()), AllocError> {
+        if let Some(turn) = self.turn(piece) {
+            let asked = turn.asked.load(Ordering::SeqCst);
+            turn.in_turn.store(asked == 1, Ordering::SeqCst);
+        }
+        self.tree.visit(alloc, piece)
+    }
+
+    fn deepest(&self) -> u32 {
+        self.tree.deepest()
+    }
+}
+
+#[test]
+fn the_gate_is_asked_once_for_each_piece_before_its_visit(rt: HostRuntime) -> Result<(), Fail> {
+    for workers in [1, 2, 7] {
+        let watched = Watched::of(rt.alloc(), SMALL)?;
+        let root = piece(rt.alloc(), "/")?;
+        run(&rt, rt.alloc(), &watched, root, workers, &watched)?;
+        assert!(rt; watched.was_in_turn(), "at {workers}");
+    }
+    Ok(())
 }
 
 // Lets `/` pass, and another directory where each other one was asked for as often while it looked.
@@ -139,49 +278,42 @@ impl<R: Wait> Gate for Meeting<'_, R> {
     }
 }
 
-// The numbers of a run of the tree through the gate above.
+// A run of the tree through the gate above.
 fn gated<R: Threads + Wait + Sync>(
     rt: &R,
     alloc: Global,
     texts: &str,
     workers: usize,
-) -> Result<Result<RunCount, RunFault>, Fail> {
+) -> Result<Answer, Fail> {
     let work = tree(alloc, texts)?;
     let mut asked = Vec::new(alloc);
-    for text in texts.split_whitespace() {
-        if text != "/" {
-            asked.push((piece(alloc, text)?, 0))?;
-        }
+    for piece in below_root(alloc, texts)? {
+        asked.push((piece, 0))?;
     }
     let gate = Meeting {
         rt,
         asked: Mutex::new(asked),
     };
-    let answer = run(rt, alloc, &work, piece(alloc, "/")?, workers, &gate);
-    Ok(answer.map(|(_, count)| count))
+    let root = piece(alloc, "/")?;
+    Ok(run(rt, alloc, &work, root, workers, &gate))
 }
 
 #[test]
-fn two_workers_meet_at_the_gate(rt: HostRuntime) -> Result<(), Fail> {
-    assert_eq!(rt; gated(&rt, rt.alloc(), SMALL, 2)?, Ok(counts(3)));
+fn as_many_workers_as_pieces_meet_at_the_gate(rt: HostRuntime) -> Result<(), Fail> {
+    for (texts, workers) in [(SMALL, 2), (WIDE, 4), (WIDEST, 7)] {
+        let wanted = whole(rt.alloc(), texts)?;
+        let answer = gated(&rt, rt.alloc(), texts, workers)?;
+        assert_eq!(rt; answer, wanted, "at {workers}");
+    }
     Ok(())
 }
 
 #[test]
-fn one_worker_is_refused_at_the_gate(rt: HostRuntime) -> Result<(), Fail> {
-    assert_eq!(rt; gated(&rt, rt.alloc(), SMALL, 1)?, Err(RunFault::Gate));
-    Ok(())
-}
-
-#[test]
-fn four_workers_meet_at_the_gate(rt: HostRuntime) -> Result<(), Fail> {
-    assert_eq!(rt; gated(&rt, rt.alloc(), WIDE, 4)?, Ok(counts(5)));
-    Ok(())
-}
-
-#[test]
-fn three_workers_are_refused_where_four_meet(rt: HostRuntime) -> Result<(), Fail> {
-    assert_eq!(rt; gated(&rt, rt.alloc(), WIDE, 3)?, Err(RunFault::Gate));
+fn fewer_workers_than_pieces_are_refused_at_the_gate(rt: HostRuntime) -> Result<(), Fail> {
+    for (texts, workers) in [(SMALL, 1), (WIDE, 3), (WIDEST, 6)] {
+        let answer = gated(&rt, rt.alloc(), texts, workers)?;
+        assert_eq!(rt; answer, Err(RunFault::Gate), "at {workers}");
+    }
     Ok(())
 }
 
@@ -270,19 +402,9 @@ fn visited<R: Threads + Wait + Sync>(
 }
 
 #[test]
-fn two_workers_visit_at_the_same_time(rt: HostRuntime) -> Result<(), Fail> {
-    assert_eq!(rt; visited(&rt, rt.alloc(), 2)?, (true, true));
-    Ok(())
-}
-
-#[test]
-fn four_workers_visit_at_the_same_time(rt: HostRuntime) -> Result<(), Fail> {
-    assert_eq!(rt; visited(&rt, rt.alloc(), 4)?, (true, true));
-    Ok(())
-}
-
-#[test]
-fn one_worker_visits_one_after_another(rt: HostRuntime) -> Result<(), Fail> {
-    assert_eq!(rt; visited(&rt, rt.alloc(), 1)?, (false, true));
+fn several_workers_visit_at_the_same_time(rt: HostRuntime) -> Result<(), Fail> {
+    for (workers, seen) in [(1, (false, true)), (2, (true, true)), (4, (true, true))] {
+        assert_eq!(rt; visited(&rt, rt.alloc(), workers)?, seen, "at {workers}");
+    }
     Ok(())
 }

@@ -1,7 +1,8 @@
-use Rattle.ovl_board.proofs.PieceOrder.{below-decides}
+use Rattle.std.proofs.Common.{◌∙◌, sym}
+use Rattle.ovl_board.proofs.TreeLemmas.{one_below-decides}
 use Rattle.ovl_board.proofs.pieces.Piece.is_parent_of.Goals as goal
 
 pub returns-then-self-kid : goal.returns-then-self-kid
 returns-then-self-kid c =
-    below-decides c.args.self.now c.args.kid.now c.names.result.now c.in-Some.above.now c.names-then-self-kid.result.now c.in-Some.field-0-0.now c.eq.result
-    c.if-self-kid.true c.names.ensures.value c.in-Some.ensures.cases.0 c.names-then-self-kid.ensures.value c.eq.ensures
+    let decides = one_below-decides c.args.self.now c.args.kid.now c.if-self-kid.true in
+    ((λ yes. decides.0 (sym c.lies_below.ensures ∙ yes)), (λ below. c.lies_below.ensures ∙ decides.1 below))
