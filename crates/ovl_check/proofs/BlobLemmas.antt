@@ -9,6 +9,7 @@ use Rattle.std.specs.List.{AllAdjacentBelow, list_any}
 use Rattle.std.specs.BTreeSet.{insert_key}
 use Rattle.std.proofs.lemmas.List.{take_more, map-append}
 use Rattle.std.proofs.lemmas.Bool.{eqb-true}
+use Rattle.std.proofs.Math.Bool.{or-true}
 use Rattle.ovl_names.specs.Names.{PathName, name_eq, name_cmp}
 use Rattle.ovl_names.specs.Paths.{PathNames, is_root}
 use Rattle.ovl_names.specs.Order.{ascends}
@@ -121,11 +122,7 @@ any-In name (own ∷ names) is = by (any-In name names) (name_eq name own) refl 
 In-any : (name : PathName) (names : List PathName) → In name names → list_any (name_eq name) names ≡ true
 In-any name [] h = absurd h
 In-any name (own ∷ names) (inl e) = ap (λ b. b || list_any (name_eq name) names) ((bytes_decides name own).1 e)
-In-any name (own ∷ names) (inr h) = ap (λ b. name_eq name own || b) (In-any name names h) ∙ or_true (name_eq name own)
-  where
-    or_true : (b : Bool) → (b || true) ≡ true
-    or_true true = refl
-    or_true false = refl
+In-any name (own ∷ names) (inr h) = ap (λ b. name_eq name own || b) (In-any name names h) ∙ or-true (name_eq name own)
 
 module _ (blobs : List BlobView) where
   digits-In : (blob : BlobView) → In blob blobs → In (first_digits blob.name) (digits_of_names blobs)

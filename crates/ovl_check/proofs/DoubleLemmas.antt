@@ -2,6 +2,7 @@
 use Rattle.std.proofs.Common.{◌≡◌, ◌⊎◌, inl, inr, Bool, true, false, cond, Option, Some, None, List, [], ◌∷◌, refl, sym, ap, ◌∙◌, subst}
 use Rattle.std.specs.Prelude.{◌&&◌, ◌||◌}
 use Rattle.std.specs.BTreeSet.{insert_key}
+use Rattle.std.proofs.Math.Bool.{or-true}
 use Rattle.std.specs.Ordering.{is_eq, match_ordering}
 use Rattle.std.specs.Cmp.Lexicographic.{nat_list_cmp_total, lists_total}
 use Rattle.std.specs.FinMap.{slice_cmp-IsAntisymmetric, nat_cmp-IsAntisymmetric}
@@ -22,7 +23,7 @@ use Rattle.ovl_check.specs.Walks.{View, is_among, double_at, places_with, double
 pub same_path : (p q : PathNames) → path_cmp p q ≡ Equal → p ≡ q
 same_path = slice_cmp-IsAntisymmetric (slice_cmp-IsAntisymmetric nat_cmp-IsAntisymmetric)
 
-equal : (o : Ordering) → is_eq o ≡ true → o ≡ Equal
+pub equal : (o : Ordering) → is_eq o ≡ true → o ≡ Equal
 equal Less e = let bad : false ≡ true = e in cc
 equal Equal e = refl
 equal Greater e = let bad : false ≡ true = e in cc
@@ -35,14 +36,10 @@ among-In (other ∷ places) place is = by (among-In places place) (is_eq (path_c
     by later true e is = inl (same_path place other (equal (path_cmp place other) e))
     by later false e is = inr (later is)
 
-or_true : (b : Bool) → (b || true) ≡ true
-or_true true = refl
-or_true false = refl
-
 In-among : (places : List PathNames) (place : PathNames) → In place places → is_among places place ≡ true
 In-among [] place h = absurd h
 In-among (other ∷ places) place (inl e) = ap (λ b. b || is_among places place) (ap is_eq (ap (path_cmp place) (sym e) ∙ tied_itself (lists_total nat_list_cmp_total) place))
-In-among (other ∷ places) place (inr h) = ap (λ b. is_eq (path_cmp place other) || b) (In-among places place h) ∙ or_true (is_eq (path_cmp place other))
+In-among (other ∷ places) place (inr h) = ap (λ b. is_eq (path_cmp place other) || b) (In-among places place h) ∙ or-true (is_eq (path_cmp place other))
 
 insert-cases : (q place : PathNames) (places : List PathNames) → In q (insert_key path_cmp places place) → (q ≡ place) ⊎ In q places
 insert-cases q place [] (inl e) = inl e

@@ -1,5 +1,5 @@
 -- Blobs and names that are sought among ascending ones.
-use Rattle.std.proofs.Common.{◌≡◌, ℕ, ◌<◌, ◌≤◌, ◌⊎◌, inl, inr, Bool, true, false, cond, Option, Some, None, Result, Ok, Err, List, [], ◌∷◌, length, get_or, refl, sym, ap, ◌∙◌, subst, arith, add-one, suc, nat_lt, ltb-true, ltb-false}
+use Rattle.std.proofs.Common.{◌≡◌, ℕ, ◌<◌, inl, inr, Bool, true, false, cond, Option, Some, None, Result, Ok, Err, List, [], ◌∷◌, length, get_or, refl, sym, ap, ◌∙◌, subst, arith, add-one, suc}
 use Rattle.std.specs.Prelude.{filter}
 use Rattle.std.specs.List.Sorted.{IsBinarySearchResult, IsSearchInRange, IsNonDecreasingBy}
 use Rattle.std.specs.Ordering.{is_lt, ordering_index, ordering_reverse}
@@ -8,6 +8,7 @@ use Rattle.std.specs.Cmp.Lexicographic.{nat_list_cmp_total, bytes_decides}
 use Rattle.std.specs.declared.cmp.Ordering.{Ordering}
 use Rattle.std.specs.declared.cmp.Ordering.TheVariants.{Less, Equal, Greater}
 use Rattle.std.proofs.lemmas.List.Sorted.{searchable_from_sorted}
+use Rattle.std.proofs.lemmas.Bool.{cases_lt}
 use Rattle.ovl_names.specs.Order.{ascends}
 use Rattle.ovl_names.proofs.Ascending.{ascends-next, is_lt-Less}
 use Rattle.std.proofs.lemmas.Cmp.{tied_itself}
@@ -64,13 +65,6 @@ differ a b o is other = by (bytes_eq a b) refl
     by true e = absurd (other (sym is ∙ (ap (digest_cmp a) (sym ((bytes_decides a b).0 e)) ∙ tied_itself nat_list_cmp_total a)))
     by false e = refl
 
-le_or_lt : (a b : ℕ) → (a ≤ b) ⊎ (b < a)
-le_or_lt a b = by (nat_lt b a) refl
-  where
-    by : (v : Bool) → nat_lt b a ≡ v → (a ≤ b) ⊎ (b < a)
-    by true e = inr (ltb-true b a e)
-    by false e = inl (ltb-false b a e)
-
 abbrev BlobBefore : Blob → Blob → Ordering
 BlobBefore = by_key (λ (b : Blob). b.name)
 
@@ -89,9 +83,9 @@ missing-blob blobs spot name up answer =
     let each : Every (λ (b : Blob). bytes_eq b.name name ≡ false) blobs = (λ b h.
     let at = place b blobs h in
     subst (λ (x : Blob). bytes_eq x.name name ≡ false) (at.2 b)
-    (elim (le_or_lt spot at.0) [
-      | inl after ↦ differ (get_or blobs at.0 b).name name Greater (parts.1 at.0 b after at.1) (λ e. cc)
-      | inr before ↦ differ (get_or blobs at.0 b).name name Less (parts.0 at.0 b (omega (arith, at.1)) before) (λ e. cc)
+    (elim (cases_lt at.0 spot) [
+      | inr after ↦ differ (get_or blobs at.0 b).name name Greater (parts.1 at.0 b after at.1) (λ e. cc)
+      | inl before ↦ differ (get_or blobs at.0 b).name name Less (parts.0 at.0 b (omega (arith, at.1)) before) (λ e. cc)
     ])) in
     sym (find-none (blob_views blobs) name (λ v h. let b = In-map-cases blob_view v blobs h in subst (λ (x : BlobView). bytes_eq x.name name ≡ false) (sym b.1.1) (each b.0 b.1.0)))
 
@@ -106,9 +100,9 @@ pub missing-name : (names : List (List ℕ)) (spot : ℕ) (name : List ℕ) → 
 missing-name names spot name up answer h =
     let parts = answer (keyed-searchable (λ n. n) names name up) in
     let at = place name names h in
-    elim (le_or_lt spot at.0) [
-      | inl after ↦ (let bad : Equal ≡ Greater = sym (tied_itself nat_list_cmp_total name) ∙ (ap (λ n. digest_cmp n name) (sym (at.2 name)) ∙ parts.1 at.0 name after at.1) in absurd (cc))
-      | inr before ↦ (let bad : Equal ≡ Less = sym (tied_itself nat_list_cmp_total name) ∙ (ap (λ n. digest_cmp n name) (sym (at.2 name)) ∙ parts.0 at.0 name (omega (arith, at.1)) before) in absurd (cc))
+    elim (cases_lt at.0 spot) [
+      | inr after ↦ (let bad : Equal ≡ Greater = sym (tied_itself nat_list_cmp_total name) ∙ (ap (λ n. digest_cmp n name) (sym (at.2 name)) ∙ parts.1 at.0 name after at.1) in absurd (cc))
+      | inl before ↦ (let bad : Equal ≡ Less = sym (tied_itself nat_list_cmp_total name) ∙ (ap (λ n. digest_cmp n name) (sym (at.2 name)) ∙ parts.0 at.0 name (omega (arith, at.1)) before) in absurd (cc))
     ]
 
 module _ (blobs : List BlobView) (up : are_in_order blobs ≡ true) where

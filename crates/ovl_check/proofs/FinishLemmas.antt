@@ -30,33 +30,33 @@ at-drop (first ∷ layers) (suc i) layer rest each is = at-drop layers i layer r
 
 module _ (work : CheckView) (each : All IsLayer work.stack.layers) where
   abbrev FoundIn : ℕ → Entries → List Entries → List Finding
-  FoundIn i layer rest = findings_in work.blobs i layer (record { layers = rest })
+  FoundIn i layer rest = findings_in work.blobs i layer (record work.stack { layers = rest })
 
   here_is : (i : ℕ) (layer : Entries) (rest : List Entries) → drop i work.stack.layers ≡ layer ∷ rest → findings_in work.blobs i (layer_at work.stack i) (layers_below work.stack i) ≡ FoundIn i layer rest
   here_is i layer rest is =
       let at = at-drop work.stack.layers i layer rest each is in
       let below : drop (i + 1) work.stack.layers ≡ rest = rw add-one at.1.0 in
-      (λ j. findings_in work.blobs i (at.0 j) (record { layers = below j }))
+      (λ j. findings_in work.blobs i (at.0 j) (record work.stack { layers = below j }))
 
-  pub all-sound : (i : ℕ) (layers : List Entries) (lists : List (List View)) → drop i work.stack.layers ≡ layers → length lists ≡ length layers → AreLayerWalks work i lists → (f : Finding) → In f (flat_map found_along lists) → In f (findings_from work.blobs i layers)
+  pub all-sound : (i : ℕ) (layers : List Entries) (lists : List (List View)) → drop i work.stack.layers ≡ layers → length lists ≡ length layers → AreLayerWalks work i lists → (f : Finding) → In f (flat_map found_along lists) → In f (findings_from work.blobs work.stack i layers)
   all-sound i [] [] is count walks f h = absurd h
   all-sound i [] (views ∷ lists) is count walks f h = absurd (omega (arith, count))
   all-sound i (layer ∷ layers) [] is count walks f h = absurd h
   all-sound i (layer ∷ layers) (views ∷ lists) is count walks f h =
       let at = at-drop work.stack.layers i layer layers each is in
       elim (In-cases f (found_along views) (flat_map found_along lists) h) [
-        | inl own ↦ In-left f (FoundIn i layer layers) (findings_from work.blobs (i + 1) layers)
+        | inl own ↦ In-left f (FoundIn i layer layers) (findings_from work.blobs work.stack (i + 1) layers)
             (subst (In f) (here_is i layer layers is) (along-sound work each i (subst IsLayer (sym at.0) at.1.1) views walks.0 f own))
-        | inr more ↦ In-right f (FoundIn i layer layers) (findings_from work.blobs (i + 1) layers)
+        | inr more ↦ In-right f (FoundIn i layer layers) (findings_from work.blobs work.stack (i + 1) layers)
             (all-sound (i + 1) layers lists (rw add-one at.1.0) (omega (arith, count)) walks.1 f more)
       ]
 
-  pub all-whole : (i : ℕ) (layers : List Entries) (lists : List (List View)) → drop i work.stack.layers ≡ layers → length lists ≡ length layers → AreLayerWalks work i lists → (f : Finding) → In f (findings_from work.blobs i layers) → In f (flat_map found_along lists)
+  pub all-whole : (i : ℕ) (layers : List Entries) (lists : List (List View)) → drop i work.stack.layers ≡ layers → length lists ≡ length layers → AreLayerWalks work i lists → (f : Finding) → In f (findings_from work.blobs work.stack i layers) → In f (flat_map found_along lists)
   all-whole i [] lists is count walks f h = absurd h
   all-whole i (layer ∷ layers) [] is count walks f h = absurd (omega (arith, count))
   all-whole i (layer ∷ layers) (views ∷ lists) is count walks f h =
       let at = at-drop work.stack.layers i layer layers each is in
-      elim (In-cases f (FoundIn i layer layers) (findings_from work.blobs (i + 1) layers) h) [
+      elim (In-cases f (FoundIn i layer layers) (findings_from work.blobs work.stack (i + 1) layers) h) [
         | inl own ↦ In-left f (found_along views) (flat_map found_along lists)
             (along-whole work each i (subst IsLayer (sym at.0) at.1.1) views walks.0 f (subst (In f) (sym (here_is i layer layers is)) own))
         | inr more ↦ In-right f (found_along views) (flat_map found_along lists)

@@ -4,6 +4,7 @@ use Rattle.std.specs.Prelude.{◌&&◌, ◌||◌, not, filter}
 use Rattle.std.specs.List.{list_any, flat_map, All}
 use Rattle.std.specs.Ordering.{is_lt, ordering_then, nat_cmp}
 use Rattle.std.specs.declared.cmp.Ordering.TheVariants.{Less}
+use Rattle.std.proofs.Math.Bool.{or-true}
 use Rattle.std.proofs.lemmas.Cmp.{tied_itself, nat_cmp_total}
 use Rattle.std.specs.Cmp.Lexicographic.{nat_list_cmp_total, lists_total}
 use Rattle.ovl_names.specs.Names.{PathName}
@@ -73,11 +74,7 @@ any-some {X} test (y ∷ xs) is = by (any-some test xs) (test y) refl is
 some-any : {X : Type 0} (test : X → Bool) (x : X) (xs : List X) → In x xs → test x ≡ true → list_any test xs ≡ true
 some-any test x [] h is = absurd h
 some-any test x (y ∷ xs) (inl e) is = ap (λ b. b || list_any test xs) (ap test (sym e) ∙ is)
-some-any test x (y ∷ xs) (inr h) is = ap (λ b. test y || b) (some-any test x xs h is) ∙ or_true (test y)
-  where
-    or_true : (b : Bool) → (b || true) ≡ true
-    or_true true = refl
-    or_true false = refl
+some-any test x (y ∷ xs) (inr h) is = ap (λ b. test y || b) (some-any test x xs h is) ∙ or-true (test y)
 
 double-code : (code : Code) → is_double code ≡ true → code ≡ RedirectDouble
 double-code RedirectDouble is = refl

@@ -2,7 +2,7 @@
 use Rattle.std.proofs.Common.{◌≡◌, ℕ, ◌+◌, ◌<◌, ◌≤◌, inl, inr, Bool, true, List, [], ◌∷◌, map, refl, sym, ap, ◌∙◌, subst, arith}
 use Rattle.std.specs.Prelude.{filter}
 use Rattle.std.specs.List.{All}
-use Rattle.std.specs.Ordering.{nat_cmp, ordering_then, ordering_reverse, MatchOrdering, is_eq, eq_by_cmp}
+use Rattle.std.specs.Ordering.{nat_cmp, ordering_then, ordering_reverse, MatchOrdering, eq_by_cmp}
 use Rattle.std.specs.Cmp.{IsTotalOrder, IsEquivalence}
 use Rattle.std.specs.Cmp.Lexicographic.{nat_list_cmp_total, lists_total}
 use Rattle.std.specs.FinMap.{nat_cmp-IsAntisymmetric}
@@ -28,7 +28,7 @@ use Rattle.ovl_check.specs.Blobs.{BlobView}
 use Rattle.ovl_check.specs.Conditions.{holds}
 use Rattle.ovl_check.specs.Findings.{finding, findings_at, findings_in, findings_from}
 use Rattle.ovl_check.proofs.Ascent.{Rises-ascends, Rises-filter}
-use Rattle.ovl_check.proofs.DoubleLemmas.{same_path}
+use Rattle.ovl_check.proofs.DoubleLemmas.{same_path, equal}
 
 abbrev pub finding_cmp : Finding → Finding → Ordering
 finding_cmp = finding_ord.ghosts.cmp
@@ -128,11 +128,11 @@ module _ (blobs : List BlobView) where
       let one = In-map-cases (finding i e.0.0) f (filter (holds blobs layer below e.0) all_codes) e.2 in
       ap (λ (x : Finding). x.layer) one.1.1
 
-  from-layer : (i : ℕ) (layers : List Entries) (f : Finding) → In f (findings_from blobs i layers) → i ≤ f.layer
-  from-layer i [] f h = absurd h
-  from-layer i (layer ∷ layers) f h = elim (In-cases f (findings_in blobs i layer (record { layers = layers })) (findings_from blobs (i + 1) layers) h) [
-    | inl own ↦ omega (arith, in-layer i layer (record { layers = layers }) f own)
-    | inr more ↦ omega (arith, from-layer (i + 1) layers f more)
+  from-layer : (stack : StackView) (i : ℕ) (layers : List Entries) (f : Finding) → In f (findings_from blobs stack i layers) → i ≤ f.layer
+  from-layer stack i [] f h = absurd h
+  from-layer stack i (layer ∷ layers) f h = elim (In-cases f (findings_in blobs i layer (record stack { layers = layers })) (findings_from blobs stack (i + 1) layers) h) [
+    | inl own ↦ omega (arith, in-layer i layer (record stack { layers = layers }) f own)
+    | inr more ↦ omega (arith, from-layer stack (i + 1) layers f more)
   ]
 
   less_number : (m n : ℕ) → m < n → nat_cmp m n ≡ Less
@@ -143,14 +143,14 @@ module _ (blobs : List BlobView) where
       by Equal e r = absurd (omega (arith, r, lt))
       by Greater e r = absurd (omega (arith, r, lt))
 
-  pub from-rise : (i : ℕ) (layers : List Entries) → All IsLayer layers → Rises FindingBefore (findings_from blobs i layers)
-  from-rise i [] each = tt
-  from-rise i (layer ∷ layers) each =
-      Rises-append FindingBefore (findings_in blobs i layer (record { layers = layers })) (findings_from blobs (i + 1) layers)
-      (in-rise i layer (record { layers = layers }) (Rises-ascends entry_cmp layer (all-first IsLayer layer layers each).in_order))
-      (from-rise (i + 1) layers (all-rest IsLayer layer layers each))
+  pub from-rise : (stack : StackView) (i : ℕ) (layers : List Entries) → All IsLayer layers → Rises FindingBefore (findings_from blobs stack i layers)
+  from-rise stack i [] each = tt
+  from-rise stack i (layer ∷ layers) each =
+      Rises-append FindingBefore (findings_in blobs i layer (record stack { layers = layers })) (findings_from blobs stack (i + 1) layers)
+      (in-rise i layer (record stack { layers = layers }) (Rises-ascends entry_cmp layer (all-first IsLayer layer layers each).in_order))
+      (from-rise stack (i + 1) layers (all-rest IsLayer layer layers each))
       (λ f g h k. ap (λ o. ordering_then o (ordering_then (path_cmp f.path g.path) (code_cmp f.code g.code)))
-      (less_number f.layer g.layer (omega (arith, in-layer i layer (record { layers = layers }) f h, from-layer (i + 1) layers g k))))
+      (less_number f.layer g.layer (omega (arith, in-layer i layer (record stack { layers = layers }) f h, from-layer stack (i + 1) layers g k))))
 
 -- ---- the test of equality goes by the order
 
@@ -165,8 +165,3 @@ finding_equiv = finding_eq_laws.laws-law
 
 pub finding_eq-exact : (a b : Finding) → finding_eq a b ≡ true → a ≡ b
 finding_eq-exact a b is = finding_exact a b (equal (finding_cmp a b) (sym (finding_ties a b) ∙ is))
-  where
-    equal : (o : Ordering) → is_eq o ≡ true → o ≡ Equal
-    equal Less e = absurd (cc)
-    equal Equal e = refl
-    equal Greater e = absurd (cc)

@@ -1,14 +1,17 @@
 -- The findings of worked examples, by computation.
 use Rattle.std.specs.Prelude.{◌≡◌, ℕ, List, [], ◌∷◌, codes, Some, None, refl}
-use Rattle.ovl_inode.specs.declared.inodes.Kind.TheVariants.{File}
+use Rattle.ovl_inode.specs.declared.inodes.Inode.{Inode}
+use Rattle.ovl_inode.specs.declared.inodes.Kind.TheVariants.{Dir, File}
+use Rattle.ovl_inode.specs.Attributes.{Attributes, opaque_name, redirect_name, metacopy_name}
 use Rattle.ovl_inode.proofs.OnLiterals.{inode_on_literals}
 use Rattle.ovl_lookup.specs.Stacks.{StackView}
-use Rattle.ovl_lookup.proofs.Notation.{plain_inode, directory, marked_x, moved, file_a, metacopy, whiteout, empty_whiteout, full_whiteout, path, layer_of}
+use Rattle.ovl_lookup.proofs.Notation.{plain_inode, directory, marked_x, opaque, moved, digest_a, file_a, metacopy, metacopy_moved, whiteout, empty_whiteout, full_whiteout, path, layer_of}
 use Rattle.ovl_lookup.proofs.RowStacks.{stack_of, root_alone, covered, one_over, moved_twice, moved_twice_shown, opaque_with_redirect, metacopies_over}
 use Rattle.ovl_check.specs.declared.findings.Code.{Code}
 use Rattle.ovl_check.specs.declared.findings.Finding.{Finding}
-use Rattle.ovl_check.specs.declared.findings.Code.TheVariants.{RedirectForm, RedirectLost, RedirectKind, RedirectDouble, RedirectOpen, DataMissing, DataSize, BlobMissing, BlobSize, BlobDigest, OrphanWhiteout, WhiteoutUnmarked, MarkIgnored}
+use Rattle.ovl_check.specs.declared.findings.Code.TheVariants.{RedirectForm, RedirectLost, RedirectKind, RedirectDouble, RedirectOpen, DataMissing, DataSize, BlobMissing, BlobSize, BlobDigest, OrphanWhiteout, WhiteoutInOpaque, WhiteoutUnmarked, ImpureMissing, MarkIgnored}
 use Rattle.ovl_check.specs.Blobs.{BlobView}
+use Rattle.ovl_check.specs.Conditions.{impure_name, origin_name}
 use Rattle.ovl_check.specs.Findings.{finding, findings}
 use Rattle.ovl_check.proofs.Digests.{blob_a, digest_abc, digest_ab, changed_abc, blob_ab, digests_on_literals}
 
@@ -86,6 +89,87 @@ metacopies-missing = refl
 metacopies-size : findings with_a (stack_of (layer_of ((path (codes "/f"), metacopy 2) ∷ []) ∷ layer_of ((path (codes "/f"), metacopy 1) ∷ []) ∷ layer_of ((path (codes "/f"), file_a) ∷ []) ∷ [])) ≡ at 0 (codes "/f") DataSize ∷ []
 unfolding inode_on_literals digests_on_literals
 metacopies-size = refl
+
+-- a directory and a file of the contents `a`, with these attributes
+abbrev directory_with : Attributes → Inode
+directory_with attrs = plain_inode Dir 0o755 attrs
+
+abbrev file_with : Attributes → Inode
+file_with attrs = plain_inode (File 1 (Some digest_a)) 0o644 attrs
+
+malformed-metacopy : findings with_a (stack_of (layer_of ((path (codes "/f"), metacopy_moved 1 (codes "a/b")) ∷ []) ∷ layer_of ((path (codes "/f"), file_a) ∷ []) ∷ [])) ≡ at 0 (codes "/f") RedirectForm ∷ []
+unfolding inode_on_literals digests_on_literals
+malformed-metacopy = refl
+
+-- a relative redirect in an opaque directory
+closed-lost : findings [] (stack_of (layer_of ((path (codes "/n"), opaque) ∷ (path (codes "/n/d"), moved (codes "r")) ∷ []) ∷ layer_of ((path (codes "/n"), directory) ∷ (path (codes "/n/r"), directory) ∷ []) ∷ [])) ≡ at 0 (codes "/n/d") RedirectLost ∷ []
+unfolding inode_on_literals
+closed-lost = refl
+
+-- a whiteout in a directory below an opaque one
+closed-orphan : findings with_a (stack_of (layer_of ((path (codes "/n"), opaque) ∷ (path (codes "/n/d"), directory) ∷ (path (codes "/n/d/k"), whiteout) ∷ []) ∷ layer_of ((path (codes "/n"), directory) ∷ (path (codes "/n/d"), directory) ∷ (path (codes "/n/d/k"), file_a) ∷ []) ∷ [])) ≡ at 0 (codes "/n/d/k") OrphanWhiteout ∷ []
+unfolding inode_on_literals digests_on_literals
+closed-orphan = refl
+
+-- two whiteouts in a moved directory, of which one hides something at the old place, the other nothing
+abbrev below_moved_whiteouts : StackView
+below_moved_whiteouts = stack_of (layer_of (
+    (path (codes "/p"), moved (codes "/x"))
+    ∷ (path (codes "/p/k"), whiteout)
+    ∷ (path (codes "/p/z"), whiteout)
+    ∷ (path (codes "/x"), whiteout)
+    ∷ [])
+    ∷ layer_of (
+    (path (codes "/p"), directory)
+    ∷ (path (codes "/p/k"), file_a)
+    ∷ (path (codes "/x"), directory)
+    ∷ (path (codes "/x/z"), file_a)
+    ∷ [])
+    ∷ [])
+
+moved-orphan : findings with_a below_moved_whiteouts ≡ at 0 (codes "/p/k") OrphanWhiteout ∷ []
+unfolding inode_on_literals digests_on_literals
+moved-orphan = refl
+
+whiteout-in-opaque : findings with_a (stack_of (layer_of ((path (codes "/d"), opaque) ∷ (path (codes "/d/k"), whiteout) ∷ []) ∷ layer_of ((path (codes "/d"), directory) ∷ (path (codes "/d/k"), file_a) ∷ []) ∷ [])) ≡ at 0 (codes "/d/k") WhiteoutInOpaque ∷ []
+unfolding inode_on_literals digests_on_literals
+whiteout-in-opaque = refl
+
+-- a copied file in a directory that isn't marked as impure, and in one that is
+abbrev copied : StackView
+copied = stack_of (layer_of (
+    (path (codes "/d"), directory)
+    ∷ (path (codes "/d/k"), file_with ((origin_name, []) ∷ []))
+    ∷ (path (codes "/e"), directory_with ((impure_name, codes "y") ∷ []))
+    ∷ (path (codes "/e/k"), file_with ((origin_name, []) ∷ []))
+    ∷ [])
+    ∷ [])
+
+impure-missing : findings with_a copied ≡ at 0 (codes "/d") ImpureMissing ∷ []
+unfolding inode_on_literals digests_on_literals
+impure-missing = refl
+
+-- `opaque` on a file and of another value, `redirect` on a plain file, `metacopy` on a directory
+abbrev without_meaning : StackView
+without_meaning = stack_of (layer_of (
+    (path (codes "/a"), file_with ((opaque_name, codes "y") ∷ []))
+    ∷ (path (codes "/b"), directory_with ((opaque_name, codes "z") ∷ []))
+    ∷ (path (codes "/f"), file_with ((redirect_name, codes "/x") ∷ []))
+    ∷ (path (codes "/m"), directory_with ((metacopy_name, []) ∷ []))
+    ∷ [])
+    ∷ [])
+
+ignored-marks : findings with_a without_meaning ≡ at 0 (codes "/a") MarkIgnored ∷ at 0 (codes "/b") MarkIgnored ∷ at 0 (codes "/f") MarkIgnored ∷ at 0 (codes "/m") MarkIgnored ∷ []
+unfolding inode_on_literals digests_on_literals
+ignored-marks = refl
+
+ignored-opaque_root : findings [] (stack_of ((([], opaque) ∷ []) ∷ [])) ≡ at 0 (codes "/") MarkIgnored ∷ []
+unfolding inode_on_literals
+ignored-opaque_root = refl
+
+ignored-redirect_root : findings [] (stack_of ((([], moved (codes "/x")) ∷ []) ∷ [])) ≡ at 0 (codes "/") MarkIgnored ∷ []
+unfolding inode_on_literals
+ignored-redirect_root = refl
 
 -- an empty file, and files whose blobs have other bytes, aren't there, and are shorter
 abbrev wrong_blobs : StackView

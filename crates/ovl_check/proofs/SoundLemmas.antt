@@ -2,6 +2,7 @@
 use Rattle.std.proofs.Common.{◌≡◌, ℕ, ◌+◌, Bool, true, false, ◌&&◌, ◌||◌, not, List, [], ◌∷◌, refl, sym, ap, ◌∙◌, map, filter, if◌then◌else◌}
 use Rattle.std.specs.List.{list_any, list_all, flat_map}
 use Rattle.std.proofs.lemmas.List.Folds.{list_any-append}
+use Rattle.std.proofs.Math.Bool.{and-true, and-false, or-false}
 use Rattle.ovl_manifest.specs.Layers.{Entries, Entry}
 use Rattle.ovl_lookup.specs.Stacks.{StackView}
 use Rattle.ovl_names.specs.Paths.{PathNames}
@@ -9,11 +10,11 @@ use Rattle.ovl_lookup.specs.Sound.{redirect_is_malformed, redirect_is_lost, redi
 use Rattle.ovl_check.specs.declared.findings.Code.{Code}
 use Rattle.ovl_check.specs.declared.findings.Code.TheVariants.{RedirectForm, RedirectLost, RedirectKind, RedirectDouble, RedirectOpen, DataMissing, DataSize, BlobMissing, BlobSize, BlobDigest, OrphanWhiteout, WhiteoutInOpaque, WhiteoutUnmarked, ImpureMissing, MarkIgnored}
 use Rattle.ovl_check.specs.declared.findings.Finding.{Finding}
-use Rattle.ovl_check.specs.Codes.{all_codes}
+use Rattle.ovl_check.specs.Codes.{all_codes, is_layer_fault}
 use Rattle.ovl_check.specs.Blobs.{BlobView}
 use Rattle.ovl_check.specs.Conditions.{holds}
 use Rattle.ovl_check.specs.Findings.{finding, findings_at, findings_in, findings_from}
-use Rattle.ovl_check.specs.Laws.{is_layer_fault, FindingsTellSoundness}
+use Rattle.ovl_check.specs.Laws.{FindingsTellSoundness}
 
 -- ---- tests of lists
 
@@ -32,18 +33,6 @@ any-filter h p (x ∷ xs) = kept p x (filter h xs) (h x) ∙ ap (λ b. (h x && p
 not-or : (a b : Bool) → not (a || b) ≡ (not a && not b)
 not-or true b = refl
 not-or false b = refl
-
-and-true : (a : Bool) → (a && true) ≡ a
-and-true true = refl
-and-true false = refl
-
-and-false : (a : Bool) → (a && false) ≡ false
-and-false true = refl
-and-false false = refl
-
-or-false : (a : Bool) → (a || false) ≡ a
-or-false true = refl
-or-false false = refl
 
 -- of fifteen tests the first seven count
 first-seven : (a b c d e f g k l m n o p q r : Bool) →
@@ -116,16 +105,16 @@ over_entries found faulty one (entry ∷ entries) =
     ∙ ap (λ b. not (faulty entry) && b) (sym (over_entries found faulty one entries))
     )
 
-from_layers : (blobs : List BlobView) (i : ℕ) (layers : List Entries) → are_sound layers ≡ not (list_any tells (findings_from blobs i layers))
-from_layers blobs i [] = refl
-from_layers blobs i (layer ∷ layers) =
-    let below : StackView = record { layers = layers } in
+from_layers : (blobs : List BlobView) (stack : StackView) (i : ℕ) (layers : List Entries) → are_sound stack layers ≡ not (list_any tells (findings_from blobs stack i layers))
+from_layers blobs stack i [] = refl
+from_layers blobs stack i (layer ∷ layers) =
+    let below : StackView = record stack { layers = layers } in
     sym (
-    ap not (list_any-append tells (findings_in blobs i layer below) (findings_from blobs (i + 1) layers))
-    ∙ not-or (list_any tells (findings_in blobs i layer below)) (list_any tells (findings_from blobs (i + 1) layers))
-    ∙ ap (λ b. b && not (list_any tells (findings_from blobs (i + 1) layers))) (sym (over_entries (findings_at blobs i layer below) (is_faulty layer below) (λ entry. at_entry blobs layer below entry i) layer))
-    ∙ ap (λ b. list_all (λ entry. not (is_faulty layer below entry)) layer && b) (sym (from_layers blobs (i + 1) layers))
+    ap not (list_any-append tells (findings_in blobs i layer below) (findings_from blobs stack (i + 1) layers))
+    ∙ not-or (list_any tells (findings_in blobs i layer below)) (list_any tells (findings_from blobs stack (i + 1) layers))
+    ∙ ap (λ b. b && not (list_any tells (findings_from blobs stack (i + 1) layers))) (sym (over_entries (findings_at blobs i layer below) (is_faulty layer below) (λ entry. at_entry blobs layer below entry i) layer))
+    ∙ ap (λ b. list_all (λ entry. not (is_faulty layer below entry)) layer && b) (sym (from_layers blobs stack (i + 1) layers))
     )
 
 pub findings-tell : FindingsTellSoundness
-findings-tell blobs stack = from_layers blobs 0 stack.layers
+findings-tell blobs stack = from_layers blobs stack 0 stack.layers

@@ -1,28 +1,35 @@
 -- The codes of findings.
-use Rattle.std.specs.Prelude.{Bool, true, false, List, [], ◌∷◌, ◌++◌}
+use Rattle.std.specs.Prelude.{Bool, true, false, ◌||◌, List, [], ◌∷◌}
 use Rattle.ovl_check.specs.declared.findings.Code.{Code}
 use Rattle.ovl_check.specs.declared.findings.Code.TheVariants.{RedirectForm, RedirectLost, RedirectKind, RedirectDouble, RedirectOpen, DataMissing, DataSize, BlobMissing, BlobSize, BlobDigest, OrphanWhiteout, WhiteoutInOpaque, WhiteoutUnmarked, ImpureMissing, MarkIgnored}
 
--- the faults of layers, the faults of blobs, and the notes, in the order of a report
-abbrev pub layer_faults : List Code
-layer_faults = RedirectForm ∷ RedirectLost ∷ RedirectKind ∷ RedirectDouble ∷ RedirectOpen ∷ DataMissing ∷ DataSize ∷ []
-
-abbrev pub blob_faults : List Code
-blob_faults = BlobMissing ∷ BlobSize ∷ BlobDigest ∷ []
-
-abbrev pub notes : List Code
-notes = OrphanWhiteout ∷ WhiteoutInOpaque ∷ WhiteoutUnmarked ∷ ImpureMissing ∷ MarkIgnored ∷ []
-
+-- all codes in the order of a report: the faults of layers, the faults of blobs, and the notes
 abbrev pub all_codes : List Code
-all_codes = layer_faults ++ (blob_faults ++ notes)
+all_codes =
+    RedirectForm ∷ RedirectLost ∷ RedirectKind ∷ RedirectDouble ∷ RedirectOpen ∷ DataMissing ∷ DataSize
+    ∷ BlobMissing ∷ BlobSize ∷ BlobDigest
+    ∷ OrphanWhiteout ∷ WhiteoutInOpaque ∷ WhiteoutUnmarked ∷ ImpureMissing ∷ MarkIgnored ∷ []
 
+-- a fault of a layer speaks of a redirect, or of a metacopy file's data
+abbrev pub is_layer_fault : Code → Bool
+is_layer_fault RedirectForm = true
+is_layer_fault RedirectLost = true
+is_layer_fault RedirectKind = true
+is_layer_fault RedirectDouble = true
+is_layer_fault RedirectOpen = true
+is_layer_fault DataMissing = true
+is_layer_fault DataSize = true
+is_layer_fault _ = false
+
+abbrev pub is_blob_fault : Code → Bool
+is_blob_fault BlobMissing = true
+is_blob_fault BlobSize = true
+is_blob_fault BlobDigest = true
+is_blob_fault _ = false
+
+-- what is no fault is a note
 abbrev pub is_fault : Code → Bool
-is_fault OrphanWhiteout = false
-is_fault WhiteoutInOpaque = false
-is_fault WhiteoutUnmarked = false
-is_fault ImpureMissing = false
-is_fault MarkIgnored = false
-is_fault _ = true
+is_fault code = is_layer_fault code || is_blob_fault code
 
 -- the one code that a directory can't have by itself
 abbrev pub is_double : Code → Bool

@@ -1,6 +1,6 @@
 -- The condition of each code at an entry of a layer, over the blobs and the stack of the layers below.
 -- Those on redirects and data stand with the sound stacks.
-use Rattle.std.specs.Prelude.{ℕ, Bool, true, false, ◌&&◌, ◌||◌, ◌==◌, not, Option, Some, None, List, ◌++◌, length, drop, codes, is_none}
+use Rattle.std.specs.Prelude.{ℕ, Bool, true, false, ◌&&◌, ◌||◌, ◌==◌, not, Option, Some, None, List, ◌++◌, length, codes, is_none}
 use Rattle.std.specs.List.{list_any, find}
 use Rattle.std.specs.Str.{bytes_eq}
 use Rattle.ovl_names.specs.Paths.{PathNames, child_path, parent_path, is_root}
@@ -11,7 +11,7 @@ use Rattle.ovl_inode.specs.declared.marks.Mark.TheVariants.{DirOpaque, Meta, Met
 use Rattle.ovl_inode.specs.Attributes.{overlay_prefix, opaque_name, redirect_name, metacopy_name, whiteout_name}
 use Rattle.ovl_inode.specs.Marks.{has_attribute, attribute_is, is_directory, is_regular, is_whiteout}
 use Rattle.ovl_manifest.specs.Layers.{Entries, Entry, entry_at, names_below}
-use Rattle.ovl_lookup.specs.Walk.{mark_at, walk}
+use Rattle.ovl_lookup.specs.Walk.{mark_at, walk, natural_path}
 use Rattle.ovl_lookup.specs.Stacks.{StackView}
 use Rattle.ovl_lookup.specs.Merged.{look, is_nothing}
 use Rattle.ovl_lookup.specs.Sound.{size_of, redirect_is_malformed, redirect_is_lost, redirect_is_of_wrong_kind, redirect_is_double, redirect_is_open, data_is_missing, data_is_of_other_size}
@@ -19,7 +19,7 @@ use Rattle.ovl_check.specs.declared.findings.Code.{Code}
 use Rattle.ovl_check.specs.declared.findings.Code.TheVariants.{RedirectForm, RedirectLost, RedirectKind, RedirectDouble, RedirectOpen, DataMissing, DataSize, BlobMissing, BlobSize, BlobDigest, OrphanWhiteout, WhiteoutInOpaque, WhiteoutUnmarked, ImpureMissing, MarkIgnored}
 use Rattle.ovl_check.specs.Blobs.{BlobView, is_wrong}
 
--- ---- blobs
+-- ---- blobs; these conditions are this profile's own
 
 -- the digest that a file names as its contents
 abbrev pub blob_of : Inode → Option (List ℕ)
@@ -63,21 +63,18 @@ abbrev pub is_in_marked : Entries → PathNames → Bool
 is_in_marked layer path =
     elim (entry_at layer (parent_path path)) [ Some inode ↦ attribute_is inode opaque_name (codes "x") | None ↦ false ]
 
--- where the layers below have what the entry stands over: the next path of its directory, and its own name
-abbrev pub natural_path : Entries → PathNames → PathNames
-natural_path layer path = (walk layer (parent_path path)).next ++ drop (length (parent_path path)) path
-
--- a whiteout outside an opaque directory that hides nothing
+-- a whiteout outside an opaque directory that hides nothing; this profile's own
 abbrev pub whiteout_is_orphan : Entries → StackView → PathNames → Inode → Bool
 whiteout_is_orphan layer below path inode =
     is_whiteout inode && not (is_in_opaque layer path)
     && ((walk layer (parent_path path)).closed || is_nothing (look below (natural_path layer path)))
 
--- a whiteout in an opaque directory, which hides everything by itself
+-- a whiteout in an opaque directory, which hides everything by itself; overlayfs.rst, "whiteouts and opaque directories"
 abbrev pub whiteout_is_in_opaque : Entries → PathNames → Inode → Bool
 whiteout_is_in_opaque layer path inode = is_whiteout inode && is_in_opaque layer path
 
--- a whiteout by attribute in a directory that is neither opaque nor marked as holding such
+-- a whiteout by attribute in a directory that is neither opaque nor marked as holding such; overlayfs.rst, "whiteouts and
+-- opaque directories" on the value `x`
 abbrev pub whiteout_is_unmarked : Entries → PathNames → Inode → Bool
 whiteout_is_unmarked layer path inode =
     is_whiteout inode && is_regular inode && not (is_in_opaque layer path) && not (is_in_marked layer path)
@@ -94,7 +91,8 @@ origin_name = overlay_prefix ++ codes "origin"
 abbrev pub has_origin_at : Entries → PathNames → Bool
 has_origin_at layer path = elim (entry_at layer path) [ Some inode ↦ has_attribute inode origin_name | None ↦ false ]
 
--- a directory that directly holds an entry with `origin` and isn't marked as impure
+-- a directory that directly holds an entry with `origin` and isn't marked as impure; `origin` is that of overlayfs.rst,
+-- "Changes to underlying filesystems", and `impure` what kernels write beside it, of which the document has nothing
 abbrev pub impure_is_missing : Entries → PathNames → Inode → Bool
 impure_is_missing layer path inode =
     is_directory inode && not (attribute_is inode impure_name (codes "y"))
@@ -131,7 +129,7 @@ is_empty_file inode = elim inode.kind [ File size blob ↦ size == 0 | _ ↦ fal
 abbrev pub whiteout_is_ignored : Inode → Bool
 whiteout_is_ignored inode = has_attribute inode whiteout_name && not (is_empty_file inode)
 
--- at least one attribute says nothing
+-- at least one attribute says nothing; this profile's own
 abbrev pub mark_is_ignored : Entries → PathNames → Inode → Bool
 mark_is_ignored layer path inode =
     opaque_is_ignored path inode

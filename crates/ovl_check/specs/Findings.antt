@@ -22,12 +22,12 @@ findings_at blobs i layer below entry = map (finding i entry.0) (filter (holds b
 abbrev pub findings_in : List BlobView → ℕ → Entries → StackView → List Finding
 findings_in blobs i layer below = flat_map (findings_at blobs i layer below) layer
 
--- the findings of these layers, of which the first is layer `i`
-abbrev pub findings_from : List BlobView → ℕ → List Entries → List Finding
-findings_from blobs i [] = []
-findings_from blobs i (layer ∷ layers) =
-    findings_in blobs i layer (record { layers = layers }) ++ findings_from blobs (i + 1) layers
+-- the findings of these layers of a stack, the lowest, of which the first is layer `i`
+abbrev pub findings_from : List BlobView → StackView → ℕ → List Entries → List Finding
+findings_from blobs stack i [] = []
+findings_from blobs stack i (layer ∷ layers) =
+    findings_in blobs i layer (record stack { layers = layers }) ++ findings_from blobs stack (i + 1) layers
 
 -- the findings of a stack and its blobs, by layer, then by path, then by code
 abbrev pub findings : List BlobView → StackView → List Finding
-findings blobs stack = findings_from blobs 0 stack.layers
+findings blobs stack = findings_from blobs stack 0 stack.layers

@@ -20,7 +20,9 @@ pub const BLOB_SPACE: u16 = 128;
 /// A blob: bytes under the digest that they should have.
 #[derive(Debug, Drop)]
 pub struct Blob {
+    /// The SHA-256 digest that the bytes should have.
     pub name: Digest,
+    /// The bytes, whatever their digest.
     pub bytes: Vec<u8>,
 }
 

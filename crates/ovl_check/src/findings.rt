@@ -51,7 +51,10 @@ impl Code {
 /// What is found at an entry of a layer. Findings are ordered by layer, then by path, then by code.
 #[derive(Debug, PartialEq, Eq, PartialOrd, Ord, Drop)]
 pub struct Finding {
+    /// The layer, 0 for the topmost.
     pub layer: u16,
+    /// The path of the entry in that layer.
     pub path: Path,
+    /// What is found there.
     pub code: Code,
 }

@@ -10,6 +10,8 @@ pub mod laws;
 mod notes;
 mod places;
 mod redirects;
+#[cfg(test)]
+mod samples;
 mod subjects;
 #[cfg(test)]
 mod tests;

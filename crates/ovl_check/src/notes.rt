@@ -7,8 +7,7 @@ ghost use Rattle.ovl_lookup.specs.Walk.{mark_at as the_mark};
 ghost use Rattle.ovl_check.specs.Conditions.{is_opaque as opaque_test, is_any_meta as any_meta_test, is_empty_file as empty_file_test, is_in_opaque as in_opaque_test, is_in_marked as in_marked_test, has_origin_at as origin_test, whiteout_is_orphan as the_orphan, whiteout_is_in_opaque as the_in_opaque, whiteout_is_unmarked as the_unmarked, impure_is_missing as the_impure, opaque_is_ignored as opaque_ignored, redirect_is_ignored as redirect_ignored, metacopy_is_ignored as metacopy_ignored, whiteout_is_ignored as whiteout_ignored};
 ghost use Rattle.ovl_check.specs.Checks.{layer_at, layers_below};
 
-use crate::places::{inode_at, look_below, mark_at, names_in, parent_of, step_of};
-use crate::redirects::is_nothing;
+use crate::places::{inode_at, look_below, mark_at, names_in, natural_path, parent_of};
 use ovl_inode::{Inode, Kind, Mark, is_directory, is_whiteout};
 use ovl_lookup::Stack;
 use ovl_names::Path;
@@ -67,14 +66,11 @@ pub(crate) fn whiteout_is_orphan(
     if is_in_opaque(alloc, stack, i, path)? {
         return Ok(false);
     }
-    let parent = parent_of(alloc, path)?;
-    let step = step_of(alloc, stack, i, &parent)?;
-    if step.closed {
+    let Some(natural) = natural_path(alloc, stack, i, path)? else {
         return Ok(true);
-    }
-    let natural = step.next.joined(alloc, &path.names()[parent.len()..])?;
+    };
     let look = look_below(alloc, stack, i, &natural)?;
-    Ok(is_nothing(&look))
+    Ok(look.is_nothing())
 }
 
 // Whether it is a whiteout in an opaque directory.

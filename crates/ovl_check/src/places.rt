@@ -2,7 +2,7 @@ ghost use Rattle.std.specs.Prelude.{◌≡◌, ◌<◌, Some, IfOk, length};
 ghost use Rattle.std.specs.Option.{option_map};
 ghost use Rattle.ovl_names.specs.Paths.{parent_path};
 ghost use Rattle.ovl_manifest.specs.Layers.{entry_at, names_below};
-ghost use Rattle.ovl_lookup.specs.Walk.{walk, mark_at as the_mark};
+ghost use Rattle.ovl_lookup.specs.Walk.{walk, mark_at as the_mark, open_natural_path};
 ghost use Rattle.ovl_lookup.specs.Merged.{look as the_look};
 ghost use Rattle.ovl_check.specs.Checks.{layer_at, layers_below};
 
@@ -43,6 +43,19 @@ pub(crate) fn step_of(
     ensures { IfOk result (λ step. step ≡ walk (layer_at stack.now i) path.now) }
 {
     stack.own_walk(alloc, i, path)
+}
+
+// The path at which the layers below layer `i` have an entry by its own name, where its directory doesn't hide them.
+pub(crate) fn natural_path(
+    alloc: Global,
+    stack: &Stack,
+    i: usize,
+    path: &Path,
+) -> Result<Option<Path>, AllocError>
+    requires { i < length stack.now.layers }
+    ensures { IfOk result (λ natural. natural ≡ open_natural_path (layer_at stack.now i) path.now) }
+{
+    stack.natural_path(alloc, i, path)
 }
 
 // What the layers below layer `i` show at a path.

@@ -1,12 +1,11 @@
 ghost use Rattle.std.specs.Prelude.{◌≡◌, ◌<◌, Some, IfOk, length};
 ghost use Rattle.ovl_lookup.specs.Walk.{mark_at as the_mark};
-ghost use Rattle.ovl_lookup.specs.Merged.{is_nothing as nothing_test, is_shown_directory as directory_test};
 ghost use Rattle.ovl_lookup.specs.Sound.{is_moved as moved_test, is_malformed as malformed_test, is_seen_there, redirect_is_lost as the_lost, redirect_is_of_wrong_kind as the_wrong_kind, redirect_is_open as the_open};
 ghost use Rattle.ovl_check.specs.Checks.{layer_at, layers_below};
 
 use crate::places::{look_below, mark_at, step_of};
-use ovl_inode::{Mark, is_directory};
-use ovl_lookup::{Look, Stack};
+use ovl_inode::Mark;
+use ovl_lookup::Stack;
 use ovl_names::Path;
 use std::alloc::{AllocError, Global};
 
@@ -44,7 +43,7 @@ pub(crate) fn redirect_is_lost(
         return Ok(true);
     }
     let look = look_below(alloc, stack, i, &step.next)?;
-    Ok(is_nothing(&look))
+    Ok(look.is_nothing())
 }
 
 // Whether it is a moved directory whose old place shows something else than a directory.
@@ -67,7 +66,7 @@ pub(crate) fn redirect_is_of_wrong_kind(
         return Ok(false);
     }
     let look = look_below(alloc, stack, i, &step.next)?;
-    Ok(!is_nothing(&look) && !is_shown_directory(&look))
+    Ok(!look.is_nothing() && !look.is_shown_directory())
 }
 
 // Whether it is a moved directory whose old place the layer doesn't hide.
@@ -108,19 +107,4 @@ fn is_seen(alloc: Global, stack: &Stack, i: usize, place: &Path) -> Result<bool,
         return Ok(true);
     }
     Ok(matches!(mark_at(alloc, stack, i, place)?, Some(Mark::DirPlain)))
-}
-
-pub(crate) fn is_nothing(look: &Look) -> bool
-    ensures { result ≡ nothing_test look.now }
-{
-    matches!(look, Look::Nothing)
-}
-
-fn is_shown_directory(look: &Look) -> bool
-    ensures { result ≡ directory_test look.now }
-{
-    match look {
-        Look::Shown(inode) => is_directory(inode),
-        _ => false,
-    }
 }

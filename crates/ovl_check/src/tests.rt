@@ -1,15 +1,11 @@
-ghost use Rattle.std.specs.Prelude.{◌≡◌, IfOk, true, length, map};
-ghost use Rattle.ovl_board.specs.Parcels.{parcel_views};
-ghost use Rattle.ovl_check.specs.Checks.{check_seen};
-ghost use Rattle.ovl_check.specs.CheckViews.{check_view};
-ghost use Rattle.ovl_check.specs.Walks.{AreLayerWalks};
+ghost use Rattle.std.specs.Prelude.{◌≡◌, IfOk, true, []};
 ghost use Rattle.ovl_check.specs.Blobs.{blob_views, are_in_order, wrong_names};
 
 use super::*;
+use crate::samples::{found_in, stack_of};
 use ovl_board::{Parcel, Piece, Work, plain_walk};
 use ovl_inode::Digest;
 use ovl_lookup::Stack;
-use ovl_manifest::{Layer, read_layer};
 use ovl_names::Path;
 use std::alloc::Global;
 use std::test::Fail;
@@ -17,10 +13,6 @@ use std::test::Fail;
 const DIGEST_ABC: &str = "ba7816bf8f01cfea414140de5dae2223b00361a396177a9cb410ff61f20015ad";
 
 const DIGEST_AB: &str = "fb8e20fc2e4c3f248c60c39bd652f3c1347298bb977b8b4d5903b85055620603";
-
-const DIR: &str = "\"kind\":\"dir\",\"mode\":493";
-
-const TO_X: &str = "\"trusted.overlay.redirect\":\"2f78\"";
 
 fn blob(alloc: Global, name: &str, bytes: &[u8]) -> Result<Blob, Fail> {
     Ok(Blob {
@@ -37,17 +29,22 @@ fn two_blobs(alloc: Global) -> Result<Vec<Blob>, Fail> {
     Ok(blobs)
 }
 
+fn root_of(alloc: Global, space: u16) -> Piece
+    ensures { result ≡ record { space = space; dir = [] } }
+{
+    Piece {
+        space,
+        dir: Path::root(alloc),
+    }
+}
+
 // The names of the blobs with wrong bytes, by the plain walk of their work.
 fn wrong_of(alloc: Global, blobs: &[Blob]) -> Result<Vec<Digest>, Fail>
     requires { are_in_order (blob_views blobs.now) ≡ true }
     ensures { IfOk result (λ wrong. wrong.items ≡ wrong_names (blob_views blobs.now)) }
 {
     let work = BlobWork::new(blobs);
-    let root = Piece {
-        space: BLOB_SPACE,
-        dir: Path::root(alloc),
-    };
-    let parcels = plain_walk(alloc, &work, root)?;
+    let parcels = plain_walk(alloc, &work, root_of(alloc, BLOB_SPACE))?;
     Ok(finish_blobs(alloc, &work, parcels)?)
 }
 
@@ -75,16 +72,28 @@ fn the_blob_with_wrong_bytes_is_found(rt: HostRuntime) -> Result<(), Fail> {
 #[test]
 fn blobs_are_digested_by_their_first_two_digits(rt: HostRuntime) -> Result<(), Fail> {
     let blobs = two_blobs(rt.alloc())?;
-    let work = BlobWork::new(&blobs);
-    for (text, kids, wrong) in [("/", "/ba/fb", 0), ("/ba", "", 1), ("/fb", "", 0)] {
-        let piece = Piece {
-            space: BLOB_SPACE,
-            dir: Path::parse(rt.alloc(), text)?,
-        };
-        let (found, out) = work.visit(rt.alloc(), &piece)?;
-        assert_eq!(rt; shown(rt.alloc(), &found)?.as_str(), kids, "at {text:?}");
-        assert_eq!(rt; out.len(), wrong, "at {text:?}");
+    let parcels = plain_walk(
+        rt.alloc(),
+        &BlobWork::new(&blobs),
+        root_of(rt.alloc(), BLOB_SPACE),
+    )?;
+    let mut text = String::new(rt.alloc());
+    for parcel in &parcels {
+        push_parcel(rt.alloc(), &mut text, parcel)?;
     }
+    assert_eq!(rt;
+        text.as_str(),
+        "/ has /ba/fb, wrong 0\n/ba has , wrong 1\n/fb has , wrong 0\n"
+    );
+    Ok(())
+}
+
+// The piece of a parcel, its kids, and how many blobs with wrong bytes it tells.
+fn push_parcel(alloc: Global, text: &mut String, parcel: &Parcel<Vec<Digest>>) -> Result<(), Fail> {
+    let path = parcel.piece.dir.shown(alloc)?;
+    let kids = shown(alloc, &parcel.kids)?;
+    let line = format!(in alloc; "{path} has {kids}, wrong {}\n", parcel.out.len())?;
+    text.push_str(line.as_str())?;
     Ok(())
 }
 
@@ -105,43 +114,19 @@ fn no_work_goes_deeper_than_it_says(rt: HostRuntime) -> Result<(), Fail> {
     Ok(())
 }
 
-fn push_entry(alloc: Global, text: &mut String, path: &str, attributes: &str) -> Result<(), Fail> {
-    let entry = format!(in alloc;
-        "{{\"path\":\"{path}\",{DIR},\"uid\":0,\"gid\":0,\"mtime\":0,\"xattrs\":{{{attributes}}}}}"
-    )?;
-    text.push_str(entry.as_str())?;
-    Ok(())
-}
-
-// A layer of a root and these directories: the path and the attributes of each.
-fn layer_of(alloc: Global, directories: &[(&str, &str)]) -> Result<Layer, Fail> {
-    let mut text = String::from_str(alloc, "{\"overlay-layer\":1,\"entries\":[")?;
-    push_entry(alloc, &mut text, "/", "")?;
-    for (path, attributes) in directories {
-        text.push_str(",")?;
-        push_entry(alloc, &mut text, path, attributes)?;
-    }
-    text.push_str("]}")?;
-    Ok(read_layer(alloc, text.as_bytes())?)
-}
-
 // Two directories that were moved from one place, over that place.
 fn moved_twice(alloc: Global) -> Result<Stack, Fail> {
-    let mut layers = Vec::new(alloc);
-    layers.push(layer_of(alloc, &[("/a", TO_X), ("/b", TO_X)])?)?;
-    layers.push(layer_of(alloc, &[("/x", "")])?)?;
-    Ok(Stack::of(layers)?)
+    stack_of(
+        alloc,
+        "dir /, dir /a redirect=/x, dir /b redirect=/x",
+        "dir /, dir /x",
+    )
 }
 
 // What comes of a directory of the upper of these layers: how many kids, and the output.
 fn checked(alloc: Global, path: &str) -> Result<(usize, CheckOut), Fail> {
     let stack = moved_twice(alloc)?;
-    let blobs = Vec::new(alloc);
-    if !blobs_in_order(&blobs) {
-        return Err(Fail::from("the names do not ascend"));
-    }
-    let wrong = wrong_of(alloc, &blobs)?;
-    let work = CheckWork::new(&stack, &blobs, &wrong);
+    let work = CheckWork::new(&stack, &[], &[]);
     let piece = Piece {
         space: 0,
         dir: Path::parse(alloc, path)?,
@@ -176,39 +161,69 @@ fn faults_come_before_notes(rt: HostRuntime) -> Result<(), Fail> {
     Ok(())
 }
 
-// The plain walks of the first `count` layers, each from its root.
-fn walks_of(
-    alloc: Global,
-    work: &CheckWork<'_>,
-    count: u16,
-) -> Result<Vec<Vec<Parcel<CheckOut>>>, Fail>
-    ensures count { IfOk result (λ layers. length layers.items ≡ count) }
-    ensures walks { IfOk result (λ layers. AreLayerWalks (check_view work.now) 0 (map (λ parcels. parcel_views check_seen parcels.items) layers.items)) }
-{
-    let mut layers = Vec::new(alloc);
-    for i in 0..count {
-        let root = Piece {
-            space: i,
-            dir: Path::root(alloc),
-        };
-        layers.push(plain_walk(alloc, work, root)?)?;
-    }
-    Ok(layers)
+#[test]
+fn the_second_of_two_moves_from_one_place_is_a_double(rt: HostRuntime) -> Result<(), Fail> {
+    let upper = "dir /, dir /a redirect=/x, dir /b redirect=/x";
+    let found = found_in(rt.alloc(), upper, "dir /, dir /x")?;
+    assert_eq!(rt;
+        found.as_str(),
+        "RedirectOpen 0 /a\nRedirectDouble 0 /b\nRedirectOpen 0 /b\n"
+    );
+    Ok(())
 }
 
 #[test]
-fn the_second_of_two_moves_from_one_place_is_a_double(rt: HostRuntime) -> Result<(), Fail> {
-    let stack = moved_twice(rt.alloc())?;
-    let blobs = Vec::new(rt.alloc());
-    if !blobs_in_order(&blobs) || stack.layers() != 2 {
-        return Err(Fail::from("the names do not ascend"));
+fn faults_and_notes_have_their_conditions(rt: HostRuntime) -> Result<(), Fail> {
+    for (upper, lower, found) in [
+        (
+            "dir /, bare /f metacopy= redirect=a/b",
+            "dir /, empty /f",
+            "RedirectForm 0 /f\n",
+        ),
+        (
+            "dir /, dir /n opaque=y, dir /n/d redirect=r",
+            "dir /, dir /n, dir /n/r",
+            "RedirectLost 0 /n/d\n",
+        ),
+        (
+            "dir /, dir /n opaque=y, dir /n/d, whiteout /n/d/k",
+            "dir /, dir /n, dir /n/d, empty /n/d/k",
+            "OrphanWhiteout 0 /n/d/k\n",
+        ),
+        (
+            "dir /, dir /p redirect=/x, whiteout /p/k, whiteout /p/z, whiteout /x",
+            "dir /, dir /p, empty /p/k, dir /x, empty /x/z",
+            "OrphanWhiteout 0 /p/k\n",
+        ),
+        (
+            "dir /, dir /d opaque=y, whiteout /d/k",
+            "dir /, dir /d, empty /d/k",
+            "WhiteoutInOpaque 0 /d/k\n",
+        ),
+        (
+            "dir /, dir /d, empty /d/k origin=, dir /e impure=y, empty /e/k origin=",
+            "dir /",
+            "ImpureMissing 0 /d\n",
+        ),
+    ] {
+        let text = found_in(rt.alloc(), upper, lower)?;
+        assert_eq!(rt; text.as_str(), found, "in {upper:?}");
     }
-    let wrong = wrong_of(rt.alloc(), &blobs)?;
-    let work = CheckWork::new(&stack, &blobs, &wrong);
-    let layers = walks_of(rt.alloc(), &work, 2)?;
-    let findings = finish_check(rt.alloc(), &work, layers)?;
-    assert_eq!(rt; findings.len(), 3);
-    assert_eq!(rt; findings[1].code, Code::RedirectDouble);
-    assert_eq!(rt; findings[1].path, Path::parse(rt.alloc(), "/b")?);
+    Ok(())
+}
+
+#[test]
+fn marks_that_say_nothing_are_noted(rt: HostRuntime) -> Result<(), Fail> {
+    for (upper, found) in [
+        ("dir /, empty /f opaque=y", "MarkIgnored 0 /f\n"),
+        ("dir /, dir /d opaque=z", "MarkIgnored 0 /d\n"),
+        ("dir / opaque=y", "MarkIgnored 0 /\n"),
+        ("dir / redirect=/x", "MarkIgnored 0 /\n"),
+        ("dir /, empty /f redirect=/x", "MarkIgnored 0 /f\n"),
+        ("dir /, dir /d metacopy=", "MarkIgnored 0 /d\n"),
+    ] {
+        let text = found_in(rt.alloc(), upper, "dir /")?;
+        assert_eq!(rt; text.as_str(), found, "in {upper:?}");
+    }
     Ok(())
 }

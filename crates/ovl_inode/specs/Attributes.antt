@@ -79,6 +79,12 @@ metacopy_name = overlay_prefix ++ codes "metacopy"
 abbrev pub whiteout_name : List ℕ
 whiteout_name = overlay_prefix ++ codes "whiteout"
 
+abbrev pub impure_name : List ℕ
+impure_name = overlay_prefix ++ codes "impure"
+
+abbrev pub origin_name : List ℕ
+origin_name = overlay_prefix ++ codes "origin"
+
 abbrev pub is_overlay_name : List ℕ → Bool
 is_overlay_name name = starts_with nat_eq name overlay_prefix
 

@@ -5,3 +5,4 @@ pub mod Redirects
 pub mod Marks
 pub mod Sound
 pub mod Inodes
+pub mod Kinds

@@ -1,6 +1,6 @@
 -- What an inode means to the overlay: the first case that holds is its mark.
--- overlayfs.rst, "whiteouts and opaque directories", "redirect_dir" and "Metadata only copy up".
-use Rattle.std.specs.Prelude.{ℕ, Bool, true, false, ◌&&◌, ◌==◌, if◌then◌else◌, Option, Some, None, List, is_some, codes}
+-- overlayfs.rst, "whiteouts and opaque directories", "renaming directories" and "Metadata only copy up".
+use Rattle.std.specs.Prelude.{ℕ, Bool, true, false, ◌&&◌, ◌==◌, not, if◌then◌else◌, Option, Some, None, List, is_some, codes}
 use Rattle.ovl_names.specs.Names.{name_eq}
 use Rattle.ovl_inode.specs.declared.inodes.Inode.{Inode}
 use Rattle.ovl_inode.specs.declared.inodes.Kind.TheVariants.{Dir, File, Char}
@@ -27,6 +27,10 @@ is_regular inode = elim inode.kind [ File size blob ↦ true | _ ↦ false ]
 -- the attribute `metacopy` is there
 abbrev pub has_metacopy : Inode → Bool
 has_metacopy inode = has_attribute inode metacopy_name
+
+-- a regular file that has its contents itself
+abbrev pub is_data : Inode → Bool
+is_data inode = is_regular inode && not (has_metacopy inode)
 
 -- a char device 0:0, or an empty regular file with the attribute `whiteout`
 abbrev pub is_whiteout : Inode → Bool

@@ -1,5 +1,5 @@
 -- What the value of a `redirect` says: a path from the overlay's root, or a name beside the directory.
--- overlayfs.rst, "Directories" (redirect_dir); which values are malformed is this profile's.
+-- overlayfs.rst, "renaming directories"; a name beside the directory, and which values are malformed, is this profile's.
 use Rattle.std.specs.Prelude.{ℕ, Bool, false, not, ◌||◌, ◌==◌, if◌then◌else◌, Option, Some, None, List, [], ◌∷◌, length, nat_lt, drop}
 use Rattle.std.specs.List.{list_any}
 use Rattle.std.specs.Str.{is_utf8}

@@ -9,16 +9,22 @@ ghost use Rattle.ovl_inode.specs.declared.attributes.AttrFault.TheVariants.{Memo
 ghost use Rattle.ovl_inode.specs.Bytes.{are_bytes};
 ghost use Rattle.ovl_inode.specs.Attributes.{attribute, with_attribute, attribute_fault, attribute_refusal, all_before, is_attribute_name, are_attributes, visible_attributes, is_overlay_name as overlay_name_test};
 
+use crate::overlay;
 use std::alloc::{AllocError, AllocFailed, Global};
 use std::cmp::Ordering;
 use std::marker::Model;
 use thiserror::Error;
 
+/// The most bytes of an attribute's name.
+pub const ATTR_NAME_LIMIT: usize = 255;
+
 /// Why an attribute can't be put; where both hold, the first is given.
 #[derive(Clone, Copy, Debug, PartialEq, Eq, Error)]
 pub enum AttrFault {
-    #[error("the attribute's name has not 1 to 255 bytes without NUL")]
+    /// The name has not 1 to [`ATTR_NAME_LIMIT`] bytes, or holds NUL.
+    #[error("the attribute's name has not 1 to {max} bytes without NUL", max = ATTR_NAME_LIMIT)]
     Name,
+    /// No memory was left.
     #[error("out of memory")]
     Memory,
 }
@@ -64,7 +70,7 @@ impl AttrName {
             (λ fault. attribute_fault text.now ≡ attribute_refusal fault) }
     {
         let bytes = text.as_bytes();
-        if bytes.is_empty() || bytes.len() > 255 || bytes.contains(&0) {
+        if bytes.is_empty() || bytes.len() > ATTR_NAME_LIMIT || bytes.contains(&0) {
             return Err(AttrFault::Name);
         }
         Ok(AttrName {
@@ -285,5 +291,5 @@ fn copied(alloc: Global, name: &AttrName, value: &Bytes) -> Result<(AttrName, By
 fn is_overlay_name(name: &str) -> bool
     ensures { result ≡ overlay_name_test name.now }
 {
-    name.as_bytes().starts_with(b"trusted.overlay.")
+    name.as_bytes().starts_with(overlay::PREFIX.as_bytes())
 }

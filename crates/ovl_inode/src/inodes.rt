@@ -1,10 +1,20 @@
 ghost use Rattle.std.specs.Prelude.{◌≡◌, IfOk, string_bytes};
 ghost use Rattle.ovl_inode.specs.Sound.{is_sound_inode, is_sound_kind, has_sound_blob, is_target};
+ghost use Rattle.ovl_inode.specs.Kinds.{kind_word, size_of, blob_of as the_blob};
 ghost use Rattle.ovl_inode.specs.Inodes.{visible as visible_inode};
 
-use crate::{Attrs, Digest};
+use crate::{Attrs, Digest, overlay};
 use std::alloc::{AllocError, Global};
 use std::marker::Model;
+
+/// The greatest mode: permission bits, set-user-ID, set-group-ID and sticky bit.
+pub const MODE_LIMIT: u16 = 4095;
+
+/// The most bytes of a file.
+pub const SIZE_LIMIT: u64 = 9_223_372_036_854_775_807;
+
+/// The most bytes of a symlink's target.
+pub const TARGET_LIMIT: usize = 4095;
 
 /// The target of a symlink.
 #[derive(Debug, Drop)]
@@ -56,17 +66,38 @@ impl From<String> for Target {
 /// What an inode is, with what only its kind has.
 #[derive(Debug, Drop)]
 pub enum Kind {
+    /// A directory.
     Dir,
     /// A regular file: its size in bytes, and the digest of its contents where a blob has them.
     File { size: u64, blob: Option<Digest> },
+    /// A symbolic link.
     Symlink { target: Target },
+    /// A character device.
     Char { major: u32, minor: u32 },
+    /// A block device.
     Block { major: u32, minor: u32 },
+    /// A named pipe.
     Fifo,
+    /// A socket.
     Socket,
 }
 
 impl Kind {
+    /// The word that manifests and reports have for the kind.
+    pub fn word(&self) -> &'static str
+        ensures { result.now ≡ kind_word self.now }
+    {
+        match self {
+            Kind::Dir => "dir",
+            Kind::File { .. } => "file",
+            Kind::Symlink { .. } => "symlink",
+            Kind::Char { .. } => "char",
+            Kind::Block { .. } => "block",
+            Kind::Fifo => "fifo",
+            Kind::Socket => "socket",
+        }
+    }
+
     /// A kind equal to this one; fails only for want of memory.
     pub fn copy(&self, alloc: Global) -> Result<Kind, AllocError>
         ensures { IfOk result (λ kind. kind ≡ self.now) }
@@ -97,11 +128,17 @@ impl Kind {
 /// The inode of an entry: its kind, permission bits, owner, modification time in seconds and extended attributes.
 #[derive(Debug, Drop)]
 pub struct Inode {
+    /// What it is.
     pub kind: Kind,
+    /// Permission bits, set-user-ID, set-group-ID and sticky bit; at most [`MODE_LIMIT`] where it is sound.
     pub mode: u16,
+    /// The owner's number.
     pub uid: u32,
+    /// The owning group's number.
     pub gid: u32,
+    /// The time of the last modification, in seconds from the start of 1970 in UTC.
     pub mtime: i64,
+    /// The extended attributes.
     pub attrs: Attrs,
 }
 
@@ -118,6 +155,26 @@ impl Inode {
             mtime: self.mtime,
             attrs: self.attrs.copy(alloc)?,
         })
+    }
+}
+
+/// The size of a regular file in bytes, and 0 for every other kind.
+pub fn file_size(inode: &Inode) -> u64
+    ensures { result ≡ size_of inode.now }
+{
+    match &inode.kind {
+        Kind::File { size, .. } => *size,
+        _ => 0,
+    }
+}
+
+/// The digest that a regular file names as its contents, if it names one.
+pub fn blob_of(inode: &Inode) -> Option<Digest>
+    ensures { result ≡ the_blob inode.now }
+{
+    match &inode.kind {
+        Kind::File { blob, .. } => *blob,
+        _ => None,
     }
 }
 
@@ -145,11 +202,8 @@ pub fn sound(inode: &Inode) -> bool
     // The types keep the ranges of these numbers, and the attributes as they should be.
     let (_uid, _gid, _mtime) = (inode.uid, inode.gid, inode.mtime);
     let _pairs = inode.attrs.pairs();
-    inode.mode <= 4095
-        && is_kind_sound(
-            &inode.kind,
-            inode.attrs.get("trusted.overlay.metacopy").is_some(),
-        )
+    inode.mode <= MODE_LIMIT
+        && is_kind_sound(&inode.kind, inode.attrs.get(overlay::METACOPY).is_some())
 }
 
 // Whether a manifest can state the kind of an inode that has `metacopy` or hasn't.
@@ -157,7 +211,8 @@ fn is_kind_sound(kind: &Kind, has_metacopy: bool) -> bool
     ensures { result ≡ is_sound_kind kind.now has_metacopy }
 {
     match kind {
-        Kind::File { size, blob } => *size < 1 << 63 && is_blob_sound(*size, *blob, has_metacopy),
+        Kind::File { size, blob } => *size <= SIZE_LIMIT
+            && is_blob_sound(*size, *blob, has_metacopy),
         Kind::Symlink { target } => is_target_sound(target.as_str()),
         // The types keep the ranges of these numbers.
         Kind::Char { major, minor } | Kind::Block { major, minor } => {
@@ -185,5 +240,5 @@ fn is_blob_sound(size: u64, blob: Option<Digest>, has_metacopy: bool) -> bool
 fn is_target_sound(text: &str) -> bool
     ensures { result ≡ is_target text.now }
 {
-    !text.is_empty() && text.len() <= 4095 && !text.as_bytes().contains(&0)
+    !text.is_empty() && text.len() <= TARGET_LIMIT && !text.as_bytes().contains(&0)
 }

@@ -7,10 +7,15 @@ mod inodes;
 mod marks;
 #[cfg(test)]
 mod marks_tests;
+pub mod overlay;
 #[cfg(test)]
 mod tests;
 
-pub use attributes::{AttrFault, AttrName, Attrs, Bytes};
+pub use attributes::{ATTR_NAME_LIMIT, AttrFault, AttrName, Attrs, Bytes};
 pub use digests::{Digest, DigestFault, are_lower_digits};
-pub use inodes::{Inode, Kind, Target, sound, visible};
-pub use marks::{Mark, Redirect, RedirectFault, is_directory, is_whiteout, mark_of, read_redirect};
+pub use inodes::{
+    Inode, Kind, MODE_LIMIT, SIZE_LIMIT, TARGET_LIMIT, Target, blob_of, file_size, sound, visible,
+};
+pub use marks::{
+    Mark, Redirect, RedirectFault, is_data, is_directory, is_whiteout, mark_of, read_redirect,
+};

@@ -5,10 +5,10 @@ ghost use Rattle.ovl_names.specs.Names.{slash};
 ghost use Rattle.ovl_names.specs.Paths.{parts_between};
 ghost use Rattle.ovl_inode.specs.declared.marks.RedirectFault.TheVariants.{Memory};
 ghost use Rattle.ovl_inode.specs.Redirects.{redirect_fault, redirect_of, redirect_refusal, is_absolute, is_bad_part as bad_part_test};
-ghost use Rattle.ovl_inode.specs.Marks.{mark_of as the_mark, is_whiteout as the_whiteout, is_directory as the_directory, is_regular as the_regular, redirect_reading as the_reading};
+ghost use Rattle.ovl_inode.specs.Marks.{mark_of as the_mark, is_whiteout as the_whiteout, is_directory as the_directory, is_regular as the_regular, is_data as data_test, redirect_reading as the_reading};
 
-use crate::{Inode, Kind};
-use ovl_names::{Name, Path};
+use crate::{Inode, Kind, overlay};
+use ovl_names::{NAME_LIMIT, Name, Path, has_empty_part};
 use std::alloc::{AllocError, Global};
 use thiserror::Error;
 
@@ -45,7 +45,7 @@ impl From<AllocError> for RedirectFault {
 }
 
 /// What an inode means to the overlay: the first of these that holds.
-/// overlayfs.rst: "whiteouts and opaque directories", "redirect_dir", "Metadata only copy up".
+/// overlayfs.rst: "whiteouts and opaque directories", "renaming directories", "Metadata only copy up".
 #[derive(Debug, Drop)]
 pub enum Mark {
     /// A char device 0:0, or an empty regular file with the attribute `whiteout`.
@@ -69,7 +69,8 @@ pub enum Mark {
 /// What the value of a `redirect` says: one that begins with `/` is a path from the root of the overlay, every other
 /// a name in the same directory. Otherwise the first fault in the order of [`RedirectFault`], each looked for in the
 /// whole value before the next. A path may have any number of names.
-/// overlayfs.rst: "redirect_dir"; which values are malformed is this profile's.
+/// overlayfs.rst: "renaming directories"; that a name lies beside the directory, and which values are malformed, is
+/// this profile's.
 pub fn read_redirect(alloc: Global, value: &[u8]) -> Result<Redirect, RedirectFault>
     ensures { MatchResult result
         (λ redirect. (redirect ≡ redirect_of value.now) × (redirect_fault value.now ≡ None))
@@ -120,12 +121,6 @@ fn path_to(alloc: Global, rest: &str) -> Result<Path, RedirectFault>
     Ok(path)
 }
 
-fn has_empty_part(rest: &str) -> bool
-    ensures { result ≡ list_any (λ part. length part == 0) (parts_between rest.now) }
-{
-    rest.split('/').any(|part| part.is_empty())
-}
-
 fn has_bad_part(rest: &str) -> bool
     ensures { result ≡ list_any bad_part_test (parts_between rest.now) }
 {
@@ -156,7 +151,7 @@ fn name_beside(alloc: Global, text: &str) -> Result<Name, RedirectFault>
 fn is_bad_part(part: &str) -> bool
     ensures { result ≡ bad_part_test part.now }
 {
-    part == "." || part == ".." || part.len() > 255
+    part == "." || part == ".." || part.len() > NAME_LIMIT
 }
 
 /// What an inode means to the overlay, see [`Mark`]; fails only for want of memory.
@@ -180,9 +175,7 @@ pub fn is_whiteout(inode: &Inode) -> bool
 {
     match &inode.kind {
         Kind::Char { major, minor } => *major == 0 && *minor == 0,
-        Kind::File { size, .. } => {
-            *size == 0 && inode.attrs.get("trusted.overlay.whiteout").is_some()
-        }
+        Kind::File { size, .. } => *size == 0 && inode.attrs.get(overlay::WHITEOUT).is_some(),
         _ => false,
     }
 }
@@ -194,11 +187,19 @@ pub fn is_directory(inode: &Inode) -> bool
     matches!(&inode.kind, Kind::Dir)
 }
 
+/// Whether the inode is a regular file without the attribute `metacopy`, whose contents are its own.
+/// overlayfs.rst: "Metadata only copy up".
+pub fn is_data(inode: &Inode) -> bool
+    ensures { result ≡ data_test inode.now }
+{
+    matches!(&inode.kind, Kind::File { .. }) && inode.attrs.get(overlay::METACOPY).is_none()
+}
+
 fn directory_mark(alloc: Global, inode: &Inode) -> Result<Mark, AllocError>
     requires { the_directory inode.now ≡ true }
     ensures { IfOk result (λ mark. mark ≡ the_mark inode.now) }
 {
-    if inode.attrs.get("trusted.overlay.opaque") == Some(b"y".as_slice()) {
+    if inode.attrs.get(overlay::OPAQUE) == Some(b"y".as_slice()) {
         return Ok(Mark::DirOpaque);
     }
     Ok(match redirect_reading(alloc, inode)? {
@@ -213,7 +214,7 @@ fn file_mark(alloc: Global, inode: &Inode) -> Result<Mark, AllocError>
     requires no_whiteout { the_whiteout inode.now ≡ false }
     ensures { IfOk result (λ mark. mark ≡ the_mark inode.now) }
 {
-    if inode.attrs.get("trusted.overlay.metacopy").is_none() {
+    if inode.attrs.get(overlay::METACOPY).is_none() {
         return Ok(Mark::Leaf);
     }
     Ok(match redirect_reading(alloc, inode)? {
@@ -227,7 +228,7 @@ fn file_mark(alloc: Global, inode: &Inode) -> Result<Mark, AllocError>
 fn redirect_reading(alloc: Global, inode: &Inode) -> Result<Option<Option<Redirect>>, AllocError>
     ensures { IfOk result (λ reading. reading ≡ the_reading inode.now) }
 {
-    let Some(value) = inode.attrs.get("trusted.overlay.redirect") else {
+    let Some(value) = inode.attrs.get(overlay::REDIRECT) else {
         return Ok(None);
     };
     match read_redirect(alloc, value) {

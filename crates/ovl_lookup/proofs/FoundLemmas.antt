@@ -88,7 +88,8 @@ regular-kind : (kind : Kind) → (elim kind as (λ _. Bool) [ File size blob ↦
 regular-kind Dir is = let bad : false ≡ true = is in cc
 regular-kind _ is = refl
 
-directory-kind : (kind : Kind) → (elim kind as (λ _. Bool) [ Dir ↦ true | _ ↦ false ]) ≡ true → (elim kind as (λ _. Bool) [ File size blob ↦ true | _ ↦ false ]) ≡ false
+-- a directory is no regular file
+pub directory-kind : (kind : Kind) → (elim kind as (λ _. Bool) [ Dir ↦ true | _ ↦ false ]) ≡ true → (elim kind as (λ _. Bool) [ File size blob ↦ true | _ ↦ false ]) ≡ false
 directory-kind Dir is = refl
 directory-kind (File size blob) is = let bad : false ≡ true = is in cc
 directory-kind _ is = refl

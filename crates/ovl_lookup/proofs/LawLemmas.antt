@@ -9,26 +9,16 @@ use Rattle.ovl_lookup.specs.Laws.{ShowsParents, ShowsWithinDepth}
 use Rattle.ovl_lookup.specs.Trace.{things_found}
 use Rattle.ovl_lookup.specs.Merged.{shown_of, is_shown_directory}
 use Rattle.ovl_names.specs.Paths.{child_path}
-use Rattle.ovl_lookup.proofs.FoundLemmas.{shown_of-full}
+use Rattle.ovl_lookup.proofs.FoundLemmas.{directory-kind, shown_of-full}
 use Rattle.ovl_lookup.proofs.KidLemmas.{shows-found}
 use Rattle.ovl_lookup.proofs.ChildLemmas.{starts_directory, child_found}
 use Rattle.ovl_lookup.proofs.ListLemmas.{shows-limited}
-
--- a directory is no regular file
-not_regular : (kind : Kind) → elim kind as (λ _. Bool) [ Dir ↦ true | _ ↦ false ] ≡ true → elim kind as (λ _. Bool) [ File size blob ↦ true | _ ↦ false ] ≡ false
-not_regular Dir is = refl
-not_regular (File size blob) is = let bad : false ≡ true = is in cc
-not_regular (Symlink target) is = refl
-not_regular (Char major minor) is = refl
-not_regular (Block major minor) is = refl
-not_regular Fifo is = refl
-not_regular Socket is = refl
 
 -- a directory that is found first is shown
 directory-shown : (found : List Inode) → starts_directory found ≡ true → is_shown_directory (shown_of found) ≡ true
 directory-shown [] is = is
 directory-shown (inode ∷ below) is =
-    ap is_shown_directory (shown_of-full inode below (ap (λ b. b && has_metacopy inode) (not_regular inode.kind is))) ∙ is
+    ap is_shown_directory (shown_of-full inode below (ap (λ b. b && has_metacopy inode) (directory-kind inode.kind is))) ∙ is
 
 pub ShowsParents-holds : ShowsParents
 ShowsParents-holds stack each path name shown =

@@ -37,6 +37,9 @@ file_a = plain_inode (File 1 (Some digest_a)) 0o644 []
 abbrev pub metacopy : ℕ → Inode
 metacopy size = plain_inode (File size None) 0o644 ((metacopy_name, []) ∷ [])
 
+abbrev pub metacopy_moved : ℕ → List ℕ → Inode
+metacopy_moved size value = plain_inode (File size None) 0o644 ((metacopy_name, []) ∷ (redirect_name, value) ∷ [])
+
 -- a char device 0:0, an empty file with the attribute `whiteout`, and a file of contents with that attribute
 abbrev pub whiteout : Inode
 whiteout = plain_inode (Char 0 0) 0 []

@@ -4,7 +4,7 @@ use Rattle.ovl_inode.specs.declared.inodes.Inode.{Inode}
 use Rattle.ovl_inode.specs.declared.inodes.Kind.TheVariants.{Symlink, Char}
 use Rattle.ovl_manifest.specs.Layers.{Entries}
 use Rattle.ovl_lookup.specs.Stacks.{StackView}
-use Rattle.ovl_lookup.proofs.Notation.{plain_inode, directory, opaque, moved, opaque_moved, file_a, metacopy, whiteout, path, layer_of}
+use Rattle.ovl_lookup.proofs.Notation.{plain_inode, directory, opaque, moved, opaque_moved, file_a, metacopy, metacopy_moved, whiteout, path, layer_of}
 
 abbrev pub stack_of : List Entries → StackView
 stack_of layers = record { layers = layers }
@@ -94,4 +94,17 @@ abbrev pub metacopies_over : Inode → StackView
 metacopies_over lowest = stack_of (layer_of ((path (codes "/f"), metacopy 1) ∷ [])
     ∷ layer_of ((path (codes "/f"), metacopy 1) ∷ [])
     ∷ layer_of ((path (codes "/f"), lowest) ∷ [])
+    ∷ [])
+
+-- metacopy files and directories with redirects of each form, also in an opaque directory
+abbrev pub redirects : Entries
+redirects = layer_of (
+    (path (codes "/a"), metacopy_moved 1 (codes "/x/k"))
+    ∷ (path (codes "/b"), metacopy_moved 1 (codes "r"))
+    ∷ (path (codes "/c"), metacopy_moved 1 (codes "a/b"))
+    ∷ (path (codes "/e"), moved (codes "a/b"))
+    ∷ (path (codes "/n"), opaque)
+    ∷ (path (codes "/n/d"), moved (codes "r"))
+    ∷ (path (codes "/n/f"), metacopy_moved 1 (codes "/x/k"))
+    ∷ (path (codes "/n/g"), metacopy_moved 1 (codes "r"))
     ∷ [])

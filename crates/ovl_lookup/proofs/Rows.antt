@@ -1,15 +1,15 @@
 -- The worked examples of the merged tree, by computation.
-use Rattle.std.specs.Prelude.{◌≡◌, ℕ, true, false, List, [], ◌∷◌, codes, None, refl, map}
+use Rattle.std.specs.Prelude.{◌≡◌, ℕ, true, false, List, [], ◌∷◌, codes, Some, None, refl, map}
 use Rattle.ovl_names.specs.Paths.{PathNames}
 use Rattle.ovl_inode.specs.declared.inodes.Kind.TheVariants.{File, Symlink, Char}
 use Rattle.ovl_inode.proofs.OnLiterals.{inode_on_literals}
 use Rattle.ovl_lookup.specs.declared.looks.Look.TheVariants.{Nothing, Shown, Broken}
-use Rattle.ovl_lookup.specs.Walk.{walk, nothing_found}
+use Rattle.ovl_lookup.specs.Walk.{walk, nothing_found, found_at_end, open_natural_path}
 use Rattle.ovl_lookup.specs.Stacks.{StackView, from_layer}
 use Rattle.ovl_lookup.specs.Merged.{look}
 use Rattle.ovl_lookup.specs.Passes.{kids_along, looks_from}
-use Rattle.ovl_lookup.proofs.Notation.{plain_inode, directory, opaque, marked_x, file_a, whiteout, empty_whiteout, full_whiteout, path}
-use Rattle.ovl_lookup.proofs.RowStacks.{root_alone, covered, one_over, directory_over, moved_twice, moved_twice_shown, top_of_moved_in_opaque, moved_in_opaque, opaque_with_redirect, metacopies_over}
+use Rattle.ovl_lookup.proofs.Notation.{plain_inode, directory, marked_x, opaque, moved, file_a, metacopy_moved, whiteout, empty_whiteout, full_whiteout, path}
+use Rattle.ovl_lookup.proofs.RowStacks.{root_alone, covered, one_over, directory_over, moved_twice, moved_twice_shown, top_of_moved_in_opaque, moved_in_opaque, opaque_with_redirect, metacopies_over, redirects}
 
 -- the paths at which the stack shows something, at most so deep
 abbrev shown_paths : ℕ → StackView → List PathNames
@@ -138,6 +138,54 @@ walk-whiteout = refl
 walk-below_whiteout : walk top_of_moved_in_opaque (path (codes "/x/k")) ≡ nothing_found (path (codes "/x/k")) true
 unfolding inode_on_literals
 walk-below_whiteout = refl
+
+walk-metacopy_absolute : walk redirects (path (codes "/a")) ≡ found_at_end (metacopy_moved 1 (codes "/x/k")) (path (codes "/x/k")) false
+unfolding inode_on_literals
+walk-metacopy_absolute = refl
+
+walk-metacopy_relative : walk redirects (path (codes "/b")) ≡ found_at_end (metacopy_moved 1 (codes "r")) (path (codes "/r")) false
+unfolding inode_on_literals
+walk-metacopy_relative = refl
+
+walk-metacopy_malformed : walk redirects (path (codes "/c")) ≡ found_at_end (metacopy_moved 1 (codes "a/b")) (path (codes "/c")) true
+unfolding inode_on_literals
+walk-metacopy_malformed = refl
+
+walk-malformed : walk redirects (path (codes "/e")) ≡ found_at_end (moved (codes "a/b")) (path (codes "/e")) true
+unfolding inode_on_literals
+walk-malformed = refl
+
+walk-below_malformed : walk redirects (path (codes "/e/k")) ≡ nothing_found (path (codes "/e/k")) true
+unfolding inode_on_literals
+walk-below_malformed = refl
+
+walk-relative_in_opaque : walk redirects (path (codes "/n/d")) ≡ found_at_end (moved (codes "r")) (path (codes "/n/r")) true
+unfolding inode_on_literals
+walk-relative_in_opaque = refl
+
+walk-below_relative_in_opaque : walk redirects (path (codes "/n/d/k")) ≡ nothing_found (path (codes "/n/r/k")) true
+unfolding inode_on_literals
+walk-below_relative_in_opaque = refl
+
+walk-metacopy_absolute_in_opaque : walk redirects (path (codes "/n/f")) ≡ found_at_end (metacopy_moved 1 (codes "/x/k")) (path (codes "/x/k")) false
+unfolding inode_on_literals
+walk-metacopy_absolute_in_opaque = refl
+
+walk-metacopy_relative_in_opaque : walk redirects (path (codes "/n/g")) ≡ found_at_end (metacopy_moved 1 (codes "r")) (path (codes "/n/r")) true
+unfolding inode_on_literals
+walk-metacopy_relative_in_opaque = refl
+
+natural-root : open_natural_path top_of_moved_in_opaque [] ≡ Some []
+unfolding inode_on_literals
+natural-root = refl
+
+natural-moved : open_natural_path top_of_moved_in_opaque (path (codes "/n/d/k")) ≡ Some (path (codes "/x/k"))
+unfolding inode_on_literals
+natural-moved = refl
+
+natural-opaque : open_natural_path top_of_moved_in_opaque (path (codes "/n/z")) ≡ None
+unfolding inode_on_literals
+natural-opaque = refl
 
 opaque_redirect-directory : look opaque_with_redirect (path (codes "/d")) ≡ Shown directory
 unfolding inode_on_literals

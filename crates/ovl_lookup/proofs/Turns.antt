@@ -2,38 +2,21 @@
 use Rattle.std.proofs.Common.{◌≡◌, Bool, true, false, cond, is_some, List, [], ◌∷◌, ◌++◌, length, drop, map, refl, sym, ap, ◌∙◌, append_assoc}
 use Rattle.std.specs.Prelude.{◌||◌, unwrap_or}
 use Rattle.std.specs.List.{list_any}
+use Rattle.std.proofs.lemmas.List.{append-nil, map-append}
+use Rattle.std.proofs.lemmas.List.Folds.{list_any-append}
+use Rattle.std.proofs.Math.Bool.{or-false}
+use Rattle.std.proofs.Math.Seq.{drop-append_seam}
 use Rattle.ovl_names.specs.Names.{PathName}
 use Rattle.ovl_names.specs.Paths.{PathNames, child_path}
 use Rattle.ovl_manifest.specs.Layers.{Entries}
 use Rattle.ovl_lookup.specs.Walk.{mark_at, origin_path, name_in_lower, is_closing, last_jump, steps_from, steps_after_jump, turn, is_shut}
 use Rattle.ovl_lookup.proofs.Longest.{longest-rest, longest-child}
 
-append_end : {X : Type 0} → (xs : List X) → xs ++ [] ≡ xs
-append_end [] = refl
-append_end (x ∷ xs) = ap (λ rest. x ∷ rest) (append_end xs)
-
-pub drop_front : {X : Type 0} → (xs ys : List X) → drop (length xs) (xs ++ ys) ≡ ys
-drop_front [] ys = refl
-drop_front (x ∷ xs) ys = drop_front xs ys
-
-map_end : {X Y : Type 0} → (f : X → Y) (xs : List X) (x : X) → map f (xs ++ x ∷ []) ≡ map f xs ++ f x ∷ []
-map_end f [] x = refl
-map_end f (first ∷ xs) x = ap (λ rest. f first ∷ rest) (map_end f xs x)
-
-or_end : (b : Bool) → (b || false) ≡ b
-or_end true = refl
-or_end false = refl
-
-or_assoc : (a b c : Bool) → (a || (b || c)) ≡ ((a || b) || c)
-or_assoc true b c = refl
-or_assoc false b c = refl
-
 any_end : {X : Type 0} → (test : X → Bool) (xs : List X) (x : X) → list_any test (xs ++ x ∷ []) ≡ (list_any test xs || test x)
-any_end test [] x = or_end (test x)
-any_end test (first ∷ xs) x = ap (λ rest. test first || rest) (any_end test xs x) ∙ or_assoc (test first) (list_any test xs) (test x)
+any_end test xs x = list_any-append test xs (x ∷ []) ∙ ap (λ b. list_any test xs || b) (or-false (test x))
 
 pub steps_from-child : (from names : PathNames) (name : PathName) → steps_from from (child_path names name) ≡ steps_from from names ++ (child_path (from ++ names) name, name) ∷ []
-steps_from-child from [] name = ap (λ (path : PathNames). (child_path path name, name) ∷ []) (sym (append_end from))
+steps_from-child from [] name = ap (λ (path : PathNames). (child_path path name, name) ∷ []) (sym (append-nil from))
 steps_from-child from (first ∷ names) name =
     ap (λ rest. (child_path from first, first) ∷ rest)
     (steps_from-child (child_path from first) names name
@@ -55,7 +38,7 @@ pub rest-child : (jump path : PathNames) (name : PathName) → jump ++ drop (len
 rest-child jump path name whole =
     ap (λ (p : PathNames). drop (length jump) (child_path p name)) (sym whole)
     ∙ (ap (drop (length jump)) (append_assoc jump (drop (length jump) path) (name ∷ []))
-    ∙ drop_front jump (child_path (drop (length jump) path) name))
+    ∙ drop-append_seam jump (child_path (drop (length jump) path) name))
 
 pub steps_after_jump-child : (layer : Entries) (path : PathNames) (name : PathName) → is_some (origin_path (mark_at layer (child_path path name))) ≡ false → steps_after_jump layer (child_path path name) ≡ steps_after_jump layer path ++ (child_path path name, name) ∷ []
 steps_after_jump-child layer path name stays =
@@ -72,7 +55,7 @@ turn-child layer path name stays =
     let origin : PathNames → PathNames = λ jump. unwrap_or (origin_path (mark_at layer jump)) [] in
     ap (λ (jump : PathNames). origin jump ++ map lower (steps_after_jump layer (child_path path name))) (steps_after_jump-stays layer path name stays)
     ∙ (ap (λ steps. origin (last_jump layer path) ++ map lower steps) (steps_after_jump-child layer path name stays)
-    ∙ (ap (λ names. origin (last_jump layer path) ++ names) (map_end lower (steps_after_jump layer path) (child_path path name, name))
+    ∙ (ap (λ names. origin (last_jump layer path) ++ names) (map-append lower (steps_after_jump layer path) ((child_path path name, name) ∷ []))
     ∙ sym (append_assoc (origin (last_jump layer path)) (map lower (steps_after_jump layer path)) (lower (child_path path name, name) ∷ []))))
 
 pub is_shut-child : (layer : Entries) (path : PathNames) (name : PathName) → is_some (origin_path (mark_at layer (child_path path name))) ≡ false → is_shut layer (child_path path name) ≡ (is_shut layer path || is_closing (mark_at layer (child_path path name)))
@@ -85,7 +68,7 @@ is_shut-child layer path name stays =
 steps_after_jump-moved : (layer : Entries) (path : PathNames) (name : PathName) → is_some (origin_path (mark_at layer (child_path path name))) ≡ true → steps_after_jump layer (child_path path name) ≡ []
 steps_after_jump-moved layer path name moves =
     ap (λ (j : PathNames). steps_from j (drop (length j) (child_path path name))) (last_jump-moves layer path name moves)
-    ∙ ap (steps_from (child_path path name)) (ap (drop (length (child_path path name))) (sym (append_end (child_path path name))) ∙ drop_front (child_path path name) [])
+    ∙ ap (steps_from (child_path path name)) (ap (drop (length (child_path path name))) (sym (append-nil (child_path path name))) ∙ drop-append_seam (child_path path name) [])
 
 pub turn-moved : (layer : Entries) (path : PathNames) (name : PathName) → is_some (origin_path (mark_at layer (child_path path name))) ≡ true → turn layer (child_path path name) ≡ unwrap_or (origin_path (mark_at layer (child_path path name))) []
 turn-moved layer path name moves =
@@ -93,7 +76,7 @@ turn-moved layer path name moves =
     let origin : PathNames → PathNames = λ jump. unwrap_or (origin_path (mark_at layer jump)) [] in
     ap (λ (jump : PathNames). origin jump ++ map lower (steps_after_jump layer (child_path path name))) (last_jump-moves layer path name moves)
     ∙ (ap (λ steps. origin (child_path path name) ++ map lower steps) (steps_after_jump-moved layer path name moves)
-    ∙ append_end (origin (child_path path name)))
+    ∙ append-nil (origin (child_path path name)))
 
 pub is_shut-moved : (layer : Entries) (path : PathNames) (name : PathName) → is_some (origin_path (mark_at layer (child_path path name))) ≡ true → is_shut layer (child_path path name) ≡ false
 is_shut-moved layer path name moves = ap (list_any (λ step. is_closing (mark_at layer step.0))) (steps_after_jump-moved layer path name moves)

@@ -4,7 +4,7 @@ use Rattle.std.specs.Prelude.{◌||◌, ◌&&◌, unwrap_or}
 use Rattle.std.specs.List.{list_all}
 use Rattle.std.specs.Map.{lookup}
 use Rattle.std.specs.Cmp.Lexicographic.{pointwise_decides, bytes_decides}
-use Rattle.std.proofs.Math.Seq.{take-length}
+use Rattle.std.proofs.Math.Seq.{take-length, take-append_seam, drop-append_seam}
 use Rattle.std.proofs.lemmas.List.{append-nil, take-append-drop}
 use Rattle.ovl_names.specs.Names.{PathName}
 use Rattle.ovl_names.specs.Paths.{PathNames, path_eq, child_path, parent_path, longest, is_root}
@@ -16,7 +16,7 @@ use Rattle.ovl_manifest.specs.LayerTrees.{entries_in, entries_under}
 use Rattle.ovl_manifest.proofs.NodeLemmas.{entry_at-under}
 use Rattle.ovl_lookup.specs.Walk.{mark_at, origin_path, name_in_lower, is_closing, nothing_found, turn, is_shut, walk, walk_from, walk_beyond}
 use Rattle.ovl_lookup.specs.Passes.{entered_path, entered_closed}
-use Rattle.ovl_lookup.proofs.Turns.{drop_front, turn-child, turn-moved, is_shut-child, is_shut-moved}
+use Rattle.ovl_lookup.proofs.Turns.{turn-child, turn-moved, is_shut-child, is_shut-moved}
 
 pub longest-whole : (test : PathNames → Bool) (path : PathNames) → test path ≡ true → longest test path ≡ path
 longest-whole test [] holds = refl
@@ -44,10 +44,6 @@ lookup-all P path (entry ∷ entries) inode all here = by (lookup-all P path ent
         let same : entry.1 ≡ inode = cc in
         ap P (λ i. (one i, sym same i)) ∙ p
 
-take_front : {X : Type 0} → (xs ys : List X) → take (length xs) (xs ++ ys) ≡ xs
-take_front [] ys = refl
-take_front (x ∷ xs) ys = ap (λ rest. x ∷ rest) (take_front xs ys)
-
 pub length-child : (path : PathNames) (name : PathName) → is_root (child_path path name) ≡ false
 length-child [] name = refl
 length-child (first ∷ path) name = refl
@@ -55,7 +51,7 @@ length-child (first ∷ path) name = refl
 pub parent_path-child : (path : PathNames) (name : PathName) → parent_path (child_path path name) ≡ path
 parent_path-child path name =
     let len : length (path ++ name ∷ []) - 1 ≡ length path = omega (arith, length-append path (name ∷ [])) in
-    ap (λ n. take n (path ++ name ∷ [])) len ∙ take_front path (name ∷ [])
+    ap (λ n. take n (path ++ name ∷ [])) len ∙ take-append_seam path (name ∷ [])
 
 -- a directory's parent is a directory
 pub directory-parent : (layer : Entries) (path : PathNames) (name : PathName) → IsLayer layer → is_directory_at layer (child_path path name) ≡ true → is_directory_at layer path ≡ true
@@ -90,12 +86,12 @@ no-directory-below layer path name is none more = by (is_directory_at layer (pat
 pub walk-whole : (layer : Entries) (path : PathNames) → is_directory_at layer path ≡ true → walk layer path ≡ record { found = entry_at layer path; next = turn layer path; closed = is_shut layer path }
 walk-whole layer path holds =
     ap (λ (d : PathNames). walk_from layer d (drop (length d) path)) (longest-whole (is_directory_at layer) path holds)
-    ∙ ap (walk_from layer path) (ap (drop (length path)) (sym (append-nil path)) ∙ drop_front path [])
+    ∙ ap (walk_from layer path) (ap (drop (length path)) (sym (append-nil path)) ∙ drop-append_seam path [])
 
 pub walk-stop : (layer : Entries) (path : PathNames) (name : PathName) (rest : PathNames) → IsLayer layer → is_directory_at layer path ≡ true → is_directory_at layer (child_path path name) ≡ false → walk layer (path ++ name ∷ rest) ≡ walk_beyond (entry_at layer (child_path path name)) (turn layer path) (is_shut layer path) name rest
 walk-stop layer path name rest is holds none =
     ap (λ (d : PathNames). walk_from layer d (drop (length d) (path ++ name ∷ rest))) (longest-stop (is_directory_at layer) path name rest holds (no-directory-below layer path name is none))
-    ∙ ap (walk_from layer path) (drop_front path (name ∷ rest))
+    ∙ ap (walk_from layer path) (drop-append_seam path (name ∷ rest))
 
 -- the turn and the flag of a directory with one more name
 pub turn-entered : (layer : Entries) (path : PathNames) (name : PathName) (mark : Mark) → mark_at layer (child_path path name) ≡ Some mark → turn layer (child_path path name) ≡ entered_path mark (turn layer path) name

@@ -21,7 +21,7 @@ abbrev pub is_data : Inode → Bool
 is_data inode = is_regular inode && not (has_metacopy inode)
 
 -- the data among the things found: the last hit, where that is a regular file without `metacopy`;
--- overlayfs.rst, "Metadata only copy up"
+-- overlayfs.rst, "Metadata only copy up" and "Data-only lower layers"
 abbrev pub last_of : List Inode → Option Inode
 last_of [] = None
 last_of (inode ∷ []) = Some inode
@@ -35,8 +35,9 @@ abbrev pub without_blob : Kind → Kind
 without_blob (File size blob) = File size None
 without_blob kind = kind
 
--- what is shown of the things found: the visible inode of the first, a metacopy file with its data,
--- or broken with its own size and no blob; overlayfs.rst, "Metadata only copy up"
+-- what is shown of the things found: the visible inode of the first, a metacopy file with its data
+-- (overlayfs.rst, "Metadata only copy up"), or broken with its own size and no blob; that the size is that of the data,
+-- and what is broken, are this profile's
 abbrev pub shown_of : List Inode → Look
 shown_of [] = Nothing
 shown_of (inode ∷ below) =

@@ -43,16 +43,17 @@ size_of inode = elim inode.kind [ File size blob ↦ size | _ ↦ 0 ]
 abbrev pub look_below : Entries → StackView → PathNames → Look
 look_below layer below path = look below (walk layer path).next
 
--- the redirect of a directory or of a metacopy file says nothing that can be followed
+-- the redirect of a directory or of a metacopy file says nothing that can be followed; this profile's own
 abbrev pub redirect_is_malformed : Entries → PathNames → Bool
 redirect_is_malformed layer path = is_malformed (mark_at layer path)
 
--- a moved directory that is closed, or whose old place shows nothing
+-- a moved directory that is closed, or whose old place shows nothing; overlayfs.rst, "renaming directories", has the old
+-- place, and that this is a fault is this profile's own
 abbrev pub redirect_is_lost : Entries → StackView → PathNames → Bool
 redirect_is_lost layer below path =
     is_moved (mark_at layer path) && ((walk layer path).closed || is_nothing (look_below layer below path))
 
--- a moved directory whose old place shows something else than a directory
+-- a moved directory whose old place shows something else than a directory; this profile's own
 abbrev pub redirect_is_of_wrong_kind : Entries → StackView → PathNames → Bool
 redirect_is_of_wrong_kind layer below path =
     is_moved (mark_at layer path) && not (walk layer path).closed
@@ -64,7 +65,8 @@ goes_on_there layer path other =
     is_directory other.1 && is_lt (path_cmp other.0 path) && not (walk layer other.0).closed
     && path_eq (walk layer other.0).next (walk layer path).next
 
--- a moved directory that goes on where an earlier directory does
+-- a moved directory that goes on where an earlier directory does; overlayfs.rst, "renaming directories", on more
+-- directories than one that are redirected to the same
 abbrev pub redirect_is_double : Entries → PathNames → Bool
 redirect_is_double layer path =
     is_moved (mark_at layer path) && not (walk layer path).closed && list_any (goes_on_there layer path) layer
@@ -76,7 +78,7 @@ is_seen_there layer place =
     not (walk layer place).closed && path_eq (walk layer place).next place
     && (is_none (walk layer place).found || is_plain (mark_at layer place))
 
--- a moved directory whose old place the layer doesn't hide
+-- a moved directory whose old place the layer doesn't hide; this profile's own
 abbrev pub redirect_is_open : Entries → PathNames → Bool
 redirect_is_open layer path =
     is_moved (mark_at layer path) && not (walk layer path).closed && is_seen_there layer (walk layer path).next
@@ -86,11 +88,11 @@ abbrev pub data_at : Entries → StackView → PathNames → Inode → Option In
 data_at layer below path inode =
     data_of (inode ∷ (if (walk layer path).closed then [] else things_found below.layers (walk layer path).next))
 
--- a metacopy file without data
+-- a metacopy file without data; overlayfs.rst, "Metadata only copy up" and "Data-only lower layers"
 abbrev pub data_is_missing : Entries → StackView → PathNames → Inode → Bool
 data_is_missing layer below path inode = is_meta (mark_at layer path) && is_none (data_at layer below path inode)
 
--- a metacopy file whose data has another size than the file
+-- a metacopy file whose data has another size than the file; this profile's own
 abbrev pub has_other_size : Inode → Option Inode → Bool
 has_other_size inode None = false
 has_other_size inode (Some contents) = not (size_of contents == size_of inode)
@@ -110,11 +112,15 @@ is_faulty layer below entry =
     || data_is_missing layer below entry.0 entry.1
     || data_is_of_other_size layer below entry.0 entry.1
 
+-- no entry of these layers of a stack, the lowest, is faulty
+abbrev pub are_sound : StackView → List Entries → Bool
+are_sound stack [] = true
+are_sound stack (layer ∷ layers) =
+    list_all (λ entry. not (is_faulty layer (record stack { layers = layers }) entry)) layer && are_sound stack layers
+
 -- no entry of any layer is faulty
-abbrev pub are_sound : List Entries → Bool
-are_sound [] = true
-are_sound (layer ∷ layers) =
-    list_all (λ entry. not (is_faulty layer (record { layers = layers }) entry)) layer && are_sound layers
+abbrev pub is_sound_stack : StackView → Bool
+is_sound_stack stack = are_sound stack stack.layers
 
 abbrev pub IsSoundStack : StackView → Type 0
-IsSoundStack stack = are_sound stack.layers ≡ true
+IsSoundStack stack = is_sound_stack stack ≡ true

@@ -8,7 +8,7 @@ pub record StackView : Type 0 where
 
 -- the stack without its first `i` layers
 abbrev pub from_layer : ℕ → StackView → StackView
-from_layer i stack = record { layers = drop i stack.layers }
+from_layer i stack = record stack { layers = drop i stack.layers }
 
 -- the most layers of a stack
 abbrev pub layer_limit : ℕ

@@ -21,13 +21,13 @@ walks (layer ∷ layers) path =
 abbrev pub things_found : List Entries → PathNames → List Inode
 things_found layers path = filter_map (λ step. step.found) (walks layers path)
 
--- the longest prefix of these things that is directories alone; overlayfs.rst, "Merging directories"
+-- the longest prefix of these things that is directories alone; overlayfs.rst, "Directories"
 abbrev pub leading_directories : List Inode → List Inode
 leading_directories [] = []
 leading_directories (inode ∷ inodes) = if is_directory inode then inode ∷ leading_directories inodes else []
 
 -- the longest prefix of these things that is metacopy files with at most one other non-directory after them;
--- overlayfs.rst, "Metadata only copy up"
+-- overlayfs.rst, "Metadata only copy up" and "Data-only lower layers"
 abbrev pub leading_files : List Inode → List Inode
 leading_files [] = []
 leading_files (inode ∷ inodes) =

@@ -2,7 +2,7 @@
 use Rattle.std.specs.Prelude.{Bool, true, false, Option, Some, None, List, [], ◌∷◌, ◌++◌, if◌then◌else◌, length, map, drop, is_some, unwrap_or}
 use Rattle.std.specs.List.{list_any}
 use Rattle.ovl_names.specs.Names.{PathName}
-use Rattle.ovl_names.specs.Paths.{PathNames, child_path, longest}
+use Rattle.ovl_names.specs.Paths.{PathNames, child_path, parent_path, longest}
 use Rattle.ovl_inode.specs.declared.inodes.Inode.{Inode}
 use Rattle.ovl_inode.specs.declared.marks.Mark.{Mark}
 use Rattle.ovl_inode.specs.declared.marks.Mark.TheVariants.{DirOpaque, DirMoved, DirBad, DirPlain, Meta}
@@ -16,17 +16,19 @@ abbrev pub mark_at : Entries → PathNames → Option Mark
 mark_at layer [] = Some DirPlain
 mark_at layer (name ∷ names) = elim (entry_at layer (name ∷ names)) [ Some inode ↦ Some (mark_of inode) | None ↦ None ]
 
--- where a directory with an absolute redirect was before; overlayfs.rst, "redirect_dir"
+-- where a directory with an absolute redirect was before; overlayfs.rst, "renaming directories"
 abbrev pub origin_path : Option Mark → Option PathNames
 origin_path (Some (DirMoved (To origin))) = Some origin
 origin_path _ = None
 
--- the name by which the layers below know a directory; overlayfs.rst, "redirect_dir"
+-- the name by which the layers below know a directory; that a redirect can be one name, beside the old one, is this
+-- profile's
 abbrev pub name_in_lower : Option Mark → PathName → PathName
 name_in_lower (Some (DirMoved (Beside name))) own = name
 name_in_lower _ own = own
 
--- a directory that hides what the layers below have in it; overlayfs.rst, "whiteouts and opaque directories"
+-- a directory that hides what the layers below have in it; overlayfs.rst, "whiteouts and opaque directories";
+-- that a malformed redirect does too is this profile's
 abbrev pub is_closing : Option Mark → Bool
 is_closing (Some DirOpaque) = true
 is_closing (Some DirBad) = true
@@ -62,7 +64,9 @@ nothing_found next closed = record { found = None; next = next; closed = closed 
 abbrev pub found_at_end : Inode → PathNames → Bool → Step
 found_at_end inode next closed = record { found = Some inode; next = next; closed = closed }
 
--- the non-directory `name` in a directory with this turn, which may be shut; overlayfs.rst, "Metadata only copy up"
+-- the non-directory `name` in a directory with this turn, which may be shut; overlayfs.rst, "Metadata only copy up",
+-- "Data-only lower layers" and "whiteouts and opaque directories"; that a malformed redirect closes the walk, and that
+-- an absolute one opens it, are this profile's
 abbrev pub walk_to_file : Inode → Mark → PathNames → Bool → PathName → Step
 walk_to_file inode (Meta None) turned shut name = found_at_end inode (child_path turned name) shut
 walk_to_file inode (Meta (Some (To origin))) turned shut name = found_at_end inode origin false
@@ -86,8 +90,16 @@ walk_from layer directory [] =
 walk_from layer directory (name ∷ rest) =
     walk_beyond (entry_at layer (child_path directory name)) (turn layer directory) (is_shut layer directory) name rest
 
--- the walk of a path in a layer; overlayfs.rst, "Directories" and "redirect_dir"
+-- the walk of a path in a layer; overlayfs.rst, "Directories" and "renaming directories"
 abbrev pub walk : Entries → PathNames → Step
 walk layer path =
     let directory = longest (is_directory_at layer) path in
     walk_from layer directory (drop (length directory) path)
+
+-- where the layers below have an entry by its own name: the next path of its directory, and that name
+abbrev pub natural_path : Entries → PathNames → PathNames
+natural_path layer path = (walk layer (parent_path path)).next ++ drop (length (parent_path path)) path
+
+-- the same, where its directory doesn't hide the layers below
+abbrev pub open_natural_path : Entries → PathNames → Option PathNames
+open_natural_path layer path = if (walk layer (parent_path path)).closed then None else Some (natural_path layer path)

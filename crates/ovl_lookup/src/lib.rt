@@ -10,5 +10,5 @@ mod steps;
 mod tests;
 
 pub use looks::Look;
-pub use stacks::{Stack, StackFault};
+pub use stacks::{LAYER_LIMIT, Stack, StackFault};
 pub use steps::{Step, walk};

@@ -1,6 +1,6 @@
 ghost use Rattle.std.specs.Prelude.{◌≡◌, ◌≤◌, ◌++◌, [], length, drop, IfOk, OnOk};
 ghost use Rattle.ovl_lookup.specs.Stacks.{from_layer};
-ghost use Rattle.ovl_lookup.specs.Merged.{AreKids, IsMerged, is_nothing as nothing_test};
+ghost use Rattle.ovl_lookup.specs.Merged.{AreKids, IsMerged};
 ghost use Rattle.ovl_lookup.specs.Passes.{own_names_along, put_names, kids_along, looks_from, looks_placed};
 
 use crate::{Look, Stack, Step};
@@ -14,7 +14,7 @@ const LAYER_DEPTH: usize = 64;
 impl Stack {
     /// The names that a directory has in the merged tree of the layers with index `from` and up, in order; none where
     /// no directory is shown. `from` is at most the number of layers. Fails only for want of memory.
-    /// overlayfs.rst: "Merging directories", "readdir".
+    /// overlayfs.rst: "Directories", "readdir".
     pub fn names(&self, alloc: Global, from: usize, path: &Path) -> Result<Vec<Name>, AllocError>
         requires { from ≤ length self.now.layers }
         ensures { IfOk result (λ names. AreKids (from_layer from self.now) path.now names.items) }
@@ -69,7 +69,7 @@ impl Stack {
         for name in found {
             let child = path.child(alloc, &name)?;
             let look = self.look(alloc, from, &child)?;
-            if !is_nothing(&look) {
+            if !look.is_nothing() {
                 names.push(name)?;
             }
         }
@@ -109,10 +109,4 @@ fn put_all(found: &mut BTreeSet<Name>, names: Vec<Name>) -> Result<(), AllocErro
         found.insert(name)?;
     }
     Ok(())
-}
-
-fn is_nothing(look: &Look) -> bool
-    ensures { result ≡ nothing_test look.now }
-{
-    matches!(look, Look::Nothing)
 }

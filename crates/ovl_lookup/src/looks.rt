@@ -2,11 +2,11 @@ ghost use Rattle.std.specs.Prelude.{◌≡◌, ◌≤◌, ◌∷◌, ◌&&◌, t
 ghost use Rattle.ovl_inode.specs.Marks.{is_metacopy as the_metacopy, is_regular, has_metacopy};
 ghost use Rattle.ovl_lookup.specs.Stacks.{from_layer};
 ghost use Rattle.ovl_lookup.specs.Trace.{things_found};
-ghost use Rattle.ovl_lookup.specs.Merged.{look as the_look, shown_of, data_of as the_data, is_data as data_test, without_blob as kind_without_blob};
+ghost use Rattle.ovl_lookup.specs.Merged.{look as the_look, shown_of, data_of as the_data, is_data as data_test, is_nothing as nothing_test, is_shown_directory as directory_test, without_blob as kind_without_blob};
 ghost use Rattle.ovl_lookup.specs.Passes.{found_on, data_below};
 
 use crate::{Stack, Step};
-use ovl_inode::{Inode, Kind, Mark, mark_of, visible};
+use ovl_inode::{Inode, Kind, Mark, is_directory, mark_of, visible};
 use ovl_names::Path;
 use std::alloc::{AllocError, Global};
 
@@ -21,9 +21,28 @@ pub enum Look {
     Broken(Inode),
 }
 
+impl Look {
+    /// Whether nothing is shown.
+    pub fn is_nothing(&self) -> bool
+        ensures { result ≡ nothing_test self.now }
+    {
+        matches!(self, Look::Nothing)
+    }
+
+    /// Whether a directory is shown.
+    pub fn is_shown_directory(&self) -> bool
+        ensures { result ≡ directory_test self.now }
+    {
+        match self {
+            Look::Shown(inode) => is_directory(inode),
+            Look::Nothing | Look::Broken(_) => false,
+        }
+    }
+}
+
 impl Stack {
     /// What the layers with index `from` and up show at a path; `from` is at most the number of layers.
-    /// Fails only for want of memory. overlayfs.rst: "Merging directories", "Multiple lower layers",
+    /// Fails only for want of memory. overlayfs.rst: "Directories", "Multiple lower layers",
     /// "Metadata only copy up".
     pub fn look(&self, alloc: Global, from: usize, path: &Path) -> Result<Look, AllocError>
         requires { from ≤ length self.now.layers }

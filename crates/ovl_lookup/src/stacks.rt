@@ -2,7 +2,7 @@ ghost use Rattle.std.specs.Prelude.{◌≡◌, ◌<◌, ◌≤◌, ◌↔◌, �
 ghost use Rattle.std.specs.Option.{option_map};
 ghost use Rattle.std.specs.List.{All};
 ghost use Rattle.ovl_manifest.specs.Layers.{IsLayer, entry_at, names_below};
-ghost use Rattle.ovl_lookup.specs.Walk.{walk as the_walk};
+ghost use Rattle.ovl_lookup.specs.Walk.{walk as the_walk, open_natural_path};
 ghost use Rattle.ovl_lookup.specs.Stacks.{layer_limit};
 
 use crate::{Step, walk};
@@ -13,14 +13,18 @@ use std::alloc::{AllocError, Global};
 use std::marker::Model;
 use thiserror::Error;
 
+/// The most layers of a stack.
+pub const LAYER_LIMIT: usize = 128;
+
 /// Why layers are no stack.
 #[derive(Clone, Copy, Debug, PartialEq, Eq, Error)]
 pub enum StackFault {
-    #[error("layers must be 1 to 128")]
+    /// There is none, or there are more than [`LAYER_LIMIT`].
+    #[error("layers must be 1 to {max}", max = LAYER_LIMIT)]
     Layers,
 }
 
-/// A stack of 1 to 128 layers, the topmost first.
+/// A stack of 1 to [`LAYER_LIMIT`] layers, the topmost first.
 #[derive(Drop)]
 pub struct Stack {
     pub(crate) layers: Vec<Layer>,
@@ -40,19 +44,19 @@ impl Model for Stack {
 }
 
 impl Stack {
-    /// The stack of these layers, the topmost first; refused exactly where they are none or over 128.
+    /// The stack of these layers, the topmost first; refused exactly where they are none or more than [`LAYER_LIMIT`].
     pub fn of(layers: Vec<Layer>) -> Result<Stack, StackFault>
         ensures value { IfOk result (λ stack. stack.layers ≡ layers.items) }
         ensures refused { IsErr result ↔ ((length layers.items ≡ 0) ⊎ (layer_limit < length layers.items)) }
     {
-        if layers.is_empty() || layers.len() > 128 {
+        if layers.is_empty() || layers.len() > LAYER_LIMIT {
             return Err(StackFault::Layers);
         }
         keep_layers(&layers);
         Ok(Stack { layers })
     }
 
-    /// The number of layers, 1 to 128.
+    /// The number of layers, 1 to [`LAYER_LIMIT`].
     pub fn layers(&self) -> usize
         ensures value { result ≡ length self.now.layers }
         ensures some { 0 < result }
@@ -85,6 +89,29 @@ impl Stack {
         ensures { IfSome (slice_get self.now.layers i) (λ layer. IfOk result (λ step. step ≡ the_walk layer path.now)) }
     {
         walk(alloc, &self.layers[i], path)
+    }
+
+    /// The path at which the layers below layer `i` have an entry by its own name: the next path of the walk of its
+    /// directory, and that name. `None` where that walk is closed; the root's is the root. `i` is below the number of
+    /// layers. Fails only for want of memory.
+    pub fn natural_path(
+        &self,
+        alloc: Global,
+        i: usize,
+        path: &Path,
+    ) -> Result<Option<Path>, AllocError>
+        requires { i < length self.now.layers }
+        ensures { IfSome (slice_get self.now.layers i) (λ layer. IfOk result (λ natural. natural ≡ open_natural_path layer path.now)) }
+    {
+        let Some(parent) = path.parent(alloc)? else {
+            return Ok(Some(Path::root(alloc)));
+        };
+        let step = self.own_walk(alloc, i, &parent)?;
+        if step.closed {
+            return Ok(None);
+        }
+        let natural = step.next.joined(alloc, &path.names()[parent.len()..])?;
+        Ok(Some(natural))
     }
 }
 

@@ -20,7 +20,8 @@ pub struct Step {
 
 /// The walk of a path in one layer: what is found there, the path that goes on in the layer below, and whether it is
 /// closed. A path may have any number of names. Fails only for want of memory.
-/// overlayfs.rst: "whiteouts and opaque directories", "redirect_dir", "Metadata only copy up".
+/// overlayfs.rst: "whiteouts and opaque directories", "renaming directories", "Metadata only copy up", "Data-only lower
+/// layers"; a redirect of one name, beside the old one, is this profile's.
 pub fn walk(alloc: Global, layer: &Layer, path: &Path) -> Result<Step, AllocError>
     ensures { IfOk result (λ step. step ≡ the_walk layer.now path.now) }
 {
@@ -39,8 +40,8 @@ pub fn walk(alloc: Global, layer: &Layer, path: &Path) -> Result<Step, AllocErro
         }
         let mark = mark_of(alloc, inode)?;
         let entered = enter(alloc, mark, name, closed, next)?;
-        next = entered.0;
-        closed = entered.1;
+        next = entered.next;
+        closed = entered.closed;
         place = child;
     }
     Ok(Step {
@@ -50,6 +51,14 @@ pub fn walk(alloc: Global, layer: &Layer, path: &Path) -> Result<Step, AllocErro
     })
 }
 
+// Where a walk has come to in a directory: the path by which the layer below knows it, and whether the layers below are
+// hidden there.
+#[derive(Drop)]
+struct Entered {
+    next: Path,
+    closed: bool,
+}
+
 // How the next path and its flag go on in a directory of this mark.
 fn enter(
     alloc: Global,
@@ -57,24 +66,29 @@ fn enter(
     name: &Name,
     closed: bool,
     next: Path,
-) -> Result<(Path, bool), AllocError>
-    ensures { IfOk result (λ entered. entered ≡ (entered_path mark next name.now, entered_closed mark closed)) }
+) -> Result<Entered, AllocError>
+    ensures { IfOk result (λ entered. entered ≡ record { next = entered_path mark next name.now; closed = entered_closed mark closed }) }
 {
     let mut next = next;
     match mark {
-        Mark::DirMoved(Redirect::To(origin)) => return Ok((origin, false)),
+        Mark::DirMoved(Redirect::To(origin)) => {
+            return Ok(Entered {
+                next: origin,
+                closed: false,
+            });
+        }
         Mark::DirMoved(Redirect::Beside(own)) => {
             next.push(own)?;
-            return Ok((next, closed));
+            return Ok(Entered { next, closed });
         }
         Mark::DirOpaque | Mark::DirBad => {
             next.push(name.copy(alloc)?)?;
-            return Ok((next, true));
+            return Ok(Entered { next, closed: true });
         }
-        _ => {}
+        Mark::Whiteout | Mark::DirPlain | Mark::Meta(_) | Mark::MetaBad | Mark::Leaf => {}
     }
     next.push(name.copy(alloc)?)?;
-    Ok((next, closed))
+    Ok(Entered { next, closed })
 }
 
 // The walk's end where these names aren't there.
@@ -139,7 +153,13 @@ fn file_step(
             });
         }
         Mark::Meta(None) => closed,
-        _ => true,
+        Mark::Whiteout
+        | Mark::DirOpaque
+        | Mark::DirMoved(_)
+        | Mark::DirBad
+        | Mark::DirPlain
+        | Mark::MetaBad
+        | Mark::Leaf => true,
     };
     next.push(name.copy(alloc)?)?;
     Ok(Step {

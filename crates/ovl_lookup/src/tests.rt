@@ -20,7 +20,21 @@ const IS_OPAQUE: &str = "\"trusted.overlay.opaque\":\"79\"";
 
 const TO_X: &str = "\"trusted.overlay.redirect\":\"2f78\"";
 
+const BESIDE_R: &str = "\"trusted.overlay.redirect\":\"72\"";
+
+// The text `a/b`, which is no redirect.
+const MALFORMED: &str = "\"trusted.overlay.redirect\":\"612f62\"";
+
 const HAS_METACOPY: &str = "\"trusted.overlay.metacopy\":\"\"";
+
+const METACOPY_TO_X: &str =
+    "\"trusted.overlay.metacopy\":\"\",\"trusted.overlay.redirect\":\"2f78\"";
+
+const METACOPY_BESIDE_R: &str =
+    "\"trusted.overlay.metacopy\":\"\",\"trusted.overlay.redirect\":\"72\"";
+
+const METACOPY_MALFORMED: &str =
+    "\"trusted.overlay.metacopy\":\"\",\"trusted.overlay.redirect\":\"612f62\"";
 
 // A layer of a root and these entries: the path, what its kind states, and the attributes of each.
 fn layer_of(alloc: Global, entries: &[(&str, &str, &str)]) -> Result<Layer, Fail> {
@@ -43,16 +57,15 @@ fn push_entry(alloc: Global, text: &mut String, entry: (&str, &str, &str)) -> Re
     Ok(())
 }
 
+const OPAQUE_OVER_MOVED: [(&str, &str, &str); 3] = [
+    ("/n", DIR, IS_OPAQUE),
+    ("/n/d", DIR, TO_X),
+    ("/x", WHITEOUT, ""),
+];
+
 // An absolute redirect in an opaque directory, over what it hides and what it comes from.
 fn moved_in_opaque(alloc: Global) -> Result<Stack, Fail> {
-    let upper = layer_of(
-        alloc,
-        &[
-            ("/n", DIR, IS_OPAQUE),
-            ("/n/d", DIR, TO_X),
-            ("/x", WHITEOUT, ""),
-        ],
-    )?;
+    let upper = layer_of(alloc, &OPAQUE_OVER_MOVED)?;
     let lower = layer_of(
         alloc,
         &[
@@ -87,32 +100,101 @@ fn a_stack_has_1_to_128_layers(rt: HostRuntime) -> Result<(), Fail> {
 }
 
 #[test]
+fn a_fault_of_a_stack_has_its_text(rt: HostRuntime) -> Result<(), Fail> {
+    let text = StackFault::Layers.to_string(rt.alloc())?;
+    assert_eq!(rt; text.as_str(), "layers must be 1 to 128");
+    Ok(())
+}
+
+// A walk in one line: what is found, the next path, and whether it is closed.
+fn step_line(alloc: Global, step: &Step) -> Result<String, Fail> {
+    let found = if step.found.is_some() {
+        "found"
+    } else {
+        "nothing"
+    };
+    let next = step.next.shown(alloc)?;
+    let end = if step.closed { "closed" } else { "open" };
+    Ok(format!(in alloc; "{found} {next} {end}")?)
+}
+
+#[test]
 fn walks_end_where_the_layer_does(rt: HostRuntime) -> Result<(), Fail> {
-    let upper = layer_of(
-        rt.alloc(),
-        &[
-            ("/n", DIR, IS_OPAQUE),
-            ("/n/d", DIR, TO_X),
-            ("/x", WHITEOUT, ""),
-        ],
-    )?;
+    let upper = layer_of(rt.alloc(), &OPAQUE_OVER_MOVED)?;
     let stack = moved_in_opaque(rt.alloc())?;
-    for (path, next, closed) in [
-        ("/n/d/k", "/x/k", false),
-        ("/n/z", "/n/z", true),
-        ("/x", "/x", true),
-        ("/x/k", "/x/k", true),
+    for (path, line) in [
+        ("/n/d/k", "nothing /x/k open"),
+        ("/n/z", "nothing /n/z closed"),
+        ("/x", "nothing /x closed"),
+        ("/x/k", "nothing /x/k closed"),
     ] {
         let path = Path::parse(rt.alloc(), path)?;
-        let next = Path::parse(rt.alloc(), next)?;
-        for step in [
-            walk(rt.alloc(), &upper, &path)?,
-            stack.own_walk(rt.alloc(), 0, &path)?,
-        ] {
-            assert!(rt; step.found.is_none(), "at {path:?}");
-            assert_eq!(rt; step.next, next);
-            assert_eq!(rt; step.closed, closed, "at {path:?}");
-        }
+        let step = walk(rt.alloc(), &upper, &path)?;
+        assert_eq!(rt; step_line(rt.alloc(), &step)?.as_str(), line, "at {path:?}");
+        let step = stack.own_walk(rt.alloc(), 0, &path)?;
+        assert_eq!(rt; step_line(rt.alloc(), &step)?.as_str(), line, "at {path:?}");
+    }
+    Ok(())
+}
+
+// Metacopy files and directories with redirects of each form, also in an opaque directory.
+fn redirects(alloc: Global) -> Result<Layer, Fail> {
+    let entries = [
+        ("/a", METACOPY, METACOPY_TO_X),
+        ("/b", METACOPY, METACOPY_BESIDE_R),
+        ("/c", METACOPY, METACOPY_MALFORMED),
+        ("/e", DIR, MALFORMED),
+        ("/n", DIR, IS_OPAQUE),
+        ("/n/d", DIR, BESIDE_R),
+        ("/n/f", METACOPY, METACOPY_TO_X),
+        ("/n/g", METACOPY, METACOPY_BESIDE_R),
+    ];
+    layer_of(alloc, &entries)
+}
+
+#[test]
+fn walks_follow_the_redirects_that_are_well_formed(rt: HostRuntime) -> Result<(), Fail> {
+    let layer = redirects(rt.alloc())?;
+    for (path, line) in [
+        ("/a", "found /x open"),
+        ("/b", "found /r open"),
+        ("/c", "found /c closed"),
+        ("/e", "found /e closed"),
+        ("/e/k", "nothing /e/k closed"),
+        ("/n/d", "found /n/r closed"),
+        ("/n/d/k", "nothing /n/r/k closed"),
+        ("/n/f", "found /x open"),
+        ("/n/g", "found /n/r closed"),
+    ] {
+        let path = Path::parse(rt.alloc(), path)?;
+        let step = walk(rt.alloc(), &layer, &path)?;
+        assert_eq!(rt; step_line(rt.alloc(), &step)?.as_str(), line, "at {path:?}");
+    }
+    Ok(())
+}
+
+#[test]
+fn the_layers_below_have_an_entry_where_its_directory_goes_on(rt: HostRuntime) -> Result<(), Fail> {
+    let stack = moved_in_opaque(rt.alloc())?;
+    if stack.layers() == 0 {
+        return Err(Fail::from("no layer"));
+    }
+    for (path, natural) in [
+        ("/", Some("/")),
+        ("/x", Some("/x")),
+        ("/n/d/k", Some("/x/k")),
+        ("/n/z", None),
+    ] {
+        let path = Path::parse(rt.alloc(), path)?;
+        let found = match stack.natural_path(rt.alloc(), 0, &path)? {
+            Some(found) => Some(found.shown(rt.alloc())?),
+            None => None,
+        };
+        assert_eq!(rt;
+            found.as_ref().map(|text| text.as_str()),
+            natural,
+            "at {path:?}"
+        );
     }
     Ok(())
 }

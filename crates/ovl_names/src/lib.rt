@@ -8,5 +8,5 @@ mod paths;
 mod tests;
 
 pub use escapes::escaped;
-pub use names::{Name, NameFault};
-pub use paths::{Path, PathFault};
+pub use names::{NAME_LIMIT, Name, NameFault};
+pub use paths::{DEPTH_LIMIT, Path, PathFault, TEXT_LIMIT, has_empty_part};

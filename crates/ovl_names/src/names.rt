@@ -12,12 +12,15 @@ use std::cmp::Ordering;
 use std::marker::Model;
 use thiserror::Error;
 
+/// The most bytes of a name.
+pub const NAME_LIMIT: usize = 255;
+
 /// Why a text is no name; where several hold, the first of them is given.
 #[derive(Clone, Copy, Debug, PartialEq, Eq, Error)]
 pub enum NameFault {
     #[error("the name is empty")]
     Empty,
-    #[error("the name has more than 255 bytes")]
+    #[error("the name has more than {max} bytes", max = NAME_LIMIT)]
     TooLong,
     #[error("the name is `.` or `..`")]
     Dot,
@@ -101,7 +104,7 @@ pub(crate) fn first_name_fault(text: &str) -> Option<NameFault>
     let bytes = text.as_bytes();
     if bytes.is_empty() {
         Some(NameFault::Empty)
-    } else if bytes.len() > 255 {
+    } else if bytes.len() > NAME_LIMIT {
         Some(NameFault::TooLong)
     } else if text == "." || text == ".." {
         Some(NameFault::Dot)

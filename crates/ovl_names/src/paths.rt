@@ -15,6 +15,12 @@ use std::cmp::Ordering;
 use std::marker::Model;
 use thiserror::Error;
 
+/// The most names of a path that is read from text.
+pub const DEPTH_LIMIT: usize = 64;
+
+/// The most bytes of a text that is read as a path.
+pub const TEXT_LIMIT: usize = 4095;
+
 /// Why a text is no path; where several hold, the first of them is given.
 #[derive(Clone, Copy, Debug, PartialEq, Eq, Error)]
 pub enum PathFault {
@@ -24,9 +30,9 @@ pub enum PathFault {
     EmptyPart,
     #[error("the path has a part that is no name")]
     BadPart,
-    #[error("the path has more than 64 names")]
+    #[error("the path has more than {max} names", max = DEPTH_LIMIT)]
     TooDeep,
-    #[error("the path has more than 4095 bytes")]
+    #[error("the path has more than {max} bytes", max = TEXT_LIMIT)]
     TooLong,
     #[error("out of memory")]
     Memory,
@@ -47,12 +53,6 @@ impl<T: Drop> From<AllocFailed<T>> for PathFault {
         PathFault::Memory
     }
 }
-
-/// The most names of a path that is read from text.
-const DEPTH_LIMIT: usize = 64;
-
-/// The most bytes of a text that is read as a path.
-const TEXT_LIMIT: usize = 4095;
 
 /// A path from the root of a layer or an overlay, as its names from the root down; the root has none.
 /// Paths are ordered name by name as bytes, and a path comes before its continuations.
@@ -219,10 +219,11 @@ fn parts_fault(rest: &str) -> Option<PathFault>
     }
 }
 
-fn has_empty_part(rest: &str) -> bool
-    ensures { result ≡ list_any (λ part. length part == 0) (parts_between rest.now) }
+/// Whether nothing stands before, behind or between separators `/` of a text; the empty text has such a part.
+pub fn has_empty_part(text: &str) -> bool
+    ensures { result ≡ list_any (λ part. length part == 0) (parts_between text.now) }
 {
-    rest.split('/').any(|part| part.is_empty())
+    text.split('/').any(|part| part.is_empty())
 }
 
 fn has_bad_part(rest: &str) -> bool

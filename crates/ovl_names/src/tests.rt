@@ -160,3 +160,28 @@ fn reports_show_names_and_paths_in_printable_ascii(rt: HostRuntime) -> Result<()
     }
     Ok(())
 }
+
+#[test]
+fn faults_of_names_and_paths_have_their_texts(rt: HostRuntime) -> Result<(), Fail> {
+    for (fault, text) in [
+        (NameFault::Empty, "the name is empty"),
+        (NameFault::TooLong, "the name has more than 255 bytes"),
+        (NameFault::Dot, "the name is `.` or `..`"),
+        (NameFault::Slash, "the name holds `/`"),
+        (NameFault::Nul, "the name holds NUL"),
+        (NameFault::Memory, "out of memory"),
+    ] {
+        assert_eq!(rt; fault.to_string(rt.alloc())?.as_str(), text);
+    }
+    for (fault, text) in [
+        (PathFault::NotAbsolute, "the path does not begin with `/`"),
+        (PathFault::EmptyPart, "the path has an empty part"),
+        (PathFault::BadPart, "the path has a part that is no name"),
+        (PathFault::TooDeep, "the path has more than 64 names"),
+        (PathFault::TooLong, "the path has more than 4095 bytes"),
+        (PathFault::Memory, "out of memory"),
+    ] {
+        assert_eq!(rt; fault.to_string(rt.alloc())?.as_str(), text);
+    }
+    Ok(())
+}

@@ -25,9 +25,9 @@ returns c =
     let is = dedup_is finding_eq sorted after c.dedup.ensures.filtered in
     let along : before ≡ flat_map found_along lists = c.in_ok-found.ensures ∙ along-lists (λ parcels. parcel_views check_seen parcels.items) c.args.layers.items in
     let count = length-lists (λ parcels. parcel_views check_seen parcels.items) c.args.layers.items ∙ c.requires.count in
-    ordered_same finding_total after (findings_from work.blobs 0 work.stack.layers)
+    ordered_same finding_total after (findings_from work.blobs work.stack 0 work.stack.layers)
     (Rises-sorted finding_cmp after (rw is (IsStrictlySortedBy-dedup finding_total finding_ties sorted c.in_ok-sort.ensures.sorted)))
-    (from-rise work.blobs 0 work.stack.layers each)
+    (from-rise work.blobs work.stack 0 work.stack.layers each)
     (λ f h. all-sound work each 0 work.stack.layers lists refl count c.requires.walks f
     (subst (In f) along (In-Contains f before (Contains-permutation sorted before f (IsPermutation-sym before sorted c.sort.ensures.permutation) (Contains-from_dedup finding_eq sorted f (Contains-In f (dedup finding_eq sorted) (subst (In f) is h)))))))
     (λ f h. subst (In f) (sym is) (In-Contains f (dedup finding_eq sorted) (Contains-dedup finding_equiv finding_eq-exact sorted f

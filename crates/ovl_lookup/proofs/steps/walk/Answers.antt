@@ -1,9 +1,10 @@
-use Rattle.std.proofs.Common.{◌≡◌, IfOk, Bool, Some, None, sym, ap, subst, refl, ◌∙◌, ◌+◌, take, []}
+use Rattle.std.proofs.Common.{◌≡◌, IfOk, Some, None, sym, ap, subst, refl, ◌∙◌, ◌+◌, take, []}
 use Rattle.ovl_names.specs.Paths.{PathNames}
 use Rattle.ovl_inode.specs.declared.inodes.Inode.{Inode}
 use Rattle.ovl_manifest.specs.Layers.{Entries, entry_at}
 use Rattle.ovl_manifest.specs.LayerTrees.{entries_under}
 use Rattle.ovl_manifest.proofs.NodeLemmas.{entry_at-under}
+use Rattle.ovl_lookup.specs.declared.steps.Entered.{Entered}
 use Rattle.ovl_lookup.specs.declared.steps.Step.{Step}
 use Rattle.ovl_lookup.specs.Passes.{entered_path, entered_closed}
 use Rattle.ovl_lookup.proofs.WalkFacts.{walk-ends, walk-misses, walk-ends_whole, take-rest, directory-next, turn-next, shut-next, place-next, entry-next, take_past}
@@ -48,11 +49,11 @@ loop-i-preserved c =
       here = place-next layer names c.loop-i.i c.index-names-i.result c.loop-i-test.true c.index-names-i.is c.loop-i.place c.in-Some.child c.loop-i.invariant.here c.in-Some.ensures.0;
       directory = directory-next layer names c.loop-i.i c.index-names-i.result c.loop-i-test.true c.index-names-i.is c.inode-inode.result.now here (sym c.is_directory.ensures ∙ c.if-not-is_directory.false);
       turned =
-          ap (λ (e : PathNames × Bool). e.0) c.in_ok-entered.ensures
+          ap (λ (e : Entered). e.next) c.in_ok-entered.ensures
           ∙ ((λ j. entered_path (c.in_ok-mark.ensures j) (c.loop-i.invariant.turned j) c.index-names-i.result)
           ∙ turn-next layer names c.loop-i.i c.index-names-i.result c.loop-i-test.true c.index-names-i.is c.inode-inode.result.now here);
       shut =
-          ap (λ (e : PathNames × Bool). e.1) c.in_ok-entered.ensures
+          ap (λ (e : Entered). e.closed) c.in_ok-entered.ensures
           ∙ ((λ j. entered_closed (c.in_ok-mark.ensures j) (c.loop-i.invariant.shut j))
           ∙ shut-next layer names c.loop-i.i c.index-names-i.result c.loop-i-test.true c.index-names-i.is c.inode-inode.result.now here);
     }

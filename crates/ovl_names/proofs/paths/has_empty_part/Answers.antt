@@ -6,5 +6,5 @@ use Rattle.ovl_names.proofs.paths.has_empty_part.Goals as goal
 pub returns : goal.returns
 returns c =
     any_from_yields_List (λ part. length part == 0) _ _ _ c.any.ensures.ran
-    (YieldsList-from_str_split 47 c.args.rest.now (lit< tt) c.split.ensures.text c.split.ensures.has_more c.split.ensures.pattern)
+    (YieldsList-from_str_split 47 c.args.text.now (lit< tt) c.split.ensures.text c.split.ensures.has_more c.split.ensures.pattern)
     (λ x b q k. search (rules, tests))
