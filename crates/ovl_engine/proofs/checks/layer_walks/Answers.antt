@@ -8,7 +8,7 @@ use Rattle.ovl_check.specs.CheckViews.{check_view}
 use Rattle.ovl_check.proofs.WalkLists.{layer_walks-more}
 use Rattle.ovl_engine.specs.declared.requests.Command.TheVariants.{Fsck}
 use Rattle.ovl_engine.specs.Outcomes.{IsFaultOfLayer}
-use Rattle.ovl_engine.specs.Refusals.{worker_limit}
+use Rattle.ovl_board.specs.Machine.{worker_limit}
 use Rattle.ovl_engine.proofs.OutcomeLemmas.{failed, not_beyond}
 use Rattle.ovl_engine.proofs.checks.layer_walks.Goals as goal
 

@@ -1,7 +1,7 @@
 use Rattle.std.proofs.Common.{ap, Err, []}
 use Rattle.std.proofs.lemmas.Result.{err_from_is_err_and}
 use Rattle.ovl_engine.specs.declared.requests.Command.TheVariants.{Show}
-use Rattle.ovl_engine.specs.Refusals.{worker_limit}
+use Rattle.ovl_board.specs.Machine.{worker_limit}
 use Rattle.ovl_engine.proofs.OutcomeLemmas.{failed, not_beyond}
 use Rattle.ovl_engine.proofs.commands.show.Goals as goal
 
