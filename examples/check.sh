@@ -1,23 +1,39 @@
 #!/usr/bin/env bash
-# Compares the program's report of each layer here with the `.show` file beside it, and its reports of the stacks here,
-# by several numbers of workers, with what is expected of them, byte for byte.
+# Compares PROGRAM's report of each layer here with the `.show` file beside it, its reports of the stacks here, by
+# several numbers of workers, with what is expected of them, and its help and version with `help.txt` and `version.txt`,
+# byte for byte. Without PROGRAM it is the launcher's.
 set -uo pipefail
 
 here=$(dirname -- "$(readlink -f -- "${BASH_SOURCE[0]}")")
+if (($# > 1)); then
+    echo "usage: $0 [PROGRAM]" >&2
+    exit 2
+fi
+program=$(readlink -f -- "${1:-$here/../ovl_layers}")
 report=$(mktemp)
 trap 'rm -f -- "$report"' EXIT
 
 same=0 other=0
+# Counts whether the report is this file here.
+compare() {
+    if cmp -- "$report" "$here/$1"; then
+        same=$((same + 1))
+    else
+        echo "$1: the program prints something else" >&2
+        other=$((other + 1))
+    fi
+}
+
 for layer in "$here"/*.json; do
     name=$(basename -- "$layer" .json)
     [[ -f $here/$name.show ]] || continue
-    if "$here/../ovl_layers" < "$layer" > "$report" && cmp -- "$report" "$here/$name.show"; then
-        same=$((same + 1))
-    else
-        echo "$name: the report isn't $name.show" >&2
-        other=$((other + 1))
-    fi
+    "$program" < "$layer" > "$report" || other=$((other + 1))
+    compare "$name.show"
+done
+for word in help version; do
+    "$program" "--$word" < /dev/null > "$report" || other=$((other + 1))
+    compare "$word.txt"
 done
 echo "$same same, $other other"
-"$here/../bench/compare.sh" "$here/../ovl_layers" "$here/moved" "$here/faulty" || other=$((other + 1))
-((other == 0 && same > 0))
+"$here/../bench/compare.sh" "$program" "$here/moved" "$here/faulty" || other=$((other + 1))
+((other == 0 && same > 2))

@@ -92,6 +92,8 @@ ln -s "$abc" "blobs/${abc//b/0}"
 printf abd > "wrong/$abc"
 : > $'bad.utf8/\xff'
 truncate -s 268435457 long.json
+truncate -s 268435456 most.json
+head -c 5000 /dev/zero | tr '\0' ' ' | cat - root.json > padded.json
 truncate -s 134217729 "large/$abc" "large/${abc//b/0}"
 for ((i = 0; i < 24; i++)); do
     printf -v name '%064x' "$i"
@@ -101,6 +103,7 @@ done
 # Done.
 prints 0 'dir 0755 0 0 0 - - /\nentries 1\n'
 prints 0 'dir 0755 0 0 0 - - /\nentries 1\n' show root.json
+prints 0 'dir 0755 0 0 0 - - /\nentries 1\n' show padded.json
 prints 0 "dir 0755 0 0 0 - - /\nfile 0644 0 0 0 3 $abc /k\nentries 2\n" show --workers 64 root.json k.json
 prints 0 'faults 0 notes 0\n' fsck --blobs blobs k.json
 prints 0 'faults 0 notes 0\n' fsck --blobs blobs/ --workers 1 root.json k.json
@@ -112,6 +115,7 @@ refuses 3 'cannot read missing.json' show missing.json
 refuses 3 'cannot read missing.json' show root.json missing.json lost.json
 refuses 3 'cannot read folder.json' show folder.json
 refuses 3 'cannot read long.json' show long.json
+refuses 3 'layer 0: not JSON' show most.json
 refuses 3 'cannot read missing.json' fsck --blobs missing missing.json
 refuses 3 'cannot read missing' fsck --blobs missing shape.json
 refuses 3 'cannot read missing/' fsck --blobs missing/ root.json
@@ -167,8 +171,8 @@ else
     differs "status $status, not 4" show root.json
 fi
 
-# Help goes to standard output.
-for words in --help 'show --help' 'fsck --help'; do
+# Help and the version go to standard output.
+for words in --help -h --version 'show --help' 'fsck --help'; do
     # shellcheck disable=SC2086
     "$program" $words < input > printed 2> told
     status=$?

@@ -58,7 +58,7 @@ before_all : (name : List ℕ) (blobs : List BlobView) → AllByRecursion (λ ot
 before_all name [] all = refl
 before_all name (blob ∷ blobs) all = λ j. is_lt (all.0 j) && before_all name blobs all.1 j
 
-ascending_blobs : (blobs : List BlobView) → IsStrictlySortedBy digest_cmp (map (λ (blob : BlobView). blob.name) blobs) → are_in_order blobs ≡ true
+pub ascending_blobs : (blobs : List BlobView) → IsStrictlySortedBy digest_cmp (map (λ (blob : BlobView). blob.name) blobs) → are_in_order blobs ≡ true
 unfolding IsStrictlySortedBy
 ascending_blobs [] up = refl
 ascending_blobs (blob ∷ blobs) up = λ j. before_all blob.name blobs up.0 j && ascending_blobs blobs up.1 j

@@ -9,21 +9,22 @@ use Rattle.ovl_pool.specs.declared.runs.RunFault.TheVariants.{Workers, Gate, Boa
 use Rattle.ovl_engine.specs.declared.requests.Command.{Command}
 use Rattle.ovl_engine.specs.Refusals.{failed_run}
 use Rattle.ovl_check.specs.Blobs.{BlobView}
-use Rattle.ovl_engine.specs.Outcomes.{MayRefuse, IsFailure}
+use Rattle.ovl_engine.specs.Outcomes.{MayRefuse, IsFaultOfRun, IsFailure}
 
 module _ (command : Command) (layers : List Entries) (blobs : List BlobView) (may_refuse : Piece → Type 0) where
-  board_failed : (fault : BoardFault) → IsFailure command layers blobs may_refuse (failed_run (Board fault))
-  board_failed (Double p) = λ e. let bad : Double p ≡ BoardMemory = e in cc
-  board_failed (Stranger p) = λ e. let bad : Stranger p ≡ BoardMemory = e in cc
-  board_failed (Missing p) = λ e. let bad : Missing p ≡ BoardMemory = e in cc
-  board_failed BoardMemory = tt
+  board_failed : (fault : BoardFault) → IsFaultOfRun command layers blobs (Board fault) → IsFailure command layers blobs may_refuse (failed_run (Board fault))
+  board_failed (Double p) own = ((λ e. let bad : Double p ≡ BoardMemory = e in cc), own)
+  board_failed (Stranger p) own = ((λ e. let bad : Stranger p ≡ BoardMemory = e in cc), own)
+  board_failed (Missing p) own = ((λ e. let bad : Missing p ≡ BoardMemory = e in cc), own)
+  board_failed BoardMemory own = tt
 
   -- a run that fails for another cause than its workers' number
-  pub failed : (fault : RunFault) → fault ≢ Workers → (fault ≡ Gate → MayRefuse command layers blobs may_refuse) → IsFailure command layers blobs may_refuse (failed_run fault)
-  failed Workers workers gate = absurd (workers refl)
-  failed Gate workers gate = gate refl
-  failed (Board fault) workers gate = board_failed fault
-  failed Memory workers gate = tt
+  pub failed : (fault : RunFault) → fault ≢ Workers → (fault ≡ Gate → MayRefuse command layers blobs may_refuse) → IsFaultOfRun command layers blobs fault
+      → IsFailure command layers blobs may_refuse (failed_run fault)
+  failed Workers workers gate board = absurd (workers refl)
+  failed Gate workers gate board = gate refl
+  failed (Board fault) workers gate board = board_failed fault board
+  failed Memory workers gate board = tt
 
 -- a number within a limit isn't outside of it
 pub not_beyond : (limit n : ℕ) → 0 < n → n ≤ limit → (n < 1) ⊎ (limit < n) → ⊥

@@ -1,6 +1,7 @@
 -- The directories of the merged tree as work: a piece is a directory, its kids are the directories in it, and its
 -- output is all that is shown in it.
-use Rattle.std.specs.Prelude.{ℕ, ◌*◌, List, [], map, filter, length}
+use Rattle.std.specs.Prelude.{ℕ, ◌*◌, List, [], map, filter, length, Vec}
+use Rattle.std.specs.Global.{Global}
 use Rattle.std.specs.Coded.{Coded-set, codes}
 use Rattle.ovl_names.specs.Names.{PathName}
 use Rattle.ovl_names.specs.Paths.{PathNames, child_path, depth_limit}
@@ -55,6 +56,10 @@ IsShowWalk stack parcels = IsPlain (show_kids stack) (show_out stack) show_root 
 -- the entries of a directory with their paths
 abbrev pub looks_placed_in : PathNames → List NamedLook → List (PathNames × Look)
 looks_placed_in dir looks = map (λ entry. (child_path dir entry.0, entry.1)) looks
+
+-- what is seen of the entries that a directory puts out
+abbrev pub looks_seen : Vec NamedLook Global → List NamedLook
+looks_seen looks = looks.items
 
 -- lists of entries are plain data
 pub looks_set : IsSet (List NamedLook)

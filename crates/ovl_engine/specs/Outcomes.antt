@@ -1,5 +1,6 @@
 -- What a command answers.
-use Rattle.std.specs.Prelude.{◌≡◌, ◌≢◌, ◌⊎◌, ◌<◌, ⊤, ℕ, true, Some, None, Result, Ok, Err, List, [], length}
+use Rattle.std.specs.Prelude.{◌≡◌, ◌≢◌, ◌⊎◌, ◌<◌, ⊤, ℕ, true, Some, None, Result, Ok, Err, List, [], length, Vec}
+use Rattle.std.specs.Global.{Global}
 use Rattle.ovl_names.specs.Paths.{PathNames}
 use Rattle.ovl_manifest.specs.Layers.{Entries}
 use Rattle.ovl_lookup.specs.declared.looks.Look.{Look}
@@ -9,19 +10,23 @@ use Rattle.ovl_board.specs.declared.pieces.Piece.{Piece}
 use Rattle.ovl_board.specs.declared.assembly.BoardFault.TheVariants.{Memory as BoardMemory}
 use Rattle.ovl_pool.specs.declared.runs.RunFault.{RunFault}
 use Rattle.ovl_pool.specs.declared.runs.RunFault.TheVariants.{Workers as RunWorkers, Gate, Board, Memory as RunMemory}
-use Rattle.ovl_pool.specs.Runs.{MayBeRefused}
-use Rattle.ovl_check.specs.Blobs.{BlobView, blob_kids, blob_root}
-use Rattle.ovl_check.specs.Checks.{CheckView, check_kids, directory_piece}
+use Rattle.ovl_pool.specs.Runs.{MayBeRefused, IsFaultOfOwn}
+use Rattle.ovl_check.specs.Blobs.{BlobView, blob_kids, blob_out, blob_root}
+use Rattle.ovl_check.specs.Checks.{CheckView, check_kids, check_out, check_seen, directory_piece}
 use Rattle.ovl_check.specs.Findings.{findings}
 use Rattle.ovl_engine.specs.Reports.{show_report}
 use Rattle.ovl_engine.specs.FsckReports.{fsck_report, is_clean}
-use Rattle.ovl_engine.specs.Directories.{show_kids, show_root}
+use Rattle.ovl_engine.specs.Directories.{looks_seen, show_kids, show_out, show_root}
 use Rattle.ovl_engine.specs.declared.requests.Command.{Command}
 use Rattle.ovl_engine.specs.declared.requests.Command.TheVariants.{Show, Fsck}
 use Rattle.ovl_engine.specs.declared.requests.Answer.{Answer}
 use Rattle.ovl_engine.specs.declared.faults.EngineFault.{EngineFault}
 use Rattle.ovl_engine.specs.declared.faults.EngineFault.TheVariants.{Workers, Layers, Layer, BlobOrder, BlobSize, Run, Memory}
 use Rattle.ovl_engine.specs.Refusals.{stated_layers, first_refusal}
+
+-- what is seen of the names that blobs put out
+abbrev pub names_seen : Vec (List ℕ) Global → List (List ℕ)
+names_seen names = names.items
 
 -- the stack of these layers
 abbrev pub stack_of : List Entries → StackView
@@ -58,11 +63,29 @@ abbrev pub MayRefuse : Command → List Entries → List BlobView → (Piece →
 MayRefuse Show layers blobs may_refuse = MayBeRefused (show_kids (stack_of layers)) may_refuse show_root
 MayRefuse Fsck layers blobs may_refuse = MayRefuseBlobs blobs may_refuse ⊎ ((i : ℕ) × MayRefuseLayer layers blobs may_refuse i)
 
+-- a fault of a run's board is one that some parcels of its work's own have: over the merged tree of layers, over blobs,
+-- and over layer `i`
+abbrev pub IsFaultOfShow : List Entries → RunFault → Type 0
+IsFaultOfShow layers = IsFaultOfOwn looks_seen (show_kids (stack_of layers)) (show_out (stack_of layers)) show_root
+
+abbrev pub IsFaultOfBlobs : List BlobView → RunFault → Type 0
+IsFaultOfBlobs blobs = IsFaultOfOwn names_seen (blob_kids blobs) (blob_out blobs) blob_root
+
+abbrev pub IsFaultOfLayer : List Entries → List BlobView → ℕ → RunFault → Type 0
+IsFaultOfLayer layers blobs i =
+    IsFaultOfOwn check_seen (check_kids (check_of layers blobs)) (check_out (check_of layers blobs)) (directory_piece i [])
+
+-- the same where the command is run over these layers and blobs
+abbrev pub IsFaultOfRun : Command → List Entries → List BlobView → RunFault → Type 0
+IsFaultOfRun Show layers blobs fault = IsFaultOfShow layers fault
+IsFaultOfRun Fsck layers blobs fault =
+    IsFaultOfBlobs blobs fault ⊎ ((i : ℕ) × ((i < length layers) × IsFaultOfLayer layers blobs i fault))
+
 -- a run over these layers and blobs fails by its gate or its board; want of memory is told apart
 abbrev pub IsFailedRun : Command → List Entries → List BlobView → (Piece → Type 0) → RunFault → Type 0
 IsFailedRun command layers blobs may_refuse RunWorkers = ⊥
 IsFailedRun command layers blobs may_refuse Gate = MayRefuse command layers blobs may_refuse
-IsFailedRun command layers blobs may_refuse (Board fault) = fault ≢ BoardMemory
+IsFailedRun command layers blobs may_refuse (Board fault) = (fault ≢ BoardMemory) × IsFaultOfRun command layers blobs (Board fault)
 IsFailedRun command layers blobs may_refuse RunMemory = ⊥
 
 -- why work over these layers and blobs isn't done; want of memory may come at any time

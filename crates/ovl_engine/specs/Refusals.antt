@@ -5,6 +5,7 @@ use Rattle.ovl_manifest.specs.Layers.{Entries}
 use Rattle.ovl_manifest.specs.Manifest.{read_layer}
 use Rattle.ovl_manifest.specs.declared.faults.LayerFault.{LayerFault}
 use Rattle.ovl_manifest.specs.declared.faults.LayerFault.TheVariants.{Memory as UnreadMemory}
+use Rattle.ovl_board.specs.Machine.{worker_limit}
 use Rattle.ovl_board.specs.declared.assembly.BoardFault.TheVariants.{Memory as BoardMemory}
 use Rattle.ovl_pool.specs.declared.runs.RunFault.{RunFault}
 use Rattle.ovl_pool.specs.declared.runs.RunFault.TheVariants.{Board, Memory as RunMemory}
@@ -12,10 +13,6 @@ use Rattle.ovl_lookup.specs.Stacks.{layer_limit}
 use Rattle.ovl_check.specs.Blobs.{BlobView, are_in_order}
 use Rattle.ovl_engine.specs.declared.faults.EngineFault.{EngineFault}
 use Rattle.ovl_engine.specs.declared.faults.EngineFault.TheVariants.{Workers, Layers, Layer, BlobOrder, BlobSize, Run, Memory}
-
--- the most workers
-abbrev pub worker_limit : ℕ
-worker_limit = 64
 
 -- a number is none, or over a limit
 abbrev pub is_outside : ℕ → ℕ → Bool

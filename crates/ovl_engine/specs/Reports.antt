@@ -5,10 +5,11 @@ use Rattle.std.specs.List.{flat_map}
 use Rattle.hex.specs.Hex.{encode_lower}
 use Rattle.ovl_names.specs.Paths.{PathNames}
 use Rattle.ovl_names.specs.Escapes.{escaped, shown_path}
+use Rattle.ovl_inode.specs.Kinds.{kind_word}
 use Rattle.ovl_inode.specs.declared.digests.Digest.{Digest}
 use Rattle.ovl_inode.specs.declared.inodes.Inode.{Inode}
 use Rattle.ovl_inode.specs.declared.inodes.Kind.{Kind}
-use Rattle.ovl_inode.specs.declared.inodes.Kind.TheVariants.{Dir, File, Symlink, Char, Block, Fifo, Socket}
+use Rattle.ovl_inode.specs.declared.inodes.Kind.TheVariants.{File, Symlink, Char, Block}
 use Rattle.ovl_lookup.specs.declared.looks.Look.{Look}
 use Rattle.ovl_lookup.specs.declared.looks.Look.TheVariants.{Nothing, Shown, Broken}
 
@@ -18,16 +19,6 @@ octal_digit number = 48 + number % 8
 
 abbrev pub octal : ℕ → List ℕ
 octal mode = octal_digit (mode / 512) ∷ octal_digit (mode / 64) ∷ octal_digit (mode / 8) ∷ octal_digit mode ∷ []
-
--- the manifest's word for a kind
-abbrev pub kind_word : Kind → List ℕ
-kind_word Dir = codes "dir"
-kind_word (File size blob) = codes "file"
-kind_word (Symlink target) = codes "symlink"
-kind_word (Char major minor) = codes "char"
-kind_word (Block major minor) = codes "block"
-kind_word Fifo = codes "fifo"
-kind_word Socket = codes "socket"
 
 -- files alone have a size
 abbrev pub size_word : Kind → List ℕ

@@ -1,5 +1,6 @@
 ghost use Rattle.std.specs.Prelude.{◌≡◌, ◌<◌, ◌≤◌, true, List, MatchResult, length, map};
 ghost use Rattle.ovl_manifest.specs.Layers.{Entries};
+ghost use Rattle.ovl_board.specs.Machine.{worker_limit};
 ghost use Rattle.ovl_board.specs.Parcels.{parcel_views};
 ghost use Rattle.ovl_check.specs.Blobs.{blob_views, are_in_order, wrong_names};
 ghost use Rattle.ovl_check.specs.Checks.{check_seen};
@@ -7,7 +8,6 @@ ghost use Rattle.ovl_check.specs.CheckViews.{check_view};
 ghost use Rattle.ovl_check.specs.Walks.{AreLayerWalks};
 ghost use Rattle.ovl_check.specs.Findings.{findings};
 ghost use Rattle.ovl_engine.specs.declared.requests.Command.TheVariants.{Fsck};
-ghost use Rattle.ovl_engine.specs.Refusals.{worker_limit};
 ghost use Rattle.ovl_engine.specs.Outcomes.{IsFailure};
 
 use crate::faults::EngineFault;

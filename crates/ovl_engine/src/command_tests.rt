@@ -1,7 +1,7 @@
 ghost use Rattle.std.specs.Prelude.{◌≡◌, []};
 
-use crate::samples::{manifest_of, reported};
-use crate::{Answer, Command, EngineFault, ShowWork, command};
+use crate::samples::{contents_of, manifest_of, manifests_of, reported};
+use crate::{Answer, Command, EngineFault, ShowWork, command, named_blobs};
 use ovl_board::{BoardFault, Piece};
 use ovl_lookup::Stack;
 use ovl_manifest::{LayerFault, read_layer};
@@ -224,17 +224,19 @@ const TWO: &str = "dir /a, dir /b";
 
 const FOUR: &str = "dir /a, dir /b, dir /c, dir /d";
 
-// Lets these directories pass where they meet.
-fn gate_to<'a, R: Wait>(
+const FOUR_PATHS: &[&str] = &["/a", "/b", "/c", "/d"];
+
+// Lets these pieces of a space pass where they meet; the space is a layer, or that of the blobs.
+fn gate_at<'a, R: Wait>(
     rt: &'a R,
     alloc: Global,
-    directories: &str,
+    space: u16,
+    paths: &[&str],
 ) -> Result<Meeting<'a, R>, Fail> {
     let mut asked = Vec::new(alloc);
-    for entry in directories.split(", ") {
-        let (_, path) = entry.split_once(' ').unwrap_or(("", entry));
+    for path in paths {
         let piece = Piece {
-            space: 0,
+            space,
             dir: Path::parse(alloc, path)?,
         };
         asked.push((piece, 0))?;
@@ -245,27 +247,39 @@ fn gate_to<'a, R: Wait>(
     })
 }
 
-// How the command ends over two directories and a root under them, through the gate above.
-fn gated<R: Threads + Wait + Sync>(
+// Whether the command's answer over these layers and blobs comes where these two pieces of a space must meet, by two
+// workers; one worker is refused.
+fn is_met<R: Threads + Wait + Sync>(
     rt: &R,
     alloc: Global,
     what: Command,
-    workers: usize,
-) -> Result<Option<EngineFault>, Fail> {
-    let manifests = [manifest_of(alloc, TWO)?, manifest_of(alloc, "")?];
-    let gate = gate_to(rt, alloc, TWO)?;
-    Ok(command(rt, alloc, what, &manifests, &[], workers, &gate).err())
+    layers: &[&str],
+    space: u16,
+    pieces: &[&str],
+) -> Result<bool, Fail> {
+    let manifests = manifests_of(alloc, layers)?;
+    let blobs = named_blobs(alloc, &contents_of(alloc, &["ab", "abc"])?)?;
+    let mut faults = Vec::new(alloc);
+    for workers in [2, 1] {
+        let gate = gate_at(rt, alloc, space, pieces)?;
+        faults.push(command(rt, alloc, what, &manifests, &blobs, workers, &gate).err())?;
+    }
+    Ok(faults.as_slice() == [None, Some(EngineFault::Run(RunFault::Gate))].as_slice())
 }
 
 #[test]
-fn workers_of_a_command_meet_at_the_gate(rt: HostRuntime) -> Result<(), Fail> {
-    for what in [Command::Show, Command::Fsck] {
-        assert_eq!(rt; gated(&rt, rt.alloc(), what, 2)?, None, "at {what:?}");
-        assert_eq!(rt;
-            gated(&rt, rt.alloc(), what, 1)?,
-            Some(EngineFault::Run(RunFault::Gate)),
-            "at {what:?}"
-        );
+fn two_workers_of_a_command_meet_and_one_is_refused(rt: HostRuntime) -> Result<(), Fail> {
+    let two = ["/a", "/b"].as_slice();
+    // The blobs of `abc` and of `ab`, by the first digits of their names.
+    let blobs = ["/ba", "/fb"].as_slice();
+    for (what, layers, space, pieces) in [
+        (Command::Show, [TWO, ""].as_slice(), 0, two),
+        (Command::Fsck, [TWO, ""].as_slice(), 0, two),
+        (Command::Fsck, ["", TWO].as_slice(), 1, two),
+        (Command::Fsck, ["", ""].as_slice(), 128, blobs),
+    ] {
+        let met = is_met(&rt, rt.alloc(), what, layers, space, pieces)?;
+        assert!(rt; met, "at {what:?} in space {space}");
     }
     Ok(())
 }
@@ -298,18 +312,20 @@ fn run_to<R: Threads + Wait + Sync>(
     rt: &R,
     alloc: Global,
     directories: &str,
+    paths: &[&str],
     workers: usize,
 ) -> Result<Result<RunCount, RunFault>, Fail> {
     let stack = stack_with(alloc, directories)?;
-    let gate = gate_to(rt, alloc, directories)?;
+    let gate = gate_at(rt, alloc, 0, paths)?;
     let work = ShowWork::new(&stack);
     Ok(run(rt, alloc, &work, root_piece(alloc), workers, &gate).map(|(_, count)| count))
 }
 
 #[test]
 fn workers_meet_over_the_merged_tree(rt: HostRuntime) -> Result<(), Fail> {
-    for (directories, workers, count) in [(TWO, 2, 3), (FOUR, 4, 5)] {
-        let counted = run_to(&rt, rt.alloc(), directories, workers)?;
+    for (directories, paths, count) in [(TWO, &FOUR_PATHS[..2], 3), (FOUR, FOUR_PATHS, 5)] {
+        let workers = paths.len();
+        let counted = run_to(&rt, rt.alloc(), directories, paths, workers)?;
         assert_eq!(rt; counted, Ok(all_of(count)), "by {workers} workers");
     }
     Ok(())
@@ -317,8 +333,8 @@ fn workers_meet_over_the_merged_tree(rt: HostRuntime) -> Result<(), Fail> {
 
 #[test]
 fn one_worker_fewer_is_refused(rt: HostRuntime) -> Result<(), Fail> {
-    for (directories, workers) in [(TWO, 1), (FOUR, 3)] {
-        let counted = run_to(&rt, rt.alloc(), directories, workers)?;
+    for (directories, paths, workers) in [(TWO, &FOUR_PATHS[..2], 1), (FOUR, FOUR_PATHS, 3)] {
+        let counted = run_to(&rt, rt.alloc(), directories, paths, workers)?;
         assert_eq!(rt; counted, Err(RunFault::Gate), "by {workers} workers");
     }
     Ok(())

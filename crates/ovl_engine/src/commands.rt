@@ -1,9 +1,10 @@
 ghost use Rattle.std.specs.Prelude.{◌≡◌, ◌↔◌, ◌<◌, ◌≤◌, true, false, Err, [], length, map, nat_lt};
 ghost use Rattle.ovl_lookup.specs.Stacks.{layer_limit};
+ghost use Rattle.ovl_board.specs.Machine.{worker_limit};
 ghost use Rattle.ovl_check.specs.Blobs.{blob_views, are_in_order};
 ghost use Rattle.ovl_engine.specs.declared.requests.Command.TheVariants.{Show, Fsck};
 ghost use Rattle.ovl_engine.specs.declared.faults.EngineFault.TheVariants.{Workers, Layers};
-ghost use Rattle.ovl_engine.specs.Refusals.{worker_limit, is_outside as outside_test, blob_limit, blob_bytes};
+ghost use Rattle.ovl_engine.specs.Refusals.{is_outside as outside_test, blob_limit, blob_bytes};
 ghost use Rattle.ovl_engine.specs.Outcomes.{IsOutcome, IsRun};
 
 use crate::checks::findings_of;
@@ -13,25 +14,25 @@ use crate::reports::report_of;
 use crate::requests::{Answer, Command};
 use crate::stacks::read_stack;
 use crate::works::{ShowWork, finish_show};
-use ovl_board::Piece;
+use ovl_board::{Piece, WORKER_LIMIT};
 use ovl_check::{Blob, blobs_in_order};
-use ovl_lookup::Stack;
+use ovl_lookup::{LAYER_LIMIT, Stack};
 use ovl_names::Path;
 use ovl_pool::{Gate, run};
 use std::alloc::Global;
 use std::sync::Wait;
 use std::thread::Threads;
 
-/// What a command gives of the layers that the manifests state, the topmost first, and of the blobs, by 1 to 64
-/// workers. The answer is the same for every number of workers and every order of their visits.
+/// What a command gives of the layers that the manifests state, the topmost first, and of the blobs, by 1 to
+/// [`WORKER_LIMIT`] workers. The answer is the same for every number of workers and every order of their visits.
 ///
-/// Refused before any worker starts where the workers are outside 1 to 64, else where the manifests are outside 1 to
-/// 128, else where one states no layer, the first of them, with its fault, else where the names of the blobs don't
-/// ascend strictly, else where the blobs have more than 268,435,456 bytes in all. `Run` comes where the gate refuses a
-/// piece, or the board can't assemble the parcels; `Memory` can come at any time but before the first two refusals. It
-/// waits for its workers, and returns only where each question to the gate does. The merged tree is that of the
-/// kernel's overlayfs.rst, as `docs/PROFILE.md` tells it with what is checked; the reports are those of
-/// `docs/FORMATS.md`.
+/// Refused before any worker starts where the workers are outside 1 to [`WORKER_LIMIT`], else where the manifests are
+/// outside 1 to [`LAYER_LIMIT`], else where one states no layer, the first of them, with its fault, else where the names
+/// of the blobs don't ascend strictly, else where the blobs have more than [`BLOB_LIMIT`] bytes in all. `Run` comes where
+/// the gate refuses a piece that the command reaches, or the board has a fault, which some parcels of the command's own
+/// runs have; `Memory` can come at any time but before the first two refusals. It waits for its workers, and returns
+/// only where each question to the gate does. The merged tree and what is checked are those of `docs/PROFILE.md`, the
+/// reports those of `docs/FORMATS.md`.
 pub fn command<G: Gate + Sync, R: Threads + Wait + Sync>(
     rt: &R,
     alloc: Global,
@@ -46,10 +47,10 @@ pub fn command<G: Gate + Sync, R: Threads + Wait + Sync>(
     ensures layers { (result ≡ Err Layers)
         ↔ ((outside_test worker_limit workers ≡ false) × (outside_test layer_limit (length manifests.now) ≡ true)) }
 {
-    if is_outside(64, workers) {
+    if is_outside(WORKER_LIMIT, workers) {
         return Err(EngineFault::Workers);
     }
-    if is_outside(128, manifests.len()) {
+    if is_outside(LAYER_LIMIT, manifests.len()) {
         return Err(EngineFault::Layers);
     }
     let stack = read_stack(alloc, manifests)?;

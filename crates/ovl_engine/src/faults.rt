@@ -2,7 +2,9 @@ ghost use Rattle.std.specs.Prelude.{◌≡◌};
 ghost use Rattle.ovl_engine.specs.declared.faults.EngineFault.TheVariants.{Memory};
 ghost use Rattle.ovl_engine.specs.Refusals.{unread_layer, failed_run};
 
-use ovl_board::BoardFault;
+use crate::commands::BLOB_LIMIT;
+use ovl_board::{BoardFault, WORKER_LIMIT};
+use ovl_lookup::LAYER_LIMIT;
 use ovl_manifest::LayerFault;
 use ovl_pool::RunFault;
 use std::alloc::{AllocError, AllocFailed};
@@ -12,20 +14,25 @@ use thiserror::Error;
 /// given before any work is done. Layers are counted from 0, the topmost first.
 #[derive(Debug, PartialEq, Eq, Drop, Error)]
 pub enum EngineFault {
-    #[error("workers must be 1 to 64")]
+    /// There is no worker, or there are more than [`WORKER_LIMIT`].
+    #[error("workers must be 1 to {max}", max = WORKER_LIMIT)]
     Workers,
-    #[error("layers must be 1 to 128")]
+    /// There is no manifest, or there are more than [`LAYER_LIMIT`].
+    #[error("layers must be 1 to {max}", max = LAYER_LIMIT)]
     Layers,
+    /// The manifest of this index states no layer, for this reason.
     #[error("layer {0}: {1}")]
     Layer(usize, LayerFault),
     /// The names of the blobs don't ascend strictly.
     #[error("blobs out of order")]
     BlobOrder,
-    /// The blobs have more than 268,435,456 bytes in all.
-    #[error("blobs over 268435456 bytes")]
+    /// The blobs have more than [`BLOB_LIMIT`] bytes in all.
+    #[error("blobs over {max} bytes", max = BLOB_LIMIT)]
     BlobSize,
+    /// A run over the layers or the blobs gives no walk, for another reason than memory.
     #[error("{}", run_word(.0))]
     Run(RunFault),
+    /// Memory is wanted.
     #[error("out of memory")]
     Memory,
 }

@@ -1,6 +1,6 @@
 //! Worked stacks and blobs: what `fsck` finds in them.
 
-use crate::samples::{checked, manifest_of};
+use crate::samples::{checked, contents_of, manifest_of};
 use crate::{Blob, Command, EngineFault, command, named_blobs};
 use ovl_inode::Digest;
 use ovl_manifest::LayerFault;
@@ -15,7 +15,7 @@ const OF_AB: &str = "fb8e20fc2e4c3f248c60c39bd652f3c1347298bb977b8b4d5903b850556
 
 // The blob of the contents `a`.
 fn blob_of_a(alloc: Global) -> Result<Vec<Blob>, Fail> {
-    Ok(named_blobs(alloc, &[bytes_of(alloc, "a")?])?)
+    Ok(named_blobs(alloc, &contents_of(alloc, &["a"])?)?)
 }
 
 fn bytes_of(alloc: Global, text: &str) -> Result<Vec<u8>, Fail> {
@@ -166,14 +166,43 @@ fn faults_of_data_are_found(rt: HostRuntime) -> Result<(), Fail> {
     Ok(())
 }
 
+// An empty file, and files of the contents `abc`, `a` and `ab`, the last of a wrong size.
+const WITH_THREE_FILES: &str = "empty /e, file-abc /k, file /m, file-ab /s";
+
 #[test]
 fn files_without_right_blobs_are_found(rt: HostRuntime) -> Result<(), Fail> {
     let alloc = rt.alloc();
     let blobs = [blob(alloc, OF_ABC, "abd")?, blob(alloc, OF_AB, "ab")?];
-    let layer = "empty /e, file-abc /k, file /m, file-ab /s";
     assert_eq!(rt;
-        checked(&rt, alloc, &[layer], &blobs)?.as_str(),
+        checked(&rt, alloc, &[WITH_THREE_FILES], &blobs)?.as_str(),
         "fault blob-digest 0 /k\nfault blob-missing 0 /m\nfault blob-size 0 /s\nfaults 3 notes 0\n"
+    );
+    Ok(())
+}
+
+// The blobs of 1,500 contents, one of which is `a`; that blob has other bytes.
+fn many_blobs(alloc: Global) -> Result<Vec<Blob>, Fail> {
+    let mut contents = contents_of(alloc, &["a"])?;
+    for number in 1..1500 {
+        contents.push(format!(in alloc; "{number}")?.into_bytes())?;
+    }
+    let mut blobs = named_blobs(alloc, &contents)?;
+    for blob in &mut blobs {
+        if blob.bytes.as_slice() == b"a".as_slice() {
+            blob.bytes = bytes_of(alloc, "b")?;
+        }
+    }
+    Ok(blobs)
+}
+
+#[test]
+fn one_wrong_blob_is_found_among_many(rt: HostRuntime) -> Result<(), Fail> {
+    let alloc = rt.alloc();
+    let blobs = many_blobs(alloc)?;
+    assert_eq!(rt; blobs.len(), 1500);
+    assert_eq!(rt;
+        checked(&rt, alloc, &["file /m"], &blobs)?.as_str(),
+        "fault blob-digest 0 /m\nfaults 1 notes 0\n"
     );
     Ok(())
 }
@@ -181,7 +210,7 @@ fn files_without_right_blobs_are_found(rt: HostRuntime) -> Result<(), Fail> {
 #[test]
 fn blobs_must_ascend_whatever_the_command(rt: HostRuntime) -> Result<(), Fail> {
     let alloc = rt.alloc();
-    let manifests = [manifest_of(alloc, "")?];
+    let manifests = [manifest_of(alloc, WITH_THREE_FILES)?];
     let falling = [blob(alloc, OF_AB, "ab")?, blob(alloc, OF_ABC, "abd")?];
     let twice = [blob(alloc, OF_AB, "ab")?, blob(alloc, OF_AB, "ab")?];
     for what in [Command::Show, Command::Fsck] {

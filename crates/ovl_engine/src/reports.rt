@@ -2,7 +2,8 @@ ghost use Rattle.std.specs.Prelude.{◌≡◌, ◌+◌, ◌%◌, ◌++◌, IfOk,
 ghost use Rattle.std.specs.Fmt.{signed_decimal};
 ghost use Rattle.std.specs.List.{flat_map};
 ghost use Rattle.ovl_names.specs.Escapes.{escaped as escaped_text, shown_path};
-ghost use Rattle.ovl_engine.specs.Reports.{octal_digit as last_digit, octal, kind_word, size_word, blob_word, device_word, what_word, attribute_word, spaced, inode_line, show_report};
+ghost use Rattle.ovl_inode.specs.Kinds.{kind_word};
+ghost use Rattle.ovl_engine.specs.Reports.{octal_digit as last_digit, octal, size_word, blob_word, device_word, what_word, attribute_word, spaced, inode_line, show_report};
 
 use ovl_inode::{Attrs, Digest, Inode, Kind};
 use ovl_lookup::Look;
@@ -28,9 +29,8 @@ pub fn report_of(alloc: Global, looks: &[(Path, Look)]) -> Result<Vec<u8>, Alloc
     Ok(report.into_bytes())
 }
 
-/// Appends the line of a path with an inode, `broken` where that is a metacopy file without its data.
-/// Fails only for want of memory.
-pub fn push_line(
+// Appends the line of a path with an inode, `broken` where that is a metacopy file without its data.
+fn push_line(
     alloc: Global,
     report: &mut String,
     path: &Path,
@@ -52,7 +52,7 @@ fn push_status(report: &mut String, inode: &Inode) -> Result<(), AllocError>
         ++ (spaced (kind_word inode.now.kind) ++ spaced (octal inode.now.mode)
         ++ spaced (decimal inode.now.uid) ++ spaced (decimal inode.now.gid) ++ spaced (signed_decimal inode.now.mtime))) }
 {
-    push_word(report, kind_name(&inode.kind))?;
+    push_word(report, inode.kind.word())?;
     push_mode(report, inode.mode)?;
     push_word(report, itoa::Buffer::new().format(inode.uid))?;
     push_word(report, itoa::Buffer::new().format(inode.gid))?;
@@ -64,20 +64,6 @@ pub(crate) fn push_word(report: &mut String, word: &str) -> Result<(), AllocErro
 {
     report.push_str(word)?;
     report.push_str(" ")
-}
-
-fn kind_name(kind: &Kind) -> &'static str
-    ensures { result.now ≡ kind_word kind.now }
-{
-    match kind {
-        Kind::Dir => "dir",
-        Kind::File { .. } => "file",
-        Kind::Symlink { .. } => "symlink",
-        Kind::Char { .. } => "char",
-        Kind::Block { .. } => "block",
-        Kind::Fifo => "fifo",
-        Kind::Socket => "socket",
-    }
 }
 
 // The mode, and a space after it.

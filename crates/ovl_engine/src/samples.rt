@@ -94,6 +94,15 @@ pub(crate) fn in_full(alloc: Global, text: &str) -> Result<String, Fail> {
     )?)
 }
 
+// The bytes of each of these texts.
+pub(crate) fn contents_of(alloc: Global, texts: &[&str]) -> Result<Vec<Vec<u8>>, Fail> {
+    let mut contents = Vec::new(alloc);
+    for text in texts {
+        contents.push(String::from_str(alloc, text)?.into_bytes())?;
+    }
+    Ok(contents)
+}
+
 // What `show` reports of these layers, the topmost first, alike by one worker and by four.
 pub(crate) fn shown<R: Threads + Wait + Sync>(
     rt: &R,
@@ -103,7 +112,7 @@ pub(crate) fn shown<R: Threads + Wait + Sync>(
     reported(rt, alloc, &manifests_of(alloc, layers)?)
 }
 
-fn manifests_of(alloc: Global, layers: &[&str]) -> Result<Vec<Vec<u8>>, Fail> {
+pub(crate) fn manifests_of(alloc: Global, layers: &[&str]) -> Result<Vec<Vec<u8>>, Fail> {
     let mut manifests = Vec::new(alloc);
     for entries in layers {
         manifests.push(manifest_of(alloc, entries)?)?;

@@ -7,7 +7,7 @@ use ovl_lookup::Stack;
 use ovl_manifest::{Layer, read_layer};
 use std::alloc::Global;
 
-/// The stack of the layers that 1 to 128 manifests state, the topmost first.
+/// The stack of the layers that 1 to [`LAYER_LIMIT`](ovl_lookup::LAYER_LIMIT) manifests state, the topmost first.
 pub(crate) fn read_stack(alloc: Global, manifests: &[Vec<u8>]) -> Result<Stack, EngineFault>
     requires { (0 < length manifests.now) × (length manifests.now ≤ layer_limit) }
     ensures { MatchResult result

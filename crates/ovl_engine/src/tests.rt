@@ -3,8 +3,8 @@ ghost use Rattle.ovl_lookup.specs.Merged.{IsMerged};
 ghost use Rattle.ovl_engine.specs.Directories.{show_root};
 
 use super::*;
-use crate::samples::manifest_of;
-use ovl_board::{Core, Event, Parcel, Piece, plain_walk};
+use crate::samples::{contents_of, manifest_of};
+use ovl_board::{Core, CoreFault, Event, Parcel, Piece, plain_walk};
 use ovl_inode::{Attrs, Digest, Inode, Kind, Target};
 use ovl_lookup::{Look, Stack};
 use ovl_manifest::{Layer, read_layer};
@@ -259,14 +259,41 @@ fn one_thread_finds_the_paths_that_are_shown(rt: HostRuntime) -> Result<(), Fail
     Ok(())
 }
 
-// The pieces and the names put out, as text: a line for each parcel.
+// What is shown, by a word and the mode.
+fn push_look(alloc: Global, text: &mut String, look: &Look) -> Result<(), Fail> {
+    let told = match look {
+        Look::Shown(inode) => match inode.kind {
+            Kind::Dir => format!(in alloc; " dir {:o}", inode.mode)?,
+            _ => format!(in alloc; " other {:o}", inode.mode)?,
+        },
+        Look::Broken(_) => String::from_str(alloc, " broken")?,
+        Look::Nothing => String::from_str(alloc, " nothing")?,
+    };
+    text.push_str(told.as_str())?;
+    Ok(())
+}
+
+// A piece, as its space and its path.
+fn push_piece(alloc: Global, text: &mut String, piece: &Piece) -> Result<(), Fail> {
+    let path = piece.dir.shown(alloc)?;
+    let told = format!(in alloc; "{}:{}", piece.space, path.as_str())?;
+    text.push_str(told.as_str())?;
+    Ok(())
+}
+
+// The parcels as text, a line for each: its piece, its kids, and each name put out with what is shown there.
 fn lines_of(alloc: Global, parcels: &[Parcel<Vec<(Name, Look)>>]) -> Result<String, Fail> {
     let mut text = String::new(alloc);
     for parcel in parcels {
-        text.push_str(parcel.piece.dir.shown(alloc)?.as_str())?;
-        for (name, _) in &parcel.out {
+        push_piece(alloc, &mut text, &parcel.piece)?;
+        for kid in &parcel.kids {
             text.push_str(" ")?;
+            push_piece(alloc, &mut text, kid)?;
+        }
+        for (name, look) in &parcel.out {
+            text.push_str("; ")?;
             text.push_str(name.as_str())?;
+            push_look(alloc, &mut text, look)?;
         }
         text.push_str("\n")?;
     }
@@ -275,15 +302,19 @@ fn lines_of(alloc: Global, parcels: &[Parcel<Vec<(Name, Look)>>]) -> Result<Stri
 
 #[test]
 fn the_pieces_are_the_directories(rt: HostRuntime) -> Result<(), Fail> {
-    let small = two_directories(rt.alloc())?;
-    let parcels = plain_walk(rt.alloc(), &ShowWork::new(&small), root_piece(rt.alloc()))?;
-    assert_eq!(rt; lines_of(rt.alloc(), &parcels)?.as_str(), "/ a b\n/a\n/b\n");
-    let moved = moved_in_opaque(rt.alloc())?;
-    let parcels = plain_walk(rt.alloc(), &ShowWork::new(&moved), root_piece(rt.alloc()))?;
-    assert_eq!(rt;
-        lines_of(rt.alloc(), &parcels)?.as_str(),
-        "/ n n-a\n/n d\n/n/d k\n"
-    );
+    for (stack, lines) in [
+        (
+            two_directories(rt.alloc())?,
+            "0:/ 0:/a 0:/b; a dir 755; b dir 755\n0:/a\n0:/b\n",
+        ),
+        (
+            moved_in_opaque(rt.alloc())?,
+            "0:/ 0:/n; n dir 755; n-a other 644\n0:/n 0:/n/d; d dir 755\n0:/n/d; k other 644\n",
+        ),
+    ] {
+        let parcels = plain_walk(rt.alloc(), &ShowWork::new(&stack), root_piece(rt.alloc()))?;
+        assert_eq!(rt; lines_of(rt.alloc(), &parcels)?.as_str(), lines);
+    }
     Ok(())
 }
 
@@ -292,6 +323,8 @@ fn two_workers_share_the_directories(rt: HostRuntime) -> Result<(), Fail> {
     let stack = two_directories(rt.alloc())?;
     let work = ShowWork::new(&stack);
     let mut core = Core::start(rt.alloc(), &work, root_piece(rt.alloc()), 2)?;
+    let early = core.step(rt.alloc(), Event::Pop(1));
+    assert_eq!(rt; early.err(), Some(CoreFault::NotPossible));
     for event in [
         Event::Pop(0),
         Event::Work(0),
@@ -307,16 +340,20 @@ fn two_workers_share_the_directories(rt: HostRuntime) -> Result<(), Fail> {
     let Ok(parcels) = core.finish() else {
         return Err(Fail::from("open"));
     };
-    assert_eq!(rt; lines_of(rt.alloc(), &parcels)?.as_str(), "/ a b\n/b\n/a\n");
+    assert_eq!(rt;
+        lines_of(rt.alloc(), &parcels)?.as_str(),
+        "0:/ 0:/a 0:/b; a dir 755; b dir 755\n0:/b\n0:/a\n"
+    );
     Ok(())
 }
 
-// Takes a few bytes in all, one or two at a time, is interrupted before each, and then fails.
+// Takes a few bytes in all, one or two at a time, is interrupted before each, and then fails, or takes none.
 #[derive(Drop)]
 struct Narrow {
     room: usize,
     taken: Vec<u8>,
     interrupts: bool,
+    fails: bool,
 }
 
 impl Write for Narrow {
@@ -325,7 +362,7 @@ impl Write for Narrow {
         if !self.interrupts {
             return Err(Error::from_raw_os_error(4));
         }
-        if self.room == 0 {
+        if self.room == 0 && self.fails {
             return Err(Error::from_raw_os_error(28));
         }
         let count = buf.len().min(self.room).min(2);
@@ -341,11 +378,12 @@ impl Write for Narrow {
     }
 }
 
-fn narrow_writer(alloc: Global, room: usize) -> Narrow {
+fn narrow_writer(alloc: Global, room: usize, fails: bool) -> Narrow {
     Narrow {
         room,
         taken: Vec::new(alloc),
         interrupts: false,
+        fails,
     }
 }
 
@@ -354,27 +392,23 @@ fn all_bytes_go_out_or_those_that_the_fault_counts(rt: HostRuntime) -> Result<()
     let mut whole = Vec::new(rt.alloc());
     assert_eq!(rt; emit(&mut whole, b"abcde".as_slice()), Ok(()));
     assert_eq!(rt; whole.as_slice(), b"abcde".as_slice());
-    let mut wide = narrow_writer(rt.alloc(), 5);
+    let mut wide = narrow_writer(rt.alloc(), 5, true);
     assert_eq!(rt; emit(&mut wide, b"abcde".as_slice()), Ok(()));
     assert_eq!(rt; wide.taken.as_slice(), b"abcde".as_slice());
     Ok(())
 }
 
 #[test]
-fn a_failed_write_is_told_with_what_went_out(rt: HostRuntime) -> Result<(), Fail> {
-    let mut short = narrow_writer(rt.alloc(), 3);
-    let fault = emit(&mut short, b"abcde".as_slice());
-    assert_eq!(rt; fault, Err(EmitFault { written: 3 }));
-    assert_eq!(rt; short.taken.as_slice(), b"abc".as_slice());
-    Ok(())
-}
-
-fn contents_of(alloc: Global, texts: &[&str]) -> Result<Vec<Vec<u8>>, Fail> {
-    let mut contents = Vec::new(alloc);
-    for text in texts {
-        contents.push(String::from_str(alloc, text)?.into_bytes())?;
+fn a_write_that_fails_or_takes_none_is_told_with_what_went_out(
+    rt: HostRuntime,
+) -> Result<(), Fail> {
+    for (room, fails, taken) in [(3, true, "abc"), (3, false, "abc"), (0, false, "")] {
+        let mut short = narrow_writer(rt.alloc(), room, fails);
+        let fault = emit(&mut short, b"abcde".as_slice());
+        assert_eq!(rt; fault, Err(EmitFault { written: room }), "of {room}");
+        assert_eq!(rt; short.taken.as_slice(), taken.as_bytes(), "of {room}");
     }
-    Ok(contents)
+    Ok(())
 }
 
 #[test]

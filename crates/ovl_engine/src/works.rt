@@ -1,19 +1,18 @@
 ghost use Rattle.std.specs.Prelude.{◌≡◌, ◌++◌, ◌∷◌, [], IfOk, OnOk, IsPermutation, IsSorted, map};
 ghost use Rattle.std.specs.List.{flat_map};
-ghost use Rattle.ovl_lookup.specs.Merged.{look as the_look, IsMerged, is_shown_directory, look_cmp};
+ghost use Rattle.ovl_lookup.specs.Merged.{look as the_look, IsMerged, look_cmp};
 ghost use Rattle.ovl_board.specs.Parcels.{parcel_views};
 ghost use Rattle.ovl_engine.specs.Directories.{HasAllNames, IsShowWalk, named_look, directories_in as the_directories_in, looks_placed_in};
 
 use ovl_board::{Parcel, Piece, Work};
-use ovl_inode::{Inode, Kind};
 use ovl_lookup::{Look, Stack};
-use ovl_names::{Name, Path};
+use ovl_names::{DEPTH_LIMIT, Name, Path};
 use std::alloc::{AllocError, Global};
 use std::marker::Model;
 
 /// The merged tree of a stack as work, whose pieces are its directories, from `/` of space 0. The output of a
 /// directory is each name in it, in order, with what is shown there; its kids are those that are directories. A kid
-/// has the space of its piece. overlayfs.rst: "Merging directories", "readdir".
+/// has the space of its piece. overlayfs.rst: "Directories", "readdir".
 #[derive(Drop)]
 pub struct ShowWork<'a> {
     stack: &'a Stack,
@@ -69,7 +68,7 @@ impl<'a> Work for ShowWork<'a> {
     }
 
     fn deepest(&self) -> u32 {
-        64 * self.stack.layers() as u32
+        (DEPTH_LIMIT * self.stack.layers()) as u32
     }
 }
 
@@ -101,7 +100,7 @@ fn directories_in(
 {
     let mut kids = Vec::new(alloc);
     for (name, look) in looks {
-        if is_directory(look) {
+        if look.is_shown_directory() {
             kids.push(Piece {
                 space: piece.space,
                 dir: piece.dir.child(alloc, name)?,
@@ -109,18 +108,6 @@ fn directories_in(
         }
     }
     Ok(kids)
-}
-
-fn is_directory(look: &Look) -> bool
-    ensures { result ≡ is_shown_directory look.now }
-{
-    matches!(
-        look,
-        Look::Shown(Inode {
-            kind: Kind::Dir,
-            ..
-        })
-    )
 }
 
 /// The whole merged tree in path order: each path at which something is shown once, with what is shown there.

@@ -28,10 +28,11 @@ unfolding clap_on_literals
 tool_is_free = refl
 
 pub fault_by : (kinds : Kinds) (error : Error) (fault : LineFault) → HasKind kinds error → IsFaultOf (kind_of error) fault → IsFaultBy kinds fault
-fault_by kinds error (Help text) (inl memory) is = cc
-fault_by kinds error (Help text) (inr among) is = subst (λ k. IsAmong k kinds) is among
+fault_by kinds error (Help text) (inl memory) (inl help) = cc
+fault_by kinds error (Help text) (inl memory) (inr version) = cc
+fault_by kinds error (Help text) (inr among) is = (kind_of error, (is, among))
 fault_by kinds error (Usage text) (inl memory) is = absurd (is.1 memory)
-fault_by kinds error (Usage text) (inr among) is = (kind_of error, is.0, among)
+fault_by kinds error (Usage text) (inr among) is = (kind_of error, (is.0, among))
 fault_by kinds error Memory has is = tt
 
 -- the command whose name begins with this letter

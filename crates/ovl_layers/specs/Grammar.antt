@@ -1,18 +1,26 @@
 -- The words that the command line takes: each command, with its options and what they take.
-use Rattle.std.specs.Prelude.{true, false, [], ◌∷◌, Some, codes}
+use Rattle.std.specs.Prelude.{ℕ, true, false, List, [], ◌∷◌, Some, codes}
 use Rattle.clap.specs.Lexer.{usize_max}
 use Rattle.clap.specs.Words.{App, Rule, Shape, new_rule}
 use Rattle.clap.specs.Simple.{new_shape}
 use Rattle.clap.specs.declared.builder.action.ArgAction.TheVariants.{Append}
 use Rattle.clap.specs.declared.builder.value_parser.ValueParser.TheVariants.{Unsigned}
+use Rattle.ovl_board.specs.Machine.{worker_limit}
 
--- `--workers N`, a whole number of 1 to 64, and 4 where it is left out
+-- the number of workers where no other is asked for, and the word that spells it
+abbrev pub default_workers : ℕ
+default_workers = 4
+
+abbrev pub default_word : List ℕ
+default_word = codes "4"
+
+-- `--workers N`, a whole number of 1 to the most workers, and the default where it is left out
 abbrev pub workers_rule : Rule
 workers_rule = record (new_rule (codes "workers")) {
   long = Some (codes "workers");
   value_names = 1;
-  parser = Some (Unsigned 1 64);
-  defaults = codes "4" ∷ [];
+  parser = Some (Unsigned 1 worker_limit);
+  defaults = default_word ∷ [];
 }
 
 -- `--blobs DIR`, which must be there
@@ -38,11 +46,12 @@ show_shape = record (new_shape (codes "show")) { rules = workers_rule ∷ layers
 abbrev pub fsck_shape : Shape
 fsck_shape = record (new_shape (codes "fsck")) { rules = blobs_rule ∷ workers_rule ∷ layers_rule ∷ [] }
 
--- the words after the program's name, of which the first names a command
+-- the words after the program's name, of which the first names a command, or asks for help or the version
 abbrev pub tool_app : App
 tool_app = record {
   top = record (new_shape (codes "ovl_layers")) {
     is_leaf = false;
+    has_version = true;
     no_binary_name = true;
     disable_help_subcommand = true;
     subcommand_required = true;

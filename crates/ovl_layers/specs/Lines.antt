@@ -1,5 +1,5 @@
 -- What the words of a command line ask for.
-use Rattle.std.specs.Prelude.{◌≡◌, ◌≢◌, ◌<◌, ◌≤◌, ⊤, ℕ, Bool, true, false, List, [], map, Some, Result, Ok, Err, codes, is_some, length, option_map, string_bytes}
+use Rattle.std.specs.Prelude.{◌≡◌, ◌≢◌, ◌⊎◌, ◌<◌, ◌≤◌, ⊤, ℕ, Bool, true, false, List, [], map, Some, Result, Ok, Err, codes, is_some, length, option_map, string_bytes}
 use Rattle.std.specs.Str.Parse.{digits_value, without_leading_plus}
 use Rattle.clap.specs.Walk.{Row, Text, all_of, first_of, one_of}
 use Rattle.clap.specs.Simple.{subcommand_of}
@@ -7,7 +7,8 @@ use Rattle.clap.specs.Values.{IsUnsignedIn}
 use Rattle.clap.specs.Kinds.{IsAmong, Kinds}
 use Rattle.clap.specs.Faults.{fault_of}
 use Rattle.clap.specs.declared.error.kind.ErrorKind.{ErrorKind}
-use Rattle.clap.specs.declared.error.kind.ErrorKind.TheVariants.{DisplayHelp, OutOfMemory}
+use Rattle.clap.specs.declared.error.kind.ErrorKind.TheVariants.{DisplayHelp, DisplayVersion, OutOfMemory}
+use Rattle.ovl_board.specs.Machine.{worker_limit}
 use Rattle.ovl_layers.specs.Grammar.{tool_app}
 use Rattle.ovl_engine.specs.declared.requests.Command.{Command}
 use Rattle.ovl_engine.specs.declared.requests.Command.TheVariants.{Show, Fsck}
@@ -37,7 +38,7 @@ makes_layers Fsck = false
 -- what every line keeps to
 pub record IsSound (line : Line) : Type 0 where
   pub some_worker : 1 ≤ line.workers
-  pub few_workers : line.workers ≤ 64
+  pub few_workers : line.workers ≤ worker_limit
   pub some_layer : 0 < length line.layers.items
   pub blobs : is_some line.blobs ≡ takes_blobs line.what
   pub out : is_some line.out ≡ makes_layers line.what
@@ -48,7 +49,7 @@ number_in text = digits_value 10 (without_leading_plus text)
 
 -- the values of the options make a line of the command
 pub record IsGiven (what : Command) (rows : List Row) : Type 0 where
-  pub workers : (text : Text) × (one_of (codes "workers") rows ≡ Some text) × IsUnsignedIn 1 64 text
+  pub workers : (text : Text) × (one_of (codes "workers") rows ≡ Some text) × IsUnsignedIn 1 worker_limit text
   pub blobs : is_some (first_of (codes "blobs") rows) ≡ takes_blobs what
   pub layers : (files : List Text) × (all_of (codes "layers") rows ≡ Some files) × (0 < length files)
 
@@ -62,16 +63,20 @@ pub record HasValues (line : Line) (rows : List Row) : Type 0 where
 abbrev pub IsLineOf : List Text → Line → Type 0
 IsLineOf words line = (rows : List Row) × (subcommand_of tool_app words ≡ Some (name_of line.what, rows)) × HasValues line rows
 
--- the words give help where they ask for it, and else a usage fault; want of memory may come at any time
+-- what is asked for by this kind of error is a text: help, or the version
+abbrev pub AsksForText : ErrorKind → Type 0
+AsksForText kind = (kind ≡ DisplayHelp) ⊎ (kind ≡ DisplayVersion)
+
+-- the words give the text that they ask for, and else a usage fault; want of memory may come at any time
 abbrev pub IsFaultBy : Kinds → LineFault → Type 0
-IsFaultBy kinds (Help text) = IsAmong DisplayHelp kinds
-IsFaultBy kinds (Usage text) = (kind : ErrorKind) × (kind ≢ DisplayHelp) × IsAmong kind kinds
+IsFaultBy kinds (Help text) = (kind : ErrorKind) × (AsksForText kind × IsAmong kind kinds)
+IsFaultBy kinds (Usage text) = (kind : ErrorKind) × ((¬ AsksForText kind) × IsAmong kind kinds)
 IsFaultBy kinds Memory = ⊤
 
 -- the fault of an error of this kind
 abbrev pub IsFaultOf : ErrorKind → LineFault → Type 0
-IsFaultOf kind (Help text) = kind ≡ DisplayHelp
-IsFaultOf kind (Usage text) = (kind ≢ DisplayHelp) × (kind ≢ OutOfMemory)
+IsFaultOf kind (Help text) = AsksForText kind
+IsFaultOf kind (Usage text) = (¬ AsksForText kind) × (kind ≢ OutOfMemory)
 IsFaultOf kind Memory = ⊤
 
 -- what comes of words: a line only where nothing refuses them, and a fault by what does

@@ -1,4 +1,5 @@
-ghost use Rattle.std.specs.Prelude.{◌≡◌, ◌⊎◌, IfErr};
+ghost use Rattle.std.specs.Prelude.{◌≡◌, ◌↔◌, ◌⊎◌, false, Err, IfErr};
+ghost use Rattle.std.specs.declared.env.FillError.TheVariants.{NotPresent};
 ghost use Rattle.ovl_engine.specs.declared.faults.EngineFault.TheVariants.{Memory};
 ghost use Rattle.ovl_layers.specs.declared.faults.ProgramFault.TheVariants.{Words, Engine};
 
@@ -11,7 +12,14 @@ use std::rt::Env;
 
 /// Whether the program was started with any word after its name, be it text or not.
 pub fn are_there(rt: &impl Env) -> bool {
-    !matches!(rt.arg(1, &mut [0u8; 1]), Err(FillError::NotPresent))
+    is_there(rt.arg(1, &mut [0; 1]))
+}
+
+// Whether there is a word, by what comes where it is asked for: one that doesn't fit is there too.
+fn is_there(word: Result<usize, FillError>) -> bool
+    ensures { (result ≡ false) ↔ (word ≡ Err NotPresent) }
+{
+    !matches!(word, Err(FillError::NotPresent))
 }
 
 /// The words after the program's name. Each must be UTF-8, and so must the name.

@@ -11,6 +11,8 @@ use std::thread::Threads;
 pub enum Thing {
     /// A file of these bytes.
     File(&'static [u8]),
+    /// A file of so many spaces, and then these bytes.
+    PaddedFile(usize, &'static [u8]),
     /// A file of which a read fails behind these bytes.
     TornFile(&'static [u8]),
     /// A folder of these names, each ended by a NUL.
@@ -51,12 +53,19 @@ impl<R: Alloc> Alloc for Disk<'_, R> {
 /// What is read of a file or a folder.
 #[derive(Drop)]
 pub struct Opened {
+    spaces: usize,
     left: &'static [u8],
     is_torn: bool,
 }
 
 impl Read for Opened {
     fn read(&mut self, buf: &mut [u8]) -> io::Result<usize> {
+        if self.spaces > 0 {
+            let count = self.spaces.min(buf.len());
+            buf[..count].fill(b' ');
+            self.spaces -= count;
+            return Ok(count);
+        }
         let count = self.left.len().min(buf.len());
         if count == 0 && self.is_torn {
             return Err(Error::from_raw_os_error(5));
@@ -102,6 +111,15 @@ impl OpenFile for Opened {
     }
 }
 
+/// A reader of so many spaces and then these bytes, of which a read behind them fails where it is torn.
+pub fn input_of(spaces: usize, left: &'static [u8], is_torn: bool) -> Opened {
+    Opened {
+        spaces,
+        left,
+        is_torn,
+    }
+}
+
 fn unsupported() -> Error {
     Error::from(ErrorKind::Unsupported)
 }
@@ -124,24 +142,18 @@ impl<R> Files for Disk<'_, R> {
 
     // A folder opens, and its first read fails.
     fn open_file(&self, _how: &OpenOptions, path: &str) -> io::Result<Opened> {
-        let (left, is_torn): (&'static [u8], bool) = match self.at(path)? {
-            Thing::File(bytes) => (bytes, false),
-            Thing::TornFile(bytes) => (bytes, true),
-            Thing::Folder(_) | Thing::TornFolder(_) | Thing::Link => (b"", true),
-        };
-        Ok(Opened { left, is_torn })
+        Ok(match self.at(path)? {
+            Thing::File(bytes) => input_of(0, bytes, false),
+            Thing::PaddedFile(spaces, bytes) => input_of(spaces, bytes, false),
+            Thing::TornFile(bytes) => input_of(0, bytes, true),
+            Thing::Folder(_) | Thing::TornFolder(_) | Thing::Link => input_of(0, b"", true),
+        })
     }
 
     fn open_dir(&self, path: &str) -> io::Result<Opened> {
         match self.at(path)? {
-            Thing::Folder(left) => Ok(Opened {
-                left,
-                is_torn: false,
-            }),
-            Thing::TornFolder(left) => Ok(Opened {
-                left,
-                is_torn: true,
-            }),
+            Thing::Folder(left) => Ok(input_of(0, left, false)),
+            Thing::TornFolder(left) => Ok(input_of(0, left, true)),
             _ => Err(Error::from_raw_os_error(20)),
         }
     }
@@ -152,7 +164,7 @@ impl<R> Files for Disk<'_, R> {
 
     fn symlink_metadata(&self, path: &str) -> io::Result<Metadata> {
         Ok(match self.at(path)? {
-            Thing::File(_) | Thing::TornFile(_) => Metadata::of_file(0),
+            Thing::File(_) | Thing::PaddedFile(..) | Thing::TornFile(_) => Metadata::of_file(0),
             Thing::Folder(_) | Thing::TornFolder(_) => Metadata::of_dir(),
             Thing::Link => Metadata::of_symlink(0),
         })
@@ -183,13 +195,25 @@ impl<R> Files for Disk<'_, R> {
     }
 }
 
-/// A writer that takes nothing, for want of the device's room.
+/// A writer that takes a few bytes, and then fails for want of the device's room, or takes none.
 #[derive(Drop)]
-pub struct Full;
+pub struct Narrow {
+    pub room: usize,
+    pub fails: bool,
+    pub taken: Vec<u8>,
+}
 
-impl Write for Full {
-    fn write(&mut self, _: &[u8]) -> io::Result<usize> {
-        Err(Error::from_raw_os_error(28))
+impl Write for Narrow {
+    fn write(&mut self, buf: &[u8]) -> io::Result<usize> {
+        if self.room == 0 && self.fails {
+            return Err(Error::from_raw_os_error(28));
+        }
+        let count = buf.len().min(self.room);
+        let Ok(()) = self.taken.extend_from_slice(&buf[..count]) else {
+            return Err(Error::from_raw_os_error(12));
+        };
+        self.room -= count;
+        Ok(count)
     }
 
     fn flush(&mut self) -> io::Result<()> {

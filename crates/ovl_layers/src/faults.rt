@@ -18,13 +18,16 @@ pub enum ProgramFault {
     /// A word isn't UTF-8.
     #[error("words must be UTF-8")]
     Words,
+    /// Standard input can't be read, or has more than [`INPUT_LIMIT`](crate::inputs::INPUT_LIMIT) bytes.
     #[error("cannot read standard input")]
     Input,
     /// The file or folder of this path can't be read.
     #[error("cannot read {0}")]
     Unread(String),
+    /// A write to standard output failed, or took nothing.
     #[error("cannot write standard output")]
     Output,
+    /// The command gives no answer, for this reason.
     #[error(transparent)]
     Engine(EngineFault),
 }

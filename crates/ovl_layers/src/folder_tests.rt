@@ -1,4 +1,4 @@
-use crate::disks::Thing::{File, Folder, Link, TornFile, TornFolder};
+use crate::disks::Thing::{File, Folder, Link, PaddedFile, TornFile, TornFolder};
 use crate::disks::{Disk, Thing};
 use crate::faults::ProgramFault;
 use crate::files::{read_file, read_files};
@@ -46,6 +46,24 @@ fn files_are_read_in_order(rt: HostRuntime) -> Result<(), Fail> {
     assert_eq!(rt; read.len(), 4);
     for (bytes, wanted) in read.iter().zip(["1", "2", "", "1"]) {
         assert_eq!(rt; bytes.as_slice(), wanted.as_bytes());
+    }
+    Ok(())
+}
+
+#[test]
+fn long_files_are_read_whole(rt: HostRuntime) -> Result<(), Fail> {
+    let things = [
+        ("page", PaddedFile(4096, b"a")),
+        ("long", PaddedFile(1_048_575, b"a")),
+    ];
+    let disk = Disk {
+        rt: &rt,
+        things: &things,
+    };
+    for (path, length) in [("page", 4097), ("long", 1_048_576)] {
+        let read = read_file(&disk, path)?;
+        assert_eq!(rt; read.len(), length, "at {path}");
+        assert_eq!(rt; read.last(), Some(&b'a'), "at {path}");
     }
     Ok(())
 }

@@ -1,11 +1,12 @@
-ghost use Rattle.std.specs.Prelude.{◌≡◌, ◌≤◌, ◌+◌, [], true, if◌then◌else◌, Ok, None, IfOk, IfErr, IfSome, string_bytes, vec_len, map, All, nat_lt};
+ghost use Rattle.std.specs.Prelude.{◌≡◌, ◌≢◌, ◌≤◌, ◌+◌, [], true, if◌then◌else◌, Ok, None, IfOk, IfErr, IfSome, string_bytes, vec_len, map, All, nat_lt};
 ghost use Rattle.std.specs.BTreeSet.{IsOrdered};
 ghost use Rattle.std.specs.Fs.{dir_entry_name};
 ghost use Rattle.ovl_inode.specs.Hexadecimal.{digest_of_text};
 ghost use Rattle.ovl_check.specs.Blobs.{blob_views, digest_cmp, are_in_order};
 ghost use Rattle.ovl_engine.specs.Refusals.{blob_limit, blob_bytes};
+ghost use Rattle.ovl_layers.specs.declared.inputs.InputFault.TheVariants.{TooLong};
 ghost use Rattle.ovl_layers.specs.Faults.{IsUnread};
-ghost use Rattle.ovl_layers.specs.Folders.{blob_path as path_of_blob, IsInFolder};
+ghost use Rattle.ovl_layers.specs.Folders.{blob_path as path_of_blob, IsInFolder, IsNamedBy, IsSpelt};
 
 use crate::faults::ProgramFault;
 use crate::files::read_file;
@@ -28,6 +29,7 @@ pub fn read_blobs<R: Files + AllocGlobal + Clone + Drop>(
 ) -> Result<Vec<Blob>, ProgramFault>
     ensures ordered { IfOk result (λ blobs. are_in_order (blob_views blobs.items) ≡ true) }
     ensures within { IfOk result (λ blobs. All (λ blob. vec_len blob.bytes ≤ INPUT_LIMIT) blobs.items) }
+    ensures spelt { IfOk result (λ blobs. All (λ blob. IsSpelt blob.name) blobs.items) }
     ensures held { IfOk result (λ blobs. blob_bytes (blob_views blobs.items) ≤ blob_limit + INPUT_LIMIT) }
     ensures fault { IfErr result (λ fault. IsUnread (IsInFolder folder.now) fault) }
 {
@@ -49,6 +51,7 @@ fn blobs_of<R: Files + AllocGlobal>(
     ensures same { IfOk result (λ blobs. map (λ blob. blob.name) blobs.items ≡ names.keys) }
     ensures ordered { IfOk result (λ _. IsOrdered digest_cmp names) }
     ensures within { IfOk result (λ blobs. All (λ blob. vec_len blob.bytes ≤ INPUT_LIMIT) blobs.items) }
+    ensures spelt { IfOk result (λ blobs. All (λ blob. IsSpelt blob.name) blobs.items) }
     ensures held { IfOk result (λ blobs. blob_bytes (blob_views blobs.items) ≤ blob_limit + INPUT_LIMIT) }
     ensures fault { IfErr result (λ fault. IsUnread (IsInFolder folder.now) fault) }
 {
@@ -74,11 +77,14 @@ fn kept(alloc: Global, held: usize, bytes: Vec<u8>) -> Vec<u8>
     bytes
 }
 
-// The names of the blobs of a folder.
+// The names of the blobs of a folder. Its listing has no limit.
 fn blob_names<R: Files + AllocGlobal + Clone + Drop>(
     rt: &R,
     folder: &str,
-) -> Result<BTreeSet<Digest>, InputFault> {
+) -> Result<BTreeSet<Digest>, InputFault>
+    ensures each { IfOk result (λ names. All IsNamedBy names.keys) }
+    ensures fault { IfErr result (λ fault. fault ≢ TooLong) }
+{
     let mut names = BTreeSet::new(rt.alloc());
     for entry in fs::read_dir(rt, folder)? {
         if let Some(name) = blob_name(&entry?)? {
@@ -92,6 +98,7 @@ fn blob_names<R: Files + AllocGlobal + Clone + Drop>(
 fn blob_name<R: Files>(entry: &DirEntry<R>) -> Result<Option<Digest>, InputFault>
     ensures named { IfOk result (λ name. IfSome name (λ digest. digest_of_text (dir_entry_name entry.now) ≡ Some digest)) }
     ensures passed_over { digest_of_text (dir_entry_name entry.now) ≡ None → result ≡ Ok None }
+    ensures fault { IfErr result (λ fault. fault ≢ TooLong) }
 {
     match Digest::parse(entry.file_name()) {
         Ok(name) if entry.file_type()?.is_file() => Ok(Some(name)),
@@ -101,7 +108,8 @@ fn blob_name<R: Files>(entry: &DirEntry<R>) -> Result<Option<Digest>, InputFault
 
 // A blob's path: the folder as it is given, a slash, and the 64 digits of the blob's name.
 fn blob_path(alloc: Global, folder: &str, name: &Digest) -> Result<String, AllocError>
-    ensures { IfOk result (λ path. string_bytes path ≡ path_of_blob folder.now name.now) }
+    ensures path { IfOk result (λ path. string_bytes path ≡ path_of_blob folder.now name.now) }
+    ensures spelt { IfOk result (λ _. IsSpelt name.now) }
 {
     let mut path = String::from_str(alloc, folder)?;
     path.push('/')?;

@@ -2,16 +2,27 @@
 ghost use Rattle.std.specs.Prelude.{◌≡◌, IfOk, false};
 ghost use Rattle.clap.specs.Words.{app_of, rule_of};
 ghost use Rattle.clap.specs.declared.builder.command.Command.TheViews.{out-Command as fields_of};
-ghost use Rattle.ovl_layers.specs.Grammar.{blobs_rule, fsck_shape, layers_rule, show_shape, tool_app, workers_rule};
+ghost use Rattle.ovl_layers.specs.Grammar.{blobs_rule, default_word, default_workers, fsck_shape, layers_rule, show_shape, tool_app, workers_rule};
+ghost use Rattle.ovl_layers.specs.Lines.{number_in};
 ghost use Rattle.clap.specs.Simple.{shape_of};
 
 use clap::{Arg, ArgAction, Command, value_parser};
+use ovl_board::WORKER_LIMIT;
 use std::alloc::{AllocError, Global};
+
+/// The number of workers where no other is asked for, and the word for it.
+pub const DEFAULT_WORKERS: usize = 4;
+
+const DEFAULT_WORKERS_WORD: &str = "4";
 
 const NAME: &str = "ovl_layers";
 
-const ABOUT: &str =
-    "Tells what a stack of overlay layers shows, from their JSON manifests. Nothing is mounted.";
+// The version of the program, and so of all its crates.
+const VERSION: &str = "0.1.0";
+
+const ABOUT: &str = "\
+Tells what a stack of overlay layers shows and what is wrong with it, from their JSON manifests. Nothing is mounted.
+Without words it shows the layer whose manifest is on standard input.";
 
 const SHOW: &str = "Lists each path that the overlay of the layers shows, with what is there";
 
@@ -31,7 +42,12 @@ What the commands take:
   --workers <N>  How many workers share the directories, 1 to 64 [default: 4]
   --blobs <DIR>  For fsck: folder with the contents of the layers' files, each file named by its SHA-256 digest
 
+fsck is for a stack that is to be mounted or shipped: it tells faults, as directories moved from a place that is lost or
+not hidden, and files whose contents are missing or wrong, and it notes marks that do nothing. It ends with status 1
+where it tells a fault. It repairs nothing.
+
 Examples:
+  ovl_layers < layer.json
   ovl_layers show upper.json lower.json
   ovl_layers fsck --blobs contents --workers 8 upper.json lower.json";
 
@@ -49,6 +65,7 @@ pub fn tool<'a>(alloc: Global) -> Result<Command<'a>, AllocError>
 {
     Command::new(alloc, NAME)
         .bin_name(NAME)?
+        .version(VERSION)
         .no_binary_name(true)
         .subcommand_required(true)
         .disable_help_subcommand(true)
@@ -80,13 +97,14 @@ fn fsck<'a>(alloc: Global) -> Result<Command<'a>, AllocError>
 }
 
 fn workers<'a>(alloc: Global) -> Arg<'a>
-    ensures { (rule_of result ≡ workers_rule) × (result.global ≡ false) }
+    ensures rule { (rule_of result ≡ workers_rule) × (result.global ≡ false) }
+    ensures default { (number_in default_word ≡ default_workers) × (DEFAULT_WORKERS ≡ default_workers) }
 {
     Arg::new(alloc, "workers")
         .long("workers")
         .value_name("N")
-        .value_parser(value_parser!(usize).range(1..=64))
-        .default_value("4")
+        .value_parser(value_parser!(usize).range(1..=WORKER_LIMIT as i64))
+        .default_value(DEFAULT_WORKERS_WORD)
         .help(WORKERS)
 }
 

@@ -3,11 +3,13 @@ ghost use Rattle.std.specs.IoError.{error_kind, raw_os_error};
 ghost use Rattle.std.specs.declared.io.ErrorKind.TheVariants.{OutOfMemory};
 ghost use Rattle.ovl_layers.specs.declared.inputs.InputFault.TheVariants.{TooLong, Memory};
 
+use ovl_engine::BLOB_LIMIT;
 use std::alloc::{AllocFailed, Global};
 use std::io::{Error, ErrorKind, Read};
 
-/// The most bytes that are read of one input.
-pub const INPUT_LIMIT: u32 = 268_435_456;
+/// The most bytes that are read of one input, be it a manifest or a blob. A command takes no blob of more, since all its
+/// blobs together have at most so many.
+pub const INPUT_LIMIT: u32 = BLOB_LIMIT as u32;
 
 /// Why an input, a file or a folder isn't read.
 #[derive(Clone, Copy, Debug, PartialEq, Eq)]
@@ -16,6 +18,7 @@ pub enum InputFault {
     Device,
     /// The input has more bytes than the limit.
     TooLong,
+    /// Memory is wanted.
     Memory,
 }
 

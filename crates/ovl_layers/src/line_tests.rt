@@ -101,7 +101,8 @@ fn words_that_no_command_takes_are_a_usage_fault(rt: HostRuntime) -> Result<(), 
 }
 
 const HELP: &str = "\
-Tells what a stack of overlay layers shows, from their JSON manifests. Nothing is mounted.
+Tells what a stack of overlay layers shows and what is wrong with it, from their JSON manifests. Nothing is mounted.
+Without words it shows the layer whose manifest is on standard input.
 
 Usage: ovl_layers <COMMAND>
 
@@ -110,14 +111,20 @@ Commands:
   fsck  Checks that the layers fit one another and that the contents of their files are whole
 
 Options:
-  -h, --help  Print help
+  -h, --help     Print help
+  -V, --version  Print version
 
 What the commands take:
   <LAYER>...     Manifest of a layer, the topmost layer first
   --workers <N>  How many workers share the directories, 1 to 64 [default: 4]
   --blobs <DIR>  For fsck: folder with the contents of the layers' files, each file named by its SHA-256 digest
 
+fsck is for a stack that is to be mounted or shipped: it tells faults, as directories moved from a place that is lost or
+not hidden, and files whose contents are missing or wrong, and it notes marks that do nothing. It ends with status 1
+where it tells a fault. It repairs nothing.
+
 Examples:
+  ovl_layers < layer.json
   ovl_layers show upper.json lower.json
   ovl_layers fsck --blobs contents --workers 8 upper.json lower.json
 ";
@@ -156,7 +163,7 @@ Example:
 ";
 
 #[test]
-fn help_is_given_where_it_is_asked_for(rt: HostRuntime) -> Result<(), Fail> {
+fn help_or_the_version_is_given_where_it_is_asked_for(rt: HostRuntime) -> Result<(), Fail> {
     let alloc = rt.alloc();
     for (words, text) in [
         (["--help"].as_slice(), HELP),
@@ -164,6 +171,8 @@ fn help_is_given_where_it_is_asked_for(rt: HostRuntime) -> Result<(), Fail> {
         (["show", "--help"].as_slice(), SHOW_HELP),
         (["show", "a.json", "-h"].as_slice(), SHOW_HELP),
         (["fsck", "--help"].as_slice(), FSCK_HELP),
+        (["--version"].as_slice(), "ovl_layers 0.1.0\n"),
+        (["-V"].as_slice(), "ovl_layers 0.1.0\n"),
     ] {
         let help = LineFault::Help(String::from_str(alloc, text)?);
         assert_eq!(rt; line(alloc, words).err(), Some(help), "at {words:?}");

@@ -9,8 +9,9 @@ use thiserror::Error;
 /// A command, with what its options say.
 #[derive(Debug, PartialEq, Eq, Drop)]
 pub struct Line {
+    /// What is done with the layers.
     pub what: Command,
-    /// The number of workers, 1 to 64.
+    /// The number of workers, 1 to [`WORKER_LIMIT`](ovl_board::WORKER_LIMIT).
     pub workers: usize,
     /// The folder of the files' contents, for each command but `show`.
     pub blobs: Option<String>,
@@ -23,12 +24,13 @@ pub struct Line {
 /// Why words give no line.
 #[derive(Debug, PartialEq, Eq, Drop, Error)]
 pub enum LineFault {
-    /// They ask for help, which is this text.
+    /// They ask for help or the version, which is this text.
     #[error("{0}")]
     Help(String),
     /// No command takes them, for the reason that this text tells.
     #[error("{0}")]
     Usage(String),
+    /// Memory is wanted.
     #[error("out of memory")]
     Memory,
 }

@@ -1,5 +1,5 @@
 use crate::disks::Thing::{File, Folder};
-use crate::disks::{Disk, Full, Thing};
+use crate::disks::{Disk, Narrow, Thing};
 use crate::endings::Ending;
 use crate::faults::ProgramFault;
 use crate::files::read_file;
@@ -23,6 +23,12 @@ const KEPT: &[u8] = b"{\"entries\":[\
     {\"blob\":\"ba7816bf8f01cfea414140de5dae2223b00361a396177a9cb410ff61f20015ad\",\"gid\":0,\"kind\":\"file\",\
     \"mode\":420,\"mtime\":0,\"path\":\"/k\",\"size\":3,\"uid\":0,\"xattrs\":{}}],\"overlay-layer\":1}";
 
+// The same with mode 0600 in place of 0644.
+const CLOSED: &[u8] = b"{\"entries\":[\
+    {\"gid\":0,\"kind\":\"dir\",\"mode\":493,\"mtime\":0,\"path\":\"/\",\"uid\":0,\"xattrs\":{}},\
+    {\"blob\":\"ba7816bf8f01cfea414140de5dae2223b00361a396177a9cb410ff61f20015ad\",\"gid\":0,\"kind\":\"file\",\
+    \"mode\":384,\"mtime\":0,\"path\":\"/k\",\"size\":3,\"uid\":0,\"xattrs\":{}}],\"overlay-layer\":1}";
+
 const ABC: &str = "ba7816bf8f01cfea414140de5dae2223b00361a396177a9cb410ff61f20015ad";
 
 const BLOB_ABC: &str = "b/ba7816bf8f01cfea414140de5dae2223b00361a396177a9cb410ff61f20015ad";
@@ -31,6 +37,10 @@ const ABC_ALONE: &[u8] = b"ba7816bf8f01cfea414140de5dae2223b00361a396177a9cb410f
 
 const KEPT_REPORT: &str = "dir 0755 0 0 0 - - /\n\
     file 0644 0 0 0 3 ba7816bf8f01cfea414140de5dae2223b00361a396177a9cb410ff61f20015ad /k\n\
+    entries 2\n";
+
+const CLOSED_REPORT: &str = "dir 0755 0 0 0 - - /\n\
+    file 0600 0 0 0 3 ba7816bf8f01cfea414140de5dae2223b00361a396177a9cb410ff61f20015ad /k\n\
     entries 2\n";
 
 // A `show` of these layers, or an `fsck` where there is a folder of blobs.
@@ -59,16 +69,25 @@ fn unread(alloc: Global, path: &str) -> Result<Option<ProgramFault>, AllocError>
 #[test]
 fn layers_are_shown_topmost_first(rt: HostRuntime) -> Result<(), Fail> {
     let alloc = rt.alloc();
-    let things = [("low", File(KEPT)), ("top", File(ROOT))];
+    let things = [
+        ("root", File(ROOT)),
+        ("open", File(KEPT)),
+        ("closed", File(CLOSED)),
+    ];
     let disk = Disk {
         rt: &rt,
         things: &things,
     };
-    for layers in [["top", "low"], ["low", "top"], ["low", "low"]] {
+    for (layers, report) in [
+        (["root", "open"], KEPT_REPORT),
+        (["open", "root"], KEPT_REPORT),
+        (["closed", "open"], CLOSED_REPORT),
+        (["open", "closed"], KEPT_REPORT),
+    ] {
         let mut output = Vec::new(alloc);
         let ending = perform(&disk, &line(alloc, None, &layers)?, &mut output)?;
         assert_eq!(rt; ending, Ending::Clean);
-        assert_eq!(rt; output.as_slice(), KEPT_REPORT.as_bytes());
+        assert_eq!(rt; output.as_slice(), report.as_bytes(), "of {layers:?}");
     }
     Ok(())
 }
@@ -153,10 +172,19 @@ fn a_report_that_cannot_be_written_is_told(rt: HostRuntime) -> Result<(), Fail> 
         rt: &rt,
         things: &things,
     };
-    for blobs in [None, Some("b")] {
-        let asked = line(alloc, blobs, &["low"])?;
-        let fault = perform(&disk, &asked, &mut Full).err();
+    // Without blobs the report begins as that of `show`, with them as that of `fsck`.
+    for (blobs, room, taken) in [
+        (None, 25, "dir 0755 0 0 0 - - /\nfile"),
+        (Some("b"), 5, "fault"),
+    ] {
+        let mut output = Narrow {
+            room,
+            fails: true,
+            taken: Vec::new(alloc),
+        };
+        let fault = perform(&disk, &line(alloc, blobs, &["low"])?, &mut output).err();
         assert_eq!(rt; fault, Some(ProgramFault::Output));
+        assert_eq!(rt; output.taken.as_slice(), taken.as_bytes());
     }
     Ok(())
 }

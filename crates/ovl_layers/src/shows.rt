@@ -1,11 +1,14 @@
-ghost use Rattle.std.specs.Prelude.{◌≢◌, ◌∷◌, [], IfErr, IfSome, OnOk};
+ghost use Rattle.std.specs.Prelude.{◌≡◌, ◌≢◌, ◌⊎◌, ◌∷◌, [], Err, IfErr, IfSome};
 ghost use Rattle.std.specs.Io.KnownBytes.{Keeps};
 ghost use Rattle.ovl_engine.specs.declared.requests.Command.TheVariants.{Show};
-ghost use Rattle.ovl_layers.specs.declared.faults.ProgramFault.TheVariants.{Output};
+ghost use Rattle.ovl_engine.specs.declared.faults.EngineFault.TheVariants.{Memory};
+ghost use Rattle.ovl_layers.specs.declared.faults.ProgramFault.TheVariants.{Input, Output, Engine};
+ghost use Rattle.ovl_layers.specs.Grammar.{default_workers};
 ghost use Rattle.ovl_layers.specs.Reported.{IsReported};
 
 use crate::endings::Ending;
 use crate::faults::ProgramFault;
+use crate::grammar::DEFAULT_WORKERS;
 use crate::inputs::{INPUT_LIMIT, read_limited};
 use crate::reports::write_report;
 use ovl_engine::Command;
@@ -14,10 +17,7 @@ use std::io::{Read, Write};
 use std::sync::Wait;
 use std::thread::Threads;
 
-/// The number of workers where no other is asked for.
-pub const WORKERS: usize = 4;
-
-/// Writes the report of `show` over the one layer that a reader's manifest states, by four workers.
+/// Writes the report of `show` over the one layer that a reader's manifest states, by [`DEFAULT_WORKERS`].
 /// Nothing is written where the input isn't read or the layer has no report.
 pub fn show_input<H: Threads + Wait + Sync, R: Read, W: Write>(
     rt: &H,
@@ -25,10 +25,18 @@ pub fn show_input<H: Threads + Wait + Sync, R: Read, W: Write>(
     reader: &mut R,
     writer: &mut W,
 ) -> Result<Ending, ProgramFault>
-    ensures shown { OnOk result (IfSome (R.remaining reader.old) (λ manifest.
-        IsReported Show (manifest ∷ []) [] 4 (W.contents writer.old) (W.contents writer.new) result)) }
+    ensures shown { IfSome (R.remaining reader.old) (λ manifest. (result ≡ Err Input) ⊎ ((result ≡ Err (Engine Memory))
+        ⊎ IsReported Show (manifest ∷ []) [] default_workers (W.contents writer.old) (W.contents writer.new) result)) }
     ensures silent { IfErr result (λ fault. fault ≢ Output → Keeps (W.contents writer.old) (W.contents writer.new)) }
 {
     let manifest = read_limited(alloc, reader, INPUT_LIMIT)?;
-    write_report(rt, alloc, Command::Show, &[manifest], &[], WORKERS, writer)
+    write_report(
+        rt,
+        alloc,
+        Command::Show,
+        &[manifest],
+        &[],
+        DEFAULT_WORKERS,
+        writer,
+    )
 }

@@ -1,4 +1,4 @@
-use crate::disks::Full;
+use crate::disks::{Narrow, input_of};
 use crate::endings::Ending;
 use crate::faults::ProgramFault;
 use crate::inputs::{INPUT_LIMIT, InputFault, read_limited};
@@ -156,8 +156,33 @@ fn an_input_is_shown_on_the_output(rt: HostRuntime) -> Result<(), Fail> {
     let ending = show_input(&rt, alloc, &mut Cursor::new(ROOT.as_bytes()), &mut output)?;
     assert_eq!(rt; ending, Ending::Clean);
     assert_eq!(rt; output.as_slice(), ROOT_REPORT.as_bytes());
-    let refused = show_input(&rt, alloc, &mut Cursor::new(ROOT.as_bytes()), &mut Full);
-    assert_eq!(rt; refused.err(), Some(ProgramFault::Output));
+    Ok(())
+}
+
+#[test]
+fn white_space_before_an_input_is_passed_over(rt: HostRuntime) -> Result<(), Fail> {
+    let alloc = rt.alloc();
+    let mut output = Vec::new(alloc);
+    let mut input = input_of(100_000, ROOT.as_bytes(), false);
+    let ending = show_input(&rt, alloc, &mut input, &mut output)?;
+    assert_eq!(rt; ending, Ending::Clean);
+    assert_eq!(rt; output.as_slice(), ROOT_REPORT.as_bytes());
+    Ok(())
+}
+
+#[test]
+fn an_output_that_fails_has_what_was_written_before(rt: HostRuntime) -> Result<(), Fail> {
+    let alloc = rt.alloc();
+    for (room, fails) in [(0, true), (7, true), (30, true), (0, false), (7, false)] {
+        let mut output = Narrow {
+            room,
+            fails,
+            taken: Vec::new(alloc),
+        };
+        let ending = show_input(&rt, alloc, &mut Cursor::new(ROOT.as_bytes()), &mut output);
+        assert_eq!(rt; ending.err(), Some(ProgramFault::Output), "of {room}");
+        assert_eq!(rt; output.taken.as_slice(), &ROOT_REPORT.as_bytes()[..room]);
+    }
     Ok(())
 }
 

@@ -12,8 +12,8 @@ use std::alloc::{AllocError, Global};
 
 /// The line that the words after the program's name ask for. Which words those are, and the texts of
 /// help and of usage faults, the module `grammar` says. Words that no command takes are a usage
-/// fault, as a number of workers outside 1 to 64 or no layer at all. Where they ask for help, that
-/// is the fault. `Memory` may come at any words.
+/// fault, as a number of workers outside 1 to 64 or no layer at all. Where they ask for help or the
+/// version, that is the fault. `Memory` may come at any words.
 pub fn line(alloc: Global, words: &[&str]) -> Result<Line, LineFault>
     ensures sound { IfOk result IsSound }
     ensures read { IsRead (map (λ word. word.now) words.now) result }
@@ -77,7 +77,7 @@ fn fault_of(alloc: Global, error: &clap::Error) -> LineFault
 {
     match (error.kind(), error.to_string(alloc)) {
         (ErrorKind::OutOfMemory, _) | (_, Err(_)) => LineFault::Memory,
-        (ErrorKind::DisplayHelp, Ok(text)) => LineFault::Help(text),
+        (ErrorKind::DisplayHelp | ErrorKind::DisplayVersion, Ok(text)) => LineFault::Help(text),
         (_, Ok(text)) => LineFault::Usage(text),
     }
 }

@@ -7,7 +7,8 @@ use Rattle.ovl_check.specs.Checks.{check_seen, check_kids, directory_piece}
 use Rattle.ovl_check.specs.CheckViews.{check_view}
 use Rattle.ovl_check.proofs.WalkLists.{layer_walks-more}
 use Rattle.ovl_engine.specs.declared.requests.Command.TheVariants.{Fsck}
-use Rattle.ovl_engine.specs.Refusals.{worker_limit}
+use Rattle.ovl_engine.specs.Outcomes.{IsFaultOfLayer}
+use Rattle.ovl_board.specs.Machine.{worker_limit}
 use Rattle.ovl_engine.proofs.OutcomeLemmas.{failed, not_beyond}
 use Rattle.ovl_engine.proofs.checks.layer_walks.Goals as goal
 
@@ -20,7 +21,8 @@ returns-in_err-parcels g c =
     (λ e. not_beyond worker_limit c.args.workers c.requires.number.0 c.requires.number.1 (c.in_err-parcels.ensures.workers.0 (ap Err e)))
     (λ e.
     let refused = rw (c.root.ensures) at (c.in_err-parcels.ensures.gate (ap Err e)) in
-    inr (c.loop-i.i, (inside, subst (λ (stack : StackView). MayBeRefused (check_kids (record { stack = stack; blobs = view.blobs })) (g.G.Gate.may_refuse c.args.gate.now) (directory_piece c.loop-i.i [])) c.requires.same refused))))
+    inr (c.loop-i.i, (inside, subst (λ (stack : StackView). MayBeRefused (check_kids (record { stack = stack; blobs = view.blobs })) (g.G.Gate.may_refuse c.args.gate.now) (directory_piece c.loop-i.i [])) c.requires.same refused)))
+    (inr (c.loop-i.i, (inside, subst (λ (stack : StackView). IsFaultOfLayer stack.layers view.blobs c.loop-i.i c.in_err-parcels.field-0.0) c.requires.same (rw (c.root.ensures) at c.in_err-parcels.ensures.board)))))
 
 pub loop-i-preserved : goal.loop-i-preserved
 loop-i-preserved g c =

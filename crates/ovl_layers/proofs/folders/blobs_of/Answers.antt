@@ -1,10 +1,12 @@
-use Rattle.std.proofs.Common.{◌≡◌, ◌≤◌, ◌+◌, ◌∙◌, ◌++◌, ◌∷◌, [], List, ap, map, length, arith}
+use Rattle.std.proofs.Common.{◌≡◌, ◌≤◌, ◌+◌, ◌∙◌, ◌++◌, ◌∷◌, [], List, All, sym, ap, subst, map, length, arith}
 use Rattle.std.proofs.lemmas.Grind.{common_steps}
 use Rattle.std.proofs.lemmas.List.{map-append}
+use Rattle.std.proofs.lemmas.List.Elements.{All-push}
 use Rattle.ovl_inode.specs.declared.digests.Digest.{Digest}
 use Rattle.ovl_check.specs.declared.blobs.Blob.{Blob}
 use Rattle.ovl_check.specs.Blobs.{blob_views}
 use Rattle.ovl_engine.specs.Refusals.{blob_bytes}
+use Rattle.ovl_layers.specs.Folders.{IsSpelt}
 use Rattle.ovl_layers.proofs.Held.{bytes_with_one_more, kept_within}
 use Rattle.ovl_layers.proofs.folders.blobs_of.Goals as goal
 
@@ -19,6 +21,7 @@ loop-name-preserved g c =
           ∙ (map-append (λ (blob : Blob). blob.name) c.loop-name.blobs.items (blob ∷ [])
           ∙ ap (λ (xs : List Digest). xs ++ c.in-Some.name ∷ []) c.loop-name.invariant.names);
       within = grind (arith, common_steps, c.loop-name.invariant.within, within.0, c.kept-bytes.result.ok.0, c.in_ok-push.ensures.items);
+      spelt = subst (All (λ (blob : Blob). IsSpelt blob.name)) (sym c.in_ok-push.ensures.items) (All-push (λ (blob : Blob). IsSpelt blob.name) c.loop-name.blobs.items blob c.loop-name.invariant.spelt c.in_ok-path.ensures.spelt);
       count = omega (arith, c.loop-name.invariant.count, bytes_with_one_more c.loop-name.blobs.items blob, ap (λ (blobs : List Blob). blob_bytes (blob_views blobs)) c.in_ok-push.ensures.items, c.len.ensures, c.kept-bytes.result.ok.0);
       most = omega (arith, within.1, c.len.ensures, c.kept-bytes.result.ok.0);
     }

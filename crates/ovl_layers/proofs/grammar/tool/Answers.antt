@@ -7,6 +7,7 @@ use Rattle.ovl_layers.proofs.grammar.tool.Goals as goal
 abbrev bare : App
 bare = record {
   top = record (new_shape (codes "ovl_layers")) {
+    has_version = true;
     no_binary_name = true;
     disable_help_subcommand = true;
     subcommand_required = true;
