@@ -9,8 +9,6 @@ mod events;
 pub mod laws;
 mod pieces;
 mod plain;
-#[cfg(test)]
-mod tests;
 mod trees;
 mod works;
 

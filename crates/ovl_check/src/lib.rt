@@ -10,11 +10,7 @@ pub mod laws;
 mod notes;
 mod places;
 mod redirects;
-#[cfg(test)]
-mod samples;
 mod subjects;
-#[cfg(test)]
-mod tests;
 
 pub use blobs::{BLOB_SPACE, Blob, BlobWork, blobs_in_order, finish_blobs};
 pub use findings::{Code, Finding};

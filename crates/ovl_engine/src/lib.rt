@@ -3,23 +3,13 @@
 
 mod blobs;
 mod checks;
-#[cfg(test)]
-mod command_tests;
 mod commands;
 mod emits;
 mod faults;
 mod fsck_reports;
-#[cfg(test)]
-mod fsck_tests;
 mod reports;
 mod requests;
-#[cfg(test)]
-mod samples;
-#[cfg(test)]
-mod stack_tests;
 mod stacks;
-#[cfg(test)]
-mod tests;
 mod works;
 
 pub use blobs::named_blobs;

@@ -5,11 +5,7 @@ mod attributes;
 mod digests;
 mod inodes;
 mod marks;
-#[cfg(test)]
-mod marks_tests;
 pub mod overlay;
-#[cfg(test)]
-mod tests;
 
 pub use attributes::{ATTR_NAME_LIMIT, AttrFault, AttrName, Attrs, Bytes};
 pub use digests::{Digest, DigestFault, are_lower_digits};

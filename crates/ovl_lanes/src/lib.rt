@@ -3,8 +3,6 @@
 
 mod rows;
 mod seats;
-#[cfg(test)]
-mod tests;
 
 pub use rows::{Gathered, Row};
 pub use seats::{Lane, LaneFault, Pass, Seat, Thief, close, lanes};

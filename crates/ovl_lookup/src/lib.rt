@@ -6,8 +6,6 @@ mod lists;
 mod looks;
 mod stacks;
 mod steps;
-#[cfg(test)]
-mod tests;
 
 pub use looks::Look;
 pub use stacks::{LAYER_LIMIT, Stack, StackFault};

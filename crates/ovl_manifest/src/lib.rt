@@ -6,8 +6,6 @@ mod entries;
 mod faults;
 mod fields;
 mod reading;
-#[cfg(test)]
-mod tests;
 mod trees;
 mod writing;
 

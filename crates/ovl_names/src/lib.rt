@@ -4,8 +4,6 @@
 mod escapes;
 mod names;
 mod paths;
-#[cfg(test)]
-mod tests;
 
 pub use escapes::escaped;
 pub use names::{NAME_LIMIT, Name, NameFault};

@@ -8,8 +8,6 @@ mod hauls;
 mod runs;
 mod seating;
 mod tallies;
-#[cfg(test)]
-mod tests;
 mod workers;
 
 pub use gates::{Gate, OpenGate};

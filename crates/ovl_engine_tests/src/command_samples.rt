@@ -1,0 +1,167 @@
+//! Small layers for tests, and what their stacks show.
+
+use ovl_engine::{Answer, Blob, Command, command};
+use ovl_pool::OpenGate;
+use std::alloc::Global;
+use std::sync::Wait;
+use std::test::Fail;
+use std::thread::Threads;
+
+// What an entry states of its kind, by a word: `bare` files are those of which the contents lie elsewhere.
+fn kind_of(word: &str) -> Result<&'static str, Fail> {
+    match word {
+        "dir" => Ok("\"kind\":\"dir\",\"mode\":493"),
+        "file" => Ok(
+            "\"kind\":\"file\",\"mode\":420,\"size\":1,\"blob\":\"ca978112ca1bbdcafac231b39a23dc4da786eff8147c4e72b9807785afee48bb\"",
+        ),
+        "file-ab" => Ok(
+            "\"kind\":\"file\",\"mode\":420,\"size\":3,\"blob\":\"fb8e20fc2e4c3f248c60c39bd652f3c1347298bb977b8b4d5903b85055620603\"",
+        ),
+        "file-abc" => Ok(
+            "\"kind\":\"file\",\"mode\":420,\"size\":3,\"blob\":\"ba7816bf8f01cfea414140de5dae2223b00361a396177a9cb410ff61f20015ad\"",
+        ),
+        "empty" => Ok("\"kind\":\"file\",\"mode\":420,\"size\":0"),
+        "bare" => Ok("\"kind\":\"file\",\"mode\":420,\"size\":1"),
+        "bare-2" => Ok("\"kind\":\"file\",\"mode\":420,\"size\":2"),
+        "link" => Ok("\"kind\":\"symlink\",\"mode\":511,\"target\":\"a b\""),
+        "whiteout" => Ok("\"kind\":\"char\",\"mode\":0,\"major\":0,\"minor\":0"),
+        "console" => Ok("\"kind\":\"char\",\"mode\":384,\"major\":0,\"minor\":1"),
+        _ => Err(Fail::new("no kind has this word")),
+    }
+}
+
+// The manifest of these entries, with commas between them, under a root of mode 0755 where none of them is one. An
+// entry is the word of its kind, its path and its attributes, the overlay's without their prefix, as
+// `dir /d redirect=/x user.k=v`.
+pub(crate) fn manifest_of(alloc: Global, entries: &str) -> Result<Vec<u8>, Fail> {
+    let mut text = String::from_str(alloc, "{\"overlay-layer\":1,\"entries\":[")?;
+    if !entries.starts_with("dir / ") {
+        push_entry(alloc, &mut text, "dir /")?;
+    }
+    for entry in entries.split(", ") {
+        if entry.is_empty() {
+            continue;
+        }
+        if text.as_str().ends_with('}') {
+            text.push_str(",")?;
+        }
+        push_entry(alloc, &mut text, entry)?;
+    }
+    text.push_str("]}")?;
+    Ok(text.into_bytes())
+}
+
+fn push_entry(alloc: Global, text: &mut String, entry: &str) -> Result<(), Fail> {
+    let (word, more) = entry.split_once(' ').unwrap_or((entry, ""));
+    let (path, marks) = more.split_once(' ').unwrap_or((more, ""));
+    let kind = kind_of(word)?;
+    let marks = attributes_of(alloc, marks)?;
+    let stated = format!(in alloc;
+        "{{\"path\":\"{path}\",{kind},\"uid\":0,\"gid\":0,\"mtime\":0,\"xattrs\":{{{marks}}}}}"
+    )?;
+    text.push_str(stated.as_str())?;
+    Ok(())
+}
+
+// Attributes, as a manifest states them, of words such as `opaque=y`.
+fn attributes_of(alloc: Global, marks: &str) -> Result<String, Fail> {
+    let mut text = String::new(alloc);
+    for mark in marks.split(' ') {
+        let Some((name, value)) = mark.split_once('=') else {
+            continue;
+        };
+        if !text.is_empty() {
+            text.push_str(",")?;
+        }
+        let prefix = if name.starts_with("user.") {
+            ""
+        } else {
+            "trusted.overlay."
+        };
+        let value = hex::encode(alloc, value.as_bytes())?;
+        let stated = format!(in alloc; "\"{prefix}{name}\":\"{value}\"")?;
+        text.push_str(stated.as_str())?;
+    }
+    Ok(text)
+}
+
+// A text in which `[a]` stands for the digest of `a`.
+pub(crate) fn in_full(alloc: Global, text: &str) -> Result<String, Fail> {
+    Ok(text.replace(
+        alloc,
+        "[a]",
+        "ca978112ca1bbdcafac231b39a23dc4da786eff8147c4e72b9807785afee48bb",
+    )?)
+}
+
+// The bytes of each of these texts.
+pub(crate) fn contents_of(alloc: Global, texts: &[&str]) -> Result<Vec<Vec<u8>>, Fail> {
+    let mut contents = Vec::new(alloc);
+    for text in texts {
+        contents.push(String::from_str(alloc, text)?.into_bytes())?;
+    }
+    Ok(contents)
+}
+
+// What `show` reports of these layers, the topmost first, alike by one worker and by four.
+pub(crate) fn shown<R: Threads + Wait + Sync>(
+    rt: &R,
+    alloc: Global,
+    layers: &[&str],
+) -> Result<String, Fail> {
+    reported(rt, alloc, &manifests_of(alloc, layers)?)
+}
+
+pub(crate) fn manifests_of(alloc: Global, layers: &[&str]) -> Result<Vec<Vec<u8>>, Fail> {
+    let mut manifests = Vec::new(alloc);
+    for entries in layers {
+        manifests.push(manifest_of(alloc, entries)?)?;
+    }
+    Ok(manifests)
+}
+
+// The same of manifests.
+pub(crate) fn reported<R: Threads + Wait + Sync>(
+    rt: &R,
+    alloc: Global,
+    manifests: &[Vec<u8>],
+) -> Result<String, Fail> {
+    let answer = answered(rt, alloc, Command::Show, manifests, &[])?;
+    Ok(String::from_utf8(answer.report)?)
+}
+
+// What `fsck` reports of these layers, the topmost first, with these blobs, alike by one worker and by four. It is
+// clean where it has no fault.
+pub(crate) fn checked<R: Threads + Wait + Sync>(
+    rt: &R,
+    alloc: Global,
+    layers: &[&str],
+    blobs: &[Blob],
+) -> Result<String, Fail> {
+    let manifests = manifests_of(alloc, layers)?;
+    let answer = answered(rt, alloc, Command::Fsck, &manifests, blobs)?;
+    let report = String::from_utf8(answer.report)?;
+    if answer.clean != report.as_str().contains("faults 0 notes ") {
+        return Err(Fail::new("it isn't told whether there is a fault"));
+    }
+    Ok(report)
+}
+
+// What a command answers, alike by one worker and by four, with no new layer.
+fn answered<R: Threads + Wait + Sync>(
+    rt: &R,
+    alloc: Global,
+    what: Command,
+    manifests: &[Vec<u8>],
+    blobs: &[Blob],
+) -> Result<Answer, Fail> {
+    let alone = command(rt, alloc, what, manifests, blobs, 1, &OpenGate)?;
+    let together = command(rt, alloc, what, manifests, blobs, 4, &OpenGate)?;
+    if alone != together {
+        return Err(Fail::new("four workers answer otherwise than one"));
+    }
+    if !alone.layers.is_empty() {
+        return Err(Fail::new("there is a new layer"));
+    }
+    Ok(alone)
+}

@@ -1,0 +1,354 @@
+ghost use Rattle.std.specs.Prelude.{◌≡◌, []};
+
+use crate::command_samples::{contents_of, manifest_of, manifests_of, reported};
+use ovl_board::{BoardFault, Piece};
+use ovl_engine::{Answer, Command, EngineFault, ShowWork, command, named_blobs};
+use ovl_lookup::Stack;
+use ovl_manifest::{LayerFault, read_layer};
+use ovl_names::Path;
+use ovl_pool::{Gate, OpenGate, RunCount, RunFault, run};
+use std::alloc::Global;
+use std::sync::{Mutex, Wait};
+use std::test::Fail;
+use std::thread::Threads;
+
+const LOOKS_OF_A_GATE: u32 = 20_000_000;
+
+// The answer over this number of layers of a root alone, by this number of workers.
+fn answer_of<R: Threads + Wait + Sync>(
+    rt: &R,
+    alloc: Global,
+    layers: usize,
+    workers: usize,
+) -> Result<Result<Answer, EngineFault>, Fail> {
+    let mut manifests = Vec::new(alloc);
+    for _ in 0..layers {
+        manifests.push(manifest_of(alloc, "")?)?;
+    }
+    Ok(command(
+        rt,
+        alloc,
+        Command::Show,
+        &manifests,
+        &[],
+        workers,
+        &OpenGate,
+    ))
+}
+
+#[test]
+fn a_root_alone_is_shown_with_no_new_layer(rt: HostRuntime) -> Result<(), Fail> {
+    let answer = answer_of(&rt, rt.alloc(), 1, 4)??;
+    assert_eq!(rt;
+        answer.report.as_slice(),
+        b"dir 0755 0 0 0 - - /\nentries 1\n".as_slice()
+    );
+    assert!(rt; answer.layers.is_empty() && answer.clean);
+    Ok(())
+}
+
+#[test]
+fn there_are_1_to_64_workers(rt: HostRuntime) -> Result<(), Fail> {
+    for (workers, fault) in [
+        (0, Some(EngineFault::Workers)),
+        (64, None),
+        (65, Some(EngineFault::Workers)),
+    ] {
+        let answer = answer_of(&rt, rt.alloc(), 1, workers)?;
+        assert_eq!(rt; answer.err(), fault, "at {workers}");
+    }
+    Ok(())
+}
+
+#[test]
+fn there_are_1_to_128_layers(rt: HostRuntime) -> Result<(), Fail> {
+    for (layers, fault) in [
+        (0, Some(EngineFault::Layers)),
+        (128, None),
+        (129, Some(EngineFault::Layers)),
+    ] {
+        let answer = answer_of(&rt, rt.alloc(), layers, 2)?;
+        assert_eq!(rt; answer.err(), fault, "at {layers}");
+    }
+    Ok(())
+}
+
+#[test]
+fn workers_are_refused_before_layers(rt: HostRuntime) -> Result<(), Fail> {
+    let answer = answer_of(&rt, rt.alloc(), 0, 65)?;
+    assert_eq!(rt; answer.err(), Some(EngineFault::Workers));
+    Ok(())
+}
+
+#[test]
+fn the_first_layer_that_is_not_read_is_told(rt: HostRuntime) -> Result<(), Fail> {
+    let alloc = rt.alloc();
+    let root = manifest_of(alloc, "")?;
+    let newer = String::from_str(alloc, "{\"overlay-layer\":2,\"entries\":[]}")?;
+    let list = String::from_str(alloc, "[]")?;
+    let manifests = [root, newer.into_bytes(), list.into_bytes()];
+    let answer = command(&rt, alloc, Command::Show, &manifests, &[], 4, &OpenGate);
+    assert_eq!(rt;
+        answer.err(),
+        Some(EngineFault::Layer(1, LayerFault::Version))
+    );
+    Ok(())
+}
+
+#[test]
+fn a_fault_has_its_text(rt: HostRuntime) -> Result<(), Fail> {
+    for (fault, text) in [
+        (EngineFault::Workers, "workers must be 1 to 64"),
+        (EngineFault::Layers, "layers must be 1 to 128"),
+        (
+            EngineFault::Layer(2, LayerFault::Order(7)),
+            "layer 2: entry 7: out of order",
+        ),
+        (EngineFault::BlobOrder, "blobs out of order"),
+        (EngineFault::BlobSize, "blobs over 268435456 bytes"),
+        (EngineFault::from(RunFault::Gate), "gate"),
+        (EngineFault::from(RunFault::Memory), "out of memory"),
+    ] {
+        assert_eq!(rt; fault.to_string(rt.alloc())?.as_str(), text);
+    }
+    Ok(())
+}
+
+#[test]
+fn a_fault_of_the_board_has_its_text(rt: HostRuntime) -> Result<(), Fail> {
+    let piece = Piece {
+        space: 0,
+        dir: Path::root(rt.alloc()),
+    };
+    let fault = EngineFault::from(RunFault::Board(BoardFault::Missing(piece)));
+    assert_eq!(rt; fault.to_string(rt.alloc())?.as_str(), "board");
+    let fault = EngineFault::from(RunFault::Board(BoardFault::Memory));
+    assert_eq!(rt; fault, EngineFault::Memory);
+    Ok(())
+}
+
+// A layer with entries of every kind.
+const TOOLS: &str =
+    "{\"entries\":[{\"gid\":0,\"kind\":\"dir\",\"mode\":493,\"mtime\":1700000000,\"path\":\"/\",\"uid\":0,\"xattrs\":{}},\
+    {\"gid\":0,\"kind\":\"dir\",\"mode\":493,\"mtime\":1700000000,\"path\":\"/bin\",\"uid\":0,\"xattrs\":{}},\
+    {\"blob\":\"bfdeaeb08cffb6a36438bcd12dda25417e3cdd36f1e7e482a2849d539225288b\",\"gid\":0,\"kind\":\"file\",\"mode\":493,\"mtime\":1700000000,\"path\":\"/bin/hello\",\"size\":21,\"uid\":0,\"xattrs\":{}},\
+    {\"gid\":0,\"kind\":\"symlink\",\"mode\":511,\"mtime\":1700000000,\"path\":\"/bin/hi\",\"target\":\"hello\",\"uid\":0,\"xattrs\":{}},\
+    {\"gid\":0,\"kind\":\"symlink\",\"mode\":511,\"mtime\":1700000000,\"path\":\"/bin/old tool\",\"target\":\"../opt/old tools/hi\",\"uid\":0,\"xattrs\":{}},\
+    {\"gid\":0,\"kind\":\"dir\",\"mode\":493,\"mtime\":1700000000,\"path\":\"/dev\",\"uid\":0,\"xattrs\":{}},\
+    {\"gid\":6,\"kind\":\"block\",\"major\":8,\"minor\":0,\"mode\":432,\"mtime\":1700000000,\"path\":\"/dev/disk\",\"uid\":0,\"xattrs\":{}},\
+    {\"gid\":0,\"kind\":\"fifo\",\"mode\":384,\"mtime\":1700000000,\"path\":\"/dev/log-pipe\",\"uid\":0,\"xattrs\":{}},\
+    {\"gid\":0,\"kind\":\"socket\",\"mode\":438,\"mtime\":1700000000,\"path\":\"/dev/log.sock\",\"uid\":0,\"xattrs\":{}},\
+    {\"gid\":0,\"kind\":\"char\",\"major\":1,\"minor\":3,\"mode\":438,\"mtime\":1700000000,\"path\":\"/dev/null\",\"uid\":0,\"xattrs\":{}},\
+    {\"gid\":0,\"kind\":\"dir\",\"mode\":493,\"mtime\":1700000000,\"path\":\"/etc\",\"uid\":0,\"xattrs\":{}},\
+    {\"gid\":0,\"kind\":\"file\",\"mode\":420,\"mtime\":1700000000,\"path\":\"/etc/empty.conf\",\"size\":0,\"uid\":0,\"xattrs\":{}},\
+    {\"blob\":\"0e90e1aa36481e399939d32680dab2005c299f2bb9c3ba6b151ac0cc821fec7a\",\"gid\":0,\"kind\":\"file\",\"mode\":420,\"mtime\":1700000000,\"path\":\"/etc/motd\",\"size\":8,\"uid\":0,\"xattrs\":{\"user.origin\":\"6f7572732e\"}},\
+    {\"gid\":1000,\"kind\":\"dir\",\"mode\":488,\"mtime\":1700000000,\"path\":\"/etc/tools.d\",\"uid\":1000,\"xattrs\":{\"trusted.overlay.opaque\":\"79\"}},\
+    {\"blob\":\"3b6a5e83064c150d750ab23cda5897779da4dd38c898c280b0a4145ba17484dd\",\"gid\":1000,\"kind\":\"file\",\"mode\":416,\"mtime\":-86400,\"path\":\"/etc/tools.d/hello.conf\",\"size\":15,\"uid\":1000,\"xattrs\":{}},\
+    {\"gid\":0,\"kind\":\"dir\",\"mode\":448,\"mtime\":1700000000,\"path\":\"/etc-old\",\"uid\":0,\"xattrs\":{}},\
+    {\"gid\":0,\"kind\":\"char\",\"major\":0,\"minor\":0,\"mode\":0,\"mtime\":0,\"path\":\"/games\",\"uid\":0,\"xattrs\":{}},\
+    {\"gid\":0,\"kind\":\"dir\",\"mode\":1023,\"mtime\":1700000000,\"path\":\"/tmp\",\"uid\":0,\"xattrs\":{}}],\"overlay-layer\":1}";
+
+#[test]
+fn a_layer_shows_every_kind_of_entry(rt: HostRuntime) -> Result<(), Fail> {
+    let alloc = rt.alloc();
+    let mut manifest = Vec::new(alloc);
+    manifest.extend_from_slice(TOOLS.as_bytes())?;
+    assert_eq!(rt;
+        reported(&rt, alloc, &[manifest])?.as_str(),
+        "dir 0755 0 0 1700000000 - - /\n\
+        dir 0755 0 0 1700000000 - - /bin\n\
+        file 0755 0 0 1700000000 21 bfdeaeb08cffb6a36438bcd12dda25417e3cdd36f1e7e482a2849d539225288b /bin/hello\n\
+        symlink 0777 0 0 1700000000 - hello /bin/hi\n\
+        symlink 0777 0 0 1700000000 - ../opt/old\\x20tools/hi /bin/old\\x20tool\n\
+        dir 0755 0 0 1700000000 - - /dev\n\
+        block 0660 0 6 1700000000 - 8:0 /dev/disk\n\
+        fifo 0600 0 0 1700000000 - - /dev/log-pipe\n\
+        socket 0666 0 0 1700000000 - - /dev/log.sock\n\
+        char 0666 0 0 1700000000 - 1:3 /dev/null\n\
+        dir 0755 0 0 1700000000 - - /etc\n\
+        file 0644 0 0 1700000000 0 - /etc/empty.conf\n\
+        file 0644 0 0 1700000000 8 0e90e1aa36481e399939d32680dab2005c299f2bb9c3ba6b151ac0cc821fec7a /etc/motd user.origin=6f7572732e\n\
+        dir 0750 1000 1000 1700000000 - - /etc/tools.d\n\
+        file 0640 1000 1000 -86400 15 3b6a5e83064c150d750ab23cda5897779da4dd38c898c280b0a4145ba17484dd /etc/tools.d/hello.conf\n\
+        dir 0700 0 0 1700000000 - - /etc-old\n\
+        dir 1777 0 0 1700000000 - - /tmp\n\
+        entries 17\n"
+    );
+    Ok(())
+}
+
+// Lets `/` pass, and another directory where each other one was asked for as often while it looked.
+#[derive(Drop)]
+struct Meeting<'a, R: Wait> {
+    rt: &'a R,
+    asked: Mutex<Vec<(Piece, u64)>>,
+}
+
+impl<R: Wait> Meeting<'_, R> {
+    // Notes that the piece was asked for, and tells how often by now.
+    fn note(&self, piece: &Piece) -> u64 {
+        let mut asked = self.asked.lock(self.rt);
+        for (known, times) in asked.iter_mut() {
+            if *known == *piece {
+                *times = times.saturating_add(1);
+                return *times;
+            }
+        }
+        0
+    }
+
+    fn was_met(&self, times: u64) -> bool {
+        let asked = self.asked.lock(self.rt);
+        asked.iter().all(|(_, other)| *other >= times)
+    }
+}
+
+impl<R: Wait> Gate for Meeting<'_, R> {
+    ghost may_refuse = { λ _ p. ¬ (p.dir ≡ []) };
+
+    fn pass(&self, piece: &Piece) -> bool {
+        if piece.dir.is_empty() {
+            return true;
+        }
+        let times = self.note(piece);
+        for _ in 0..LOOKS_OF_A_GATE {
+            if self.was_met(times) {
+                return true;
+            }
+        }
+        false
+    }
+}
+
+const TWO: &str = "dir /a, dir /b";
+
+const FOUR: &str = "dir /a, dir /b, dir /c, dir /d";
+
+const FOUR_PATHS: &[&str] = &["/a", "/b", "/c", "/d"];
+
+// Lets these pieces of a space pass where they meet; the space is a layer, or that of the blobs.
+fn gate_at<'a, R: Wait>(
+    rt: &'a R,
+    alloc: Global,
+    space: u16,
+    paths: &[&str],
+) -> Result<Meeting<'a, R>, Fail> {
+    let mut asked = Vec::new(alloc);
+    for path in paths {
+        let piece = Piece {
+            space,
+            dir: Path::parse(alloc, path)?,
+        };
+        asked.push((piece, 0))?;
+    }
+    Ok(Meeting {
+        rt,
+        asked: Mutex::new(asked),
+    })
+}
+
+// Whether the command's answer over these layers and blobs comes where these two pieces of a space must meet, by two
+// workers; one worker is refused.
+fn is_met<R: Threads + Wait + Sync>(
+    rt: &R,
+    alloc: Global,
+    what: Command,
+    layers: &[&str],
+    space: u16,
+    pieces: &[&str],
+) -> Result<bool, Fail> {
+    let manifests = manifests_of(alloc, layers)?;
+    let blobs = named_blobs(alloc, &contents_of(alloc, &["ab", "abc"])?)?;
+    let mut faults = Vec::new(alloc);
+    for workers in [2, 1] {
+        let gate = gate_at(rt, alloc, space, pieces)?;
+        faults.push(command(rt, alloc, what, &manifests, &blobs, workers, &gate).err())?;
+    }
+    Ok(faults.as_slice() == [None, Some(EngineFault::Run(RunFault::Gate))].as_slice())
+}
+
+#[test]
+fn two_workers_of_a_command_meet_and_one_is_refused(rt: HostRuntime) -> Result<(), Fail> {
+    let two = ["/a", "/b"].as_slice();
+    // The blobs of `abc` and of `ab`, by the first digits of their names.
+    let blobs = ["/ba", "/fb"].as_slice();
+    for (what, layers, space, pieces) in [
+        (Command::Show, [TWO, ""].as_slice(), 0, two),
+        (Command::Fsck, [TWO, ""].as_slice(), 0, two),
+        (Command::Fsck, ["", TWO].as_slice(), 1, two),
+        (Command::Fsck, ["", ""].as_slice(), 128, blobs),
+    ] {
+        let met = is_met(&rt, rt.alloc(), what, layers, space, pieces)?;
+        assert!(rt; met, "at {what:?} in space {space}");
+    }
+    Ok(())
+}
+
+fn stack_with(alloc: Global, directories: &str) -> Result<Stack, Fail> {
+    let mut layers = Vec::new(alloc);
+    layers.push(read_layer(alloc, &manifest_of(alloc, directories)?)?)?;
+    Ok(Stack::of(layers)?)
+}
+
+fn root_piece(alloc: Global) -> Piece {
+    Piece {
+        space: 0,
+        dir: Path::root(alloc),
+    }
+}
+
+// The numbers of a run over this many directories.
+fn all_of(directories: u64) -> RunCount {
+    RunCount {
+        known: directories,
+        delivered: directories,
+        taken: directories,
+        left: 0,
+    }
+}
+
+// The numbers of a run over the merged tree of a root and these directories, or how it ends, where they must meet.
+fn run_to<R: Threads + Wait + Sync>(
+    rt: &R,
+    alloc: Global,
+    directories: &str,
+    paths: &[&str],
+    workers: usize,
+) -> Result<Result<RunCount, RunFault>, Fail> {
+    let stack = stack_with(alloc, directories)?;
+    let gate = gate_at(rt, alloc, 0, paths)?;
+    let work = ShowWork::new(&stack);
+    Ok(run(rt, alloc, &work, root_piece(alloc), workers, &gate).map(|(_, count)| count))
+}
+
+#[test]
+fn workers_meet_over_the_merged_tree(rt: HostRuntime) -> Result<(), Fail> {
+    for (directories, paths, count) in [(TWO, &FOUR_PATHS[..2], 3), (FOUR, FOUR_PATHS, 5)] {
+        let workers = paths.len();
+        let counted = run_to(&rt, rt.alloc(), directories, paths, workers)?;
+        assert_eq!(rt; counted, Ok(all_of(count)), "by {workers} workers");
+    }
+    Ok(())
+}
+
+#[test]
+fn one_worker_fewer_is_refused(rt: HostRuntime) -> Result<(), Fail> {
+    for (directories, paths, workers) in [(TWO, &FOUR_PATHS[..2], 1), (FOUR, FOUR_PATHS, 3)] {
+        let counted = run_to(&rt, rt.alloc(), directories, paths, workers)?;
+        assert_eq!(rt; counted, Err(RunFault::Gate), "by {workers} workers");
+    }
+    Ok(())
+}
+
+#[test]
+fn one_worker_goes_over_the_merged_tree(rt: HostRuntime) -> Result<(), Fail> {
+    let alloc = rt.alloc();
+    let stack = stack_with(alloc, TWO)?;
+    let work = ShowWork::new(&stack);
+    let (parcels, count) = run(&rt, alloc, &work, root_piece(alloc), 1, &OpenGate)?;
+    assert_eq!(rt; parcels.len(), 3);
+    assert_eq!(rt; count, all_of(3));
+    let refused = run(&rt, alloc, &work, root_piece(alloc), 0, &OpenGate);
+    assert_eq!(rt; refused.err(), Some(RunFault::Workers));
+    Ok(())
+}

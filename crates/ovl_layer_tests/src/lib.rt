@@ -1,0 +1,14 @@
+//! Tests of the public calls of names, inodes, manifests and lookups.
+//! They stand apart from the crates that they test, since a crate with tests is proved twice.
+#![tactic(auto)]
+
+#[cfg(test)]
+mod inode;
+#[cfg(test)]
+mod lookup;
+#[cfg(test)]
+mod manifest;
+#[cfg(test)]
+mod marks;
+#[cfg(test)]
+mod names;

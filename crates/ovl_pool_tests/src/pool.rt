@@ -1,0 +1,410 @@
+ghost use Rattle.std.specs.Prelude.{◌≡◌, []};
+ghost use Rattle.ovl_board.specs.Trees.{tree_kids, deepest_path};
+
+use ovl_board::{Parcel, Piece, Tree, Work};
+use ovl_names::Path;
+use ovl_pool::{Gate, OpenGate, RunCount, RunFault, Tally, run};
+use std::alloc::{AllocError, Global};
+use std::sync::atomic::{AtomicBool, AtomicU64, Ordering};
+use std::sync::{Mutex, Wait};
+use std::test::Fail;
+use std::thread::Threads;
+
+const SMALL: &str = "/ /a /b";
+
+const WIDE: &str = "/ /a /b /c /d";
+
+const WIDEST: &str = "/ /a /b /c /d /e /f /g";
+
+type Answer = Result<(Vec<Parcel<()>>, RunCount), RunFault>;
+
+const LOOKS_OF_A_GATE: u32 = 20_000_000;
+
+const LOOKS_OF_A_VISIT: u32 = 400_000_000;
+
+fn piece(alloc: Global, text: &str) -> Result<Piece, Fail> {
+    Ok(Piece {
+        space: 0,
+        dir: Path::parse(alloc, text)?,
+    })
+}
+
+fn tree(alloc: Global, texts: &str) -> Result<Tree, Fail> {
+    let mut paths = Vec::new(alloc);
+    for text in texts.split_whitespace() {
+        paths.push(Path::parse(alloc, text)?)?;
+    }
+    Ok(Tree::of(paths)?)
+}
+
+// The listed pieces but the root.
+fn below_root(alloc: Global, texts: &str) -> Result<Vec<Piece>, Fail> {
+    let mut pieces = Vec::new(alloc);
+    for text in texts.split_whitespace() {
+        if text != "/" {
+            pieces.push(piece(alloc, text)?)?;
+        }
+    }
+    Ok(pieces)
+}
+
+// What a run gives of a root and the kids that it lists: their parcels, and as many pieces known, delivered and taken.
+fn whole(alloc: Global, texts: &str) -> Result<Answer, Fail> {
+    let mut parcels = Vec::new(alloc);
+    for text in texts.split_whitespace() {
+        let kids = below_root(alloc, if text == "/" { texts } else { "" })?;
+        let piece = piece(alloc, text)?;
+        parcels.push(Parcel {
+            piece,
+            kids,
+            out: (),
+        })?;
+    }
+    let pieces = parcels.len() as u64;
+    let count = RunCount {
+        known: pieces,
+        delivered: pieces,
+        taken: pieces,
+        left: 0,
+    };
+    Ok(Ok((parcels, count)))
+}
+
+#[test]
+fn a_tally_notes_each_known_piece_once(rt: HostRuntime) -> Result<(), Fail> {
+    let mut tally = Tally::start();
+    assert!(rt; tally.deliver(2));
+    assert!(rt; tally.deliver(0));
+    assert!(rt; tally.deliver(0));
+    assert!(rt; !tally.deliver(0));
+    assert_eq!(rt; (tally.known, tally.delivered), (3, 3));
+    Ok(())
+}
+
+#[test]
+fn a_tally_refuses_more_than_it_can_count(rt: HostRuntime) -> Result<(), Fail> {
+    let mut tally = Tally::start();
+    assert!(rt; !tally.deliver(u64::MAX));
+    assert!(rt; tally.deliver(u64::MAX - 1));
+    assert!(rt; !tally.deliver(1));
+    assert_eq!(rt; (tally.known, tally.delivered), (u64::MAX, 1));
+    Ok(())
+}
+
+#[test]
+fn an_open_gate_lets_a_piece_pass(rt: HostRuntime) -> Result<(), Fail> {
+    assert!(rt; OpenGate.pass(&piece(rt.alloc(), "/a")?));
+    Ok(())
+}
+
+#[test]
+fn there_are_1_to_64_workers(rt: HostRuntime) -> Result<(), Fail> {
+    let work = tree(rt.alloc(), SMALL)?;
+    for (workers, fault) in [
+        (0, Some(RunFault::Workers)),
+        (1, None),
+        (64, None),
+        (65, Some(RunFault::Workers)),
+    ] {
+        let root = piece(rt.alloc(), "/")?;
+        let answer = run(&rt, rt.alloc(), &work, root, workers, &OpenGate);
+        assert_eq!(rt; answer.err(), fault, "at {workers}");
+    }
+    Ok(())
+}
+
+#[test]
+fn a_run_gives_the_plain_walk_and_its_counts(rt: HostRuntime) -> Result<(), Fail> {
+    let work = tree(rt.alloc(), SMALL)?;
+    let root = piece(rt.alloc(), "/")?;
+    let wanted = whole(rt.alloc(), SMALL)?;
+    assert_eq!(rt; run(&rt, rt.alloc(), &work, root, 1, &OpenGate), wanted);
+    Ok(())
+}
+
+// Refuses `/` alone.
+struct Shut;
+
+impl Gate for Shut {
+    ghost may_refuse = { λ _ p. p.dir ≡ [] };
+
+    fn pass(&self, piece: &Piece) -> bool {
+        !piece.dir.is_empty()
+    }
+}
+
+#[test]
+fn a_run_is_refused_where_the_gate_refuses_the_root(rt: HostRuntime) -> Result<(), Fail> {
+    for workers in [1, 2] {
+        let work = tree(rt.alloc(), SMALL)?;
+        let root = piece(rt.alloc(), "/")?;
+        let answer = run(&rt, rt.alloc(), &work, root, workers, &Shut);
+        assert_eq!(rt; answer, Err(RunFault::Gate), "at {workers}");
+    }
+    Ok(())
+}
+
+// A piece: how often the gate was asked for it, and whether that was once when its visit began.
+#[derive(Drop)]
+struct Turn {
+    piece: Piece,
+    asked: AtomicU64,
+    in_turn: AtomicBool,
+}
+
+// A tree that is also the gate to its pieces, and lets all pass.
+#[derive(Drop)]
+struct Watched {
+    tree: Tree,
+    turns: Vec<Turn>,
+}
+
+impl Watched {
+    fn of(alloc: Global, texts: &str) -> Result<Watched, Fail> {
+        let mut turns = Vec::new(alloc);
+        for text in texts.split_whitespace() {
+            turns.push(Turn {
+                piece: piece(alloc, text)?,
+                asked: AtomicU64::new(0),
+                in_turn: AtomicBool::new(false),
+            })?;
+        }
+        let tree = tree(alloc, texts)?;
+        Ok(Watched { tree, turns })
+    }
+
+    fn turn(&self, piece: &Piece) -> Option<&Turn> {
+        self.turns.iter().find(|turn| turn.piece == *piece)
+    }
+
+    // Whether the gate was asked for each piece once, before its visit.
+    fn was_in_turn(&self) -> bool {
+        self.turns.iter().all(|turn| {
+            turn.in_turn.load(Ordering::SeqCst) && turn.asked.load(Ordering::SeqCst) == 1
+        })
+    }
+}
+
+impl Gate for Watched {
+    ghost may_refuse = { λ _ _. ⊥ };
+
+    fn pass(&self, piece: &Piece) -> bool {
+        if let Some(turn) = self.turn(piece) {
+            turn.asked.fetch_add(1, Ordering::SeqCst);
+        }
+        true
+    }
+}
+
+impl Work for Watched {
+    type Out = ();
+
+    ghost Seen = { Unit {0} };
+
+    ghost seen_set = { Prim.hlevel };
+
+    ghost seen = { λ _. tt };
+
+    ghost kids_of = { λ work. tree_kids work.tree };
+
+    ghost out_of = { λ _ _. tt };
+
+    ghost deepest_of = { λ work. deepest_path work.tree };
+
+    fn visit(&self, alloc: Global, piece: &Piece) -> Result<(Vec<Piece>, ()), AllocError> {
+        if let Some(turn) = self.turn(piece) {
+            let asked = turn.asked.load(Ordering::SeqCst);
+            turn.in_turn.store(asked == 1, Ordering::SeqCst);
+        }
+        self.tree.visit(alloc, piece)
+    }
+
+    fn deepest(&self) -> u32 {
+        self.tree.deepest()
+    }
+}
+
+#[test]
+fn the_gate_is_asked_once_for_each_piece_before_its_visit(rt: HostRuntime) -> Result<(), Fail> {
+    for workers in [1, 2, 7] {
+        let watched = Watched::of(rt.alloc(), SMALL)?;
+        let root = piece(rt.alloc(), "/")?;
+        run(&rt, rt.alloc(), &watched, root, workers, &watched)?;
+        assert!(rt; watched.was_in_turn(), "at {workers}");
+    }
+    Ok(())
+}
+
+// Lets `/` pass, and another directory where each other one was asked for as often while it looked.
+#[derive(Drop)]
+struct Meeting<'a, R: Wait> {
+    rt: &'a R,
+    asked: Mutex<Vec<(Piece, u64)>>,
+}
+
+impl<R: Wait> Meeting<'_, R> {
+    // Notes that the piece was asked for, and tells how often by now.
+    fn note(&self, piece: &Piece) -> u64 {
+        let mut asked = self.asked.lock(self.rt);
+        for (known, times) in asked.iter_mut() {
+            if *known == *piece {
+                *times = times.saturating_add(1);
+                return *times;
+            }
+        }
+        0
+    }
+
+    fn was_met(&self, times: u64) -> bool {
+        let asked = self.asked.lock(self.rt);
+        asked.iter().all(|(_, other)| *other >= times)
+    }
+}
+
+impl<R: Wait> Gate for Meeting<'_, R> {
+    ghost may_refuse = { λ _ p. ¬ (p.dir ≡ []) };
+
+    fn pass(&self, piece: &Piece) -> bool {
+        if piece.dir.is_empty() {
+            return true;
+        }
+        let times = self.note(piece);
+        for _ in 0..LOOKS_OF_A_GATE {
+            if self.was_met(times) {
+                return true;
+            }
+        }
+        false
+    }
+}
+
+// A run of the tree through the gate above.
+fn gated<R: Threads + Wait + Sync>(
+    rt: &R,
+    alloc: Global,
+    texts: &str,
+    workers: usize,
+) -> Result<Answer, Fail> {
+    let work = tree(alloc, texts)?;
+    let mut asked = Vec::new(alloc);
+    for piece in below_root(alloc, texts)? {
+        asked.push((piece, 0))?;
+    }
+    let gate = Meeting {
+        rt,
+        asked: Mutex::new(asked),
+    };
+    let root = piece(alloc, "/")?;
+    Ok(run(rt, alloc, &work, root, workers, &gate))
+}
+
+#[test]
+fn as_many_workers_as_pieces_meet_at_the_gate(rt: HostRuntime) -> Result<(), Fail> {
+    for (texts, workers) in [(SMALL, 2), (WIDE, 4), (WIDEST, 7)] {
+        let wanted = whole(rt.alloc(), texts)?;
+        let answer = gated(&rt, rt.alloc(), texts, workers)?;
+        assert_eq!(rt; answer, wanted, "at {workers}");
+    }
+    Ok(())
+}
+
+#[test]
+fn fewer_workers_than_pieces_are_refused_at_the_gate(rt: HostRuntime) -> Result<(), Fail> {
+    for (texts, workers) in [(SMALL, 1), (WIDE, 3), (WIDEST, 6)] {
+        let answer = gated(&rt, rt.alloc(), texts, workers)?;
+        assert_eq!(rt; answer, Err(RunFault::Gate), "at {workers}");
+    }
+    Ok(())
+}
+
+// A visited place: whether its visit began, and whether it saw the other one's begin.
+#[derive(Drop)]
+struct Place {
+    piece: Piece,
+    began: AtomicBool,
+    saw: AtomicBool,
+}
+
+impl Place {
+    fn new(piece: Piece) -> Place {
+        Place {
+            piece,
+            began: AtomicBool::new(false),
+            saw: AtomicBool::new(false),
+        }
+    }
+
+    fn meet(&self, other: &Place) {
+        self.began.store(true, Ordering::SeqCst);
+        for _ in 0..LOOKS_OF_A_VISIT {
+            if other.began.load(Ordering::SeqCst) {
+                self.saw.store(true, Ordering::SeqCst);
+                return;
+            }
+        }
+    }
+
+    fn has_seen(&self) -> bool {
+        self.saw.load(Ordering::SeqCst)
+    }
+}
+
+// The small tree, where the visits of `/a` and `/b` wait for each other for a while.
+#[derive(Drop)]
+struct Meet {
+    tree: Tree,
+    a: Place,
+    b: Place,
+}
+
+impl Work for Meet {
+    type Out = ();
+
+    ghost Seen = { Unit {0} };
+
+    ghost seen_set = { Prim.hlevel };
+
+    ghost seen = { λ _. tt };
+
+    ghost kids_of = { λ work. tree_kids work.tree };
+
+    ghost out_of = { λ _ _. tt };
+
+    ghost deepest_of = { λ work. deepest_path work.tree };
+
+    fn visit(&self, alloc: Global, piece: &Piece) -> Result<(Vec<Piece>, ()), AllocError> {
+        if *piece == self.a.piece {
+            self.a.meet(&self.b);
+        } else if *piece == self.b.piece {
+            self.b.meet(&self.a);
+        }
+        self.tree.visit(alloc, piece)
+    }
+
+    fn deepest(&self) -> u32 {
+        self.tree.deepest()
+    }
+}
+
+// Whether the visits of `/a` and of `/b` saw each other.
+fn visited<R: Threads + Wait + Sync>(
+    rt: &R,
+    alloc: Global,
+    workers: usize,
+) -> Result<(bool, bool), Fail> {
+    let work = Meet {
+        tree: tree(alloc, SMALL)?,
+        a: Place::new(piece(alloc, "/a")?),
+        b: Place::new(piece(alloc, "/b")?),
+    };
+    run(rt, alloc, &work, piece(alloc, "/")?, workers, &OpenGate)?;
+    Ok((work.a.has_seen(), work.b.has_seen()))
+}
+
+#[test]
+fn several_workers_visit_at_the_same_time(rt: HostRuntime) -> Result<(), Fail> {
+    for (workers, seen) in [(1, (false, true)), (2, (true, true)), (4, (true, true))] {
+        assert_eq!(rt; visited(&rt, rt.alloc(), workers)?, seen, "at {workers}");
+    }
+    Ok(())
+}
