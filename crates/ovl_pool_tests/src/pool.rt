@@ -20,6 +20,9 @@ type Answer = Result<(Vec<Parcel<()>>, RunCount), RunFault>;
 
 const LOOKS_OF_A_GATE: u32 = 20_000_000;
 
+// How often it looks where many workers can't meet: each of them looks so often, under one lock.
+const LOOKS_IN_VAIN: u32 = 100_000;
+
 const LOOKS_OF_A_VISIT: u32 = 400_000_000;
 
 fn piece(alloc: Global, text: &str) -> Result<Piece, Fail> {
@@ -240,6 +243,7 @@ fn the_gate_is_asked_once_for_each_piece_before_its_visit(rt: HostRuntime) -> Re
 struct Meeting<'a, R: Wait> {
     rt: &'a R,
     asked: Mutex<Vec<(Piece, u64)>>,
+    looks: u32,
 }
 
 impl<R: Wait> Meeting<'_, R> {
@@ -269,7 +273,7 @@ impl<R: Wait> Gate for Meeting<'_, R> {
             return true;
         }
         let times = self.note(piece);
-        for _ in 0..LOOKS_OF_A_GATE {
+        for _ in 0..self.looks {
             if self.was_met(times) {
                 return true;
             }
@@ -284,6 +288,7 @@ fn gated<R: Threads + Wait + Sync>(
     alloc: Global,
     texts: &str,
     workers: usize,
+    looks: u32,
 ) -> Result<Answer, Fail> {
     let work = tree(alloc, texts)?;
     let mut asked = Vec::new(alloc);
@@ -293,6 +298,7 @@ fn gated<R: Threads + Wait + Sync>(
     let gate = Meeting {
         rt,
         asked: Mutex::new(asked),
+        looks,
     };
     let root = piece(alloc, "/")?;
     Ok(run(rt, alloc, &work, root, workers, &gate))
@@ -302,7 +308,7 @@ fn gated<R: Threads + Wait + Sync>(
 fn as_many_workers_as_pieces_meet_at_the_gate(rt: HostRuntime) -> Result<(), Fail> {
     for (texts, workers) in [(SMALL, 2), (WIDE, 4), (WIDEST, 7)] {
         let wanted = whole(rt.alloc(), texts)?;
-        let answer = gated(&rt, rt.alloc(), texts, workers)?;
+        let answer = gated(&rt, rt.alloc(), texts, workers, LOOKS_OF_A_GATE)?;
         assert_eq!(rt; answer, wanted, "at {workers}");
     }
     Ok(())
@@ -310,8 +316,12 @@ fn as_many_workers_as_pieces_meet_at_the_gate(rt: HostRuntime) -> Result<(), Fai
 
 #[test]
 fn fewer_workers_than_pieces_are_refused_at_the_gate(rt: HostRuntime) -> Result<(), Fail> {
-    for (texts, workers) in [(SMALL, 1), (WIDE, 3), (WIDEST, 6)] {
-        let answer = gated(&rt, rt.alloc(), texts, workers)?;
+    for (texts, workers, looks) in [
+        (SMALL, 1, LOOKS_OF_A_GATE),
+        (WIDE, 3, LOOKS_OF_A_GATE),
+        (WIDEST, 6, LOOKS_IN_VAIN),
+    ] {
+        let answer = gated(&rt, rt.alloc(), texts, workers, looks)?;
         assert_eq!(rt; answer, Err(RunFault::Gate), "at {workers}");
     }
     Ok(())
