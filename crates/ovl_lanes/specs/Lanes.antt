@@ -23,24 +23,31 @@ IsWhole lane = (account_of lane).split ≡ (account_of lane).joined
 abbrev pub stolen_by : Pass → List Piece
 stolen_by pass = (view pass.account).taken
 
--- the pass was split from the lane
-abbrev pub IsOfLane : Lane → Pass → Type 0
-IsOfLane lane pass = IsPassOf (worker_deque lane.deque) pass.account
-
--- the pass is one of the lane whose thief this is
-abbrev pub IsOfThief : Thief → Pass → Type 0
-IsOfThief thief pass = IsPassOf (stealer_deque thief.deque) pass.account
-
--- the lane and the thief are ends of one lane
-abbrev pub IsOneLane : Lane → Thief → Type 0
-IsOneLane lane thief = stealer_deque thief.deque ≡ worker_deque lane.deque
-
-abbrev pub IsSameLane : Lane → Lane → Type 0
-IsSameLane old new = worker_deque new.deque ≡ worker_deque old.deque
-
 -- which lane it is
 abbrev pub LaneId : Type 0
 LaneId = (ℕ × ℕ) × Global
 
 abbrev pub lane_id : Lane → LaneId
 lane_id lane = worker_deque lane.deque
+
+abbrev pub thief_id : Thief → LaneId
+thief_id thief = stealer_deque thief.deque
+
+-- the pass was split from that lane
+abbrev pub IsPass : LaneId → Pass → Type 0
+IsPass id pass = IsPassOf id pass.account
+
+-- the pass was split from the lane
+abbrev pub IsOfLane : Lane → Pass → Type 0
+IsOfLane lane pass = IsPass (lane_id lane) pass
+
+-- the pass is one of the lane whose thief this is
+abbrev pub IsOfThief : Thief → Pass → Type 0
+IsOfThief thief pass = IsPass (thief_id thief) pass
+
+-- the lane and the thief are ends of one lane
+abbrev pub IsOneLane : Lane → Thief → Type 0
+IsOneLane lane thief = thief_id thief ≡ lane_id lane
+
+abbrev pub IsSameLane : Lane → Lane → Type 0
+IsSameLane old new = lane_id new ≡ lane_id old

@@ -1,1 +1,3 @@
 pub mod ChainLemmas
+pub mod CrewLemmas
+pub mod PassLemmas

@@ -77,7 +77,7 @@ where
         Err(LaneFault::Count) => return Err(RunFault::Workers),
         Err(LaneFault::Memory) => return Err(RunFault::Memory),
     };
-    let (crowd, thieves) = seated(rt, alloc, seats, root.copy(alloc)?)?;
+    let (crowd, thieves) = seated(alloc, seats, root.copy(alloc)?)?;
     let tally = Mutex::new(Tally::start());
     let (ended, haul) = crew(rt, alloc, work, gate, &tally, &thieves, crowd)?;
     let Haul {
@@ -97,6 +97,6 @@ where
         Ok(walk) => walk,
         Err(fault) => return Err(RunFault::Board(fault)),
     };
-    let count = closed(rt, alloc, &tally.into_inner(), ended, thieves)?;
+    let count = closed(&tally.into_inner(), ended, thieves);
     Ok((walk, count))
 }
