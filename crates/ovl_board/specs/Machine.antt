@@ -9,6 +9,10 @@ use Rattle.ovl_board.specs.Desks.{DeskView, empty_desk, is_free, pushed_desk}
 use Rattle.ovl_board.specs.Parcels.{ParcelView, own_view}
 use Rattle.ovl_board.specs.Balance.{IsBalanced}
 
+-- the most workers
+abbrev pub worker_limit : ℕ
+worker_limit = 64
+
 -- the desks, one for each worker, and the parcels
 pub record CoreState (S : Type 0) : Type 0 where
   pub desks : List DeskView

@@ -5,7 +5,7 @@ ghost use Rattle.ovl_board.specs.Parcels.{pieces_of};
 ghost use Rattle.ovl_board.specs.Balance.{AllLawful, kids_in, times};
 ghost use Rattle.ovl_board.specs.Assembly.{IsBoardFault, IsInOrder, IsLeast, IsAbsent, AreExpected, IsListFault, bare};
 
-use crate::pieces::Piece;
+use crate::pieces::{Piece, copies};
 use crate::works::Parcel;
 use std::alloc::{AllocError, AllocFailed, Global};
 use thiserror::Error;
@@ -100,19 +100,10 @@ fn expected_pieces<T>(
     let mut expected = Vec::new(alloc);
     expected.push(root.copy(alloc)?)?;
     for parcel in parcels {
-        push_copies(alloc, &mut expected, &parcel.kids)?;
+        expected.append(&mut copies(alloc, &parcel.kids)?)?;
     }
     expected.sort()?;
     Ok(expected)
-}
-
-fn push_copies(alloc: Global, pieces: &mut Vec<Piece>, more: &[Piece]) -> Result<(), AllocError>
-    ensures { OnOk result (pieces.new.items ≡ pieces.old.items ++ more.now) }
-{
-    for piece in more {
-        pieces.push(piece.copy(alloc)?)?;
-    }
-    Ok(())
 }
 
 // The least piece that stands twice in a sorted list.

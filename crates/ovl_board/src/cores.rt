@@ -2,7 +2,7 @@ ghost use Rattle.std.specs.Prelude.{◌≡◌, ◌↔◌, ◌<◌, ◌⊎◌, So
 ghost use Rattle.std.specs.Coded.{Coded-set};
 ghost use Rattle.ovl_board.specs.declared.events.CoreFault.TheVariants.{NotPossible, Memory};
 ghost use Rattle.ovl_board.specs.Parcels.{AreOwn, AreOwn-prop, IsPlainUnordered, parcel_views};
-ghost use Rattle.ovl_board.specs.Machine.{IsCoreState, IsIdle, after, after_take, after_steal, after_push, work_piece, desk_of, start_state, start_desks as first_desks};
+ghost use Rattle.ovl_board.specs.Machine.{worker_limit, IsCoreState, IsIdle, after, after_take, after_steal, after_push, work_piece, desk_of, start_state, start_desks as first_desks};
 ghost use Rattle.ovl_board.specs.CoreViews.{core_state};
 
 use crate::desks::Desk;
@@ -11,6 +11,9 @@ use crate::pieces::Piece;
 use crate::works::{Parcel, Work};
 use std::alloc::{AllocError, Global};
 use std::collections::VecDeque;
+
+/// The most workers that share a work.
+pub const WORKER_LIMIT: usize = 64;
 
 /// The work of several workers as a machine of single steps. Each worker has a lane of pieces, a hand for one
 /// piece, and an outbox of kids that it has still to push; a piece that was worked on becomes a parcel.
@@ -39,10 +42,10 @@ impl<'a, W: Work> Core<'a, W> {
     ghost use Rattle.std.specs.Prelude.{◌≡◌, ◌↔◌, ◌<◌, ◌⊎◌, Some, None, IsTrue, IfOk, IsOk, IfErr, OnOk, OnErr};
     ghost use Rattle.ovl_board.specs.declared.events.CoreFault.TheVariants.{NotPossible};
     ghost use Rattle.ovl_board.specs.Parcels.{IsPlainUnordered, parcel_views};
-    ghost use Rattle.ovl_board.specs.Machine.{IsIdle, after, start_state, work_piece, desk_of};
+    ghost use Rattle.ovl_board.specs.Machine.{worker_limit, IsIdle, after, start_state, work_piece, desk_of};
     ghost use Rattle.ovl_board.specs.Cores.{work_of, root_of, parcels_of, state_of};
 
-    /// A core of 1 to 64 workers, whose first lane holds the root of the work; everything else is empty.
+    /// A core of 1 to [`WORKER_LIMIT`] workers, whose first lane holds the root of the work; everything else is empty.
     /// Refuses every other number of workers as not possible, and fails otherwise only for want of memory.
     pub fn start(
         alloc: Global,
@@ -50,11 +53,11 @@ impl<'a, W: Work> Core<'a, W> {
         root: Piece,
         workers: usize,
     ) -> Result<Core<'a, W>, CoreFault>
-        ensures refused { (result ≡ Err NotPossible) ↔ ((workers < 1) ⊎ (64 < workers)) }
+        ensures refused { (result ≡ Err NotPossible) ↔ ((workers < 1) ⊎ (worker_limit < workers)) }
         ensures started { IfOk result (λ core. state_of W.seen core ≡ start_state root workers) }
         ensures given { IfOk result (λ core. (work_of core ≡ work.now) × (root_of core ≡ root)) }
     {
-        if workers < 1 || workers > 64 {
+        if workers < 1 || workers > WORKER_LIMIT {
             return Err(CoreFault::NotPossible);
         }
         let desks = start_desks(alloc, root.copy(alloc)?, workers)?;
@@ -67,7 +70,7 @@ impl<'a, W: Work> Core<'a, W> {
     }
 
     /// Does one event exactly, or refuses it: as not possible where it isn't, else for want of memory. A refused
-    /// step changes nothing.
+    /// step changes nothing: its parcels are the same ones, outputs and all.
     pub fn step(&mut self, alloc: Global, event: Event) -> Result<(), CoreFault>
         ensures done { OnOk result
             (after (W.kids_of (work_of self.old)) (W.out_of (work_of self.old)) (state_of W.seen self.old) event
@@ -76,6 +79,7 @@ impl<'a, W: Work> Core<'a, W> {
             (after (W.kids_of (work_of self.old)) (W.out_of (work_of self.old)) (state_of W.seen self.old) event
             ≡ None) }
         ensures same { OnErr result (state_of W.seen self.new ≡ state_of W.seen self.old) }
+        ensures parcels { OnErr result (parcels_of self.new ≡ parcels_of self.old) }
         ensures given { (work_of self.new ≡ work_of self.old) × (root_of self.new ≡ root_of self.old) }
     {
         match event {
@@ -94,6 +98,7 @@ impl<'a, W: Work> Core<'a, W> {
         ensures refused { (result ≡ Err NotPossible) ↔
             ((desk_of (state_of W.seen self.old).desks worker).hand ≡ None) }
         ensures same { OnErr result (state_of W.seen self.new ≡ state_of W.seen self.old) }
+        ensures parcels { OnErr result (parcels_of self.new ≡ parcels_of self.old) }
         ensures given { (work_of self.new ≡ work_of self.old) × (root_of self.new ≡ root_of self.old) }
     {
         if worker >= self.desks.len() {

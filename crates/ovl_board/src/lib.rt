@@ -14,9 +14,9 @@ mod trees;
 mod works;
 
 pub use assembly::{BoardFault, assemble};
-pub use cores::Core;
+pub use cores::{Core, WORKER_LIMIT};
 pub use events::{CoreFault, Event};
-pub use pieces::Piece;
+pub use pieces::{Piece, copies};
 pub use plain::plain_walk;
 pub use trees::{Tree, TreeFault};
 pub use works::{Parcel, Work, kids_lawful};

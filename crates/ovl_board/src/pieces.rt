@@ -34,3 +34,14 @@ impl Piece {
         }
     }
 }
+
+/// Pieces equal to these, in their order; fails only for want of memory.
+pub fn copies(alloc: Global, pieces: &[Piece]) -> Result<Vec<Piece>, AllocError>
+    ensures { IfOk result (λ copied. copied.items ≡ pieces.now) }
+{
+    let mut copied = Vec::with_capacity(alloc, pieces.len())?;
+    for piece in pieces {
+        copied.push(piece.copy(alloc)?)?;
+    }
+    Ok(copied)
+}

@@ -3,7 +3,7 @@ ghost use Rattle.ovl_board.specs.Pieces.{HasLawfulKids};
 ghost use Rattle.ovl_board.specs.Walks.{preorder};
 ghost use Rattle.ovl_board.specs.Parcels.{IsPlain, parcel_views, own_view};
 
-use crate::pieces::Piece;
+use crate::pieces::{Piece, copies};
 use crate::works::{Parcel, Work};
 use std::alloc::{AllocError, Global};
 
@@ -43,15 +43,4 @@ fn walk_from<W: Work>(
         walk_from(alloc, work, kid, parcels)?;
     }
     Ok(())
-}
-
-/// Pieces equal to these, in their order; fails only for want of memory.
-pub(crate) fn copies(alloc: Global, pieces: &[Piece]) -> Result<Vec<Piece>, AllocError>
-    ensures { IfOk result (λ copied. copied.items ≡ pieces.now) }
-{
-    let mut copied = Vec::with_capacity(alloc, pieces.len())?;
-    for piece in pieces {
-        copied.push(piece.copy(alloc)?)?;
-    }
-    Ok(copied)
 }

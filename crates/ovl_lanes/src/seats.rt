@@ -1,4 +1,5 @@
 ghost use Rattle.std.specs.Prelude.{◌≡◌, ◌↔◌, ◌⊎◌, ◌<◌, ◌+◌, length, List, All, Err, IfOk, vec_len};
+ghost use Rattle.ovl_board.specs.Machine.{worker_limit};
 ghost use Rattle.ovl_board.specs.declared.pieces.Piece.{Piece};
 ghost use Rattle.ovl_lanes.specs.declared.seats.LaneFault.TheVariants.{Count, Memory};
 ghost use Rattle.ovl_lanes.specs.Lanes.{account_of, IsSettled, IsWhole};
@@ -6,7 +7,7 @@ ghost use Rattle.ovl_lanes.specs.Seats.{IsNew};
 
 use crate::ends::{Lane, Thief};
 use crate::gathered::Gathered;
-use ovl_board::Piece;
+use ovl_board::WORKER_LIMIT;
 use std::alloc::{AllocError, AllocFailed, Global};
 use thiserror::Error;
 
@@ -60,13 +61,14 @@ impl<T: Drop> From<AllocFailed<T>> for LaneFault {
     }
 }
 
-/// Empty lanes, `n` of them. Refuses every number outside 1 to 64, and fails otherwise only for want of memory.
+/// Empty lanes, `n` of them, one for each worker. Refuses every number outside 1 to [`WORKER_LIMIT`], and fails otherwise
+/// only for want of memory.
 pub fn lanes(alloc: Global, n: usize) -> Result<Vec<Seat>, LaneFault>
-    ensures refused { (result ≡ Err Count) ↔ ((n < 1) ⊎ (64 < n)) }
+    ensures refused { (result ≡ Err Count) ↔ ((n < 1) ⊎ (worker_limit < n)) }
     ensures one_each { IfOk result (λ seats. vec_len seats ≡ n) }
     ensures new { IfOk result (λ seats. All IsNew seats.items) }
 {
-    if n < 1 || n > 64 {
+    if n < 1 || n > WORKER_LIMIT {
         return Err(LaneFault::Count);
     }
     let mut seats = Vec::new(alloc);

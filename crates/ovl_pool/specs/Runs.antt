@@ -5,8 +5,15 @@ use Rattle.ovl_board.specs.declared.works.Parcel.{Parcel}
 use Rattle.ovl_board.specs.Walks.{Reached, ToKid}
 use Rattle.ovl_board.specs.Parcels.{parcel_views, AreOwn}
 use Rattle.ovl_board.specs.Assembly.{IsBoardFault, bare}
+use Rattle.ovl_lanes.specs.declared.seats.LaneFault.{LaneFault}
+use Rattle.ovl_lanes.specs.declared.seats.LaneFault.TheVariants.{Count, Memory as LaneMemory}
 use Rattle.ovl_pool.specs.declared.runs.RunFault.{RunFault}
 use Rattle.ovl_pool.specs.declared.runs.RunFault.TheVariants.{Workers, Gate, Board, Memory}
+
+-- the fault of a run for which there are no lanes
+abbrev pub no_lanes : LaneFault → RunFault
+no_lanes Count = Workers
+no_lanes LaneMemory = Memory
 
 -- the gate may refuse some piece to which kids lead from the root
 abbrev pub MayBeRefused : (Piece → List Piece) → (Piece → Type 0) → Piece → Type 0

@@ -1,7 +1,8 @@
 ghost use Rattle.std.specs.Prelude.{◌≡◌, ◌↔◌, ◌<◌, ◌⊎◌, Err, IfOk, IfErr};
+ghost use Rattle.ovl_board.specs.Machine.{worker_limit};
 ghost use Rattle.ovl_board.specs.Parcels.{IsPlain, parcel_views};
-ghost use Rattle.ovl_pool.specs.declared.runs.RunFault.TheVariants.{Workers, Gate as GateFault, Memory};
-ghost use Rattle.ovl_pool.specs.Runs.{MayBeRefused, IsFaultOfOwn};
+ghost use Rattle.ovl_pool.specs.declared.runs.RunFault.TheVariants.{Workers, Gate as GateFault, Board, Memory};
+ghost use Rattle.ovl_pool.specs.Runs.{MayBeRefused, IsFaultOfOwn, no_lanes};
 
 use crate::chains::leads_to;
 use crate::crews::crew;
@@ -20,23 +21,50 @@ use thiserror::Error;
 /// that.
 #[derive(Clone, Copy, Debug, PartialEq, Eq)]
 pub struct RunCount {
+    /// The root, and all kids of the pieces that were delivered.
     pub known: u64,
+    /// The pieces that have a parcel.
     pub delivered: u64,
+    /// The pieces that workers took from a lane, their own or another one's.
     pub taken: u64,
+    /// The pieces that were left in the lanes.
     pub left: u64,
 }
 
 /// Why a run gave no walk.
 #[derive(Debug, PartialEq, Eq, Drop, Error)]
 pub enum RunFault {
+    /// The number of workers is outside 1 to [`ovl_board::WORKER_LIMIT`].
     #[error("there are 1 to 64 workers")]
     Workers,
+    /// The gate refused a piece that is reached from the root.
     #[error("the gate refused a piece")]
     Gate,
+    /// The parcels that the workers brought can't be assembled.
     #[error("the parcels are no walk: {0}")]
     Board(BoardFault),
+    /// Memory is wanted.
     #[error("out of memory")]
     Memory,
+}
+
+impl From<LaneFault> for RunFault {
+    ghost from_gives = { λ lanes fault. fault ≡ no_lanes lanes };
+
+    fn from(lanes: LaneFault) -> RunFault {
+        match lanes {
+            LaneFault::Count => RunFault::Workers,
+            LaneFault::Memory => RunFault::Memory,
+        }
+    }
+}
+
+impl From<BoardFault> for RunFault {
+    ghost from_gives = { λ board fault. fault ≡ Board board };
+
+    fn from(board: BoardFault) -> RunFault {
+        RunFault::Board(board)
+    }
 }
 
 impl From<AllocError> for RunFault {
@@ -47,9 +75,9 @@ impl From<AllocError> for RunFault {
     }
 }
 
-/// Runs the work from `root` by 1 to 64 workers, each in a thread of its own with a lane of its own, and gives the
-/// plain walk: a worker visits the pieces of its lane, steals from the others where it has none, and ends where all
-/// that is known was delivered or a worker met a fault. The gate is asked for each piece before its visit.
+/// Runs the work from `root` by 1 to [`ovl_board::WORKER_LIMIT`] workers, each in a thread of its own with a lane of its
+/// own, and gives the plain walk: a worker visits the pieces of its lane, steals from the others where it has none, and
+/// ends where all that is known was delivered or a worker met a fault. The gate is asked for each piece before its visit.
 ///
 /// At Ok the parcels are the plain walk, whatever the workers did: [`assemble`] has tested that. `Workers` is for every
 /// other number of them; `Gate` where the gate refused a piece that is reached from the root; `Board` where the
@@ -67,16 +95,12 @@ where
     W::Out: Send,
     ensures plain { IfOk result (λ done.
         IsPlain (W.kids_of work.now) (W.out_of work.now) root (parcel_views W.seen done.0.items)) }
-    ensures workers { (result ≡ Err Workers) ↔ ((workers < 1) ⊎ (64 < workers)) }
+    ensures workers { (result ≡ Err Workers) ↔ ((workers < 1) ⊎ (worker_limit < workers)) }
     ensures gate { (result ≡ Err GateFault) → MayBeRefused (W.kids_of work.now) (G.may_refuse gate.now) root }
     ensures board { IfErr result (IsFaultOfOwn W.seen (W.kids_of work.now) (W.out_of work.now) root) }
 {
     let _deepest = work.deepest();
-    let seats = match lanes(alloc, workers) {
-        Ok(seats) => seats,
-        Err(LaneFault::Count) => return Err(RunFault::Workers),
-        Err(LaneFault::Memory) => return Err(RunFault::Memory),
-    };
+    let seats = lanes(alloc, workers)?;
     let (crowd, thieves) = seated(alloc, seats, root.copy(alloc)?)?;
     let tally = Mutex::new(Tally::start());
     let (ended, haul) = crew(rt, alloc, work, gate, &tally, &thieves, crowd)?;
@@ -93,10 +117,7 @@ where
     if starved {
         return Err(RunFault::Memory);
     }
-    let walk = match assemble(alloc, &root, parcels) {
-        Ok(walk) => walk,
-        Err(fault) => return Err(RunFault::Board(fault)),
-    };
+    let walk = assemble(alloc, &root, parcels)?;
     let count = closed(&tally.into_inner(), ended, thieves);
     Ok((walk, count))
 }

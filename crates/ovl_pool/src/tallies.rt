@@ -4,8 +4,11 @@ ghost use Rattle.std.specs.Bool.{OnTrue, OnFalse};
 /// How many pieces are known, how many of them were delivered, and whether a worker met a fault.
 #[derive(Debug, Drop)]
 pub struct Tally {
+    /// The root, and all kids of the pieces that were delivered.
     pub known: u64,
+    /// The pieces that have a parcel.
     pub delivered: u64,
+    /// Whether a worker met a fault.
     pub failed: bool,
     ghost covered: { delivered ≤ known },
 }

@@ -7,7 +7,7 @@ use crate::gates::Gate;
 use crate::hauls::Haul;
 use crate::tallies::Tally;
 use crossbeam_utils::Backoff;
-use ovl_board::{Parcel, Piece, Work};
+use ovl_board::{Parcel, Piece, Work, copies};
 use ovl_lanes::{Lane, Pass, Thief};
 use std::alloc::{AllocError, Global};
 use std::sync::{Mutex, Wait};
@@ -135,14 +135,6 @@ fn serve<W: Work, R: Wait>(
         return Err(AllocError);
     }
     push_all(lane, below)
-}
-
-fn copies(alloc: Global, pieces: &[Piece]) -> Result<Vec<Piece>, AllocError> {
-    let mut copied = Vec::with_capacity(alloc, pieces.len())?;
-    for piece in pieces {
-        copied.push(piece.copy(alloc)?)?;
-    }
-    Ok(copied)
 }
 
 fn push_all(lane: &mut Lane, pieces: Vec<Piece>) -> Result<(), AllocError>

@@ -23,4 +23,4 @@ assemble-requires g c =
 pub returns-clause-plain : goal.returns-clause-plain
 returns-clause-plain g c =
     let w = c.args.work.now in
-    order_plain g.W.Work.seen (g.W.Work.kids_of w) (g.W.Work.out_of w) c.args.root c.in_ok-ended.haul.parcels.items c.in-Ok-assemble.walk.items c.in_ok-ended.ensures.0 c.in-Ok-assemble.ensures
+    order_plain g.W.Work.seen (g.W.Work.kids_of w) (g.W.Work.out_of w) c.args.root c.in_ok-ended.haul.parcels.items c.in_ok-walk.walk.items c.in_ok-ended.ensures.0 c.in_ok-walk.ensures

@@ -1,5 +1,5 @@
 use Rattle.std.proofs.Common.{◌≡◌, take}
-use Rattle.ovl_board.proofs.plain.copies.Given as goal
+use Rattle.ovl_board.proofs.pieces.copies.Given as goal
 
 abbrev pub invariant-loop-piece : goal.invariant-loop-piece
 invariant-loop-piece l = l.copied.items ≡ take l.piece-index l.pieces
