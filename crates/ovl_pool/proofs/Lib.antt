@@ -1,3 +1,2 @@
 pub mod ChainLemmas
 pub mod CrewLemmas
-pub mod PassLemmas

@@ -8,7 +8,7 @@ use Rattle.ovl_pool.specs.declared.workers.Worker.{Worker}
 use Rattle.ovl_pool.specs.declared.workers.Other.{Other}
 
 -- the pass is one of the lane that it names
-abbrev pub IsOther : List Thief → Other → Type 0
+unfoldable pub IsOther : List Thief → Other → Type 0
 IsOther thieves other = (other.lane < length thieves) × HoldsAt (λ thief. IsOfThief thief other.pass) thieves other.lane
 
 -- each pass of the worker is one of the lane that it names

@@ -11,7 +11,8 @@ use ovl_board::Piece;
 use ovl_lanes::{Seat, Thief, close};
 use std::alloc::{AllocError, Global};
 
-/// A worker for each lane, with passes to the others, and the thieves of all lanes. One lane holds the root.
+/// A worker for each lane, and the thieves of all lanes. A worker has a pass to each other lane, beginning with that of
+/// the next worker; the first one's lane holds the root.
 pub(crate) fn seated(
     alloc: Global,
     seats: Vec<Seat>,
@@ -22,12 +23,10 @@ pub(crate) fn seated(
     ensures { IfOk result (λ r. AreSeated r.1.items r.0.items) }
 {
     let (mut workers, thieves) = apart(alloc, seats)?;
-    for number in 0..workers.len() {
-        for lane in number + 1..workers.len() {
-            lend(&mut workers, &thieves, number, lane)?;
-        }
-        for lane in 0..number {
-            lend(&mut workers, &thieves, number, lane)?;
+    let count = workers.len();
+    for number in 0..count {
+        for step in 1..count {
+            lend(&mut workers, &thieves, number, (number + step) % count)?;
         }
     }
     match workers[0].lane.push(root) {

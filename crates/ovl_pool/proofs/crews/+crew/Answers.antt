@@ -1,7 +1,7 @@
 use Rattle.std.proofs.Common.{rules, ◌≡◌, List, [], ◌∷◌, ◌++◌, All, sym, subst}
 use Rattle.ovl_pool.specs.declared.workers.Worker.{Worker}
 use Rattle.ovl_pool.specs.Passes.{HasPasses}
-use Rattle.ovl_pool.proofs.PassLemmas.{snoc}
+use Rattle.std.proofs.lemmas.List.Elements.{All-push}
 use Rattle.ovl_pool.proofs.crews.+crew.Goals as goal
 
 pub returns-clause-passes : goal.returns-clause-passes
@@ -12,4 +12,4 @@ returns-clause-passes g t c =
     let e : c.push-2.new.self.items ≡ xs ++ w ∷ [] = search rules in
     let a : All P xs = search rules in
     let b : P w = search rules in
-    subst (All P) (sym e) (snoc P xs w a b)
+    subst (All P) (sym e) (All-push P xs w a b)
