@@ -1,5 +1,5 @@
 -- Passes and lanes of workers, one of which changes.
-use Rattle.std.proofs.Common.{◌≡◌, ◌≢◌, ◌==◌, cond, true, false, Some, ℕ, zero, suc, ◌+◌, ◌<◌, ◌≤◌, List, [], ◌∷◌, ◌++◌, length, get_or, set, map, All, refl, sym, ap, ◌∙◌, subst, inl, inr, ⊎_elim, arith}
+use Rattle.std.proofs.Common.{◌≡◌, ◌≢◌, ◌==◌, cond, Bool, true, false, Some, ℕ, zero, suc, ◌+◌, ◌<◌, ◌≤◌, List, [], ◌∷◌, ◌++◌, length, get_or, set, map, All, refl, sym, ap, ◌∙◌, subst, inl, inr, ⊎_elim, arith}
 use Rattle.std.specs.List.{sum_by, AllWithin}
 use Rattle.std.proofs.lemmas.Bool.{cases_eq, cases_Bool, eqb-true, eq-eqb}
 use Rattle.std.proofs.lemmas.List.{length-set, length-map, get_or-set_same, get_or-set_other, get_or-map, map-set, map-append}
@@ -22,11 +22,14 @@ IsApart worker = (account_of worker.lane ≡ owned 0 0 [] []) × HasNone worker
 abbrev pub AreSeatedBut : List ℕ → List Thief → List Worker → Type 0
 AreSeatedBut loose thieves workers = All (HasPasses thieves) workers × ((map (λ (post : Post). post.ends.id) (map post_of workers) ≡ map thief_id thieves) × AreOutBut loose (map post_of workers))
 
+abbrev one_where : Bool → ℕ
+one_where b = cond b 1 0
+
 named_itself : (lane : ℕ) → times_named lane (lane ∷ []) ≡ 1
-named_itself lane = ap (λ b. cond b 1 0) (eq-eqb lane lane refl)
+named_itself lane = omega (arith, sum_by-cons (λ (n : ℕ). one_where (n == lane)) lane [], ap one_where (eq-eqb lane lane refl))
 
 named_apart : (lane i : ℕ) → (lane ≡ i → ⊥) → times_named lane (i ∷ []) ≡ 0
-named_apart lane i n = ⊎_elim (λ (t : (i == lane) ≡ true). absurd (n (sym (eqb-true i lane t)))) (λ (f : (i == lane) ≡ false). ap (λ b. cond b 1 0) f) (cases_Bool (i == lane))
+named_apart lane i n = ⊎_elim (λ (t : (i == lane) ≡ true). absurd (n (sym (eqb-true i lane t)))) (λ (f : (i == lane) ≡ false). omega (arith, sum_by-cons (λ (m : ℕ). one_where (m == lane)) i [], ap one_where f)) (cases_Bool (i == lane))
 
 out_set : (loose more : List ℕ) (posts : List Post) (i : ℕ) (p q : Post) → i < length posts → ((d : Post) → get_or posts i d ≡ p) → AreOutBut loose posts
     → ((lane : ℕ) → (lane ≡ i → ⊥) → times_named lane q.named + times_named lane more ≡ times_named lane p.named + times_named lane loose)
@@ -197,8 +200,8 @@ other_of_lane loose thieves workers w other within is s of =
 pub none_kept : (workers : List Worker) (i n : ℕ) (w v : Worker) → i < length workers → w ≡ get_or workers i w → v.others.items ≡ w.others.items → AllWithin HasNone workers 0 n → AllWithin HasNone (set workers i v) 0 n
 none_kept workers i n w v within is others none k d low high =
     ⊎_elim
-      (λ (e : k ≡ i).
-          let h : w.others.items ≡ [] = subst HasNone (sym is) (none i w (omega arith) (subst (λ j. j < n) e high)) in
-          subst HasNone (sym (ap (λ j. get_or (set workers i v) j d) e ∙ get_or-set_same workers i v d within)) (others ∙ h))
-      (λ (apart : k ≡ i → ⊥). subst HasNone (sym (get_or-set_other workers i k v d apart)) (none k d low high))
-      (cases_eq k i)
+    (λ (e : k ≡ i).
+    let h : w.others.items ≡ [] = subst HasNone (sym is) (none i w (omega arith) (subst (λ j. j < n) e high)) in
+    subst HasNone (sym (ap (λ j. get_or (set workers i v) j d) e ∙ get_or-set_same workers i v d within)) (others ∙ h))
+    (λ (apart : k ≡ i → ⊥). subst HasNone (sym (get_or-set_other workers i k v d apart)) (none k d low high))
+    (cases_eq k i)
