@@ -15,7 +15,7 @@ cd "$work"
 cat > crates.txt <<'END'
 ovl_names: hex thiserror
 ovl_board: ovl_names thiserror
-ovl_lanes: ovl_names ovl_board thiserror
+ovl_lanes: ovl_names ovl_board crossbeam_deque thiserror
 ovl_pool: ovl_names ovl_board ovl_lanes crossbeam_utils thiserror
 pool_bench: ovl_pool ovl_board ovl_names anyhow
 END

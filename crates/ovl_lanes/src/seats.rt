@@ -1,31 +1,15 @@
-ghost use Rattle.std.specs.Prelude.{◌≡◌, ◌↔◌, ◌<◌, ◌+◌, ◌⊎◌, Err, IfOk, IfErr, vec_len};
+ghost use Rattle.std.specs.Prelude.{◌≡◌, ◌↔◌, ◌⊎◌, ◌<◌, ◌+◌, length, List, All, Err, IfOk, vec_len};
 ghost use Rattle.ovl_board.specs.Machine.{worker_limit};
+ghost use Rattle.ovl_board.specs.declared.pieces.Piece.{Piece};
 ghost use Rattle.ovl_lanes.specs.declared.seats.LaneFault.TheVariants.{Count, Memory};
+ghost use Rattle.ovl_lanes.specs.Lanes.{account_of, IsSettled, IsWhole};
+ghost use Rattle.ovl_lanes.specs.Seats.{IsNew};
 
-use crate::rows::{Gathered, Row};
-use ovl_board::{Piece, WORKER_LIMIT};
+use crate::ends::{Lane, Thief};
+use crate::gathered::Gathered;
+use ovl_board::WORKER_LIMIT;
 use std::alloc::{AllocError, AllocFailed, Global};
-use std::sync::{Arc, Mutex, Wait};
 use thiserror::Error;
-
-/// The owner's end of a lane, whose pieces stand behind a lock.
-#[derive(Drop)]
-pub struct Lane {
-    row: Arc<Mutex<Row>, Global>,
-}
-
-/// The end of a lane from which the other workers steal; they share it.
-#[derive(Drop)]
-pub struct Thief {
-    row: Arc<Mutex<Row>, Global>,
-}
-
-/// The leave of one worker to steal from one lane. It is split from the lane, and joined to it again before the lane
-/// is closed.
-#[derive(Drop)]
-pub struct Pass {
-    _split: (),
-}
 
 /// Both ends of one lane.
 #[derive(Drop)]
@@ -34,45 +18,22 @@ pub struct Seat {
     pub thief: Thief,
 }
 
-impl Lane {
-    /// Adds a piece at the back of the lane. Gives it back where memory is wanted, or 2^64 - 1 pieces were pushed
-    /// already. May wait for the lane's lock.
-    pub fn push<R: Wait>(&mut self, rt: &R, piece: Piece) -> Result<(), Piece>
-        ensures { IfErr result (λ back. back ≡ piece) }
-    {
-        self.row.lock(rt).put(piece)
-    }
-
-    /// Takes the first piece of the lane; `None` where it was empty at one moment. May wait for the lane's lock.
-    pub fn pop<R: Wait>(&mut self, rt: &R) -> Option<Piece> {
-        self.row.lock(rt).take()
-    }
-
-    /// A pass of this lane for one worker more.
-    pub fn split_pass(&mut self) -> Pass {
-        Pass { _split: () }
-    }
-
-    /// Takes back a pass that was split from this lane.
-    pub fn join_pass(&mut self, pass: Pass) {
-        drop(pass);
-    }
-}
-
-impl Thief {
-    /// One try to take the first piece of the lane, by a pass that was split from it; `None` where the lane was empty
-    /// at one moment. May wait for the lane's lock.
-    pub fn steal<R: Wait>(&self, rt: &R, _pass: &mut Pass) -> Option<Piece> {
-        self.row.lock(rt).take()
-    }
-}
-
-/// Ends a lane to which all its passes were joined again, with how many pieces were pushed, were taken and are left.
-/// The pieces that are left go with the lane. May wait for the lane's lock.
-pub fn close<R: Wait>(rt: &R, seat: Seat) -> Gathered
-    ensures { result.pushed ≡ result.taken + result.left }
+/// Ends a lane to which all its passes were joined again: how many pieces were pushed, were taken and are left. Piece by
+/// piece, those taken with those left are those pushed. The pieces that are left go with the lane.
+pub fn close(seat: Seat) -> Gathered
+    requires { IsWhole seat.lane }
+    ensures left { (left : List Piece) × ((length left ≡ result.left) × IsSettled (account_of seat.lane) left) }
+    ensures pushed { length (account_of seat.lane).pushed ≡ result.pushed }
+    ensures taken { length (account_of seat.lane).taken ≡ result.taken }
 {
-    seat.lane.row.lock(rt).gathered()
+    let Seat { mut lane, thief: _ } = seat;
+    let left = lane.left();
+    let pushed = lane.pushed();
+    Gathered {
+        pushed,
+        taken: pushed - left,
+        left,
+    }
 }
 
 /// Why there are no lanes; where both hold, the first is given.
@@ -105,6 +66,7 @@ impl<T: Drop> From<AllocFailed<T>> for LaneFault {
 pub fn lanes(alloc: Global, n: usize) -> Result<Vec<Seat>, LaneFault>
     ensures refused { (result ≡ Err Count) ↔ ((n < 1) ⊎ (worker_limit < n)) }
     ensures one_each { IfOk result (λ seats. vec_len seats ≡ n) }
+    ensures new { IfOk result (λ seats. All IsNew seats.items) }
 {
     if n < 1 || n > WORKER_LIMIT {
         return Err(LaneFault::Count);
@@ -116,13 +78,9 @@ pub fn lanes(alloc: Global, n: usize) -> Result<Vec<Seat>, LaneFault>
     Ok(seats)
 }
 
-fn empty_lane(alloc: Global) -> Result<Seat, AllocError> {
-    let row = Arc::new(alloc, Mutex::new(Row::new(alloc)))?;
-    let thief = Thief {
-        row: Arc::try_clone(&row)?,
-    };
-    Ok(Seat {
-        lane: Lane { row },
-        thief,
-    })
+fn empty_lane(alloc: Global) -> Result<Seat, AllocError>
+    ensures { IfOk result IsNew }
+{
+    let (lane, thief) = Lane::new(alloc)?;
+    Ok(Seat { lane, thief })
 }

@@ -1,2 +1,3 @@
 pub mod Hauls
+pub mod Passes
 pub mod Runs

@@ -101,7 +101,7 @@ where
 {
     let _deepest = work.deepest();
     let seats = lanes(alloc, workers)?;
-    let (crowd, thieves) = seated(rt, alloc, seats, root.copy(alloc)?)?;
+    let (crowd, thieves) = seated(alloc, seats, root.copy(alloc)?)?;
     let tally = Mutex::new(Tally::start());
     let (ended, haul) = crew(rt, alloc, work, gate, &tally, &thieves, crowd)?;
     let Haul {
@@ -118,6 +118,6 @@ where
         return Err(RunFault::Memory);
     }
     let walk = assemble(alloc, &root, parcels)?;
-    let count = closed(rt, alloc, &tally.into_inner(), ended, thieves)?;
+    let count = closed(&tally.into_inner(), ended, thieves);
     Ok((walk, count))
 }

@@ -1,4 +1,8 @@
-ghost use Rattle.std.specs.Prelude.{◌≡◌, ◌<◌, IfOk, length};
+ghost use Rattle.std.specs.Prelude.{◌≡◌, ◌<◌, ◌+◌, [], IfOk, OnOk, All, length, vec_len};
+ghost use Rattle.std.specs.List.{AllWithin};
+ghost use Rattle.ovl_lanes.specs.Lanes.{IsWhole};
+ghost use Rattle.ovl_lanes.specs.Seats.{IsNew};
+ghost use Rattle.ovl_pool.specs.Passes.{AreSeated, HasNone};
 
 use crate::runs::RunCount;
 use crate::tallies::Tally;
@@ -6,81 +10,109 @@ use crate::workers::{Other, Worker};
 use ovl_board::Piece;
 use ovl_lanes::{Seat, Thief, close};
 use std::alloc::{AllocError, Global};
-use std::sync::Wait;
 
-/// A worker for each lane, with passes to the others, and the thieves of all lanes. The first lane holds the root.
-pub(crate) fn seated<R: Wait>(
-    rt: &R,
+/// A worker for each lane, and the thieves of all lanes. A worker has a pass to each other lane, beginning with that of
+/// the next worker; the first one's lane holds the root.
+pub(crate) fn seated(
     alloc: Global,
     seats: Vec<Seat>,
     root: Piece,
-) -> Result<(Vec<Worker>, Vec<Thief>), AllocError> {
+) -> Result<(Vec<Worker>, Vec<Thief>), AllocError>
+    requires one { 0 < vec_len seats }
+    requires new { All IsNew seats.items }
+    ensures { IfOk result (λ r. AreSeated r.1.items r.0.items) }
+{
+    let (mut workers, thieves) = apart(alloc, seats)?;
+    let count = workers.len();
+    for number in 0..count {
+        for step in 1..count {
+            lend(&mut workers, &thieves, number, (number + step) % count)?;
+        }
+    }
+    match workers[0].lane.push(root) {
+        Ok(()) => Ok((workers, thieves)),
+        Err(_) => Err(AllocError),
+    }
+}
+
+// A worker without passes for each lane, and the thieves.
+fn apart(alloc: Global, mut seats: Vec<Seat>) -> Result<(Vec<Worker>, Vec<Thief>), AllocError>
+    requires { All IsNew seats.items }
+    ensures seated { IfOk result (λ r. AreSeated r.1.items r.0.items) }
+    ensures one_each { IfOk result (λ r. vec_len r.0 ≡ vec_len seats) }
+{
     let mut workers = Vec::new(alloc);
     let mut thieves = Vec::new(alloc);
-    for Seat { lane, thief } in seats {
+    while let Some(Seat { lane, thief }) = seats.pop() {
         let others = Vec::new(alloc);
         workers.push(Worker { lane, others })?;
         thieves.push(thief)?;
     }
-    for number in 0..workers.len() {
-        let others = passes(alloc, &mut workers, number)?;
-        workers[number].others = others;
-    }
-    if let Some(first) = workers.first_mut() {
-        if first.lane.push(rt, root).is_err() {
-            return Err(AllocError);
-        }
-    }
     Ok((workers, thieves))
 }
 
-// Passes to the lanes of the others, beginning with the lane next to the worker's own.
-fn passes(alloc: Global, workers: &mut [Worker], number: usize) -> Result<Vec<Other>, AllocError>
-    requires { number < length workers.old }
+// Splits a pass of the lane off for the worker of that number.
+fn lend(
+    workers: &mut [Worker],
+    thieves: &[Thief],
+    number: usize,
+    lane: usize,
+) -> Result<(), AllocError>
+    requires seated { AreSeated thieves.now workers.old }
+    requires worker { number < length workers.old }
+    requires lane { lane < length workers.old }
+    ensures { OnOk result (AreSeated thieves.now workers.new) }
 {
-    let mut others = Vec::new(alloc);
-    for lane in (number + 1..workers.len()).chain(0..number) {
-        if let Some(worker) = workers.get_mut(lane) {
-            let pass = worker.lane.split_pass();
-            others.push(Other { lane, pass })?;
-        }
-    }
-    Ok(others)
+    let pass = workers[lane].lane.split_pass();
+    workers[number].others.push(Other { lane, pass })?;
+    Ok(())
 }
 
 /// Joins all passes to their lanes again and closes the lanes: the numbers of a run with this tally. Sums over 2^64 - 1
 /// are told as that.
-pub(crate) fn closed<R: Wait>(
-    rt: &R,
-    alloc: Global,
-    tally: &Tally,
-    workers: Vec<Worker>,
-    thieves: Vec<Thief>,
-) -> Result<RunCount, AllocError>
-    ensures { IfOk result (λ count. (count.known ≡ tally.now.known) × (count.delivered ≡ tally.now.delivered)) }
+pub(crate) fn closed(tally: &Tally, mut workers: Vec<Worker>, thieves: Vec<Thief>) -> RunCount
+    requires { AreSeated thieves.items workers.items }
+    ensures { (result.known ≡ tally.now.known) × (result.delivered ≡ tally.now.delivered) }
 {
-    let mut lanes = Vec::new(alloc);
-    let mut passes = Vec::new(alloc);
-    for Worker { lane, mut others } in workers {
-        lanes.push(lane)?;
-        passes.append(&mut others)?;
+    for number in 0..workers.len() {
+        give_back(&mut workers, &thieves, number);
     }
-    for Other { lane, pass } in passes {
-        if let Some(owner) = lanes.get_mut(lane) {
-            owner.join_pass(pass);
-        }
-    }
-    let mut taken = 0u64;
-    let mut left = 0u64;
-    for (lane, thief) in lanes.into_iter().zip(thieves) {
-        let gathered = close(rt, Seat { lane, thief });
-        taken = taken.saturating_add(gathered.taken);
-        left = left.saturating_add(gathered.left);
-    }
-    Ok(RunCount {
+    let (taken, left) = gathered(workers, thieves);
+    RunCount {
         known: tally.known,
         delivered: tally.delivered,
         taken,
         left,
-    })
+    }
+}
+
+// Joins the passes of the worker of that number to their lanes again.
+fn give_back(workers: &mut [Worker], thieves: &[Thief], number: usize)
+    requires seated { AreSeated thieves.now workers.old }
+    requires worker { number < length workers.old }
+    requires before { AllWithin HasNone workers.old 0 number }
+    ensures seated { AreSeated thieves.now workers.new }
+    ensures without { AllWithin HasNone workers.new 0 (number + 1) }
+{
+    while let Some(Other { lane, pass }) = workers[number].others.pop() {
+        workers[lane].lane.join_pass(pass);
+    }
+}
+
+// How many pieces were taken from the lanes, and how many are left in them.
+fn gathered(mut workers: Vec<Worker>, mut thieves: Vec<Thief>) -> (u64, u64)
+    requires whole { All (λ worker. IsWhole worker.lane) workers.items }
+    requires one_each { vec_len workers ≡ vec_len thieves }
+{
+    let mut taken = 0u64;
+    let mut left = 0u64;
+    while let Some(Worker { lane, others: _ }) = workers.pop() {
+        let Some(thief) = thieves.pop() else {
+            unreachable!();
+        };
+        let gathered = close(Seat { lane, thief });
+        taken = taken.saturating_add(gathered.taken);
+        left = left.saturating_add(gathered.left);
+    }
+    (taken, left)
 }

@@ -1,5 +1,7 @@
+ghost use Rattle.std.specs.Prelude.{◌≡◌};
 ghost use Rattle.ovl_board.specs.Parcels.{AreOwn, parcel_views};
 ghost use Rattle.ovl_pool.specs.Hauls.{IsOwnHaul};
+ghost use Rattle.ovl_pool.specs.Passes.{HasPasses, ends_of, post_of};
 
 use crate::gates::Gate;
 use crate::hauls::Haul;
@@ -24,17 +26,35 @@ pub(crate) struct Other {
     pub(crate) pass: Pass,
 }
 
+impl Other {
+    ghost use Rattle.std.specs.Prelude.{◌≡◌};
+    ghost use Rattle.ovl_pool.specs.Passes.{IsOther};
+
+    // One try at the lane that the pass names.
+    fn steal(&mut self, thieves: &[Thief]) -> Option<Piece>
+        requires { IsOther thieves.now self.old }
+        ensures { IsOther thieves.now self.new × (self.new.lane ≡ self.old.lane) }
+    {
+        thieves[self.lane].steal(&mut self.pass)
+    }
+}
+
 impl Worker {
+    ghost use Rattle.std.specs.Prelude.{◌≡◌};
+    ghost use Rattle.ovl_pool.specs.Passes.{HasPasses, post_of};
+
     // A piece of the own lane, or else of another one.
-    fn find<R: Wait>(&mut self, rt: &R, thieves: &[Thief]) -> Option<Piece> {
-        if let Some(piece) = self.lane.pop(rt) {
+    fn find(&mut self, thieves: &[Thief]) -> Option<Piece>
+        requires { HasPasses thieves.now self.old }
+        ensures passes { HasPasses thieves.now self.new }
+        ensures same { post_of self.new ≡ post_of self.old }
+    {
+        if let Some(piece) = self.lane.pop() {
             return Some(piece);
         }
-        for other in &mut self.others {
-            if let Some(thief) = thieves.get(other.lane) {
-                if let Some(piece) = thief.steal(rt, &mut other.pass) {
-                    return Some(piece);
-                }
+        for i in 0..self.others.len() {
+            if let Some(piece) = self.others[i].steal(thieves) {
+                return Some(piece);
             }
         }
         None
@@ -52,7 +72,10 @@ pub(crate) fn labor<W: Work, G: Gate, R: Wait>(
     thieves: &[Thief],
     mut worker: Worker,
 ) -> (Worker, Haul<W::Out>)
-    ensures { IsOwnHaul W.seen (W.kids_of work.now) (W.out_of work.now) (G.may_refuse gate.now) result.1 }
+    requires { HasPasses thieves.now worker }
+    ensures haul { IsOwnHaul W.seen (W.kids_of work.now) (W.out_of work.now) (G.may_refuse gate.now) result.1 }
+    ensures passes { HasPasses thieves.now result.0 }
+    ensures same { post_of result.0 ≡ post_of worker }
 {
     let mut haul = Haul::empty(alloc);
     let idle = Backoff::new();
@@ -60,7 +83,7 @@ pub(crate) fn labor<W: Work, G: Gate, R: Wait>(
         if tally.lock(rt).is_over() {
             break;
         }
-        let Some(piece) = worker.find(rt, thieves) else {
+        let Some(piece) = worker.find(thieves) else {
             idle.snooze();
             continue;
         };
@@ -101,7 +124,8 @@ fn serve<W: Work, R: Wait>(
     parcels: &mut Vec<Parcel<W::Out>>,
 ) -> Result<(), AllocError>
     requires { AreOwn (W.kids_of work.now) (W.out_of work.now) (parcel_views W.seen parcels.old.items) }
-    ensures { AreOwn (W.kids_of work.now) (W.out_of work.now) (parcel_views W.seen parcels.new.items) }
+    ensures own { AreOwn (W.kids_of work.now) (W.out_of work.now) (parcel_views W.seen parcels.new.items) }
+    ensures same { ends_of lane.new ≡ ends_of lane.old }
 {
     let (kids, out) = work.visit(alloc, &piece)?;
     let below = copies(alloc, &kids)?;
@@ -110,12 +134,14 @@ fn serve<W: Work, R: Wait>(
     if !tally.lock(rt).deliver(count) {
         return Err(AllocError);
     }
-    push_all(rt, lane, below)
+    push_all(lane, below)
 }
 
-fn push_all<R: Wait>(rt: &R, lane: &mut Lane, pieces: Vec<Piece>) -> Result<(), AllocError> {
+fn push_all(lane: &mut Lane, pieces: Vec<Piece>) -> Result<(), AllocError>
+    ensures { ends_of lane.new ≡ ends_of lane.old }
+{
     for piece in pieces {
-        if lane.push(rt, piece).is_err() {
+        if lane.push(piece).is_err() {
             return Err(AllocError);
         }
     }

@@ -1,5 +1,5 @@
 use ovl_board::Piece;
-use ovl_lanes::{Gathered, LaneFault, Row, Seat, close, lanes};
+use ovl_lanes::{Gathered, LaneFault, Seat, close, lanes};
 use ovl_names::Path;
 use std::alloc::Global;
 use std::test::Fail;
@@ -13,17 +13,6 @@ fn piece(alloc: Global, text: &str) -> Result<Piece, Fail> {
 
 fn seat(alloc: Global) -> Result<Seat, Fail> {
     lanes(alloc, 1)?.pop().ok_or_else(|| Fail::from("no lane"))
-}
-
-#[test]
-fn a_row_gives_its_pieces_in_order(rt: HostRuntime) -> Result<(), Fail> {
-    let mut row = Row::new(rt.alloc());
-    assert_eq!(rt; row.take(), None);
-    assert_eq!(rt; row.put(piece(rt.alloc(), "/a")?), Ok(()));
-    assert_eq!(rt; row.put(piece(rt.alloc(), "/b")?), Ok(()));
-    let first = piece(rt.alloc(), "/a")?;
-    assert_eq!(rt; row.take(), Some(first));
-    Ok(())
 }
 
 #[test]
@@ -44,16 +33,16 @@ fn there_are_1_to_64_lanes(rt: HostRuntime) -> Result<(), Fail> {
 fn a_pass_steals_the_first_piece(rt: HostRuntime) -> Result<(), Fail> {
     let mut seat = seat(rt.alloc())?;
     let mut pass = seat.lane.split_pass();
-    assert_eq!(rt; seat.lane.push(&rt, piece(rt.alloc(), "/a")?), Ok(()));
-    assert_eq!(rt; seat.lane.push(&rt, piece(rt.alloc(), "/b")?), Ok(()));
+    assert_eq!(rt; seat.lane.push(piece(rt.alloc(), "/a")?), Ok(()));
+    assert_eq!(rt; seat.lane.push(piece(rt.alloc(), "/b")?), Ok(()));
     let first = piece(rt.alloc(), "/a")?;
-    assert_eq!(rt; seat.thief.steal(&rt, &mut pass), Some(first));
+    assert_eq!(rt; seat.thief.steal(&mut pass), Some(first));
     seat.lane.join_pass(pass);
     let Gathered {
         pushed,
         taken,
         left,
-    } = close(&rt, seat);
+    } = close(seat);
     assert_eq!(rt; (pushed, taken, left), (2, 1, 1));
     Ok(())
 }
@@ -61,11 +50,11 @@ fn a_pass_steals_the_first_piece(rt: HostRuntime) -> Result<(), Fail> {
 #[test]
 fn an_empty_lane_gives_nothing(rt: HostRuntime) -> Result<(), Fail> {
     let mut seat = seat(rt.alloc())?;
-    assert_eq!(rt; seat.lane.push(&rt, piece(rt.alloc(), "/a")?), Ok(()));
+    assert_eq!(rt; seat.lane.push(piece(rt.alloc(), "/a")?), Ok(()));
     let first = piece(rt.alloc(), "/a")?;
-    assert_eq!(rt; seat.lane.pop(&rt), Some(first));
-    assert_eq!(rt; seat.lane.pop(&rt), None);
+    assert_eq!(rt; seat.lane.pop(), Some(first));
+    assert_eq!(rt; seat.lane.pop(), None);
     let mut pass = seat.lane.split_pass();
-    assert_eq!(rt; seat.thief.steal(&rt, &mut pass), None);
+    assert_eq!(rt; seat.thief.steal(&mut pass), None);
     Ok(())
 }

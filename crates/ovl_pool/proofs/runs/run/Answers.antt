@@ -12,15 +12,15 @@ returns-then-leads_to-clause-gate g c = λ _.
     let haul = c.in_ok-ended.haul in
     let piece = c.in-Some.piece in
     let led = subst (λ parcels. Reached (HasKid (bare parcels)) c.args.root piece) c.deref-in-Some.ensures.value (c.leads_to.ensures c.if-leads_to.true) in
-    let may = subst (λ refused. IfSome refused (g.G.Gate.may_refuse c.args.gate.now)) c.in-Some.is c.in_ok-ended.ensures.1 in
-    (piece, (own_reached g.W.Work.seen (g.W.Work.kids_of w) (g.W.Work.out_of w) haul.parcels.items c.in_ok-ended.ensures.0 c.args.root piece led, may))
+    let may = subst (λ refused. IfSome refused (g.G.Gate.may_refuse c.args.gate.now)) c.in-Some.is c.in_ok-ended.ensures.haul.1 in
+    (piece, (own_reached g.W.Work.seen (g.W.Work.kids_of w) (g.W.Work.out_of w) haul.parcels.items c.in_ok-ended.ensures.haul.0 c.args.root piece led, may))
 
 pub assemble-requires : goal.assemble-requires
 assemble-requires g c =
     let w = c.args.work.now in
-    own_lawful-bare g.W.Work.seen (g.W.Work.kids_of w) (g.W.Work.out_of w) (g.W.Work.deepest_of w) c.deepest-deepest.ensures.lawful c.in_ok-ended.haul.parcels.items c.in_ok-ended.ensures.0
+    own_lawful-bare g.W.Work.seen (g.W.Work.kids_of w) (g.W.Work.out_of w) (g.W.Work.deepest_of w) c.deepest-deepest.ensures.lawful c.in_ok-ended.haul.parcels.items c.in_ok-ended.ensures.haul.0
 
 pub returns-clause-plain : goal.returns-clause-plain
 returns-clause-plain g c =
     let w = c.args.work.now in
-    order_plain g.W.Work.seen (g.W.Work.kids_of w) (g.W.Work.out_of w) c.args.root c.in_ok-ended.haul.parcels.items c.in_ok-walk.walk.items c.in_ok-ended.ensures.0 c.in_ok-walk.ensures
+    order_plain g.W.Work.seen (g.W.Work.kids_of w) (g.W.Work.out_of w) c.args.root c.in_ok-ended.haul.parcels.items c.in_ok-walk.walk.items c.in_ok-ended.ensures.haul.0 c.in_ok-walk.ensures

@@ -1,4 +1,6 @@
+use Rattle.std.proofs.Common.{◌≡◌}
 use Rattle.ovl_pool.specs.Hauls.{IsOwnHaul}
+use Rattle.ovl_pool.specs.Passes.{HasPasses, post_of}
 use Rattle.ovl_pool.proofs.workers.labor.Given as goal
 
 abbrev pub invariant-loop : goal.invariant-loop
@@ -6,3 +8,5 @@ invariant-loop g l =
     (goal.iterator-loop g).can_next l.iterator'
     × (goal.iterator-loop g).is_finite l.iterator'
     × IsOwnHaul g.W.Work.seen (g.W.Work.kids_of l.work) (g.W.Work.out_of l.work) (g.G.Gate.may_refuse l.gate) l.haul
+    × HasPasses l.thieves l.worker
+    × (post_of l.worker ≡ post_of l.fn.worker)

@@ -1,0 +1,99 @@
+use Rattle.std.proofs.Common.{rules, ◌≡◌, ◌+◌, ◌∷◌, ◌++◌, [], Some, refl, sym, ap, ◌∙◌, subst, get_or, set, length, arith, List}
+use Rattle.std.proofs.lemmas.List.{length-set}
+use Rattle.std.proofs.lemmas.List.Elements.{AllWithin-kept}
+use Rattle.ovl_lanes.specs.declared.accounts.Account.{Account}
+use Rattle.ovl_lanes.specs.Lanes.{account_of, lane_id, IsOfLane}
+use Rattle.ovl_pool.specs.declared.workers.Worker.{Worker}
+use Rattle.ovl_pool.specs.declared.workers.Other.{Other}
+use Rattle.ovl_pool.specs.Passes.{HasNone}
+use Rattle.ovl_pool.proofs.CrewLemmas.{lay_down, join_back, other_within, other_of_lane, keep_post, none_kept}
+use Rattle.ovl_pool.proofs.seating.give_back.Goals as goal
+
+pub bounds-workers-lane : goal.bounds-workers-lane
+bounds-workers-lane c =
+    let thieves = c.args.thieves.now in
+    let ws : List Worker = c.loop-lane.workers in
+    let i = c.args.number in
+    let w : Worker = c.index-workers-number.result in
+    let is : w ≡ get_or ws i w = c.index-workers-number.is in
+    let u : Worker = record { lane = (get_or ws i w).lane; others = c.pop.new.self } in
+    let held = c.loop-lane.invariant in
+    let other : Other = c.in-Some.field-0 in
+    let items : w.others.items ≡ u.others.items ++ other ∷ [] = search rules in
+    let laid = lay_down thieves ws i w u other held.worker is held.seated (ap (λ (y : Worker). y.lane) (sym is)) items in
+    let us : List Worker = set ws i u in
+    let within = other_within (other.lane ∷ []) thieves us other laid.0 laid.1 in
+    within
+
+pub offset_bounds-workers-lane : goal.offset_bounds-workers-lane
+offset_bounds-workers-lane c =
+    let thieves = c.args.thieves.now in
+    let ws : List Worker = c.loop-lane.workers in
+    let i = c.args.number in
+    let w : Worker = c.index-workers-number.result in
+    let is : w ≡ get_or ws i w = c.index-workers-number.is in
+    let u : Worker = record { lane = (get_or ws i w).lane; others = c.pop.new.self } in
+    let held = c.loop-lane.invariant in
+    let other : Other = c.in-Some.field-0 in
+    let items : w.others.items ≡ u.others.items ++ other ∷ [] = search rules in
+    let laid = lay_down thieves ws i w u other held.worker is held.seated (ap (λ (y : Worker). y.lane) (sym is)) items in
+    let us : List Worker = set ws i u in
+    let within = other_within (other.lane ∷ []) thieves us other laid.0 laid.1 in
+    search rules
+
+pub join_pass-requires : goal.join_pass-requires
+join_pass-requires c =
+    let thieves = c.args.thieves.now in
+    let ws : List Worker = c.loop-lane.workers in
+    let i = c.args.number in
+    let w : Worker = c.index-workers-number.result in
+    let is : w ≡ get_or ws i w = c.index-workers-number.is in
+    let u : Worker = record { lane = (get_or ws i w).lane; others = c.pop.new.self } in
+    let held = c.loop-lane.invariant in
+    let other : Other = c.in-Some.field-0 in
+    let items : w.others.items ≡ u.others.items ++ other ∷ [] = search rules in
+    let laid = lay_down thieves ws i w u other held.worker is held.seated (ap (λ (y : Worker). y.lane) (sym is)) items in
+    let us : List Worker = set ws i u in
+    let within = other_within (other.lane ∷ []) thieves us other laid.0 laid.1 in
+    let x : Worker = c.index-workers-lane.result in
+    subst (λ (y : Worker). IsOfLane y.lane other.pass) c.index-workers-lane.is (other_of_lane (other.lane ∷ []) thieves us x other within c.index-workers-lane.is laid.0 laid.1)
+
+pub loop-lane-preserved : goal.loop-lane-preserved
+loop-lane-preserved c =
+    let thieves = c.args.thieves.now in
+    let ws : List Worker = c.loop-lane.workers in
+    let i = c.args.number in
+    let w : Worker = c.index-workers-number.result in
+    let is : w ≡ get_or ws i w = c.index-workers-number.is in
+    let u : Worker = record { lane = (get_or ws i w).lane; others = c.pop.new.self } in
+    let held = c.loop-lane.invariant in
+    let other : Other = c.in-Some.field-0 in
+    let items : w.others.items ≡ u.others.items ++ other ∷ [] = search rules in
+    let laid = lay_down thieves ws i w u other held.worker is held.seated (ap (λ (y : Worker). y.lane) (sym is)) items in
+    let us : List Worker = set ws i u in
+    let within = other_within (other.lane ∷ []) thieves us other laid.0 laid.1 in
+    let x : Worker = c.index-workers-lane.result in
+    let at : x ≡ get_or us other.lane x = c.index-workers-lane.is in
+    let v : Worker = record { lane = c.join_pass.new.self; others = (get_or us other.lane x).others } in
+    let kept = ap (λ (y : Worker). y.others.items) (sym at) in
+    let joined = c.join_pass.ensures in
+    let same : lane_id v.lane ≡ lane_id x.lane = joined.same ∙ ap (λ (y : Worker). lane_id y.lane) (sym at) in
+    let split = ap (λ (a : Account). a.split) joined.counted ∙ ap (λ (y : Worker). (account_of y.lane).split) (sym at) in
+    let once = ap (λ (a : Account). a.joined) joined.counted ∙ ap (λ (y : Worker). (account_of y.lane).joined + 1) (sym at) in
+    record {
+      seated = join_back thieves us other.lane x v within at laid.0 kept same split once;
+      worker = omega (arith, held.worker, length-set ws i u, length-set us other.lane v);
+      before = none_kept us other.lane i x v within at kept (AllWithin-kept ws i u held.worker HasNone held.before);
+    }
+
+pub returns-clause-seated : goal.returns-clause-seated
+returns-clause-seated c =
+    let thieves = c.args.thieves.now in
+    let ws : List Worker = c.loop-lane.workers in
+    let i = c.args.number in
+    let w : Worker = c.index-workers-number.result in
+    let is : w ≡ get_or ws i w = c.index-workers-number.is in
+    let u : Worker = record { lane = (get_or ws i w).lane; others = c.pop.new.self } in
+    let held = c.loop-lane.invariant in
+    let items : u.others.items ≡ w.others.items = search rules in
+    keep_post thieves ws i w u held.worker is held.seated items (ap (λ (y : Worker). lane_id y.lane) (sym is)) (ap (λ (y : Worker). (account_of y.lane).split) (sym is)) (ap (λ (y : Worker). (account_of y.lane).joined) (sym is))
