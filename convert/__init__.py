@@ -1,0 +1,1 @@
+"""From real layers to manifests, and back: folders, mounted trees and images. Tested, not proved."""

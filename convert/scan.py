@@ -1,0 +1,191 @@
+"""`scan`: a layer's folder as a manifest and blobs."""
+
+import os
+import stat
+from collections.abc import Callable, Iterator, Mapping
+from dataclasses import dataclass
+
+from . import rules
+from .attributes import Unstated, marks_from_user, read_attributes, require_trusted
+from .blobs import BlobStore
+from .entries import BLOCK, CHAR, DIRECTORY, FILE, NO_ATTRIBUTES, SYMLINK, Entry
+from .faults import Fault, cannot_read, reading
+from .manifests import written
+from .outputs import write_text
+from .places import Chain, open_root
+from .progress import Progress, counted, note, note_path
+from .walks import ONE_SECOND, Found, walk
+
+_READ = os.O_RDONLY | os.O_NOFOLLOW | os.O_NONBLOCK | os.O_CLOEXEC
+
+
+@dataclass(frozen=True)
+class ScanOptions:
+    """What the words of `scan` say."""
+
+    folder: str
+    out: str
+    blobs: str
+    userxattr: bool = False
+    cross_file_systems: bool = False
+    skip_unsupported: bool = False
+
+
+@dataclass
+class Losses:
+    """What a manifest doesn't state, counted as it is met."""
+
+    cut_times: int = 0
+    hard_links: int = 0
+    left_out: int = 0
+
+    def tell(self) -> None:
+        """Says what was lost, where anything was."""
+        if self.cut_times:
+            note(f"{counted(self.cut_times, 'time', 'times')} cut to whole seconds")
+        if self.hard_links:
+            note(
+                f"{counted(self.hard_links, 'name of a hard link', 'names of hard links')} "
+                "became files of their own"
+            )
+        if self.left_out:
+            note(f"{counted(self.left_out, 'thing', 'things')} left out")
+
+
+def scan(options: ScanOptions) -> None:
+    """Writes the manifest of a folder, and the contents of its files."""
+    if not options.userxattr:
+        require_trusted(options.folder)
+    losses = Losses()
+    with reading(options.folder):
+        root = open_root(options.folder)
+    try:
+        entries = Survey(options, losses).entries(root)
+        _store_contents(options, root, entries)
+    finally:
+        os.close(root)
+    write_text(options.out, written(entries))
+    losses.tell()
+
+
+class Survey:
+    """The first pass: every entry but for its blob, so that a refusal comes before anything is written."""
+
+    def __init__(self, options: ScanOptions, losses: Losses) -> None:
+        self._options = options
+        self._losses = losses
+
+    def entries(self, root: int) -> list[Entry]:
+        """The entries of an open folder, in path order."""
+        entries: list[Entry] = []
+        progress = Progress("looking at entries")
+        for found in walk(root, self._options.folder, self._options.cross_file_systems):
+            if len(entries) == rules.MAX_ENTRIES:
+                self._leave_out(found, f"the folder has over {rules.MAX_ENTRIES:,} entries")
+                break
+            problem = _place_problem(found)
+            entry = None if problem else self._entry(found)
+            if entry is None:
+                self._leave_out(found, problem or "")
+                continue
+            if found.is_other_system and not found.enter:
+                note_path(self._options.folder + found.path, "another file system, not entered")
+            entries.append(entry)
+            progress.step()
+        progress.end()
+        return entries
+
+    def _entry(self, found: Found) -> Entry | None:
+        """The entry of what was found, or nothing where it was left out."""
+        status = found.status
+        seconds, below = divmod(status.st_mtime_ns, ONE_SECOND)
+        entry = Entry(
+            found.path, found.kind, stat.S_IMODE(status.st_mode), status.st_uid, status.st_gid, seconds,
+            self._attributes(found),
+        )
+        if found.kind == SYMLINK:
+            with reading(self._path(found)):
+                entry.target = found.target()
+            problem = rules.target_problem(entry.target)
+            if problem:
+                self._leave_out(found, problem)
+                return None
+        elif found.kind in (CHAR, BLOCK):
+            entry.major, entry.minor = os.major(status.st_rdev), os.minor(status.st_rdev)
+        elif found.kind == FILE:
+            entry.size = status.st_size
+        self._losses.cut_times += below != 0
+        self._losses.hard_links += found.kind != DIRECTORY and status.st_nlink > 1
+        return entry
+
+    def _attributes(self, found: Found) -> Mapping[str, bytes]:
+        with reading(self._path(found)):
+            attributes = read_attributes(found.place())
+        if not attributes:
+            return NO_ATTRIBUTES
+        if self._options.userxattr:
+            try:
+                attributes = marks_from_user(attributes)
+            except Unstated as problem:
+                raise cannot_read(self._path(found), problem.text) from None
+        for name in list(attributes):
+            problem = rules.attribute_problem(name)
+            if problem:
+                self._refuse_or_note(found, problem)
+                attributes = {kept: value for kept, value in attributes.items() if kept != name}
+        return attributes
+
+    def _leave_out(self, found: Found, problem: str) -> None:
+        self._refuse_or_note(found, problem)
+        found.enter = False
+
+    def _refuse_or_note(self, found: Found, problem: str) -> None:
+        if not self._options.skip_unsupported:
+            raise cannot_read(self._path(found), problem)
+        note_path(self._path(found), f"left out: {problem}")
+        self._losses.left_out += 1
+
+    def _path(self, found: Found) -> str:
+        return self._options.folder + (found.path if found.depth else "")
+
+
+def _place_problem(found: Found) -> str | None:
+    if found.depth == 0:
+        return None
+    return rules.name_problem(found.name) or rules.path_problem(found.path, found.depth)
+
+
+def _store_contents(options: ScanOptions, root: int, entries: list[Entry]) -> None:
+    """The second pass: gives each file with contents its blob."""
+    files = [entry for entry in entries if _has_contents(entry)]
+    progress = Progress("reading files", len(files))
+    chain = Chain(root)
+    try:
+        with BlobStore(options.blobs) as store:
+            for entry in files:
+                entry.blob = _stored(options.folder, chain, store, entry)
+                progress.step()
+    finally:
+        chain.close()
+        progress.end()
+
+
+def _has_contents(entry: Entry) -> bool:
+    return entry.names_contents()
+
+
+def _stored(folder: str, chain: Chain, store: BlobStore, entry: Entry) -> str:
+    path = folder + entry.path
+    *names, name = entry.path[1:].split("/")
+    with reading(path):
+        file = os.open(name, _READ, dir_fd=chain.folder(names))
+    try:
+        with reading(path):
+            if not stat.S_ISREG(os.fstat(file).st_mode):
+                raise cannot_read(path, "it was changed meanwhile")
+            digest, size = store.put(file)
+        if size != entry.size:
+            raise cannot_read(path, "it was changed meanwhile")
+        return digest
+    finally:
+        os.close(file)
