@@ -2,18 +2,19 @@
 
 import os
 import stat
-from collections.abc import Callable, Iterator, Mapping
+from collections.abc import Iterator, Mapping, Sequence
 from dataclasses import dataclass
 
 from . import rules
 from .attributes import Unstated, marks_from_user, read_attributes, require_trusted
-from .blobs import BlobStore
+from .blobs import BlobStore, BlobWriter
 from .entries import BLOCK, CHAR, DIRECTORY, FILE, NO_ATTRIBUTES, SYMLINK, Entry
-from .faults import Fault, cannot_read, reading
+from .faults import cannot_read, reading, reason_of
 from .manifests import written
 from .outputs import write_text
 from .places import Chain, open_root
 from .progress import Progress, counted, note, note_path
+from .shares import give_blobs
 from .walks import ONE_SECOND, Found, walk
 
 _READ = os.O_RDONLY | os.O_NOFOLLOW | os.O_NONBLOCK | os.O_CLOEXEC
@@ -29,6 +30,7 @@ class ScanOptions:
     userxattr: bool = False
     cross_file_systems: bool = False
     skip_unsupported: bool = False
+    workers: int = 1
 
 
 @dataclass
@@ -119,8 +121,10 @@ class Survey:
         return entry
 
     def _attributes(self, found: Found) -> Mapping[str, bytes]:
-        with reading(self._path(found)):
+        try:
             attributes = read_attributes(found.place())
+        except OSError as error:
+            raise cannot_read(self._path(found), reason_of(error)) from error
         if not attributes:
             return NO_ATTRIBUTES
         if self._options.userxattr:
@@ -157,35 +161,39 @@ def _place_problem(found: Found) -> str | None:
 
 def _store_contents(options: ScanOptions, root: int, entries: list[Entry]) -> None:
     """The second pass: gives each file with contents its blob."""
-    files = [entry for entry in entries if _has_contents(entry)]
+    files = [entry for entry in entries if entry.size and entry.names_contents()]
     progress = Progress("reading files", len(files))
-    chain = Chain(root)
-    try:
-        with BlobStore(options.blobs) as store:
-            for entry in files:
-                entry.blob = _stored(options.folder, chain, store, entry)
-                progress.step()
-    finally:
-        chain.close()
-        progress.end()
+
+    with BlobStore(options.blobs) as store:
+
+        def job(share: Sequence[Entry]) -> Iterator[str]:
+            chain, writer = Chain(root), store.writer()
+            try:
+                for entry in share:
+                    yield _stored(options.folder, chain, writer, entry)
+            finally:
+                writer.close()
+                chain.close()
+
+        try:
+            give_blobs(files, options.workers, job, progress.step)
+        finally:
+            progress.end()
 
 
-def _has_contents(entry: Entry) -> bool:
-    return entry.names_contents()
-
-
-def _stored(folder: str, chain: Chain, store: BlobStore, entry: Entry) -> str:
+def _stored(folder: str, chain: Chain, writer: BlobWriter, entry: Entry) -> str:
     path = folder + entry.path
     *names, name = entry.path[1:].split("/")
-    with reading(path):
-        file = os.open(name, _READ, dir_fd=chain.folder(names))
+    file = -1
     try:
-        with reading(path):
-            if not stat.S_ISREG(os.fstat(file).st_mode):
-                raise cannot_read(path, "it was changed meanwhile")
-            digest, size = store.put(file)
-        if size != entry.size:
-            raise cannot_read(path, "it was changed meanwhile")
-        return digest
+        file = os.open(name, _READ, dir_fd=chain.folder(names))
+        is_regular = stat.S_ISREG(os.fstat(file).st_mode)
+        digest = writer.put(file, entry.size) if is_regular else None
+    except OSError as error:
+        raise cannot_read(path, reason_of(error)) from error
     finally:
-        os.close(file)
+        if file >= 0:
+            os.close(file)
+    if digest is None:
+        raise cannot_read(path, "it was changed meanwhile")
+    return digest

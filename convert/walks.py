@@ -6,7 +6,7 @@ from collections.abc import Iterator
 from dataclasses import dataclass
 
 from .entries import BLOCK, CHAR, DIRECTORY, FIFO, FILE, SOCKET, SYMLINK
-from .faults import reading
+from .faults import cannot_read, reading, reason_of
 from .places import open_folder, place_of
 
 _KINDS = {
@@ -71,8 +71,10 @@ def walk(root: int, root_path: str, cross: bool) -> Iterator[Found]:
             level = levels[-1]
             name = level.names.pop()
             path = f"{level.path}/{name}"
-            with reading(root_path + path):
+            try:
                 found = _found(level.folder, name, path, len(levels), status.st_dev)
+            except OSError as error:
+                raise cannot_read(root_path + path, reason_of(error)) from error
             found.enter = cross or not found.is_other_system
             yield found
             if found.enter and found.kind == DIRECTORY:
