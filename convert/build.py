@@ -6,6 +6,7 @@ import stat
 from collections.abc import Mapping
 from dataclasses import dataclass
 
+from . import rules
 from .attributes import Unstated, marks_to_user, write_attributes
 from .blobs import blob_path, opened_blob
 from .contents import PIECE, Copier, digest_and_size, read_small, write_all
@@ -60,6 +61,8 @@ def _problem(entry: Entry, userxattr: bool) -> str | None:
     """Why Linux can't have this entry."""
     if entry.kind == SYMLINK and entry.mode != _LINK_MODE:
         return f"a symlink of mode {entry.mode:04o}: Linux has them of mode 0777 alone"
+    if rules.MAX_NUMBER in (entry.uid, entry.gid):
+        return f"an owner or group {rules.MAX_NUMBER}: Linux has none of this number"
     if entry.kind in (CHAR, BLOCK) and (entry.major > _MAX_MAJOR or entry.minor > _MAX_MINOR):
         return f"a device {entry.major}:{entry.minor}: Linux has numbers up to {_MAX_MAJOR}:{_MAX_MINOR}"
     try:

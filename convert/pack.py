@@ -124,10 +124,6 @@ def _problem(entry: Entry) -> str | None:
         return "archives have no sockets"
     if entry.path.rpartition("/")[2].startswith(WHITEOUT_PREFIX):
         return f"a name that begins with {WHITEOUT_PREFIX} is a whiteout in an image"
-    if is_whiteout(entry) and len(entry.path.rpartition("/")[2].encode()) > (
-        rules.MAX_NAME_BYTES - len(WHITEOUT_PREFIX)
-    ):
-        return "the name of its whiteout would be too long"
     if entry.kind == SYMLINK and entry.mode != _LINK_MODE:
         return f"a symlink of mode {entry.mode:04o}: Linux has them of mode 0777 alone"
     if any("=" in name for name in entry.attributes):

@@ -219,13 +219,13 @@ def _names_of(name: bytes, what: str) -> list[str]:
     ]
     if ".." in names:
         raise Unfit(f"{what} holds ..")
-    for part in names:
-        problem = rules.name_problem(part)
-        if problem:
-            raise Unfit(problem)
     for part in names[:-1]:
         if part.startswith(WHITEOUT_PREFIX):
-            raise Unfit(f"its path leads through the whiteout {part}")
+            raise Unfit("its path leads through a whiteout")
+    for part in names:
+        problem = rules.name_problem(part.removeprefix(WHITEOUT_PREFIX) or part)
+        if problem:
+            raise Unfit(problem)
     return names
 
 
