@@ -1,7 +1,6 @@
 """The bytes of a layer: unpacked, with their digest, whatever it was packed with."""
 
 import contextlib
-import gzip
 import hashlib
 import io
 import os
@@ -10,16 +9,24 @@ import subprocess
 import threading
 import zlib
 from collections.abc import Iterator
-from typing import IO
+from typing import IO, Protocol
 
 from .contents import PIECE
 from .faults import cannot_read
 from .tar_headers import TarFault
 
 _GZIP = b"\x1f\x8b"
+_GZIP_WINDOW = 31  # zlib's number for a gzip header and trailer
+_GZIP_PIECE = 1 << 14
 _ZSTD = b"\x28\xb5\x2f\xfd"
 _OTHERS = {b"BZh": "bzip2", b"\xfd7zXZ\0": "xz"}
 _PEEK = 6
+
+
+class Source(Protocol):
+    """Bytes in order; none only at the end."""
+
+    def read(self, count: int, /) -> bytes: ...
 
 
 class Slice(io.RawIOBase):
@@ -53,10 +60,46 @@ class SeekingSlice(Slice):
         self.place += count
 
 
+class Gunzip(io.RawIOBase):
+    """The bytes of a gzip stream, of all its members; zeros may stand after the last one."""
+
+    def __init__(self, packed: io.BufferedReader) -> None:
+        super().__init__()
+        self._packed = packed
+        self._member = zlib.decompressobj(_GZIP_WINDOW)
+        self._input = b""
+
+    def readable(self) -> bool:
+        """It is."""
+        return True
+
+    def readinto(self, buffer: memoryview) -> int:  # type: ignore[override]
+        """Unpacks what fits, never more."""
+        while True:
+            if self._member.eof:
+                self._input = self._member.unused_data or self._packed.read(_GZIP_PIECE)
+                if not self._input.strip(b"\0"):
+                    if not self._input:
+                        return 0
+                    self._input = self._packed.read(_GZIP_PIECE)
+                    if not self._input:
+                        return 0
+                self._member = zlib.decompressobj(_GZIP_WINDOW)
+            data = self._member.decompress(self._input, len(buffer))
+            self._input = self._member.unconsumed_tail
+            if data:
+                buffer[:len(data)] = data
+                return len(data)
+            if not self._member.eof and not self._input:
+                self._input = self._packed.read(_GZIP_PIECE)
+                if not self._input:
+                    raise EOFError("it ends too early")
+
+
 class Digesting(io.RawIOBase):
     """Reads from a stream and digests all that is read."""
 
-    def __init__(self, stream: io.BufferedIOBase, algorithm: str) -> None:
+    def __init__(self, stream: Source, algorithm: str) -> None:
         super().__init__()
         self._stream = stream
         self.digest = hashlib.new(algorithm)
@@ -73,15 +116,19 @@ class Digesting(io.RawIOBase):
         return len(data)
 
 
+def buffered(stream: Source) -> Source:
+    """A stream that gives as many bytes as are asked for, fewer at the end."""
+    return io.BufferedReader(stream, PIECE) if isinstance(stream, io.RawIOBase) else stream
+
+
 @contextlib.contextmanager
-def unpacked(part: Slice, name: str) -> Iterator[io.BufferedIOBase]:
+def unpacked(part: Slice, name: str) -> Iterator[Source]:
     """The bytes of a layer's archive. Tells what is wrong with its packing as a fault of this name."""
     packed = io.BufferedReader(part, PIECE)
     head = packed.peek(_PEEK)[:_PEEK]
     try:
         if head.startswith(_GZIP):
-            with gzip.GzipFile(fileobj=packed, mode="rb") as stream:
-                yield stream
+            yield Gunzip(packed)
         elif head.startswith(_ZSTD):
             with _by_zstd(packed, name) as stream:
                 yield stream
@@ -90,14 +137,14 @@ def unpacked(part: Slice, name: str) -> Iterator[io.BufferedIOBase]:
                 if head.startswith(magic):
                     raise cannot_read(name, f"it is packed by {program}, which images don't have")
             yield packed
-    except (gzip.BadGzipFile, EOFError, zlib.error) as error:
+    except (EOFError, zlib.error) as error:
         raise cannot_read(name, f"its gzip stream is broken: {error}") from error
     except TarFault as error:
         raise cannot_read(name, str(error)) from error
 
 
 @contextlib.contextmanager
-def _by_zstd(packed: io.BufferedReader, name: str) -> Iterator[io.BufferedIOBase]:
+def _by_zstd(packed: io.BufferedReader, name: str) -> Iterator[Source]:
     program = shutil.which("zstd")
     if program is None:
         raise cannot_read(name, "it is packed by zstd, and there is no zstd program; install zstd")
@@ -110,7 +157,7 @@ def _by_zstd(packed: io.BufferedReader, name: str) -> Iterator[io.BufferedIOBase
     feeder.start()
     is_read = False
     try:
-        yield process.stdout  # type: ignore[misc]
+        yield process.stdout
         is_read = True
     finally:
         process.stdout.close()

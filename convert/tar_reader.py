@@ -4,18 +4,13 @@ from collections.abc import Iterator
 from typing import Protocol, runtime_checkable
 
 from .contents import PIECE
+from .streams import Source
 from .tar_headers import (
     BLOCK_BYTES, GNU_LONG_NAME, GNU_LONG_TARGET, PAX, PAX_GLOBAL, Header, TarFault,
     apply_records, check_records_size, parse_header, parse_records,
 )
 
 _WITHOUT_DATA = b"123456"  # links, devices, directories and fifos, whatever size they state
-
-
-class Source(Protocol):
-    """Bytes in order; fewer than asked for only at the end."""
-
-    def read(self, count: int, /) -> bytes: ...
 
 
 @runtime_checkable

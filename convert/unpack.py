@@ -1,7 +1,6 @@
 """`unpack`: the layers of an image as manifests and blobs."""
 
 import hashlib
-import io
 import os
 from collections.abc import Mapping
 from dataclasses import dataclass, replace
@@ -18,7 +17,7 @@ from .layer_tree import LayerTree, TooMuch, Unfit, whiteout_at
 from .manifests import written
 from .outputs import new_folder, write_text
 from .progress import Progress, counted, note
-from .streams import Digesting, unpacked
+from .streams import Digesting, Source, buffered, unpacked
 from . import tar_headers as tar
 from .tar_headers import HARD_LINK, REGULAR_TYPES, Header
 from .tar_reader import TarReader
@@ -84,22 +83,30 @@ class _Unpacking:
     def tree(self) -> LayerTree:
         """The layer, where its bytes are those that the image names."""
         layer = self._layer
-        algorithm, wanted = layer.unpacked_digest or ("sha256", None)
         progress = Progress(f"unpacking {layer.name[-20:]}")
         try:
             with reading(layer.path), unpacked(layer.part, layer.path) as stream:
-                source = Digesting(stream, algorithm)
-                self._read(TarReader(io.BufferedReader(source, PIECE)), progress)
+                if layer.unpacked_digest is None:
+                    self._read(stream, progress)
+                else:
+                    self._read_checked(stream, *layer.unpacked_digest, progress)
         except TooMuch as problem:
             raise cannot_read(layer.path, str(problem)) from None
         finally:
             progress.end()
-        if wanted is not None and source.digest.hexdigest() != wanted:
-            raise cannot_read(layer.path, f"its unpacked bytes aren't those of {algorithm}:{wanted}")
         self._tell()
         return self._tree
 
-    def _read(self, archive: TarReader, progress: Progress) -> None:
+    def _read_checked(self, stream: Source, algorithm: str, wanted: str, progress: Progress) -> None:
+        source = Digesting(stream, algorithm)
+        self._read(source, progress)
+        if source.digest.hexdigest() != wanted:
+            raise cannot_read(
+                self._layer.path, f"its unpacked bytes aren't those of {algorithm}:{wanted}"
+            )
+
+    def _read(self, stream: Source, progress: Progress) -> None:
+        archive = TarReader(buffered(stream))
         for header in archive:
             try:
                 self._take(header, archive)
@@ -223,10 +230,16 @@ def _names_of(name: bytes, what: str) -> list[str]:
         if part.startswith(WHITEOUT_PREFIX):
             raise Unfit("its path leads through a whiteout")
     for part in names:
-        problem = rules.name_problem(part.removeprefix(WHITEOUT_PREFIX) or part)
+        problem = rules.name_problem(_without_prefix(part))
         if problem:
             raise Unfit(problem)
     return names
+
+
+def _without_prefix(name: str) -> str:
+    """What a whiteout's name hides, where that can be a name at all."""
+    hidden = name.removeprefix(WHITEOUT_PREFIX)
+    return name if hidden in ("", ".", "..") else hidden
 
 
 def _attributes_of(header: Header) -> Mapping[str, bytes]:
