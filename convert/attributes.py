@@ -20,9 +20,9 @@ HOW_TO_READ_TRUSTED = (
 def can_read_trusted() -> bool:
     """Whether the kernel shows `trusted.*` attributes to this process; it hides them silently."""
     try:
-        with open("/proc/self/status", encoding="ascii") as status:
+        with open("/proc/self/status", encoding="utf-8") as status:
             fields = dict(line.split(":", 1) for line in status)
-        with open("/proc/self/uid_map", encoding="ascii") as ids:
+        with open("/proc/self/uid_map", encoding="utf-8") as ids:
             is_initial = ids.read().split() == ["0", "0", "4294967295"]
         return is_initial and bool(int(fields["CapEff"], 16) >> _CAP_SYS_ADMIN & 1)
     except (OSError, KeyError, ValueError):

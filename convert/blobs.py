@@ -32,29 +32,43 @@ class BlobStore:
         self._was_empty = False
 
     def __enter__(self) -> "BlobStore":
-        with writing(self.folder):
-            try:
-                os.mkdir(self.folder)
-                self._is_new = True
-            except FileExistsError:
-                pass
-            with os.scandir(self.folder) as names:
-                self._was_empty = next(names, None) is None
-            self._stage = tempfile.mkdtemp(prefix=".layers-", dir=self.folder)
+        try:
+            with writing(self.folder):
+                self._make_stage()
+        except BaseException:
+            self._take_away()
+            raise
         return self
 
     def __exit__(
         self, kind: type[BaseException] | None, error: BaseException | None, trace: TracebackType | None
     ) -> None:
+        is_done = False
         try:
             if error is None:
                 with writing(self.folder):
                     self._publish()
+                is_done = True
         finally:
             shutil.rmtree(self._stage, ignore_errors=True)
-            if error is not None and self._is_new:
-                with contextlib.suppress(OSError):
-                    os.rmdir(self.folder)
+            if not is_done:
+                self._take_away()
+
+    def _make_stage(self) -> None:
+        self._is_new = not os.path.isdir(self.folder)
+        if self._is_new:
+            os.mkdir(self.folder)
+        with os.scandir(self.folder) as names:
+            self._was_empty = next(names, None) is None
+        self._stage = tempfile.mkdtemp(prefix=".layers-", dir=self.folder)
+
+    def _take_away(self) -> None:
+        """Takes the stage away, and a folder that wasn't there and is empty."""
+        if self._stage:
+            shutil.rmtree(self._stage, ignore_errors=True)
+        if self._is_new:
+            with contextlib.suppress(OSError):
+                os.rmdir(self.folder)
 
     def writer(self) -> "BlobWriter":
         """One that puts contents in. Several may write at the same time, each in a process of its own."""

@@ -6,6 +6,7 @@ import signal
 import sys
 from collections.abc import Callable, Sequence
 
+from . import VERSION
 from .build import BuildOptions, build
 from .faults import OTHER, WRITING, Fault
 from .mounted import report
@@ -110,6 +111,7 @@ def _parser() -> argparse.ArgumentParser:
         prog=NAME, description=_ABOUT, epilog=_MORE.format(name=NAME), allow_abbrev=False,
         formatter_class=argparse.RawDescriptionHelpFormatter,
     )
+    parser.add_argument("--version", action="version", version=f"{NAME} {VERSION}", help="print the version and exit")
     commands = parser.add_subparsers(title="commands", metavar="COMMAND", required=True)
     _add_scan(_command(commands, "scan", "a layer's folder as a manifest and blobs", _SCAN, _scan))
     _add_build(_command(commands, "build", "the folder of a manifest", _BUILD, _build))

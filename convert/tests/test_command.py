@@ -201,6 +201,9 @@ class Scanning(CommandTest):
             self.assertEqual(len(os.listdir(self.path("blobs"))), 1_000)
         self.assertEqual(manifests[0], manifests[1])
 
+    def _stages(self) -> list[str]:
+        return os.listdir(self.path("blobs")) if os.path.exists(self.path("blobs")) else []
+
     def test_an_interrupted_scan_leaves_nothing(self) -> None:
         os.mkdir(self.path("in"))
         for number in range(3_000):
@@ -211,8 +214,9 @@ class Scanning(CommandTest):
             with subprocess.Popen(
                 [sys.executable, "-B", str(COMMAND), *words, "--workers", workers], stderr=subprocess.PIPE
             ) as process:
-                while process.poll() is None and not os.path.exists(self.path("blobs")):
+                while process.poll() is None and not self._stages():
                     time.sleep(0.001)
+                time.sleep(0.02)
                 process.send_signal(signal.SIGTERM)
             if process.returncode != 0:
                 self.assertEqual(process.returncode, 128 + signal.SIGTERM)
