@@ -47,8 +47,8 @@ class Losses:
             note(f"{counted(self.cut_times, 'time', 'times')} cut to whole seconds")
         if self.hard_links:
             note(
-                f"{counted(self.hard_links, 'name of a hard link', 'names of hard links')} "
-                "became files of their own"
+                counted(self.hard_links, "name of a hard link, now a file", "names of hard links, now files")
+                + " with the same contents"
             )
         if self.left_out:
             note(f"{counted(self.left_out, 'thing', 'things')} left out")

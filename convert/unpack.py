@@ -214,8 +214,9 @@ class _Unpacking:
             note(f"{self._layer.name}: {counted(self._cut_times, 'time', 'times')} cut to whole seconds")
         if self._hard_links:
             note(
-                f"{self._layer.name}: {counted(self._hard_links, 'hard link', 'hard links')} "
-                "became files of their own"
+                f"{self._layer.name}: "
+                + counted(self._hard_links, "hard link, now a file", "hard links, now files")
+                + " with the same contents"
             )
 
 

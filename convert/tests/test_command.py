@@ -160,7 +160,7 @@ class Scanning(CommandTest):
         result = self.scan()
         self.require_done(result)
         self.assertIn("3 times cut to whole seconds", result[2])
-        self.assertIn("2 names of a hard link", result[2].replace("names of hard links", "names of a hard link"))
+        self.assertIn("2 names of hard links, now files with the same contents", result[2])
         entries = read_manifest(self.path("out.json"))
         self.assertEqual([(entry.kind, entry.mtime) for entry in entries], [("dir", -1), ("file", 1), ("file", 1), ("socket", 0)])
         self.assertEqual(os.listdir(self.path("blobs")), [A])

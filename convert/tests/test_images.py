@@ -99,7 +99,7 @@ class Entries(ImageTest):
         )
         result = call("unpack", self.path("image"), "--out", self.path("out"))
         self.require_done(result)
-        self.assertIn("1 hard link became files of their own", result[2])
+        self.assertIn("1 hard link, now a file with the same contents", result[2])
         self.assertIn("1 time cut to whole seconds", result[2])
         entries = read_manifest(self.path("out", "l0.json"))
         self.assertEqual([entry.mtime for entry in entries], [0, -2, -2])
