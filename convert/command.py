@@ -82,7 +82,8 @@ can be compared."""
 
 def main(words: Sequence[str]) -> int:
     """Runs the command that the words name; gives the exit status."""
-    signal.signal(signal.SIGTERM, _end)
+    for number in (signal.SIGTERM, signal.SIGHUP):
+        signal.signal(number, _end)
     try:
         options = _parser().parse_args(list(words))
         run: Callable[[argparse.Namespace], None] = options.run
@@ -164,7 +165,9 @@ def _add_unpack(parser: argparse.ArgumentParser) -> None:
 def _add_pack(parser: argparse.ArgumentParser) -> None:
     parser.add_argument("layers", metavar="LAYER", nargs="+", help="manifest of a layer, the topmost layer first")
     parser.add_argument("--blobs", metavar="DIR", required=True, help="folder with the contents of their files")
-    parser.add_argument("--out", metavar="IMAGE", required=True, help="folder to make, or a file whose name ends in .tar")
+    parser.add_argument(
+        "--out", metavar="IMAGE", required=True, help="folder to make, or a file whose name ends in .tar"
+    )
     parser.add_argument(
         "--platform", metavar="OS/ARCH", default="linux/amd64", type=_platform,
         help="what the image says that it is for [default: linux/amd64]",

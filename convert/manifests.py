@@ -1,6 +1,7 @@
 """The layer manifest, version 1: reading it, and the one text that is written of a layer."""
 
 import json
+import os
 import re
 from collections.abc import Iterable, Iterator
 from json.encoder import encode_basestring
@@ -8,7 +9,9 @@ from typing import Any, NoReturn
 
 from . import rules
 from .entries import BLOCK, CHAR, DIRECTORY, FILE, NO_ATTRIBUTES, SYMLINK, Entry
-from .faults import cannot_read, reading
+from .faults import cannot_read, reading, writing
+from .outputs import write_text
+from .progress import note_path
 
 VERSION = 1
 _BASE = frozenset(["path", "kind", "mode", "uid", "gid", "mtime", "xattrs"])
@@ -179,6 +182,15 @@ def written(entries: Iterable[Entry]) -> Iterator[str]:
         yield before + _entry_text(entry)
         before = ","
     yield f'],"overlay-layer":{VERSION}}}\n'
+
+
+def write_manifest(path: str, entries: Iterable[Entry]) -> None:
+    """Writes the manifest of a layer; says where it is longer than the program reads."""
+    write_text(path, written(entries))
+    with writing(path):
+        size = os.path.getsize(path)
+    if size > rules.MAX_MANIFEST_BYTES:
+        note_path(path, f"it has {size:,} bytes, and ovl_layers reads at most {rules.MAX_MANIFEST_BYTES:,}")
 
 
 def _entry_text(entry: Entry) -> str:

@@ -10,8 +10,7 @@ from .attributes import Unstated, marks_from_user, read_attributes, require_trus
 from .blobs import BlobStore, BlobWriter
 from .entries import BLOCK, CHAR, DIRECTORY, FILE, NO_ATTRIBUTES, SYMLINK, Entry
 from .faults import cannot_read, reading, reason_of
-from .manifests import written
-from .outputs import write_text
+from .manifests import write_manifest
 from .places import Chain, open_root
 from .progress import Progress, counted, note, note_path
 from .shares import give_blobs
@@ -66,7 +65,7 @@ def scan(options: ScanOptions) -> None:
         _store_contents(options, root, entries)
     finally:
         os.close(root)
-    write_text(options.out, written(entries))
+    write_manifest(options.out, entries)
     losses.tell()
 
 

@@ -14,8 +14,8 @@ from .entries import (
 from .faults import cannot_read, cannot_write, reading, writing
 from .images import ImageLayer, opened_image
 from .layer_tree import LayerTree, TooMuch, Unfit, whiteout_at
-from .manifests import written
-from .outputs import new_folder, write_text
+from .manifests import write_manifest
+from .outputs import new_folder
 from .progress import Progress, counted, note
 from .streams import Digesting, Source, buffered, unpacked
 from . import tar_headers as tar
@@ -57,7 +57,7 @@ def unpack(options: UnpackOptions) -> None:
                     tree = _Unpacking(options, layer, writer).tree()
                     _spread_opaque_root(tree, lower_names, number)
                     lower_names |= tree.shown_at_root()
-                    write_text(f"{stage}/l{number}.json", written(tree.entries()))
+                    write_manifest(f"{stage}/l{number}.json", tree.entries())
             finally:
                 writer.close()
 

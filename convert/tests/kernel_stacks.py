@@ -183,7 +183,8 @@ class Stack:
             result = subprocess.run([*program, "show", *manifests], capture_output=True, text=True, check=False)
             others.append(result.stdout + result.stderr)
             blobs = ["--blobs", f"{self._folder}/blobs"]
-            checked = subprocess.run([*program, "fsck", *blobs, *manifests], capture_output=True, text=True, check=False)
+            words = [*program, "fsck", *blobs, *manifests]
+            checked = subprocess.run(words, capture_output=True, text=True, check=False)
             faults = [line for line in checked.stdout.splitlines() if line.startswith("fault ")]
         else:
             faults = []

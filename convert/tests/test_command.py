@@ -9,9 +9,12 @@ import subprocess
 import sys
 import time
 import unittest
+from unittest import mock
 
 from support import COMMAND, ROOT, FolderTest, call, run
 
+from convert import places
+from convert.entries import Entry
 from convert.manifests import read_manifest
 
 _AS_ANYBODY = """
@@ -55,7 +58,7 @@ class Words(FolderTest):
             self.assertTrue(told.startswith("usage: layers"), told)
 
     def test_help(self) -> None:
-        for words in (("--help",), ("scan", "-h"), ("build", "--help"), ("unpack", "-h"), ("pack", "-h"), ("mounted", "-h")):
+        for words in (("--help",), *((name, "-h") for name in ("scan", "build", "unpack", "pack", "mounted"))):
             status, printed, told = call(*words)
             self.assertEqual((status, told), (0, ""))
             self.assertTrue(printed.startswith("usage: layers"))
@@ -74,7 +77,9 @@ class Building(CommandTest):
         layer = self.write_manifest({"path": "/f", "kind": "file", "size": 1, "blob": A})
         words = ("build", layer, "--blobs", self.path("blobs"), "--out", self.path("out"))
         blob = self.path("blobs", A)
-        for contents, reason in ((b"b", "its contents have another digest"), (b"ab", "it has 2 bytes"), (None, "No such file")):
+        for contents, reason in (
+            (b"b", "its contents have another digest"), (b"ab", "it has 2 bytes"), (None, "No such file"),
+        ):
             os.unlink(blob)
             if contents is not None:
                 with open(blob, "wb") as file:
@@ -146,6 +151,38 @@ class Scanning(CommandTest):
         self.require_done(self.scan("--skip-unsupported"))
         self.assertEqual(len(self.paths()), 65)
 
+    def test_the_number_of_entries(self) -> None:
+        os.makedirs(self.path("in", "a", "b"))
+        os.mkdir(self.path("in", "c"))
+        with mock.patch("convert.rules.MAX_ENTRIES", 3):
+            self.require_fault(self.scan(), 3, "/c: the folder has over 3 entries")
+            self.require_nothing_left("in")
+            self.require_done(self.scan("--skip-unsupported"))
+            self.assertEqual(self.paths(), ["/", "/a", "/a/b"])
+        with mock.patch("convert.rules.MAX_ENTRIES", 4):
+            self.require_done(self.scan())
+
+    def test_a_folder_that_becomes_a_link(self) -> None:
+        os.makedirs(self.path("in", "d"))
+        os.symlink("d", self.path("in", "l"))
+        root = places.open_root(self.path("in"))
+        try:
+            os.close(places.open_folder("d", root))
+            self.assertRaises(OSError, places.open_folder, "l", root)
+            self.assertRaises(OSError, places.Chain(root).folder, ["l"])
+        finally:
+            os.close(root)
+
+    def test_a_file_that_changes(self) -> None:
+        os.mkdir(self.path("in"))
+        with open(self.path("in", "f"), "wb") as file:
+            file.write(b"abc")
+        for size in (2, 4, 1 << 20):
+            with mock.patch("convert.scan.Survey.entries") as entries:
+                entries.return_value = [Entry("/", "dir", 0), Entry("/f", "file", 0, size=size)]
+                self.require_fault(self.scan(), 3, "/in/f: it was changed meanwhile")
+            self.require_nothing_left("in")
+
     def test_losses_are_said(self) -> None:
         os.mkdir(self.path("in"))
         with open(self.path("in", "f"), "wb") as file:
@@ -162,7 +199,10 @@ class Scanning(CommandTest):
         self.assertIn("3 times cut to whole seconds", result[2])
         self.assertIn("2 names of hard links, now files with the same contents", result[2])
         entries = read_manifest(self.path("out.json"))
-        self.assertEqual([(entry.kind, entry.mtime) for entry in entries], [("dir", -1), ("file", 1), ("file", 1), ("socket", 0)])
+        self.assertEqual(
+            [(entry.kind, entry.mtime) for entry in entries],
+            [("dir", -1), ("file", 1), ("file", 1), ("socket", 0)],
+        )
         self.assertEqual(os.listdir(self.path("blobs")), [A])
 
     def test_marks_of_user_mounts(self) -> None:
@@ -284,7 +324,8 @@ class Mounted(CommandTest):
     def test_a_report_that_can_not_be_written(self) -> None:
         with open("/dev/full", "wb") as full:
             result = subprocess.run(
-                [sys.executable, "-B", str(COMMAND), "mounted", self.folder], stdout=full, stderr=subprocess.PIPE, check=False
+                [sys.executable, "-B", str(COMMAND), "mounted", self.folder],
+                stdout=full, stderr=subprocess.PIPE, check=False,
             )
         self.assertEqual(result.returncode, 4)
         self.assertTrue(result.stderr.endswith(b"layers: cannot write standard output\n"), result.stderr)

@@ -1,6 +1,7 @@
 """Images as tools write them: what becomes of their entries, and which forms are read."""
 
 import hashlib
+import io
 import os
 import shutil
 import subprocess
@@ -73,8 +74,9 @@ class Entries(ImageTest):
         opaque = "trusted.overlay.opaque=y"
         self.assertEqual(
             self.one(
-                member(".wh.gone"), folder("o"), member("o/.wh..wh..opq"), member("o/k", b"a"), member("n/.wh..wh..opq"),
-                member(".wh.again"), member("again/f", b"a"), member("file", b"a"), member(".wh.file"),
+                member(".wh.gone"), folder("o"), member("o/.wh..wh..opq"), member("o/k", b"a"),
+                member("n/.wh..wh..opq"), member(".wh.again"), member("again/f", b"a"), member("file", b"a"),
+                member(".wh.file"),
             ),
             [
                 "dir 755 /", f"dir 755 /again {opaque}", f"file 644 /again/f {A[:4]}", f"file 644 /file {A[:4]}",
@@ -91,6 +93,21 @@ class Entries(ImageTest):
             ["dir 755 /", "dir 711 /d", f"file 644 /d/f {A[:4]}", f"file 644 /t {A[:4]}", "dir 755 /u"],
         )
 
+    def test_the_number_of_entries(self) -> None:
+        inner = [folder("t"), member("t/a"), member("t/b"), member("t")]
+        for members, is_good in (
+            ([*inner, member("u")], True), ([*inner, member("u"), member("v")], True),
+            ([*inner, member("u"), member("v"), member("w")], False), ([member("a/b/c"), member(".wh.d")], False),
+        ):
+            write_layout(self.path("image"), [archive(members)])
+            with mock.patch("convert.rules.MAX_ENTRIES", 4):
+                result = call("unpack", self.path("image"), "--out", self.path("out"))
+            if is_good:
+                self.require_done(result)
+            else:
+                self.require_fault(result, 3, "the layer has over 4 entries")
+            self.empty()
+
     def test_hard_links_and_attributes(self) -> None:
         pax = {"SCHILY.xattr.user.k": "v", "mtime": "-1.5"}
         write_layout(
@@ -105,6 +122,21 @@ class Entries(ImageTest):
         self.assertEqual([entry.mtime for entry in entries], [0, -2, -2])
         self.assertEqual(
             list(map(short, entries[1:])), [f"file 600 /f {A[:4]} user.k=v", f"file 600 /h {A[:4]} user.k=v"]
+        )
+
+    def test_gnu_headers(self) -> None:
+        out = io.BytesIO()
+        with tarfile.open(fileobj=out, mode="w", format=tarfile.GNU_FORMAT) as file:
+            for name, target in (("n" * 200, ""), ("d/" * 60 + "f", "t" * 150)):
+                info, _ = member(name, kind=tarfile.SYMTYPE if target else tarfile.REGTYPE, target=target)
+                info.mtime, info.uid = -5, 3_000_000_000
+                file.addfile(info)
+        write_layout(self.path("image"), [out.getvalue()])
+        self.require_done(call("unpack", self.path("image"), "--out", self.path("out")))
+        found = [entry for entry in read_manifest(self.path("out", "l0.json")) if entry.kind != "dir"]
+        self.assertEqual(
+            [(entry.path, entry.mtime, entry.uid, entry.target) for entry in found],
+            [("/" + "d/" * 60 + "f", -5, 3_000_000_000, "t" * 150), ("/" + "n" * 200, -5, 3_000_000_000, "")],
         )
 
     def test_an_opaque_root_hides_names_of_lower_layers(self) -> None:

@@ -125,7 +125,8 @@ class Installing(FolderTest):
         self.assertEqual(shown.stdout, f"layers {VERSION}\n")
         if shutil.which("man"):
             found = subprocess.run(
-                ["man", "-M", self.path("moved", "share", "man"), "-w", "layers"], capture_output=True, text=True, check=False
+                ["man", "-M", self.path("moved", "share", "man"), "-w", "layers"],
+                capture_output=True, text=True, check=False,
             )
             self.assertEqual(found.stdout, self.path("moved", "share", "man", "man1", "layers.1") + "\n")
         self.assertEqual(self.install("--remove", "moved").returncode, 0)

@@ -49,7 +49,8 @@ REFUSED: list[tuple[bytes, str]] = [
         for wrong in (
             entry("/a", "door"), entry("/a", mode=4096), entry("/a", mode=-1), entry("/a", mode=True),
             entry("/a", uid=2**32), entry("/a", mtime=2**63), entry("/a", size=0), entry("/a/"), entry("a"),
-            entry("/a/.."), entry("/a", xattrs={"": ""}), entry("/a", xattrs={"k": "0"}), entry("/a", xattrs={"k": "AA"}),
+            entry("/a/.."), entry("/a", xattrs={"": ""}), entry("/a", xattrs={"k": "0"}),
+            entry("/a", xattrs={"k": "AA"}),
             entry("/a", "file"), entry("/a", "file", size=1), entry("/a", "file", size=0, blob="0" * 64),
             entry("/a", "file", size=1, blob="A" * 64), entry("/a", "file", size=2**63, blob="0" * 64),
             entry("/a", "file", size=1, blob="0" * 64, xattrs={"trusted.overlay.metacopy": ""}),
