@@ -1,8 +1,11 @@
 """The command line: statuses, fault lines, and what is refused before anything is written."""
 
+import contextlib
+import errno
 import hashlib
 import json
 import os
+import shutil
 import signal
 import socket
 import subprocess
@@ -27,6 +30,11 @@ if os.geteuid() == 0:
 sys.exit(main(sys.argv[2:]))
 """
 A = hashlib.sha256(b"a").hexdigest()
+
+
+def _clone(target: int, _: int, source: int) -> None:
+    """What the system does for a reflink, on a file system that has none."""
+    os.pwrite(target, os.pread(source, 1 << 30, 0), 0)
 
 
 class CommandTest(FolderTest):
@@ -182,6 +190,40 @@ class Scanning(CommandTest):
                 entries.return_value = [Entry("/", "dir", 0), Entry("/f", "file", 0, size=size)]
                 self.require_fault(self.scan(), 3, "/in/f: it was changed meanwhile")
             self.require_nothing_left("in")
+
+    def test_ways_of_copying(self) -> None:
+        os.mkdir(self.path("in"))
+        wanted = {}
+        for number, size in enumerate((1, 5_000, (1 << 18) + 1, 1_000_000, 1_000_000)):
+            data = bytes([number % 4]) * size
+            wanted[hashlib.sha256(data).hexdigest()] = data
+            with open(self.path("in", str(number)), "wb") as file:
+                file.write(data)
+        refused = OSError(errno.EXDEV, "")
+        for patches in (
+            [], [mock.patch("fcntl.ioctl", _clone)], [mock.patch("os.copy_file_range", side_effect=refused)],
+        ):
+            with contextlib.ExitStack() as patched:
+                for patch in patches:
+                    patched.enter_context(patch)
+                self.require_done(self.scan("--workers", 1))
+            self.assertEqual(sorted(os.listdir(self.path("blobs"))), sorted(wanted))
+            for digest, data in wanted.items():
+                with open(self.path("blobs", digest), "rb") as blob:
+                    self.assertEqual(blob.read(), data)
+            shutil.rmtree(self.path("blobs"))
+
+    def test_a_blob_of_a_wrong_size_is_mended(self) -> None:
+        os.mkdir(self.path("in"))
+        with open(self.path("in", "f"), "wb") as file:
+            file.write(b"a")
+        os.mkdir(self.path("blobs"))
+        for contents in (b"", b"a"):
+            with open(self.path("blobs", A), "wb") as blob:
+                blob.write(contents)
+            self.require_done(self.scan())
+            with open(self.path("blobs", A), "rb") as blob:
+                self.assertEqual(blob.read(), b"a")
 
     def test_losses_are_said(self) -> None:
         os.mkdir(self.path("in"))
