@@ -8,7 +8,7 @@ from dataclasses import dataclass
 from . import rules
 from .attributes import Unstated, marks_from_user, read_attributes, require_trusted
 from .blobs import BlobStore, BlobWriter
-from .entries import BLOCK, CHAR, DIRECTORY, FILE, NO_ATTRIBUTES, SYMLINK, Entry
+from .entries import BLOCK, CHAR, DIRECTORY, FILE, NO_ATTRIBUTES, SYMLINK, Entry, is_whiteout
 from .faults import cannot_read, reading, reason_of
 from .manifests import write_manifest
 from .places import Chain, open_root
@@ -116,7 +116,9 @@ class Survey:
         elif found.kind == FILE:
             entry.size = status.st_size
         self._losses.cut_times += below != 0
-        self._losses.hard_links += found.kind != DIRECTORY and status.st_nlink > 1
+        # The kernel links the whiteouts of a mount to one another, which nothing shows.
+        is_linked = found.kind != DIRECTORY and status.st_nlink > 1
+        self._losses.hard_links += is_linked and not is_whiteout(entry)
         return entry
 
     def _attributes(self, found: Found) -> Mapping[str, bytes]:
