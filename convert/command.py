@@ -1,0 +1,253 @@
+"""The command line: words, statuses and fault lines."""
+
+import argparse
+import os
+import signal
+import sys
+from collections.abc import Callable, Sequence
+
+from . import VERSION
+from .build import BuildOptions, build
+from .faults import OTHER, WRITING, Fault
+from .mounted import report
+from .pack import PackOptions, pack
+from .scan import ScanOptions, scan
+from .shares import MOST_WORKERS, usual_workers
+from .unpack import UnpackOptions, unpack
+
+NAME = "layers"
+_INTERRUPTED = 128
+
+_ABOUT = """\
+Turns real layers into manifests for ovl_layers, and manifests into real layers.
+
+A layer is the folder of one overlayfs layer (an upperdir or lowerdir), or an archive in a container
+image. A manifest is one JSON file that lists what is in a layer; the contents of its files stand in
+a folder of blobs, each in a file named by its SHA-256 digest. This tool is tested, not proved."""
+
+_MORE = """\
+examples:
+  {name} unpack image.tar --out stack          an image's layers: stack/l0.json is the topmost
+  ovl_layers show stack/l0.json stack/l1.json  what the layers show together
+  ovl_layers fsck --blobs stack/blobs stack/l0.json stack/l1.json
+  {name} pack stack/l0.json stack/l1.json --blobs stack/blobs --out new-image
+  sudo {name} scan /var/lib/docker/overlay2/ID/diff --out upper.json --blobs blobs
+  sudo {name} build upper.json --blobs blobs --out upper
+  ovl_layers show l0.json l1.json | diff - <(sudo {name} mounted /mnt)
+
+exit status:
+  0  done
+  2  words that don't fit
+  3  something can't be read, or can't be stated in a manifest or an image
+  4  something can't be written
+  5  anything else
+
+`{name} COMMAND --help` tells the words of a command."""
+
+_SCAN = """\
+Writes the manifest of a layer's folder, and the contents of its files into the folder of blobs.
+
+Links are never followed, and other file systems aren't entered. Anything that a manifest can't state
+is refused, before anything is written: names that aren't UTF-8, paths over 64 names or 4,095 bytes,
+over 1,048,576 entries, trusted.overlay.overlay.* attributes. Times are cut to whole seconds, and each
+name of a hard link becomes a file of its own; both are counted and said.
+
+Reading the marks of an overlay (trusted.overlay.*) needs root."""
+
+_BUILD = """\
+Makes the folder of a manifest: kinds, modes, owners, times, attributes, devices and whiteouts, as the
+kernel has them. Contents are checked against their digests. Owners, devices and trusted.overlay.*
+attributes need root."""
+
+_UNPACK = """\
+Writes the layers of an image as manifests: DIR/l0.json, the topmost, DIR/l1.json and so on, and the
+contents of all their files into DIR/blobs.
+
+IMAGE is an OCI image layout (a folder or a tar archive of it) or what `docker save` writes. Layers may
+be plain, gzip, or zstd where the zstd program is there. Their digests are checked. A hard link becomes
+a file with the same contents, a whiteout (.wh.NAME) a char device 0:0, and .wh..wh..opq an opaque
+directory."""
+
+_PACK = """\
+Writes manifests, the topmost first, as an OCI image layout: a folder, or one tar archive where the name
+ends in .tar. The same input gives the same bytes.
+
+A layer that has moved directories (redirects) or files without contents (metacopy) is refused: no image
+can state them. Run `ovl_layers deref` first, or `merge` down to one layer."""
+
+_MOUNTED = """\
+Prints what is in a folder, such as a mounted overlay, as `ovl_layers show` prints it, so that the two
+can be compared."""
+
+
+def main(words: Sequence[str]) -> int:
+    """Runs the command that the words name; gives the exit status."""
+    for number in (signal.SIGTERM, signal.SIGHUP):
+        signal.signal(number, _end)
+    try:
+        options = _parser().parse_args(list(words))
+        run: Callable[[argparse.Namespace], None] = options.run
+        run(options)
+        return 0
+    except Fault as fault:
+        print(f"{NAME}: {fault.text}", file=sys.stderr)
+        return fault.status
+    except KeyboardInterrupt:
+        return _INTERRUPTED + signal.SIGINT
+    except MemoryError:
+        print(f"{NAME}: out of memory", file=sys.stderr)
+        return OTHER
+    except OSError as error:
+        print(f"{NAME}: {error}", file=sys.stderr)
+        return OTHER
+
+
+def _end(number: int, _: object) -> None:
+    """Ends on a signal like an exit, so that what is half made is taken away."""
+    sys.exit(_INTERRUPTED + number)
+
+
+def _parser() -> argparse.ArgumentParser:
+    parser = argparse.ArgumentParser(
+        prog=NAME, description=_ABOUT, epilog=_MORE.format(name=NAME), allow_abbrev=False,
+        formatter_class=argparse.RawDescriptionHelpFormatter,
+    )
+    parser.add_argument("--version", action="version", version=f"{NAME} {VERSION}", help="print the version and exit")
+    commands = parser.add_subparsers(title="commands", metavar="COMMAND", required=True)
+    _add_scan(_command(commands, "scan", "a layer's folder as a manifest and blobs", _SCAN, _scan))
+    _add_build(_command(commands, "build", "the folder of a manifest", _BUILD, _build))
+    _add_unpack(_command(commands, "unpack", "an image's layers as manifests and blobs", _UNPACK, _unpack))
+    _add_pack(_command(commands, "pack", "manifests and blobs as an image", _PACK, _pack))
+    _add_mounted(_command(commands, "mounted", "the report of a mounted tree", _MOUNTED, _mounted))
+    return parser
+
+
+def _command(
+    commands: "argparse._SubParsersAction[argparse.ArgumentParser]", name: str, short: str, long: str,
+    run: Callable[[argparse.Namespace], None],
+) -> argparse.ArgumentParser:
+    parser = commands.add_parser(
+        name, help=short, description=long, allow_abbrev=False,
+        formatter_class=argparse.RawDescriptionHelpFormatter,
+    )
+    parser.set_defaults(run=run)
+    return parser
+
+
+def _add_scan(parser: argparse.ArgumentParser) -> None:
+    parser.add_argument("folder", metavar="DIR", help="folder of a layer")
+    parser.add_argument("--out", metavar="FILE", required=True, help="manifest to write")
+    parser.add_argument("--blobs", metavar="DIR", required=True, help="folder of blobs, made where it is absent")
+    _add_userxattr(parser, "reads")
+    _add_cross(parser)
+    _add_skip(parser)
+    parser.add_argument(
+        "--workers", metavar="N", type=_workers, default=usual_workers(),
+        help=f"how many processes read files, 1 to {MOST_WORKERS} [default: the processors, at most 4]",
+    )
+
+
+def _add_build(parser: argparse.ArgumentParser) -> None:
+    parser.add_argument("layer", metavar="LAYER", help="manifest of a layer")
+    parser.add_argument("--blobs", metavar="DIR", required=True, help="folder with the contents of its files")
+    parser.add_argument("--out", metavar="DIR", required=True, help="folder to make, absent or empty")
+    _add_userxattr(parser, "writes")
+
+
+def _add_unpack(parser: argparse.ArgumentParser) -> None:
+    parser.add_argument("image", metavar="IMAGE", help="OCI image layout (folder or tar), or what docker save wrote")
+    parser.add_argument("--out", metavar="DIR", required=True, help="folder to make, absent or empty")
+    parser.add_argument("--platform", metavar="OS/ARCH", help="which of several images, such as linux/amd64")
+    parser.add_argument("--tag", metavar="NAME", help="which of several images, by its name in the image's index")
+    _add_skip(parser)
+
+
+def _add_pack(parser: argparse.ArgumentParser) -> None:
+    parser.add_argument("layers", metavar="LAYER", nargs="+", help="manifest of a layer, the topmost layer first")
+    parser.add_argument("--blobs", metavar="DIR", required=True, help="folder with the contents of their files")
+    parser.add_argument(
+        "--out", metavar="IMAGE", required=True, help="folder to make, or a file whose name ends in .tar"
+    )
+    parser.add_argument(
+        "--platform", metavar="OS/ARCH", default="linux/amd64", type=_platform,
+        help="what the image says that it is for [default: linux/amd64]",
+    )
+    parser.add_argument("--tag", metavar="NAME", help="name of the image in its index")
+    _add_skip(parser)
+
+
+def _add_mounted(parser: argparse.ArgumentParser) -> None:
+    parser.add_argument("folder", metavar="DIR", help="mounted tree")
+    _add_cross(parser)
+
+
+def _add_userxattr(parser: argparse.ArgumentParser, does: str) -> None:
+    parser.add_argument(
+        "--userxattr", action="store_true",
+        help=f"{does} marks as user.overlay.*, as the mount option of this name does",
+    )
+
+
+def _add_cross(parser: argparse.ArgumentParser) -> None:
+    parser.add_argument("--cross-file-systems", action="store_true", help="enters other file systems too")
+
+
+def _add_skip(parser: argparse.ArgumentParser) -> None:
+    parser.add_argument(
+        "--skip-unsupported", action="store_true",
+        help="leaves out what can't be stated, with a warning each, instead of refusing it",
+    )
+
+
+def _workers(text: str) -> int:
+    number = int(text)
+    if not 1 <= number <= MOST_WORKERS:
+        raise argparse.ArgumentTypeError(f"workers must be 1 to {MOST_WORKERS}")
+    return number
+
+
+def _platform(text: str) -> str:
+    if text.count("/") not in (1, 2) or not all(text.split("/")):
+        raise argparse.ArgumentTypeError("a platform is OS/ARCH or OS/ARCH/VARIANT")
+    return text
+
+
+def _folder(path: str) -> str:
+    """A folder as given, without slashes at its end, so that paths in it read well."""
+    return path.rstrip("/") or ("/" if path else "")
+
+
+def _scan(words: argparse.Namespace) -> None:
+    scan(ScanOptions(
+        _folder(words.folder), words.out, _folder(words.blobs), words.userxattr,
+        words.cross_file_systems, words.skip_unsupported, words.workers,
+    ))
+
+
+def _build(words: argparse.Namespace) -> None:
+    build(BuildOptions(words.layer, _folder(words.blobs), _folder(words.out), words.userxattr))
+
+
+def _unpack(words: argparse.Namespace) -> None:
+    unpack(UnpackOptions(
+        _folder(words.image), _folder(words.out), words.platform, words.tag, words.skip_unsupported
+    ))
+
+
+def _pack(words: argparse.Namespace) -> None:
+    pack(PackOptions(
+        words.layers, _folder(words.blobs), _folder(words.out), words.platform, words.tag,
+        words.skip_unsupported,
+    ))
+
+
+def _mounted(words: argparse.Namespace) -> None:
+    try:
+        for line in report(_folder(words.folder), words.cross_file_systems):
+            sys.stdout.write(line)
+        sys.stdout.flush()
+    except OSError:
+        os.dup2(os.open(os.devnull, os.O_WRONLY), sys.stdout.fileno())
+        fault = Fault("cannot write standard output")
+        fault.status = WRITING
+        raise fault from None

@@ -1,0 +1,94 @@
+"""Copying and digesting the contents of files, a piece at a time."""
+
+import errno
+import fcntl
+import hashlib
+import os
+
+PIECE = 1 << 18
+_COPY_AT_ONCE = 1 << 30
+_CLONE = 0x40049409  # FICLONE of linux/fs.h
+_REFUSED = (
+    errno.EXDEV, errno.EINVAL, errno.ENOSYS, errno.EOPNOTSUPP, errno.ENOTSUP, errno.ENOTTY,
+    errno.EBADF, errno.EPERM, errno.ETXTBSY,
+)
+
+
+class Copier:
+    """Copies whole files, by a reflink or inside the kernel where the file systems can.
+
+    A way that the file systems refuse once isn't tried again.
+    """
+
+    def __init__(self) -> None:
+        self.can_clone = True
+        self._can_copy = True
+
+    def clone(self, source: int, target: int) -> bool:
+        """Makes an empty open file share another one's bytes, or says that this can't be had here."""
+        if self.can_clone:
+            try:
+                fcntl.ioctl(target, _CLONE, source)
+            except OSError as error:
+                self.can_clone = False
+                _require_refusal(error)
+        return self.can_clone
+
+    def copy(self, source: int, target: int) -> None:
+        """Copies all of one open file into another, empty one."""
+        if self.clone(source, target):
+            return
+        if self._can_copy:
+            try:
+                _copy_in_kernel(source, target)
+                return
+            except OSError as error:
+                self._can_copy = False
+                _require_refusal(error)
+                os.lseek(source, 0, os.SEEK_SET)
+                os.lseek(target, 0, os.SEEK_SET)
+        _copy_pieces(source, target)
+
+
+def _require_refusal(error: OSError) -> None:
+    """Raises an error that says something else than that a way of copying isn't there."""
+    if error.errno not in _REFUSED:
+        raise error
+
+
+def _copy_in_kernel(source: int, target: int) -> None:
+    while os.copy_file_range(source, target, _COPY_AT_ONCE):
+        pass
+
+
+def _copy_pieces(source: int, target: int) -> None:
+    while piece := os.read(source, PIECE):
+        write_all(target, piece)
+
+
+def read_small(file: int, size: int) -> bytes:
+    """All bytes of an open file that is said to have this size, one more where it has more."""
+    piece = os.read(file, size + 1)
+    while len(piece) < size:
+        more = os.read(file, size + 1 - len(piece))
+        if not more:
+            break
+        piece += more
+    return piece
+
+
+def write_all(target: int, piece: bytes) -> None:
+    """Writes all bytes, however many the system takes at once."""
+    view = memoryview(piece)
+    while view:
+        view = view[os.write(target, view):]
+
+
+def digest_and_size(file: int) -> tuple[str, int]:
+    """The SHA-256 digest of an open file's bytes, and how many they are."""
+    digest = hashlib.sha256()
+    size = 0
+    while piece := os.pread(file, PIECE, size):
+        digest.update(piece)
+        size += len(piece)
+    return digest.hexdigest(), size

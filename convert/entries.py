@@ -1,0 +1,72 @@
+"""The entries of a layer, and what the marks of the overlay on them mean."""
+
+from collections.abc import Mapping
+from dataclasses import dataclass, field
+from types import MappingProxyType
+
+OVERLAY = "trusted.overlay."
+ESCAPED = "trusted.overlay.overlay."
+OPAQUE = OVERLAY + "opaque"
+REDIRECT = OVERLAY + "redirect"
+METACOPY = OVERLAY + "metacopy"
+WHITEOUT = OVERLAY + "whiteout"
+IS_OPAQUE = b"y"
+
+DIRECTORY = "dir"
+FILE = "file"
+SYMLINK = "symlink"
+CHAR = "char"
+BLOCK = "block"
+FIFO = "fifo"
+SOCKET = "socket"
+
+NO_ATTRIBUTES: Mapping[str, bytes] = MappingProxyType({})
+
+
+@dataclass(slots=True)
+class Entry:
+    """An entry of a layer as its manifest states it."""
+
+    path: str
+    kind: str
+    mode: int
+    uid: int = 0
+    gid: int = 0
+    mtime: int = 0
+    attributes: Mapping[str, bytes] = field(default_factory=lambda: NO_ATTRIBUTES)
+    size: int = 0
+    blob: str | None = None
+    target: str = ""
+    major: int = 0
+    minor: int = 0
+
+    def names_contents(self) -> bool:
+        """Whether the manifest names a blob for this entry."""
+        return self.kind == FILE and self.size > 0 and METACOPY not in self.attributes
+
+
+def is_whiteout(entry: Entry) -> bool:
+    """Both forms: a char device 0:0, or an empty file with the attribute."""
+    if entry.kind == CHAR:
+        return entry.major == 0 and entry.minor == 0
+    return entry.kind == FILE and entry.size == 0 and WHITEOUT in entry.attributes
+
+
+def is_opaque(entry: Entry) -> bool:
+    """A directory below the root that hides what is below it. The root's mark says nothing."""
+    return (
+        entry.kind == DIRECTORY
+        and entry.path != "/"
+        and entry.attributes.get(OPAQUE) == IS_OPAQUE
+    )
+
+
+def needs_lower_layers(entry: Entry) -> str | None:
+    """What of this entry means a place in a lower layer, which no image can state."""
+    if entry.path == "/" or is_whiteout(entry) or is_opaque(entry):
+        return None
+    if entry.kind == DIRECTORY and REDIRECT in entry.attributes:
+        return "a directory that was moved (trusted.overlay.redirect)"
+    if entry.kind == FILE and METACOPY in entry.attributes:
+        return "a file without its contents (trusted.overlay.metacopy)"
+    return None

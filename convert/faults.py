@@ -1,0 +1,76 @@
+"""What ends a command, with the text and the exit status that it is told with."""
+
+import contextlib
+import os
+from collections.abc import Iterator
+
+from .texts import printable
+
+USAGE = 2
+READING = 3
+WRITING = 4
+OTHER = 5
+
+
+class Fault(Exception):
+    """Ends the command: `layers: TEXT` on standard error, and the status."""
+
+    status = OTHER
+
+    def __init__(self, text: str) -> None:
+        super().__init__(text)
+        self.text = text
+
+
+class UsageFault(Fault):
+    """Words that don't fit together."""
+
+    status = USAGE
+
+
+class ReadFault(Fault):
+    """Something can't be read, or what it holds can't be stated."""
+
+    status = READING
+
+
+class WriteFault(Fault):
+    """Something can't be written."""
+
+    status = WRITING
+
+
+def cannot_read(path: str, reason: str) -> ReadFault:
+    """The fault of a path that can't be read, as a person sees the path."""
+    return ReadFault(f"cannot read {printable(path)}: {reason}")
+
+
+def cannot_write(path: str, reason: str) -> WriteFault:
+    """The fault of a path that can't be written, as a person sees the path."""
+    return WriteFault(f"cannot write {printable(path)}: {reason}")
+
+
+def reason_of(error: OSError) -> str:
+    """The system's words for an error."""
+    return error.strerror or str(error)
+
+
+@contextlib.contextmanager
+def reading(path: str) -> Iterator[None]:
+    """Tells an error of the system inside as one of reading this path."""
+    try:
+        yield
+    except OSError as error:
+        raise cannot_read(path, reason_of(error)) from error
+
+
+@contextlib.contextmanager
+def writing(path: str) -> Iterator[None]:
+    """Tells an error of the system inside as one of writing this path."""
+    try:
+        yield
+    except PermissionError as error:
+        hint = "" if os.geteuid() == 0 else "; owners, devices and trusted.* attributes need root"
+        raise cannot_write(path, reason_of(error) + hint) from error
+    except OSError as error:
+        raise cannot_write(path, reason_of(error)) from error

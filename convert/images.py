@@ -1,0 +1,248 @@
+"""Images: OCI image layouts, and what `docker save` writes."""
+
+import contextlib
+import hashlib
+import io
+import json
+import re
+from collections.abc import Iterator, Sequence
+from dataclasses import dataclass
+from typing import Any
+
+from .contents import PIECE
+from .faults import ReadFault, cannot_read
+from .members import Members, opened_members
+from .progress import Progress
+from .streams import Slice
+
+_DIGEST = re.compile(r"(sha256|sha384|sha512):([0-9a-f]{64,128})\Z")
+_MAX_DOCUMENT = 1 << 23
+_MAX_DEPTH = 4
+_INDEXES = (
+    "application/vnd.oci.image.index.v1+json",
+    "application/vnd.docker.distribution.manifest.list.v2+json",
+)
+_REF_NAME = "org.opencontainers.image.ref.name"
+_FULL_NAME = "io.containerd.image.name"
+_ATTESTATION = "vnd.docker.reference.type"
+
+
+@dataclass(frozen=True)
+class ImageLayer:
+    """The archive of a layer; its bytes are those of its digest in the image's manifest."""
+
+    name: str
+    path: str
+    part: Slice
+    unpacked_digest: tuple[str, str] | None
+
+
+@dataclass(frozen=True)
+class _Choice:
+    """One of the images that a layout has."""
+
+    digest: str
+    platform: str
+    names: tuple[str, ...]
+
+    def matches(self, platform: str | None, tag: str | None) -> bool:
+        """Whether it is meant by what a person asked for."""
+        is_platform = platform is None or self.platform == platform or self.platform.startswith(platform + "/")
+        return is_platform and (tag is None or tag in self.names)
+
+    def __str__(self) -> str:
+        return " ".join([self.platform, *self.names])
+
+
+@contextlib.contextmanager
+def opened_image(path: str, platform: str | None, tag: str | None) -> Iterator[Sequence[ImageLayer]]:
+    """The layers of an image, the lowest first."""
+    with opened_members(path) as members:
+        if members.size("index.json") is not None:
+            yield _Layout(members).layers(platform, tag)
+        elif members.size("manifest.json") is not None:
+            yield _saved_layers(members, platform, tag)
+        else:
+            raise cannot_read(
+                path, "it is no image: neither index.json (OCI image layout) nor manifest.json (docker save) is there"
+            )
+
+
+def _document(members: Members, name: str) -> Any:
+    part = members.part(name)
+    data = io.BufferedReader(part).read(_MAX_DOCUMENT + 1)
+    if len(data) > _MAX_DOCUMENT:
+        raise cannot_read(f"{members.path}/{name}", f"it has over {_MAX_DOCUMENT:,} bytes")
+    try:
+        return json.loads(data)
+    except (ValueError, RecursionError):
+        raise cannot_read(f"{members.path}/{name}", "it isn't JSON") from None
+
+
+@contextlib.contextmanager
+def _shaped(members: Members, name: str) -> Iterator[None]:
+    """Tells a member that isn't there, or of another shape, as a fault of this document."""
+    try:
+        yield
+    except (KeyError, TypeError, AttributeError, IndexError, ValueError):
+        raise cannot_read(f"{members.path}/{name}", "it has a wrong shape") from None
+
+
+def _digest_parts(digest: Any) -> tuple[str, str]:
+    found = _DIGEST.match(digest)
+    if not found:
+        raise ValueError(digest)
+    return found[1], found[2]
+
+
+class _Layout:
+    """An OCI image layout."""
+
+    def __init__(self, members: Members) -> None:
+        self._members = members
+
+    def layers(self, platform: str | None, tag: str | None) -> list[ImageLayer]:
+        """The layers of the one image that is meant."""
+        choices = self._choices("index.json", (), None, 0)
+        name = self._blob_name(_one_of(self._members.path, choices, platform, tag).digest)
+        with _shaped(self._members, name):
+            manifest = _document(self._members, name)
+            stated = [(_digest_parts(layer["digest"]), int(layer["size"])) for layer in manifest["layers"]]
+            config = self._blob_name(self._checked(manifest["config"]))
+        digests = _unpacked_digests(self._members, config, len(stated))
+        return [
+            self._layer(digest, size, unpacked) for (digest, size), unpacked in zip(stated, digests)
+        ]
+
+    def _layer(
+        self, digest: tuple[str, str], size: int, unpacked: tuple[str, str] | None
+    ) -> ImageLayer:
+        name = self._blob_name(":".join(digest))
+        path = f"{self._members.path}/{name}"
+        if self._members.size(name) not in (None, size):
+            raise cannot_read(path, f"it has another size than the {size:,} bytes of the image's manifest")
+        self._require_digest(name, digest)
+        return ImageLayer(name, path, self._members.part(name), unpacked)
+
+    def _choices(
+        self, name: str, names: tuple[str, ...], platform: str | None, depth: int
+    ) -> Iterator[_Choice]:
+        """The images of an index, and of those inside of it, whose manifests are there."""
+        if depth > _MAX_DEPTH:
+            raise cannot_read(f"{self._members.path}/{name}", "an index inside too many others")
+        with _shaped(self._members, name):
+            for descriptor in _document(self._members, name)["manifests"]:
+                notes = descriptor.get("annotations") or {}
+                own = tuple(notes[key] for key in (_REF_NAME, _FULL_NAME) if key in notes) or names
+                inner = self._blob_name(descriptor["digest"])
+                if _ATTESTATION in notes or self._members.size(inner) is None:
+                    continue
+                self._checked(descriptor)
+                stated = _platform_of(descriptor.get("platform")) or platform
+                if self._is_index(descriptor, inner):
+                    yield from self._choices(inner, own, stated, depth + 1)
+                else:
+                    yield _Choice(descriptor["digest"], stated or self._config_platform(inner), own)
+
+    def _is_index(self, descriptor: dict[str, Any], name: str) -> bool:
+        kind = descriptor.get("mediaType") or _document(self._members, name).get("mediaType")
+        return kind in _INDEXES
+
+    def _config_platform(self, name: str) -> str:
+        config = _document(self._members, name)["config"]
+        inner = self._blob_name(config["digest"])
+        if self._members.size(inner) is None:
+            return "unknown"
+        return _platform_of(_document(self._members, inner)) or "unknown"
+
+    def _checked(self, descriptor: dict[str, Any]) -> str:
+        digest: str = descriptor["digest"]
+        self._require_digest(self._blob_name(digest), _digest_parts(digest))
+        return digest
+
+    def _blob_name(self, digest: Any) -> str:
+        algorithm, digits = _digest_parts(digest)
+        return f"blobs/{algorithm}/{digits}"
+
+    def _require_digest(self, name: str, digest: tuple[str, str]) -> None:
+        _require_digest(self._members, name, digest)
+
+
+def _require_digest(members: Members, name: str, digest: tuple[str, str]) -> None:
+    algorithm, wanted = digest
+    found = hashlib.new(algorithm)
+    progress = Progress(f"checking bytes of {name[-20:]}")
+    stream = io.BufferedReader(members.part(name), PIECE)
+    while piece := stream.read(PIECE):
+        found.update(piece)
+        progress.step(len(piece))
+    progress.end()
+    if found.hexdigest() != wanted:
+        raise cannot_read(f"{members.path}/{name}", f"its bytes aren't those of the digest {algorithm}:{wanted}")
+
+
+def _platform_of(value: Any) -> str | None:
+    if not isinstance(value, dict) or not value.get("os") or not value.get("architecture"):
+        return None
+    parts = [str(value["os"]), str(value["architecture"])]
+    return "/".join(parts + ([str(value["variant"])] if value.get("variant") else []))
+
+
+def _one_of(
+    path: str, choices: Iterator[_Choice], platform: str | None, tag: str | None
+) -> _Choice:
+    """The one image that is meant, or a fault that tells those that are there."""
+    by_digest: dict[str, _Choice] = {}
+    for choice in choices:
+        before = by_digest.get(choice.digest)
+        names = (before.names if before else ()) + choice.names
+        by_digest[choice.digest] = _Choice(choice.digest, choice.platform, tuple(dict.fromkeys(names)))
+    fitting = [choice for choice in by_digest.values() if choice.matches(platform, tag)]
+    if len(fitting) == 1:
+        return fitting[0]
+    raise _not_one(path, list(map(str, by_digest.values())), len(fitting))
+
+
+def _not_one(path: str, there: list[str], fitting: int) -> ReadFault:
+    if not there:
+        return cannot_read(path, "it has no image whose manifest is there")
+    which = "none of them is meant" if not fitting else "say which by --platform or --tag"
+    return cannot_read(path, f"it has {len(there)} images ({'; '.join(there)}); {which}")
+
+
+def _unpacked_digests(members: Members, config: str, count: int) -> list[tuple[str, str] | None]:
+    """The digests of the layers' unpacked bytes, which an image's configuration has."""
+    with _shaped(members, config):
+        rootfs = _document(members, config).get("rootfs")
+        if rootfs is None:
+            return [None] * count
+        digests: list[tuple[str, str] | None] = [_digest_parts(digest) for digest in rootfs["diff_ids"]]
+    if len(digests) != count:
+        raise cannot_read(
+            f"{members.path}/{config}", f"it tells digests of {len(digests)} layers, and the manifest has {count}"
+        )
+    return digests
+
+
+def _saved_layers(members: Members, platform: str | None, tag: str | None) -> list[ImageLayer]:
+    """The layers of an image as `docker save` writes it."""
+    with _shaped(members, "manifest.json"):
+        images = [
+            (str(image["Config"]), [str(name) for name in image["Layers"]], tuple(image.get("RepoTags") or ()))
+            for image in _document(members, "manifest.json")
+        ]
+    choices = []
+    for number, (config, _, names) in enumerate(images):
+        with _shaped(members, config):
+            there = _platform_of(_document(members, config)) or "unknown"
+            choices.append(_Choice(str(number), there, names))
+    chosen = _one_of(members.path, iter(choices), platform, tag)
+    config, layers, _ = images[int(chosen.digest)]
+    digits = re.search(r"([0-9a-f]{64})(\.json)?\Z", config)
+    if digits:
+        _require_digest(members, config, ("sha256", digits[1]))
+    digests = _unpacked_digests(members, config, len(layers))
+    return [
+        ImageLayer(name, f"{members.path}/{name}", members.part(name), digest)
+        for name, digest in zip(layers, digests)
+    ]

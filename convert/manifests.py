@@ -1,0 +1,215 @@
+"""The layer manifest, version 1: reading it, and the one text that is written of a layer."""
+
+import json
+import os
+import re
+from collections.abc import Iterable, Iterator
+from json.encoder import encode_basestring
+from typing import Any, NoReturn
+
+from . import rules
+from .entries import BLOCK, CHAR, DIRECTORY, FILE, NO_ATTRIBUTES, SYMLINK, Entry
+from .faults import cannot_read, reading, writing
+from .outputs import write_text
+from .progress import note_path
+
+VERSION = 1
+_BASE = frozenset(["path", "kind", "mode", "uid", "gid", "mtime", "xattrs"])
+_MORE: dict[str, frozenset[str]] = {
+    "dir": frozenset(),
+    "file": frozenset(["size"]),
+    "symlink": frozenset(["target"]),
+    "char": frozenset(["major", "minor"]),
+    "block": frozenset(["major", "minor"]),
+    "fifo": frozenset(),
+    "socket": frozenset(),
+}
+_HEXADECIMAL = re.compile(r"(?:[0-9a-f]{2})*\Z")
+
+
+class _Refused(Exception):
+    """A manifest has this fault, in the program's words."""
+
+
+def read_manifest(path: str) -> list[Entry]:
+    """The entries of a manifest's file, refused as the program refuses it."""
+    with reading(path), open(path, "rb") as file:
+        data = file.read(rules.MAX_MANIFEST_BYTES + 1)
+    if len(data) > rules.MAX_MANIFEST_BYTES:
+        raise cannot_read(path, f"it has over {rules.MAX_MANIFEST_BYTES} bytes")
+    try:
+        return list(parse(data))
+    except _Refused as fault:
+        raise cannot_read(path, str(fault)) from None
+
+
+def parse(data: bytes) -> Iterator[Entry]:
+    """The entries that a manifest states."""
+    members = _value_of(data)
+    if not isinstance(members, dict) or set(members) != {"overlay-layer", "entries"}:
+        raise _Refused("wrong shape")
+    version, stated = members["overlay-layer"], members["entries"]
+    if type(version) is not int or not isinstance(stated, list):
+        raise _Refused("wrong shape")
+    if version != VERSION:
+        raise _Refused("unknown version")
+    if not 1 <= len(stated) <= rules.MAX_ENTRIES:
+        raise _Refused("entry count")
+    directories: set[str] = set()
+    before: tuple[bytes, ...] = ()
+    for number, value in enumerate(stated):
+        entry = _entry_of(value, number)
+        before = _check_place(entry, number, before, directories)
+        yield entry
+
+
+def _whole(text: str) -> int | float:
+    return -0.0 if text == "-0" else int(text)
+
+
+def _refuse_constant(text: str) -> NoReturn:
+    raise ValueError(text)
+
+
+def _value_of(data: bytes) -> Any:
+    try:
+        return json.loads(data.decode(), parse_int=_whole, parse_constant=_refuse_constant)
+    except (ValueError, RecursionError):
+        raise _Refused("not JSON") from None
+
+
+def _check_place(
+    entry: Entry, number: int, before: tuple[bytes, ...], directories: set[str]
+) -> tuple[bytes, ...]:
+    key = rules.path_key(entry.path)
+    if number == 0:
+        if entry.path != "/" or entry.kind != DIRECTORY:
+            raise _Refused("no root directory first")
+    elif not before < key:
+        raise _Refused(f"entry {number}: out of order")
+    elif (entry.path.rpartition("/")[0] or "/") not in directories:
+        raise _Refused(f"entry {number}: no parent directory")
+    if entry.kind == DIRECTORY:
+        directories.add(entry.path)
+    return key
+
+
+def _entry_of(value: Any, number: int) -> Entry:
+    entry = _sound_entry(value)
+    if entry is None:
+        raise _Refused(f"entry {number}: wrong entry")
+    if any(rules.attribute_problem(name) for name in entry.attributes):
+        raise _Refused(f"entry {number}: escaped attribute")
+    return entry
+
+
+def _sound_entry(value: Any) -> Entry | None:
+    """The entry of a JSON value, or nothing where one of its members isn't as it must be."""
+    if not isinstance(value, dict):
+        return None
+    kind = value.get("kind")
+    if not isinstance(kind, str) or kind not in _MORE:
+        return None
+    wanted = _BASE | _MORE[kind]
+    if set(value) - {"blob"} != wanted or not _is_path(value["path"]):
+        return None
+    attributes = _attributes_of(value["xattrs"])
+    if attributes is None or not _numbers_fit(value, kind):
+        return None
+    entry = Entry(
+        value["path"], kind, value["mode"], value["uid"], value["gid"], value["mtime"],
+        attributes or NO_ATTRIBUTES,
+        size=value.get("size", 0),
+        blob=value.get("blob"),
+        target=value.get("target", ""),
+        major=value.get("major", 0),
+        minor=value.get("minor", 0),
+    )
+    if entry.names_contents() != ("blob" in value):
+        return None
+    if "blob" in value and not (isinstance(entry.blob, str) and rules.DIGEST.match(entry.blob)):
+        return None
+    if kind == SYMLINK and not (isinstance(entry.target, str) and not rules.target_problem(entry.target)):
+        return None
+    return entry
+
+
+def _is_path(text: Any) -> bool:
+    if not isinstance(text, str) or not text.startswith("/"):
+        return False
+    if text == "/":
+        return True
+    names = text[1:].split("/")
+    return not any(map(rules.name_problem, names)) and not rules.path_problem(text, len(names))
+
+
+def _attributes_of(value: Any) -> dict[str, bytes] | None:
+    if not isinstance(value, dict):
+        return None
+    attributes: dict[str, bytes] = {}
+    for name, digits in value.items():
+        if not isinstance(digits, str) or not _HEXADECIMAL.match(digits):
+            return None
+        problem = rules.attribute_problem(name)
+        if problem and not name.startswith(rules.ESCAPED):
+            return None
+        attributes[name] = bytes.fromhex(digits)
+    return attributes
+
+
+def _numbers_fit(value: dict[str, Any], kind: str) -> bool:
+    def fits(name: str, least: int, most: int) -> bool:
+        return type(value[name]) is int and least <= value[name] <= most
+
+    return (
+        fits("mode", 0, rules.MAX_MODE)
+        and fits("uid", 0, rules.MAX_NUMBER)
+        and fits("gid", 0, rules.MAX_NUMBER)
+        and fits("mtime", rules.MIN_TIME, rules.MAX_TIME)
+        and (kind != FILE or fits("size", 0, rules.MAX_SIZE))
+        and (
+            kind not in (CHAR, BLOCK)
+            or (fits("major", 0, rules.MAX_NUMBER) and fits("minor", 0, rules.MAX_NUMBER))
+        )
+    )
+
+
+def written(entries: Iterable[Entry]) -> Iterator[str]:
+    """The text of a layer, piece by piece: compact JSON, members sorted by name, and a newline."""
+    yield '{"entries":['
+    before = ""
+    for entry in entries:
+        yield before + _entry_text(entry)
+        before = ","
+    yield f'],"overlay-layer":{VERSION}}}\n'
+
+
+def write_manifest(path: str, entries: Iterable[Entry]) -> None:
+    """Writes the manifest of a layer; says where it is longer than the program reads."""
+    write_text(path, written(entries))
+    with writing(path):
+        size = os.path.getsize(path)
+    if size > rules.MAX_MANIFEST_BYTES:
+        note_path(path, f"it has {size:,} bytes, and ovl_layers reads at most {rules.MAX_MANIFEST_BYTES:,}")
+
+
+def _entry_text(entry: Entry) -> str:
+    blob = f'"blob":"{entry.blob}",' if entry.blob is not None else ""
+    device = f'"major":{entry.major},"minor":{entry.minor},' if entry.kind in (CHAR, BLOCK) else ""
+    size = f'"size":{entry.size},' if entry.kind == FILE else ""
+    target = f'"target":{encode_basestring(entry.target)},' if entry.kind == SYMLINK else ""
+    return (
+        f'{{{blob}"gid":{entry.gid},"kind":"{entry.kind}",{device}"mode":{entry.mode},'
+        f'"mtime":{entry.mtime},"path":{encode_basestring(entry.path)},{size}{target}'
+        f'"uid":{entry.uid},"xattrs":{_attributes_text(entry)}}}'
+    )
+
+
+def _attributes_text(entry: Entry) -> str:
+    if not entry.attributes:
+        return "{}"
+    parts = (
+        f'{encode_basestring(name)}:"{entry.attributes[name].hex()}"'
+        for name in sorted(entry.attributes)
+    )
+    return "{" + ",".join(parts) + "}"

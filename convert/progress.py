@@ -1,0 +1,50 @@
+"""What is told on standard error besides a fault: progress on a terminal, and notes."""
+
+import sys
+import time
+
+from .texts import printable
+
+_EVERY = 0.2
+
+
+class Progress:
+    """A line that counts, rewritten in place; silent where standard error is no terminal."""
+
+    def __init__(self, doing: str, total: int | None = None) -> None:
+        self._doing = doing
+        self._total = "" if total is None else f" of {total:,}"
+        self._count = 0
+        self._is_shown = sys.stderr.isatty()
+        self._next = time.monotonic() + _EVERY
+        self._width = 0
+
+    def step(self, by: int = 1) -> None:
+        """Counts on, and now and then says so."""
+        self._count += by
+        if self._is_shown and time.monotonic() >= self._next:
+            self._next = time.monotonic() + _EVERY
+            line = f"{self._doing}: {self._count:,}{self._total}"
+            self._width = max(self._width, len(line))
+            print(f"\r{line.ljust(self._width)}", end="", file=sys.stderr, flush=True)
+
+    def end(self) -> None:
+        """Takes the line away."""
+        if self._width:
+            print(f"\r{' ' * self._width}\r", end="", file=sys.stderr, flush=True)
+            self._width = 0
+
+
+def note(text: str) -> None:
+    """Tells something that doesn't end the command."""
+    print(f"layers: {text}", file=sys.stderr)
+
+
+def note_path(path: str, text: str) -> None:
+    """Tells something about a path that doesn't end the command."""
+    note(f"{printable(path)}: {text}")
+
+
+def counted(count: int, one: str, many: str) -> str:
+    """`1 hard link`, `2 hard links`."""
+    return f"{count:,} {one if count == 1 else many}"

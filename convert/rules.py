@@ -1,0 +1,82 @@
+"""The limits of a manifest, and what can't be stated in one."""
+
+import re
+
+from .entries import ESCAPED
+
+MAX_LAYERS = 128
+MAX_ENTRIES = 1_048_576
+MAX_NAMES = 64
+MAX_NAME_BYTES = 255
+MAX_PATH_BYTES = 4_095
+MAX_TARGET_BYTES = 4_095
+MAX_ATTRIBUTE_NAME_BYTES = 255
+MAX_MODE = 0o7777
+MAX_NUMBER = 2**32 - 1
+MAX_SIZE = 2**63 - 1
+MIN_TIME = -(2**63)
+MAX_TIME = 2**63 - 1
+MAX_MANIFEST_BYTES = 268_435_456
+
+DIGEST = re.compile(r"[0-9a-f]{64}\Z")
+
+
+def name_problem(name: str) -> str | None:
+    """Why text isn't a name in a manifest. Bytes that aren't UTF-8 stand as surrogates."""
+    try:
+        length = len(name.encode())
+    except UnicodeEncodeError:
+        return "its name isn't UTF-8"
+    if length == 0:
+        return "its name is empty"
+    if length > MAX_NAME_BYTES:
+        return f"its name has {length} bytes, over {MAX_NAME_BYTES}"
+    if name in (".", ".."):
+        return f"its name is {name}"
+    if "/" in name or "\0" in name:
+        return "its name holds a slash or NUL"
+    return None
+
+
+def path_problem(path: str, depth: int) -> str | None:
+    """Why a path of good names, with this number of them, has no place in a manifest."""
+    if depth > MAX_NAMES:
+        return f"it is {depth} names deep, over {MAX_NAMES}"
+    length = len(path.encode())
+    if length > MAX_PATH_BYTES:
+        return f"its path has {length} bytes, over {MAX_PATH_BYTES}"
+    return None
+
+
+def attribute_problem(name: str) -> str | None:
+    """Why an attribute of this name can't be stated."""
+    try:
+        length = len(name.encode())
+    except UnicodeEncodeError:
+        return "the name of an attribute isn't UTF-8"
+    if not 1 <= length <= MAX_ATTRIBUTE_NAME_BYTES or "\0" in name:
+        return f"the name of an attribute isn't 1 to {MAX_ATTRIBUTE_NAME_BYTES} bytes without NUL"
+    if name.startswith(ESCAPED):
+        return f"it has the attribute {name}, of an overlay inside another"
+    return None
+
+
+def target_problem(target: str) -> str | None:
+    """Why a symlink with this target can't be stated."""
+    try:
+        length = len(target.encode())
+    except UnicodeEncodeError:
+        return "its target isn't UTF-8"
+    if not 1 <= length <= MAX_TARGET_BYTES or "\0" in target:
+        return f"its target isn't 1 to {MAX_TARGET_BYTES} bytes without NUL"
+    return None
+
+
+def number_problem(what: str, number: int, least: int, most: int) -> str | None:
+    """Why a number can't be stated."""
+    return None if least <= number <= most else f"its {what} {number} isn't in {least} to {most}"
+
+
+def path_key(path: str) -> tuple[bytes, ...]:
+    """Paths in path order: name by name as bytes, a path before everything below it."""
+    return tuple(path.encode().split(b"/")[1:]) if path != "/" else ()

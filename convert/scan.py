@@ -1,0 +1,200 @@
+"""`scan`: a layer's folder as a manifest and blobs."""
+
+import os
+import stat
+from collections.abc import Iterator, Mapping, Sequence
+from dataclasses import dataclass
+
+from . import rules
+from .attributes import Unstated, marks_from_user, read_attributes, require_trusted
+from .blobs import BlobStore, BlobWriter
+from .entries import BLOCK, CHAR, DIRECTORY, FILE, NO_ATTRIBUTES, SYMLINK, Entry, is_whiteout
+from .faults import cannot_read, reading, reason_of
+from .manifests import write_manifest
+from .places import Chain, open_root
+from .progress import Progress, counted, note, note_path
+from .shares import give_blobs
+from .walks import ONE_SECOND, Found, walk
+
+_READ = os.O_RDONLY | os.O_NOFOLLOW | os.O_NONBLOCK | os.O_CLOEXEC
+
+
+@dataclass(frozen=True)
+class ScanOptions:
+    """What the words of `scan` say."""
+
+    folder: str
+    out: str
+    blobs: str
+    userxattr: bool = False
+    cross_file_systems: bool = False
+    skip_unsupported: bool = False
+    workers: int = 1
+
+
+@dataclass
+class Losses:
+    """What a manifest doesn't state, counted as it is met."""
+
+    cut_times: int = 0
+    hard_links: int = 0
+    left_out: int = 0
+
+    def tell(self) -> None:
+        """Says what was lost, where anything was."""
+        if self.cut_times:
+            note(f"{counted(self.cut_times, 'time', 'times')} cut to whole seconds")
+        if self.hard_links:
+            note(
+                counted(self.hard_links, "name of a hard link, now a file", "names of hard links, now files")
+                + " with the same contents"
+            )
+        if self.left_out:
+            note(f"{counted(self.left_out, 'thing', 'things')} left out")
+
+
+def scan(options: ScanOptions) -> None:
+    """Writes the manifest of a folder, and the contents of its files."""
+    if not options.userxattr:
+        require_trusted(options.folder)
+    losses = Losses()
+    with reading(options.folder):
+        root = open_root(options.folder)
+    try:
+        entries = Survey(options, losses).entries(root)
+        _store_contents(options, root, entries)
+    finally:
+        os.close(root)
+    write_manifest(options.out, entries)
+    losses.tell()
+
+
+class Survey:
+    """The first pass: every entry but for its blob, so that a refusal comes before anything is written."""
+
+    def __init__(self, options: ScanOptions, losses: Losses) -> None:
+        self._options = options
+        self._losses = losses
+
+    def entries(self, root: int) -> list[Entry]:
+        """The entries of an open folder, in path order."""
+        entries: list[Entry] = []
+        progress = Progress("looking at entries")
+        for found in walk(root, self._options.folder, self._options.cross_file_systems):
+            if len(entries) == rules.MAX_ENTRIES:
+                self._leave_out(found, f"the folder has over {rules.MAX_ENTRIES:,} entries")
+                break
+            problem = _place_problem(found)
+            entry = None if problem else self._entry(found)
+            if entry is None:
+                self._leave_out(found, problem or "")
+                continue
+            if found.is_other_system and not found.enter:
+                note_path(self._options.folder + found.path, "another file system, not entered")
+            entries.append(entry)
+            progress.step()
+        progress.end()
+        return entries
+
+    def _entry(self, found: Found) -> Entry | None:
+        """The entry of what was found, or nothing where it was left out."""
+        status = found.status
+        seconds, below = divmod(status.st_mtime_ns, ONE_SECOND)
+        entry = Entry(
+            found.path, found.kind, stat.S_IMODE(status.st_mode), status.st_uid, status.st_gid, seconds,
+            self._attributes(found),
+        )
+        if found.kind == SYMLINK:
+            with reading(self._path(found)):
+                entry.target = found.target()
+            problem = rules.target_problem(entry.target)
+            if problem:
+                self._leave_out(found, problem)
+                return None
+        elif found.kind in (CHAR, BLOCK):
+            entry.major, entry.minor = os.major(status.st_rdev), os.minor(status.st_rdev)
+        elif found.kind == FILE:
+            entry.size = status.st_size
+        self._losses.cut_times += below != 0
+        # The kernel links the whiteouts of a mount to one another, which nothing shows.
+        is_linked = found.kind != DIRECTORY and status.st_nlink > 1
+        self._losses.hard_links += is_linked and not is_whiteout(entry)
+        return entry
+
+    def _attributes(self, found: Found) -> Mapping[str, bytes]:
+        try:
+            attributes = read_attributes(found.place())
+        except OSError as error:
+            raise cannot_read(self._path(found), reason_of(error)) from error
+        if not attributes:
+            return NO_ATTRIBUTES
+        if self._options.userxattr:
+            try:
+                attributes = marks_from_user(attributes)
+            except Unstated as problem:
+                raise cannot_read(self._path(found), problem.text) from None
+        for name in list(attributes):
+            problem = rules.attribute_problem(name)
+            if problem:
+                self._refuse_or_note(found, problem)
+                attributes = {kept: value for kept, value in attributes.items() if kept != name}
+        return attributes
+
+    def _leave_out(self, found: Found, problem: str) -> None:
+        self._refuse_or_note(found, problem)
+        found.enter = False
+
+    def _refuse_or_note(self, found: Found, problem: str) -> None:
+        if not self._options.skip_unsupported:
+            raise cannot_read(self._path(found), problem)
+        note_path(self._path(found), f"left out: {problem}")
+        self._losses.left_out += 1
+
+    def _path(self, found: Found) -> str:
+        return self._options.folder + (found.path if found.depth else "")
+
+
+def _place_problem(found: Found) -> str | None:
+    if found.depth == 0:
+        return None
+    return rules.name_problem(found.name) or rules.path_problem(found.path, found.depth)
+
+
+def _store_contents(options: ScanOptions, root: int, entries: list[Entry]) -> None:
+    """The second pass: gives each file with contents its blob."""
+    files = [entry for entry in entries if entry.size and entry.names_contents()]
+    progress = Progress("reading files", len(files))
+
+    with BlobStore(options.blobs) as store:
+
+        def job(share: Sequence[Entry]) -> Iterator[str]:
+            chain, writer = Chain(root), store.writer()
+            try:
+                for entry in share:
+                    yield _stored(options.folder, chain, writer, entry)
+            finally:
+                writer.close()
+                chain.close()
+
+        try:
+            give_blobs(files, options.workers, job, progress.step)
+        finally:
+            progress.end()
+
+
+def _stored(folder: str, chain: Chain, writer: BlobWriter, entry: Entry) -> str:
+    path = folder + entry.path
+    *names, name = entry.path[1:].split("/")
+    file = -1
+    try:
+        file = os.open(name, _READ, dir_fd=chain.folder(names))
+        is_regular = stat.S_ISREG(os.fstat(file).st_mode)
+        digest = writer.put(file, entry.size) if is_regular else None
+    except OSError as error:
+        raise cannot_read(path, reason_of(error)) from error
+    finally:
+        if file >= 0:
+            os.close(file)
+    if digest is None:
+        raise cannot_read(path, "it was changed meanwhile")
+    return digest

@@ -1,0 +1,175 @@
+"""The bytes of a layer: unpacked, with their digest, whatever it was packed with."""
+
+import contextlib
+import hashlib
+import io
+import os
+import shutil
+import subprocess
+import threading
+import zlib
+from collections.abc import Iterator
+from typing import IO, Protocol
+
+from .contents import PIECE
+from .faults import cannot_read
+from .tar_headers import TarFault
+
+_GZIP = b"\x1f\x8b"
+_GZIP_WINDOW = 31  # zlib's number for a gzip header and trailer
+_GZIP_PIECE = 1 << 14
+_ZSTD = b"\x28\xb5\x2f\xfd"
+_OTHERS = {b"BZh": "bzip2", b"\xfd7zXZ\0": "xz"}
+_PEEK = 6
+
+
+class Source(Protocol):
+    """Bytes in order; none only at the end."""
+
+    def read(self, count: int, /) -> bytes: ...
+
+
+class Slice(io.RawIOBase):
+    """A part of a file, for reading; the file's own place isn't used."""
+
+    def __init__(self, file: int, begin: int, size: int) -> None:
+        super().__init__()
+        self._file = file
+        self.place = begin
+        self._end = begin + size
+
+    def readable(self) -> bool:
+        """It is."""
+        return True
+
+    def readinto(self, buffer: memoryview) -> int:  # type: ignore[override]
+        """Reads what fits."""
+        data = os.pread(self._file, min(len(buffer), self._end - self.place), self.place)
+        buffer[:len(data)] = data
+        self.place += len(data)
+        return len(data)
+
+
+class SeekingSlice(Slice):
+    """A part of a file that is read here and there."""
+
+    def skip(self, count: int, /) -> None:
+        """Passes bytes over."""
+        if self.place + count > self._end:
+            raise TarFault("the archive ends too early")
+        self.place += count
+
+
+class Gunzip(io.RawIOBase):
+    """The bytes of a gzip stream, of all its members; zeros may stand after the last one."""
+
+    def __init__(self, packed: io.BufferedReader) -> None:
+        super().__init__()
+        self._packed = packed
+        self._member = zlib.decompressobj(_GZIP_WINDOW)
+        self._input = b""
+
+    def readable(self) -> bool:
+        """It is."""
+        return True
+
+    def readinto(self, buffer: memoryview) -> int:  # type: ignore[override]
+        """Unpacks what fits, never more."""
+        while True:
+            if self._member.eof:
+                self._input = self._member.unused_data or self._packed.read(_GZIP_PIECE)
+                if not self._input.strip(b"\0"):
+                    if not self._input:
+                        return 0
+                    self._input = self._packed.read(_GZIP_PIECE)
+                    if not self._input:
+                        return 0
+                self._member = zlib.decompressobj(_GZIP_WINDOW)
+            data = self._member.decompress(self._input, len(buffer))
+            self._input = self._member.unconsumed_tail
+            if data:
+                buffer[:len(data)] = data
+                return len(data)
+            if not self._member.eof and not self._input:
+                self._input = self._packed.read(_GZIP_PIECE)
+                if not self._input:
+                    raise EOFError("it ends too early")
+
+
+class Digesting(io.RawIOBase):
+    """Reads from a stream and digests all that is read."""
+
+    def __init__(self, stream: Source, algorithm: str) -> None:
+        super().__init__()
+        self._stream = stream
+        self.digest = hashlib.new(algorithm)
+
+    def readable(self) -> bool:
+        """It is."""
+        return True
+
+    def readinto(self, buffer: memoryview) -> int:  # type: ignore[override]
+        """Reads what fits."""
+        data = self._stream.read(len(buffer))
+        buffer[:len(data)] = data
+        self.digest.update(data)
+        return len(data)
+
+
+def buffered(stream: Source) -> Source:
+    """A stream that gives as many bytes as are asked for, fewer at the end."""
+    return io.BufferedReader(stream, PIECE) if isinstance(stream, io.RawIOBase) else stream
+
+
+@contextlib.contextmanager
+def unpacked(part: Slice, name: str) -> Iterator[Source]:
+    """The bytes of a layer's archive. Tells what is wrong with its packing as a fault of this name."""
+    packed = io.BufferedReader(part, PIECE)
+    head = packed.peek(_PEEK)[:_PEEK]
+    try:
+        if head.startswith(_GZIP):
+            yield Gunzip(packed)
+        elif head.startswith(_ZSTD):
+            with _by_zstd(packed, name) as stream:
+                yield stream
+        else:
+            for magic, program in _OTHERS.items():
+                if head.startswith(magic):
+                    raise cannot_read(name, f"it is packed by {program}, which images don't have")
+            yield packed
+    except (EOFError, zlib.error) as error:
+        raise cannot_read(name, f"its gzip stream is broken: {error}") from error
+    except TarFault as error:
+        raise cannot_read(name, str(error)) from error
+
+
+@contextlib.contextmanager
+def _by_zstd(packed: io.BufferedReader, name: str) -> Iterator[Source]:
+    program = shutil.which("zstd")
+    if program is None:
+        raise cannot_read(name, "it is packed by zstd, and there is no zstd program; install zstd")
+    command = [program, "--decompress", "--stdout", "--quiet"]
+    process = subprocess.Popen(
+        command, stdin=subprocess.PIPE, stdout=subprocess.PIPE, stderr=subprocess.DEVNULL
+    )
+    assert process.stdin is not None and process.stdout is not None
+    feeder = threading.Thread(target=_feed, args=(packed, process.stdin), daemon=True)
+    feeder.start()
+    is_read = False
+    try:
+        yield process.stdout
+        is_read = True
+    finally:
+        process.stdout.close()
+        if not is_read:
+            process.kill()
+        status = process.wait()
+        feeder.join()
+    if status != 0:
+        raise cannot_read(name, "its zstd stream is broken")
+
+
+def _feed(packed: io.BufferedReader, program: IO[bytes]) -> None:
+    """Writes all packed bytes to the program; one that ends early needs no more."""
+    with contextlib.suppress(BrokenPipeError), program:
+        shutil.copyfileobj(packed, program, PIECE)

@@ -1,0 +1,169 @@
+"""The headers of tar archives: ustar, GNU's long names and numbers, and PAX records."""
+
+from dataclasses import dataclass, field
+
+BLOCK_BYTES = 512
+REGULAR_TYPES = b"\0" b"07"
+HARD_LINK = b"1"
+SYMLINK = b"2"
+CHAR = b"3"
+BLOCK = b"4"
+DIRECTORY = b"5"
+FIFO = b"6"
+PAX = b"x"
+PAX_GLOBAL = b"g"
+GNU_LONG_NAME = b"L"
+GNU_LONG_TARGET = b"K"
+
+XATTR_RECORD = b"SCHILY.xattr."
+_SPARSE_RECORD = b"GNU.sparse."
+_MAX_RECORDS = 1 << 20  # bytes of PAX records or of a long name; real ones have a few thousand
+
+
+class TarFault(Exception):
+    """The bytes aren't a tar archive that can be read."""
+
+
+@dataclass(slots=True)
+class Header:
+    """An entry of an archive, before its data."""
+
+    name: bytes
+    type: bytes
+    mode: int
+    uid: int
+    gid: int
+    size: int
+    mtime: int
+    target: bytes
+    major: int
+    minor: int
+    attributes: dict[bytes, bytes] = field(default_factory=dict)
+    cut_time: bool = False
+    is_sparse: bool = False
+
+
+def parse_header(block: bytes) -> Header | None:
+    """The header in a block of 512 bytes; nothing for a block of zeros."""
+    if not any(block):
+        return None
+    stated = _number(block[148:156])
+    if stated != 256 + sum(block[:148]) + sum(block[156:]):
+        raise TarFault("a header has a wrong checksum")
+    kind = block[156:157]
+    name = _text(block[0:100])
+    if block[257:263] == b"ustar\0" and block[345]:
+        name = _text(block[345:500]) + b"/" + name
+    is_old = block[257:262] != b"ustar"
+    return Header(
+        name=name, type=kind, mode=_number(block[100:108]) & 0o7777, uid=_number(block[108:116]),
+        gid=_number(block[116:124]), size=_number(block[124:136]), mtime=_number(block[136:148]),
+        target=_text(block[157:257]), major=0 if is_old else _number(block[329:337]),
+        minor=0 if is_old else _number(block[337:345]), is_sparse=kind == b"S",
+    )
+
+
+def _text(data: bytes) -> bytes:
+    return data.split(b"\0", 1)[0]
+
+
+def _number(data: bytes) -> int:
+    """Octal digits, or GNU's two's complement in base 256 where the first bit is set."""
+    if data[0] & 0x80:
+        negative = data[0] & 0x40
+        value = int.from_bytes(bytes([data[0] & 0x7F]) + data[1:], "big")
+        return value - (1 << (8 * len(data) - 1)) if negative else value
+    digits = data.split(b"\0", 1)[0].strip(b" ")
+    if digits.strip(b"01234567"):
+        raise TarFault("a number in a header isn't octal")
+    return int(digits, 8) if digits else 0
+
+
+def check_records_size(size: int) -> None:
+    """Refuses records that no honest archive has, before they are read."""
+    if not 0 <= size <= _MAX_RECORDS:
+        raise TarFault(f"a header of {size} bytes")
+
+
+def parse_records(data: bytes) -> dict[bytes, bytes]:
+    """PAX records: each its length, a space, `KEY=VALUE` and a newline. Later ones count."""
+    records: dict[bytes, bytes] = {}
+    place = 0
+    while place < len(data):
+        space = data.find(b" ", place, place + 20)
+        digits = data[place:space] if space > 0 else b""
+        if not digits.isdigit():
+            raise TarFault("a PAX record without its length")
+        end = place + int(digits)
+        record = data[space + 1:end - 1]
+        if end > len(data) or end <= space + 1 or data[end - 1:end] != b"\n" or b"=" not in record:
+            raise TarFault("a PAX record of a wrong length")
+        key, value = record.split(b"=", 1)
+        records[key] = value
+        place = end
+    return records
+
+
+def apply_records(header: Header, records: dict[bytes, bytes]) -> None:
+    """What PAX records say in place of a header's fields."""
+    for key, value in records.items():
+        if key == b"path":
+            header.name = value
+        elif key == b"linkpath":
+            header.target = value
+        elif key == b"size":
+            header.size = _decimal(value)
+        elif key == b"uid":
+            header.uid = _decimal(value)
+        elif key == b"gid":
+            header.gid = _decimal(value)
+        elif key == b"mtime":
+            header.mtime, header.cut_time = _seconds(value)
+        elif key.startswith(XATTR_RECORD):
+            header.attributes[key[len(XATTR_RECORD):]] = value
+        elif key.startswith(_SPARSE_RECORD):
+            header.is_sparse = True
+
+
+def _decimal(value: bytes) -> int:
+    digits = value[1:] if value[:1] == b"-" else value
+    if not digits.isdigit() or len(digits) > 30:
+        raise TarFault("a number in a PAX record isn't decimal")
+    return int(value)
+
+
+def _seconds(value: bytes) -> tuple[int, bool]:
+    """Whole seconds, towards the past, and whether something was cut."""
+    whole, _, below = value.partition(b".")
+    if below.strip(b"0123456789"):
+        raise TarFault("a time in a PAX record isn't decimal")
+    is_cut = bool(below.strip(b"0"))
+    seconds = _decimal(whole if whole not in (b"", b"-") else whole + b"0")
+    return seconds - (is_cut and whole.startswith(b"-")), is_cut
+
+
+def pax_record(key: bytes, value: bytes) -> bytes:
+    """One PAX record with its own length before it."""
+    rest = len(key) + len(value) + 3
+    length = rest + len(str(rest))
+    length = rest + len(str(length))
+    return b"%d %s=%s\n" % (length, key, value)
+
+
+def header_block(header: Header) -> bytes:
+    """A ustar header; the name and the target are cut to what it has place for."""
+    fields = (
+        header.name[:100].ljust(100, b"\0"), _octal(header.mode, 8), _octal(header.uid, 8),
+        _octal(header.gid, 8), _octal(header.size, 12), _octal(header.mtime, 12), b" " * 8, header.type,
+        header.target[:100].ljust(100, b"\0"), b"ustar\0" b"00", bytes(64), _octal(header.major, 8),
+        _octal(header.minor, 8), bytes(167),
+    )
+    block = b"".join(fields)
+    return block[:148] + b"%06o\0 " % sum(block) + block[156:]
+
+
+def _octal(number: int, width: int) -> bytes:
+    """Octal digits, or base 256 where they have no place."""
+    if 0 <= number < 8 ** (width - 1):
+        return b"%0*o\0" % (width - 1, number)
+    return bytes([0xFF if number < 0 else 0x80]) + (number % (1 << (8 * (width - 1)))).to_bytes(width - 1, "big")

@@ -1,0 +1,377 @@
+"""The command line: statuses, fault lines, and what is refused before anything is written."""
+
+import contextlib
+import errno
+import hashlib
+import json
+import os
+import shutil
+import signal
+import socket
+import subprocess
+import sys
+import time
+import unittest
+from unittest import mock
+
+from support import COMMAND, ROOT, FolderTest, call, run
+
+from convert import places
+from convert.entries import Entry
+from convert.manifests import read_manifest
+
+_AS_ANYBODY = """
+import os, sys
+sys.path.insert(0, sys.argv[1])
+from convert.command import main
+if os.geteuid() == 0:
+    os.setgid(65534)
+    os.setuid(65534)
+sys.exit(main(sys.argv[2:]))
+"""
+A = hashlib.sha256(b"a").hexdigest()
+
+
+def _clone(target: int, _: int, source: int) -> None:
+    """What the system does for a reflink, on a file system that has none."""
+    os.pwrite(target, os.pread(source, 1 << 30, 0), 0)
+
+
+class CommandTest(FolderTest):
+    """A test with a manifest of one file."""
+
+    def write_manifest(self, *entries: dict[str, object]) -> str:
+        """A manifest of a root and these entries, with the blob of `a`."""
+        base = {"kind": "dir", "mode": 493, "uid": os.geteuid(), "gid": os.getegid(), "mtime": 0, "xattrs": {}}
+        with open(self.path("l.json"), "w", encoding="utf-8") as file:
+            whole = [{**base, "path": "/"}, *({**base, **entry} for entry in entries)]
+            json.dump({"overlay-layer": 1, "entries": whole}, file)
+        os.makedirs(self.path("blobs"), exist_ok=True)
+        with open(self.path("blobs", A), "wb") as blob:
+            blob.write(b"a")
+        return self.path("l.json")
+
+
+class Words(FolderTest):
+    """Usage and help."""
+
+    def test_usage(self) -> None:
+        for words in (
+            (), ("dance",), ("scan",), ("scan", "x"), ("build", "x", "--out", "y"), ("mounted",), ("--he",),
+            ("scan", "x", "--out", "y", "--blobs", "z", "--workers", "0"), ("pack", "--blobs", "b", "--out", "o"),
+            ("pack", "l", "--blobs", "b", "--out", "o", "--platform", "linux"),
+        ):
+            status, printed, told = call(*words)
+            self.assertEqual((status, printed), (2, ""), words)
+            self.assertTrue(told.startswith("usage: layers"), told)
+
+    def test_help(self) -> None:
+        for words in (("--help",), *((name, "-h") for name in ("scan", "build", "unpack", "pack", "mounted"))):
+            status, printed, told = call(*words)
+            self.assertEqual((status, told), (0, ""))
+            self.assertTrue(printed.startswith("usage: layers"))
+
+    def test_as_a_program(self) -> None:
+        result = run("mounted", self.path("absent"))
+        text = f"layers: cannot read {self.path('absent')}: No such file or directory\n"
+        self.assertEqual((result.returncode, result.stdout), (3, ""))
+        self.assertTrue(result.stderr.endswith(text), result.stderr)
+
+
+class Building(CommandTest):
+    """`build`."""
+
+    def test_contents_are_checked(self) -> None:
+        layer = self.write_manifest({"path": "/f", "kind": "file", "size": 1, "blob": A})
+        words = ("build", layer, "--blobs", self.path("blobs"), "--out", self.path("out"))
+        blob = self.path("blobs", A)
+        for contents, reason in (
+            (b"b", "its contents have another digest"), (b"ab", "it has 2 bytes"), (None, "No such file"),
+        ):
+            os.unlink(blob)
+            if contents is not None:
+                with open(blob, "wb") as file:
+                    file.write(contents)
+            self.require_fault(call(*words), 3, f"cannot read {blob}: {reason}")
+            self.require_nothing_left("blobs", "l.json")
+            if contents is None:
+                os.symlink("/dev/null", blob)
+        self.require_fault(call(*words), 3, f"cannot read {blob}")
+
+    def test_folder_must_be_empty(self) -> None:
+        layer = self.write_manifest({"path": "/f", "kind": "file", "size": 1, "blob": A})
+        words = ("build", layer, "--blobs", self.path("blobs"), "--out")
+        os.mkdir(self.path("out"))
+        self.require_done(call(*words, self.path("out")))
+        self.require_fault(call(*words, self.path("out")), 4, "cannot write", "it isn't empty")
+        self.require_fault(call(*words, self.path("l.json")), 4, "Not a directory")
+        self.require_fault(call(*words, self.path("no", "out")), 4, "No such file")
+        self.assertEqual(os.listdir(self.path("out")), ["f"])
+
+    def test_what_linux_has_not(self) -> None:
+        for entry, reason in (
+            ({"kind": "symlink", "target": "x", "mode": 0o755}, "a symlink of mode 0755"),
+            ({"kind": "char", "major": 4096, "minor": 0}, "a device 4096:0"),
+            ({"uid": 2**32 - 1}, "an owner or group 4294967295"),
+            ({"kind": "fifo", "xattrs": {"user.k": ""}}, "attribute user.k"),
+        ):
+            layer = self.write_manifest({"path": "/x", **entry})
+            result = call("build", layer, "--blobs", self.path("blobs"), "--out", self.path("out"))
+            self.require_fault(result, 4, f"cannot write {self.path('out')}/x: {reason}")
+            self.require_nothing_left("blobs", "l.json")
+
+
+class Scanning(CommandTest):
+    """`scan`. Without the right to read `trusted.*` by `--userxattr`."""
+
+    def scan(self, *words: object) -> tuple[int, str, str]:
+        """Scans the folder `in`."""
+        out, blobs = self.path("out.json"), self.path("blobs")
+        return call("scan", self.path("in"), "--out", out, "--blobs", blobs, "--userxattr", *words)
+
+    def paths(self) -> list[str]:
+        """The paths of the manifest that was written."""
+        return [entry.path for entry in read_manifest(self.path("out.json"))]
+
+    def test_links_are_not_followed(self) -> None:
+        os.makedirs(self.path("in", "d"))
+        os.symlink("/etc", self.path("in", "etc"))
+        os.symlink("absent", self.path("in", "d", "l"))
+        self.require_done(self.scan())
+        self.assertEqual(self.paths(), ["/", "/d", "/d/l", "/etc"])
+
+    def test_unsupported_names(self) -> None:
+        os.mkdir(self.path("in"))
+        bad = os.fsencode(self.path("in")) + b"/\xff"
+        os.mkdir(bad)
+        os.mkdir(bad + b"/inner")
+        self.require_fault(self.scan(), 3, f"cannot read {self.path('in')}/\\xff: its name isn't UTF-8")
+        self.require_nothing_left("in")
+        result = self.scan("--skip-unsupported")
+        self.require_done(result)
+        self.assertIn("\\xff: left out: its name isn't UTF-8", result[2])
+        self.assertEqual(self.paths(), ["/"])
+
+    def test_depth(self) -> None:
+        os.makedirs(self.path("in", *["d"] * 65))
+        self.require_fault(self.scan(), 3, "it is 65 names deep, over 64")
+        self.require_nothing_left("in")
+        self.require_done(self.scan("--skip-unsupported"))
+        self.assertEqual(len(self.paths()), 65)
+
+    def test_the_number_of_entries(self) -> None:
+        os.makedirs(self.path("in", "a", "b"))
+        os.mkdir(self.path("in", "c"))
+        with mock.patch("convert.rules.MAX_ENTRIES", 3):
+            self.require_fault(self.scan(), 3, "/c: the folder has over 3 entries")
+            self.require_nothing_left("in")
+            self.require_done(self.scan("--skip-unsupported"))
+            self.assertEqual(self.paths(), ["/", "/a", "/a/b"])
+        with mock.patch("convert.rules.MAX_ENTRIES", 4):
+            self.require_done(self.scan())
+
+    def test_a_folder_that_becomes_a_link(self) -> None:
+        os.makedirs(self.path("in", "d"))
+        os.symlink("d", self.path("in", "l"))
+        root = places.open_root(self.path("in"))
+        try:
+            os.close(places.open_folder("d", root))
+            self.assertRaises(OSError, places.open_folder, "l", root)
+            self.assertRaises(OSError, places.Chain(root).folder, ["l"])
+        finally:
+            os.close(root)
+
+    def test_a_file_that_changes(self) -> None:
+        os.mkdir(self.path("in"))
+        with open(self.path("in", "f"), "wb") as file:
+            file.write(b"abc")
+        for size in (2, 4, 1 << 20):
+            with mock.patch("convert.scan.Survey.entries") as entries:
+                entries.return_value = [Entry("/", "dir", 0), Entry("/f", "file", 0, size=size)]
+                self.require_fault(self.scan(), 3, "/in/f: it was changed meanwhile")
+            self.require_nothing_left("in")
+
+    def test_ways_of_copying(self) -> None:
+        os.mkdir(self.path("in"))
+        wanted = {}
+        for number, size in enumerate((1, 5_000, (1 << 18) + 1, 1_000_000, 1_000_000)):
+            data = bytes([number % 4]) * size
+            wanted[hashlib.sha256(data).hexdigest()] = data
+            with open(self.path("in", str(number)), "wb") as file:
+                file.write(data)
+        refused = OSError(errno.EXDEV, "")
+        for patches in (
+            [], [mock.patch("fcntl.ioctl", _clone)], [mock.patch("os.copy_file_range", side_effect=refused)],
+        ):
+            with contextlib.ExitStack() as patched:
+                for patch in patches:
+                    patched.enter_context(patch)
+                self.require_done(self.scan("--workers", 1))
+            self.assertEqual(sorted(os.listdir(self.path("blobs"))), sorted(wanted))
+            for digest, data in wanted.items():
+                with open(self.path("blobs", digest), "rb") as blob:
+                    self.assertEqual(blob.read(), data)
+            shutil.rmtree(self.path("blobs"))
+
+    def test_a_blob_of_a_wrong_size_is_mended(self) -> None:
+        os.mkdir(self.path("in"))
+        with open(self.path("in", "f"), "wb") as file:
+            file.write(b"a")
+        os.mkdir(self.path("blobs"))
+        for contents in (b"", b"a"):
+            with open(self.path("blobs", A), "wb") as blob:
+                blob.write(contents)
+            self.require_done(self.scan())
+            with open(self.path("blobs", A), "rb") as blob:
+                self.assertEqual(blob.read(), b"a")
+
+    def test_losses_are_said(self) -> None:
+        os.mkdir(self.path("in"))
+        with open(self.path("in", "f"), "wb") as file:
+            file.write(b"a")
+        os.link(self.path("in", "f"), self.path("in", "g"))
+        for name in ("in", "in/f"):
+            os.utime(self.path(name), ns=(0, 1_500_000_000))
+        with socket.socket(socket.AF_UNIX) as end:
+            end.bind(os.path.relpath(self.path("in", "s")))
+        os.utime(self.path("in"), ns=(0, -1))
+        os.utime(self.path("in", "s"), (0, 0))
+        result = self.scan()
+        self.require_done(result)
+        self.assertIn("3 times cut to whole seconds", result[2])
+        self.assertIn("2 names of hard links, now files with the same contents", result[2])
+        entries = read_manifest(self.path("out.json"))
+        self.assertEqual(
+            [(entry.kind, entry.mtime) for entry in entries],
+            [("dir", -1), ("file", 1), ("file", 1), ("socket", 0)],
+        )
+        self.assertEqual(os.listdir(self.path("blobs")), [A])
+
+    def test_marks_of_user_mounts(self) -> None:
+        os.makedirs(self.path("in", "d"))
+        try:
+            os.setxattr(self.path("in", "d"), "user.overlay.opaque", b"y")
+        except OSError as error:
+            self.skipTest(f"no user.* attributes here: {error.strerror}")
+        self.require_done(self.scan())
+        self.assertEqual(read_manifest(self.path("out.json"))[1].attributes, {"trusted.overlay.opaque": b"y"})
+        os.setxattr(self.path("in", "d"), "user.overlay.overlay.opaque", b"y")
+        self.require_fault(self.scan(), 3, "trusted.overlay.overlay.opaque")
+
+    def test_the_right_to_read_marks(self) -> None:
+        os.mkdir(self.path("in"))
+        os.chmod(self.folder, 0o755)
+        result = subprocess.run(
+            [sys.executable, "-B", "-c", _AS_ANYBODY, str(ROOT), "scan", self.path("in"), "--out",
+             self.path("out.json"), "--blobs", self.path("blobs")],
+            capture_output=True, text=True, check=False,
+        )
+        self.assertEqual(result.returncode, 3, result.stderr)
+        self.assertIn("run it with sudo, or give --userxattr", result.stderr)
+        self.require_nothing_left("in")
+
+    def test_many_files_by_several_workers(self) -> None:
+        os.mkdir(self.path("in"))
+        for number in range(1_200):
+            with open(self.path("in", f"{number:04}"), "wb") as file:
+                file.write(b"%d" % (number % 1_000))
+        manifests = []
+        for workers in (1, 3):
+            self.require_done(self.scan("--workers", workers))
+            with open(self.path("out.json"), "rb") as file:
+                manifests.append(file.read())
+            self.assertEqual(len(os.listdir(self.path("blobs"))), 1_000)
+        self.assertEqual(manifests[0], manifests[1])
+
+    def _stages(self) -> list[str]:
+        return os.listdir(self.path("blobs")) if os.path.exists(self.path("blobs")) else []
+
+    def test_an_interrupted_scan_leaves_nothing(self) -> None:
+        os.mkdir(self.path("in"))
+        for number in range(3_000):
+            with open(self.path("in", str(number)), "wb") as file:
+                file.write(b"%d" % number)
+        words = ["scan", self.path("in"), "--out", self.path("out.json"), "--blobs", self.path("blobs"), "--userxattr"]
+        for workers in ("1", "3"):
+            with subprocess.Popen(
+                [sys.executable, "-B", str(COMMAND), *words, "--workers", workers], stderr=subprocess.PIPE
+            ) as process:
+                while process.poll() is None and not self._stages():
+                    time.sleep(0.001)
+                time.sleep(0.02)
+                process.send_signal(signal.SIGTERM)
+            if process.returncode != 0:
+                self.assertEqual(process.returncode, 128 + signal.SIGTERM)
+                self.require_nothing_left("in")
+            else:
+                self.empty()
+                os.mkdir(self.path("in"))
+
+
+class Packing(CommandTest):
+    """`pack`."""
+
+    def test_what_no_image_has(self) -> None:
+        for entry, reason in (
+            ({"xattrs": {"trusted.overlay.redirect": "2f78"}}, "run `ovl_layers deref`"),
+            ({"xattrs": {"trusted.overlay.redirect": ""}}, "run `ovl_layers deref`"),
+            ({"kind": "file", "size": 1, "xattrs": {"trusted.overlay.metacopy": ""}}, "run `ovl_layers deref`"),
+            ({"kind": "socket"}, "archives have no sockets"),
+            ({"path": "/.wh.x"}, "a whiteout in an image"),
+            ({"kind": "symlink", "target": "x"}, "a symlink of mode 0755"),
+        ):
+            layer = self.write_manifest({"path": "/x", **entry})
+            words = ("pack", layer, "--blobs", self.path("blobs"), "--out")
+            for out in ("image", "image.tar"):
+                self.require_fault(call(*words, self.path(out)), 3, f"cannot read {layer}: /", reason)
+                self.require_nothing_left("blobs", "l.json")
+
+    def test_contents_are_checked(self) -> None:
+        layer = self.write_manifest({"path": "/f", "kind": "file", "size": 1, "blob": A})
+        with open(self.path("blobs", A), "wb") as file:
+            file.write(b"b")
+        for out in ("image", "image.tar"):
+            result = call("pack", layer, "--blobs", self.path("blobs"), "--out", self.path(out))
+            self.require_fault(result, 3, "another digest")
+            self.require_nothing_left("blobs", "l.json")
+
+    def test_a_redirect_that_says_nothing(self) -> None:
+        marks = {"trusted.overlay.redirect": "2f78", "trusted.overlay.opaque": "79"}
+        layer = self.write_manifest({"path": "/x", "xattrs": marks})
+        words = ("--blobs", self.path("blobs"), "--out", self.path("image"), "--tag", "t")
+        self.require_done(call("pack", layer, *words))
+        self.require_done(call("unpack", self.path("image"), "--out", self.path("out"), "--tag", "t"))
+        self.assertEqual(read_manifest(self.path("out", "l0.json")), read_manifest(layer))
+
+
+class Mounted(CommandTest):
+    """`mounted`."""
+
+    def test_the_report(self) -> None:
+        os.mkdir(self.path("in"), 0o755)
+        os.chmod(self.path("in"), 0o755)
+        with open(self.path("in", "a b"), "wb") as file:
+            file.write(b"a")
+        os.chmod(self.path("in", "a b"), 0o640)
+        os.symlink("é\\", self.path("in", "l"))
+        os.mkfifo(self.path("in", "p"), 0o600)
+        for name in ("a b", "l", "p", ""):
+            os.utime(self.path("in", name), (0, 7), follow_symlinks=False)
+        owner = f"{os.geteuid()} {os.getegid()}"
+        self.assertEqual(call("mounted", self.path("in"))[1].splitlines(), [
+            f"dir 0755 {owner} 7 - - /", f"file 0640 {owner} 7 1 {A} /a\\x20b",
+            f"symlink 0777 {owner} 7 - \\xc3\\xa9\\x5c /l", f"fifo 0600 {owner} 7 - - /p", "entries 4",
+        ])
+
+    def test_a_report_that_can_not_be_written(self) -> None:
+        with open("/dev/full", "wb") as full:
+            result = subprocess.run(
+                [sys.executable, "-B", str(COMMAND), "mounted", self.folder],
+                stdout=full, stderr=subprocess.PIPE, check=False,
+            )
+        self.assertEqual(result.returncode, 4)
+        self.assertTrue(result.stderr.endswith(b"layers: cannot write standard output\n"), result.stderr)
+
+
+if __name__ == "__main__":
+    unittest.main()

@@ -1,0 +1,251 @@
+"""Hostile and broken images: refused with a reason, nothing left behind, memory bounded."""
+
+import gzip
+import hashlib
+import io
+import json
+import os
+import resource
+import sys
+import tarfile
+import unittest
+import zlib
+
+from images import archive, folder, member, packed, put_index, put_manifest, write_layout
+from support import FolderTest, call, run
+
+GIGABYTE = 1 << 30
+BOMB_BYTES = 10 * GIGABYTE
+MEMORY = 200 * 1024  # KB, that the whole process may have
+
+
+class HostileTest(FolderTest):
+    """A test that images are refused."""
+
+    def require_refused(self, *parts: str) -> None:
+        """The image is refused with these words, and nothing is left of the attempt."""
+        before = sorted(os.listdir(self.folder))
+        result = call("unpack", self.path("image"), "--out", self.path("out"))
+        self.require_fault(result, 3, *parts)
+        self.assertEqual(len(result[2].splitlines()), 1)
+        self.require_nothing_left(*before)
+
+    def refuse(self, *members: tuple[tarfile.TarInfo, bytes], because: str) -> None:
+        """A layer of these entries is refused; without its last entry it is read."""
+        write_layout(self.path("image"), [archive(members)])
+        self.require_refused(because)
+        result = call("unpack", self.path("image"), "--out", self.path("out"), "--skip-unsupported")
+        self.require_done(result)
+        self.assertIn("left out", result[2])
+        skipped = self._manifest()
+        self.empty()
+        write_layout(self.path("image"), [archive(members[:-1])])
+        self.require_done(call("unpack", self.path("image"), "--out", self.path("out")))
+        self.assertEqual(skipped, self._manifest())
+        self.empty()
+
+    def _manifest(self) -> bytes:
+        with open(self.path("out", "l0.json"), "rb") as file:
+            return file.read()
+
+
+class Paths(HostileTest):
+    """Paths never lead outside."""
+
+    def test_ways_up(self) -> None:
+        for name in ("../x", "a/../../x", "a/..", "..", "/../x", "a/../x"):
+            self.refuse(member(name, b"a"), because="its name holds ..")
+
+    def test_links_on_the_way(self) -> None:
+        link = member("l", kind=tarfile.SYMTYPE, target="/")
+        for name in ("l/etc/passwd", "l/x", "l/.wh.etc", "l/.wh..wh..opq"):
+            self.refuse(link, member(name, b"a"), because="its path leads through the symlink /l")
+        self.refuse(link, folder("l/d"), because="its path leads through the symlink /l")
+
+    def test_hard_links_to_the_outside(self) -> None:
+        for target in ("../../etc/passwd", "/etc/passwd", "absent", "d", ".", "later"):
+            self.refuse(
+                folder("d"), member("h", kind=tarfile.LNKTYPE, target=target), because="h: "
+            )
+
+    def test_absolute_names_count_from_the_layer(self) -> None:
+        write_layout(self.path("image"), [archive([member("/etc/passwd", b"a"), member("//x", b"a")])])
+        self.require_done(call("unpack", self.path("image"), "--out", self.path("out")))
+        self.assertIn(b'"path":"/etc/passwd"', self._manifest())
+        self.assertEqual(sorted(os.listdir(self.folder)), ["image", "out"])
+
+    def test_names(self) -> None:
+        for name, because in (
+            ("n" * 256, "its name has 256 bytes"), ("d/" * 64 + "f", "65 names deep"),
+            ("\udcff", "isn't UTF-8"), ("/".join(["n" * 255] * 16), "its path has 4096 bytes"),
+        ):
+            info, data = member(name, b"a")
+            write_layout(self.path("image"), [self._gnu(info, data)])
+            self.require_refused(because)
+            self.empty()
+
+    def _gnu(self, info: tarfile.TarInfo, data: bytes) -> bytes:
+        out = io.BytesIO()
+        with tarfile.open(fileobj=out, mode="w", format=tarfile.GNU_FORMAT, errors="surrogateescape") as file:
+            file.addfile(info, io.BytesIO(data))
+        return out.getvalue()
+
+
+class Whiteouts(HostileTest):
+    """Names that look like whiteouts."""
+
+    def test_whiteouts_of_nothing(self) -> None:
+        for name in (".wh.", "d/.wh.", ".wh..", ".wh..."):
+            self.refuse(member(name), because="a whiteout of nothing")
+        self.refuse(member(".wh..wh.plnk"), because="kept for the makers of layers")
+        self.refuse(member(".wh.d/f", b"a"), because="leads through a whiteout")
+
+    def test_opaque_on_a_file(self) -> None:
+        self.refuse(member("f", b"a"), member("f/.wh..wh..opq"), because="through what is no directory, /f")
+
+    def test_a_file_below_a_file(self) -> None:
+        self.refuse(member("f", b"a"), member("f/g", b"a"), because="through what is no directory, /f")
+
+
+class Values(HostileTest):
+    """Values that no manifest has."""
+
+    def test_attributes(self) -> None:
+        pax = {"SCHILY.xattr.trusted.overlay.overlay.opaque": "y"}
+        self.refuse(member("f", pax=pax), because="trusted.overlay.overlay.opaque")
+
+    def test_types(self) -> None:
+        self.refuse(member("f", kind=b"V"), because="an entry of type")
+        self.refuse(member("f", kind=tarfile.GNUTYPE_SPARSE), because="a sparse file")
+        self.refuse(member("l", kind=tarfile.SYMTYPE), because="its target isn't")
+
+    def test_numbers(self) -> None:
+        for key, value in (("uid", "4294967296"), ("gid", "-1"), ("mtime", str(2**63))):
+            self.refuse(member("f", pax={key: value}), because=value)
+
+    def test_the_root_as_a_file(self) -> None:
+        self.refuse(member(".", b"a"), because="the root is no directory")
+
+
+class Broken(HostileTest):
+    """Archives that end early, wrong digests, wrong documents."""
+
+    def test_truncated_gzip(self) -> None:
+        whole = packed(archive([member("f", os.urandom(5_000))]))
+        for length in (11, len(whole) // 2, len(whole) - 9, len(whole) - 1):
+            write_layout(self.path("image"), [whole[:length]])
+            self.require_refused("gzip stream is broken")
+            self.empty()
+        write_layout(self.path("image"), [whole[:-6] + b"x" + whole[-5:]])
+        self.require_refused("gzip stream is broken")
+
+    def test_truncated_archives(self) -> None:
+        whole = archive([member("f", bytes(1_000)), member("g", bytes(1_000))])
+        for length in (1, 511, 700, 1_600):
+            write_layout(self.path("image"), [whole[:length]])
+            self.require_refused("")
+            self.empty()
+
+    def test_bytes_that_are_no_archive(self) -> None:
+        for data, because in (
+            (b"", "ends too early"), (b"x" * 512, "isn't octal"), (b"0" * 1024, "checksum"), (b"BZh9", "bzip2"),
+        ):
+            write_layout(self.path("image"), [data])
+            self.require_refused(because)
+            self.empty()
+
+    def test_records_of_a_wrong_length(self) -> None:
+        for records in (b"5 a=b\n", b"99999 a=b\n", b"a=b\n", b"0 a=b\n", b"-1 a=b\n", b"7 ab=c"):
+            info, _ = member("x", kind=b"x")
+            info.size = len(records)
+            data = info.tobuf(tarfile.USTAR_FORMAT) + records.ljust(512, b"\0") + bytes(1024)
+            write_layout(self.path("image"), [data])
+            self.require_refused("PAX record")
+            self.empty()
+
+    def test_a_header_of_10_gigabytes(self) -> None:
+        for kind in (b"x", b"g", b"L", b"K"):
+            info, _ = member("x", kind=kind)
+            info.size = BOMB_BYTES
+            write_layout(self.path("image"), [info.tobuf(tarfile.GNU_FORMAT) + bytes(1024)])
+            self.require_refused("a header of 10737418240 bytes")
+            self.empty()
+
+    def test_wrong_digests(self) -> None:
+        plain = archive([member("f", b"a")])
+        digest = hashlib.sha256(plain).hexdigest()
+        write_layout(self.path("image"), [plain])
+        with open(self.path("image", "blobs", "sha256", digest), "r+b") as file:
+            file.write(b"g")
+        self.require_refused(f"blobs/sha256/{digest}: its bytes aren't those")
+        self.empty()
+        write_layout(self.path("image"), [plain], [plain + b"x"])
+        self.require_refused("its unpacked bytes aren't those")
+
+    def test_documents(self) -> None:
+        os.mkdir(self.path("image"))
+        self.require_refused("it is no image")
+        layer = {"mediaType": "x", "digest": "sha256:../../../etc/passwd", "size": 1}
+        for text, because in (
+            ("", "isn't JSON"), ("[" * 100_000, "isn't JSON"), ("[]", "wrong shape"), ("{}", "wrong shape"),
+            ('{"manifests":[]}', "no image whose manifest is there"),
+            (json.dumps({"manifests": [layer]}), "wrong shape"),
+        ):
+            with open(self.path("image", "index.json"), "w", encoding="utf-8") as file:
+                file.write(text)
+            self.require_refused(because)
+
+    def test_layers_outside_of_the_image(self) -> None:
+        os.mkdir(self.path("image"))
+        with open(self.path("outside"), "wb") as file:
+            file.write(archive([member("f", b"a")]))
+        os.symlink(self.path("outside"), self.path("image", "link"))
+        with open(self.path("image", "config"), "w", encoding="utf-8") as out:
+            out.write('{"os":"linux","architecture":"amd64"}')
+        for name in ("../outside", self.path("outside"), "link", "config/../../outside", "."):
+            with open(self.path("image", "manifest.json"), "w", encoding="utf-8") as out:
+                json.dump([{"Config": "config", "Layers": [name]}], out)
+            self.require_refused("the image has no such file")
+
+    def test_a_layout_that_holds_itself(self) -> None:
+        put_index(self.path(), [])
+        os.mkdir(self.path("image"))
+        descriptor = put_manifest(self.path("image"), [archive([])], None, "linux/amd64")
+        put_index(self.path("image"), [{**descriptor, "mediaType": "application/vnd.oci.image.index.v1+json"}])
+        self.require_refused("wrong shape")
+
+
+class Bomb(HostileTest):
+    """10 GB of zeros in 10 MB, by a process with little memory; they take no place on the disk."""
+
+    def test_ten_gigabytes_of_zeros(self) -> None:
+        write_layout(self.path("image"), [self._bomb()])
+        result = run("unpack", self.path("image"), "--out", self.path("out"), preexec_fn=_limit_memory)
+        self.assertEqual(result.returncode, 0, result.stderr)
+        (blob,) = os.listdir(self.path("out", "blobs"))
+        status = os.stat(self.path("out", "blobs", blob))
+        self.assertEqual(status.st_size, BOMB_BYTES)
+        self.assertLess(status.st_blocks * 512, 1 << 20)
+
+    def _bomb(self) -> bytes:
+        """One file of zeros, packed as many equal gzip members."""
+        info, _ = member("zeros")
+        info.size = BOMB_BYTES
+        return (
+            gzip.compress(info.tobuf(tarfile.GNU_FORMAT), mtime=0)
+            + _packed_zeros(GIGABYTE // 16) * (BOMB_BYTES // (GIGABYTE // 16))
+            + gzip.compress(bytes(1024), mtime=0)
+        )
+
+
+def _packed_zeros(count: int) -> bytes:
+    packer = zlib.compressobj(9, zlib.DEFLATED, 31)
+    return b"".join(packer.compress(bytes(1 << 20)) for _ in range(count >> 20)) + packer.flush()
+
+
+def _limit_memory() -> None:
+    resource.setrlimit(resource.RLIMIT_AS, (MEMORY * 1024, MEMORY * 1024))
+
+
+if __name__ == "__main__":
+    unittest.main(argv=sys.argv)

@@ -1,0 +1,24 @@
+"""How bytes and paths are written for a person and in the show report."""
+
+import os
+import re
+
+_PLAIN = re.compile(rb"[\x21-\x5b\x5d-\x7e]*\Z")
+
+
+def escaped(data: bytes) -> str:
+    r"""Each byte outside 0x21 to 0x7E, and each backslash, as `\xHH`, as the show report has them."""
+    if _PLAIN.match(data):
+        return data.decode("ascii")
+    return "".join(
+        chr(byte) if 0x21 <= byte <= 0x7E and byte != 0x5C else f"\\x{byte:02x}" for byte in data
+    )
+
+
+def printable(path: str) -> str:
+    r"""A path for a message: what isn't UTF-8 and what a terminal would obey stands as `\xHH`."""
+    text = os.fsencode(path).decode("utf-8", "backslashreplace")
+    return "".join(
+        letter if letter.isprintable() else "".join(f"\\x{byte:02x}" for byte in letter.encode())
+        for letter in text
+    )
