@@ -11,6 +11,10 @@ blob_path folder name = folder ++ 47 ∷ encode_lower name
 abbrev pub IsInFolder : List ℕ → List ℕ → Type 0
 IsInFolder folder path = (path ≡ folder) ⊎ ((name : List ℕ) × (path ≡ blob_path folder name))
 
+-- the name of some file spells the digest
+abbrev pub IsNamedBy : List ℕ → Type 0
+IsNamedBy digest = (name : List ℕ) × (digest_of_text name ≡ Some digest)
+
 -- the name under which the blob of this digest is sought spells the digest
 abbrev pub IsSpelt : List ℕ → Type 0
 IsSpelt digest = digest_of_text (encode_lower digest) ≡ Some digest

@@ -6,7 +6,7 @@ ghost use Rattle.ovl_check.specs.Blobs.{blob_views, digest_cmp, are_in_order};
 ghost use Rattle.ovl_engine.specs.Refusals.{blob_limit, blob_bytes};
 ghost use Rattle.ovl_layers.specs.declared.inputs.InputFault.TheVariants.{TooLong};
 ghost use Rattle.ovl_layers.specs.Faults.{IsUnread};
-ghost use Rattle.ovl_layers.specs.Folders.{blob_path as path_of_blob, IsInFolder, IsSpelt};
+ghost use Rattle.ovl_layers.specs.Folders.{blob_path as path_of_blob, IsInFolder, IsNamedBy, IsSpelt};
 
 use crate::faults::ProgramFault;
 use crate::files::read_file;
@@ -82,7 +82,8 @@ fn blob_names<R: Files + AllocGlobal + Clone + Drop>(
     rt: &R,
     folder: &str,
 ) -> Result<BTreeSet<Digest>, InputFault>
-    ensures { IfErr result (λ fault. fault ≢ TooLong) }
+    ensures each { IfOk result (λ names. All IsNamedBy names.keys) }
+    ensures fault { IfErr result (λ fault. fault ≢ TooLong) }
 {
     let mut names = BTreeSet::new(rt.alloc());
     for entry in fs::read_dir(rt, folder)? {
