@@ -1,5 +1,9 @@
+ghost use Rattle.std.specs.Prelude.{IfOk};
+ghost use Rattle.ovl_lanes.specs.Lanes.{IsOneLane, IsWhole};
+ghost use Rattle.ovl_lanes.specs.Seats.{IsNew};
+
 use ovl_board::Piece;
-use ovl_lanes::{Gathered, LaneFault, Seat, close, lanes};
+use ovl_lanes::{LaneFault, Seat, close, lanes};
 use ovl_names::Path;
 use std::alloc::Global;
 use std::test::Fail;
@@ -11,8 +15,21 @@ fn piece(alloc: Global, text: &str) -> Result<Piece, Fail> {
     })
 }
 
-fn seat(alloc: Global) -> Result<Seat, Fail> {
+fn seat(alloc: Global) -> Result<Seat, Fail>
+    ensures { IfOk result IsNew }
+{
     lanes(alloc, 1)?.pop().ok_or_else(|| Fail::from("no lane"))
+}
+
+// One try to steal, by a pass of its own.
+fn steal_once(seat: &mut Seat) -> Option<Piece>
+    requires { IsOneLane seat.old.lane seat.old.thief }
+    ensures { IsWhole seat.old.lane → IsWhole seat.new.lane }
+{
+    let mut pass = seat.lane.split_pass();
+    let piece = seat.thief.steal(&mut pass);
+    seat.lane.join_pass(pass);
+    piece
 }
 
 #[test]
@@ -32,29 +49,26 @@ fn there_are_1_to_64_lanes(rt: HostRuntime) -> Result<(), Fail> {
 #[test]
 fn a_pass_steals_the_first_piece(rt: HostRuntime) -> Result<(), Fail> {
     let mut seat = seat(rt.alloc())?;
-    let mut pass = seat.lane.split_pass();
-    assert_eq!(rt; seat.lane.push(piece(rt.alloc(), "/a")?), Ok(()));
-    assert_eq!(rt; seat.lane.push(piece(rt.alloc(), "/b")?), Ok(()));
-    let first = piece(rt.alloc(), "/a")?;
-    assert_eq!(rt; seat.thief.steal(&mut pass), Some(first));
-    seat.lane.join_pass(pass);
-    let Gathered {
-        pushed,
-        taken,
-        left,
-    } = close(seat);
-    assert_eq!(rt; (pushed, taken, left), (2, 1, 1));
+    let a = piece(rt.alloc(), "/a")?;
+    let b = piece(rt.alloc(), "/b")?;
+    let pushed = [seat.lane.push(a), seat.lane.push(b)];
+    let stolen = steal_once(&mut seat);
+    let gathered = close(seat);
+    assert_eq!(rt; pushed, [Ok(()), Ok(())]);
+    assert_eq!(rt; stolen, Some(piece(rt.alloc(), "/a")?));
+    assert_eq!(rt; (gathered.pushed, gathered.taken, gathered.left), (2, 1, 1));
     Ok(())
 }
 
 #[test]
 fn an_empty_lane_gives_nothing(rt: HostRuntime) -> Result<(), Fail> {
     let mut seat = seat(rt.alloc())?;
-    assert_eq!(rt; seat.lane.push(piece(rt.alloc(), "/a")?), Ok(()));
-    let first = piece(rt.alloc(), "/a")?;
-    assert_eq!(rt; seat.lane.pop(), Some(first));
-    assert_eq!(rt; seat.lane.pop(), None);
-    let mut pass = seat.lane.split_pass();
-    assert_eq!(rt; seat.thief.steal(&mut pass), None);
+    let pushed = seat.lane.push(piece(rt.alloc(), "/a")?);
+    let popped = seat.lane.pop();
+    let again = seat.lane.pop();
+    let stolen = steal_once(&mut seat);
+    assert_eq!(rt; pushed, Ok(()));
+    assert_eq!(rt; popped, Some(piece(rt.alloc(), "/a")?));
+    assert_eq!(rt; (again, stolen), (None, None));
     Ok(())
 }
