@@ -10,7 +10,7 @@ use Rattle.std.specs.declared.cmp.Ordering.{Ordering}
 use Rattle.std.specs.declared.cmp.Ordering.TheVariants.{Less, Equal}
 use Rattle.ovl_names.specs.Order.{ascends}
 use Rattle.ovl_names.proofs.Ascending.{both, is_lt-Less}
-use Rattle.ovl_board.proofs.Members.{In, Every, Rises}
+use Rattle.ovl_board.proofs.Members.{In, Every, Rises, rising_same}
 
 -- ---- tests of all elements, and of some
 
@@ -34,15 +34,6 @@ In-filter {X} test x (y ∷ xs) (inr h) t = by (test y) (In-filter test x xs h t
     by : (b : Bool) → In x (filter test xs) → In x (cond b (y ∷ filter test xs) (filter test xs))
     by true later = inr later
     by false later = later
-
-pub In-filter-cases : {X : Type 0} (test : X → Bool) (x : X) (xs : List X) → In x (filter test xs) → In x xs × (test x ≡ true)
-In-filter-cases test x [] h = absurd h
-In-filter-cases {X} test x (y ∷ xs) h = by (In-filter-cases test x xs) (test y) refl h
-  where
-    by : (In x (filter test xs) → In x xs × (test x ≡ true)) → (b : Bool) → test y ≡ b → In x (cond b (y ∷ filter test xs) (filter test xs)) → In x (y ∷ xs) × (test x ≡ true)
-    by later true t (inl e) = (inl e, ap test e ∙ t)
-    by later true t (inr k) = (inr (later k).0, (later k).1)
-    by later false t k = (inr (later k).0, (later k).1)
 
 -- ---- order
 
@@ -68,33 +59,7 @@ Rises-sorted {X} cmp (x ∷ xs) up = (first xs up.0, Rises-sorted cmp xs up.1)
     first (z ∷ ys) all y (inl e) = ap (cmp x) e ∙ all.0
     first (z ∷ ys) all y (inr h) = first ys all.1 y h
 
--- a filter and a map keep it
-pub Rises-filter : {X : Type 0} (R : X → X → Type 0) (test : X → Bool) (xs : List X) → Rises R xs → Rises R (filter test xs)
-Rises-filter R test [] up = tt
-Rises-filter {X} R test (x ∷ xs) up = by (test x) (Rises-filter R test xs up.1)
-  where
-    by : (b : Bool) → Rises R (filter test xs) → Rises R (cond b (x ∷ filter test xs) (filter test xs))
-    by true later = ((λ y h. up.0 y (In-filter-cases test y xs h).0), later)
-    by false later = later
-
-module _ {X : Type 0} (R : X → X → Type 0) (never : (x : X) → R x x → ⊥) (trans : (x y z : X) → R x y → R y z → R x z) where
-  -- two strictly ascending lists with the same members are one
-  pub rising_same : (ps qs : List X) → Rises R ps → Rises R qs → ((x : X) → In x ps → In x qs) → ((x : X) → In x qs → In x ps) → ps ≡ qs
-  rising_same [] [] a b f g = refl
-  rising_same [] (q ∷ qs) a b f g = absurd (g q (inl refl))
-  rising_same (p ∷ ps) [] a b f g = absurd (f p (inl refl))
-  rising_same (p ∷ ps) (q ∷ qs) a b f g =
-      let same = heads (f p (inl refl)) (g q (inl refl)) in
-      ap (λ x. x ∷ ps) same ∙ ap (λ xs. q ∷ xs) (rising_same ps qs a.1 b.1
-      (λ x i. elim (f x (inr i)) [ inl e ↦ absurd (never x (subst (λ y. R y x) (same ∙ sym e) (a.0 x i))) | inr k ↦ k ])
-      (λ x i. elim (g x (inr i)) [ inl e ↦ absurd (never x (subst (λ y. R y x) (sym same ∙ sym e) (b.0 x i))) | inr k ↦ k ]))
-    where
-      heads : In p (q ∷ qs) → In q (p ∷ ps) → p ≡ q
-      heads (inl e) k = e
-      heads (inr i) (inl e) = sym e
-      heads (inr i) (inr k) = absurd (never p (trans p q p (a.0 q k) (b.0 p i)))
-
--- the same by a total order
+-- two strictly ascending lists with the same members are one, by a total order
 pub less_never : {X : Type 0} {cmp : X → X → Ordering} (order : IsTotalOrder cmp) (x : X) → cmp x x ≡ Less → ⊥
 less_never order x lt = let bad : Less ≡ Equal = sym lt ∙ tied_itself order x in absurd (cc)
 

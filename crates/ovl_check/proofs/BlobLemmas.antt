@@ -19,13 +19,13 @@ use Rattle.ovl_board.specs.declared.pieces.Piece.{Piece}
 use Rattle.ovl_board.specs.Pieces.{IsBefore, IsOneBelow, AreLawfulKids, HasLawfulKids}
 use Rattle.ovl_names.proofs.Ascending.{both}
 use Rattle.ovl_board.proofs.CountLemmas.{piece_eq}
-use Rattle.ovl_board.proofs.Members.{In, Rises, All-Every, AllPairs-Rises, In-map, In-map-cases, In-flat_map, In-flat_map-cases, Contains-In, Rises-from_adjacent}
+use Rattle.ovl_board.proofs.Members.{In, Rises, All-Every, AllPairs-Rises, In-map, In-map-cases, In-flat_map, In-flat_map-cases, Contains-In, Rises-from_adjacent, In-filter-cases, Rises-filter}
 use Rattle.ovl_board.specs.Walks.{Reached, start, next, ToKid}
 use Rattle.ovl_board.specs.Parcels.{ParcelView, IsPlain, own_view}
 use Rattle.ovl_check.specs.declared.blobs.Blob.{Blob}
 use Rattle.ovl_check.proofs.Plain.{own-view, has-view}
 use Rattle.ovl_check.specs.Blobs.{BlobView, blob_space, blob_root, digits_piece, digits_of_names, digest_cmp, blob_cmp, are_in_order, blob_view, blob_views, is_wrong, wrong_names, wrong_names_under, blob_kids, blob_out, out_at, first_digits}
-use Rattle.ovl_check.proofs.Ascent.{Rises-ascends, ascends-Rises, Rises-filter, In-filter, In-filter-cases, ordered_same}
+use Rattle.ovl_check.proofs.Ascent.{Rises-ascends, ascends-Rises, In-filter, ordered_same}
 
 digits-ascend : (blobs : List BlobView) → ascends name_cmp (digits_of_names blobs) ≡ true
 digits-ascend blobs = ascends-put [] (map (λ blob. first_digits blob.name) blobs) refl

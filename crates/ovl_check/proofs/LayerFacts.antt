@@ -13,9 +13,9 @@ use Rattle.ovl_lookup.proofs.ChildLemmas.{directory-limited, all-first, all-rest
 use Rattle.ovl_board.specs.declared.pieces.Piece.{Piece}
 use Rattle.ovl_board.specs.Pieces.{IsBefore, IsOneBelow, HasLawfulKids}
 use Rattle.ovl_board.proofs.PieceOrder.{siblings, fork_before}
-use Rattle.ovl_board.proofs.Members.{In, Rises, All-Every, AllPairs-Rises, In-map-cases}
+use Rattle.ovl_board.proofs.Members.{In, Rises, All-Every, AllPairs-Rises, In-map-cases, In-filter-cases, Rises-filter}
 use Rattle.ovl_check.specs.Checks.{CheckView, layer_at, directory_piece, check_kids}
-use Rattle.ovl_check.proofs.Ascent.{Rises-ascends, Rises-filter, In-filter-cases}
+use Rattle.ovl_check.proofs.Ascent.{Rises-ascends}
 
 -- a layer of a stack is one, and past the last there is nothing
 pub layer_or_none : (layers : List Entries) → All IsLayer layers → (i : ℕ) → (unwrap_or (slice_get layers i) [] ≡ []) ⊎ IsLayer (unwrap_or (slice_get layers i) [])

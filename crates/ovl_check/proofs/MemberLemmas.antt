@@ -28,7 +28,7 @@ use Rattle.ovl_board.specs.Walks.{Reached, start, next, ToKid}
 use Rattle.ovl_board.specs.Parcels.{IsPlain, pieces_of, own_view}
 use Rattle.ovl_board.proofs.PieceOrder.{path_eq_decides, snoc_view}
 use Rattle.ovl_board.proofs.CountLemmas.{piece_eq}
-use Rattle.ovl_board.proofs.Members.{In, Rises, In-left, In-right, In-cases, In-map, In-map-cases, In-flat_map, In-flat_map-cases, In-Contains, Contains-In, Every-All, Rises-AllPairs}
+use Rattle.ovl_board.proofs.Members.{In, Rises, In-left, In-right, In-cases, In-map, In-map-cases, In-flat_map, In-flat_map-cases, In-Contains, Contains-In, Every-All, Rises-AllPairs, In-filter-cases}
 use Rattle.ovl_check.specs.declared.findings.Finding.{Finding}
 use Rattle.ovl_check.specs.declared.findings.Code.{Code}
 use Rattle.ovl_check.specs.declared.findings.Code.TheVariants.{RedirectDouble}
@@ -37,7 +37,7 @@ use Rattle.ovl_check.specs.Conditions.{holds}
 use Rattle.ovl_check.specs.Findings.{finding, findings_at, findings_in}
 use Rattle.ovl_check.specs.Checks.{CheckView, CheckSeen, layer_at, layers_below, directory_piece, check_kids, check_out, holds_alone, findings_alone, findings_at_path, directory_findings, no_seen}
 use Rattle.ovl_check.specs.Walks.{View, doubles_after, found_along}
-use Rattle.ovl_check.proofs.Ascent.{In-filter, In-filter-cases, less_never, list_all-Every}
+use Rattle.ovl_check.proofs.Ascent.{In-filter, less_never, list_all-Every}
 use Rattle.ovl_check.proofs.Plain.{own-view, has-view}
 use Rattle.ovl_check.proofs.BlobLemmas.{any-In}
 use Rattle.ovl_check.proofs.LayerFacts.{kid-directory, kid_at, layer-ascends}

@@ -13,7 +13,7 @@ use Rattle.ovl_names.specs.Paths.{PathNames, path_cmp}
 use Rattle.ovl_manifest.specs.Layers.{Entries, IsLayer, entry_cmp}
 use Rattle.ovl_lookup.specs.Stacks.{StackView}
 use Rattle.ovl_lookup.proofs.ChildLemmas.{all-first, all-rest}
-use Rattle.ovl_board.proofs.Members.{In, Rises, Rises-append, Rises-flat_map, In-cases, In-map-cases, In-flat_map-cases}
+use Rattle.ovl_board.proofs.Members.{In, Rises, Rises-append, Rises-flat_map, In-cases, In-map-cases, In-flat_map-cases, Rises-filter}
 use Rattle.ovl_check.specs.declared.findings.Finding.{Finding}
 use Rattle.ovl_check.specs.declared.findings.Code.{Code}
 use Rattle.ovl_check.specs.declared.findings.Code.TheVariants.{RedirectForm, RedirectLost, RedirectKind, RedirectDouble, RedirectOpen, DataMissing, DataSize, BlobMissing, BlobSize, BlobDigest, OrphanWhiteout, WhiteoutInOpaque, WhiteoutUnmarked, ImpureMissing, MarkIgnored}
@@ -27,7 +27,7 @@ use Rattle.ovl_check.specs.Codes.{all_codes}
 use Rattle.ovl_check.specs.Blobs.{BlobView}
 use Rattle.ovl_check.specs.Conditions.{holds}
 use Rattle.ovl_check.specs.Findings.{finding, findings_at, findings_in, findings_from}
-use Rattle.ovl_check.proofs.Ascent.{Rises-ascends, Rises-filter}
+use Rattle.ovl_check.proofs.Ascent.{Rises-ascends}
 use Rattle.ovl_check.proofs.DoubleLemmas.{same_path, equal}
 
 abbrev pub finding_cmp : Finding → Finding → Ordering
