@@ -1,17 +1,21 @@
 -- Entries that a manifest can state, and the limits of their paths.
-use Rattle.std.proofs.Common.{◌≡◌, ℕ, ◌+◌, ◌<◌, ◌≤◌, ◌∙◌, subst, Ok, List, [], ◌∷◌, Bool, true, false, Option, Some, None, refl, sym, ap, length, length-append, take, get_or, arith, le-leb}
-use Rattle.std.specs.Prelude.{◌==◌, IfSome, IsTrue, flat_map, nat_le, nat_lt, is_none, if◌then◌else◌}
+use Rattle.std.proofs.Common.{◌≡◌, ℕ, suc, ◌+◌, ◌++◌, ◌<◌, ◌≤◌, ◌∙◌, subst, Ok, List, [], ◌∷◌, Bool, true, false, Option, Some, None, refl, sym, ap, length, length-append, take, get_or, arith, le-leb}
+use Rattle.std.specs.Prelude.{◌==◌, ◌↔◌, not, Result, Err, IfSome, IsTrue, flat_map, nat_le, nat_lt, is_none, if◌then◌else◌}
+use Rattle.std.specs.Result.{result_err}
 use Rattle.std.proofs.lemmas.Bool.Decides.{nat_tests}
 use Rattle.std.proofs.lemmas.Grind.{flat_map-append}
 use Rattle.std.proofs.lemmas.List.{take_more}
 use Rattle.serde_json.specs.Data.{Data}
 use Rattle.ovl_names.specs.Names.{name_fault, is_name, slash, name_limit}
 use Rattle.ovl_names.specs.declared.names.NameFault.TheVariants.{Empty, TooLong}
-use Rattle.ovl_names.specs.Paths.{PathNames, depth_limit, text_limit}
+use Rattle.ovl_names.specs.Paths.{PathNames, parent_path, depth_limit, text_limit}
 use Rattle.ovl_names.proofs.Ascending.{both}
-use Rattle.ovl_manifest.specs.Layers.{Entry, Entries, is_within_limits}
+use Rattle.ovl_inode.specs.Attributes.{has_escaped_name}
+use Rattle.ovl_manifest.specs.Layers.{Entry, Entries, is_directory_at, is_within_limits, entry_limit}
 use Rattle.ovl_manifest.specs.Fields.{entry_of}
-use Rattle.ovl_manifest.specs.Manifest.{is_statable, stated_pair, entry_after, entries_after}
+use Rattle.ovl_manifest.specs.Manifest.{is_statable, stated_pair, comes_after, entry_after, entries_after, is_miscounted, first_fault, is_of_first, IsFaultOf}
+use Rattle.ovl_manifest.specs.declared.faults.LayerFault.{LayerFault}
+use Rattle.ovl_manifest.specs.declared.faults.LayerFault.TheVariants.{NotJson, Shape, Version, Count, Entry as WrongEntry, Order, NoParent, Root, Escaped, Memory}
 use Rattle.ovl_manifest.proofs.ReadLemmas.{stated}
 
 -- what a value states, a manifest can state
@@ -57,6 +61,80 @@ stated_pair_statable pair entry is = subst (λ (o : Option Entry). IfSome o (λ 
     by : (b : Bool) → is_statable pair ≡ b → IfSome (stated_pair pair) (λ e. IsTrue (is_statable e))
     by true e = rw (e, stated_pair) e
     by false e = rw (e, stated_pair) tt
+
+-- where the first pair is taken, it has no fault
+pub none_first : (pairs more : Entries) (pair : Entry) (entries : Entries) → pairs ≡ pair ∷ more → entry_after [] (stated_pair pair) ≡ Ok entries → first_fault pairs ≡ None
+none_first pairs more pair entries is taken = ap first_fault is ∙ by (is_miscounted (length (pair ∷ more)))
+  where
+    by : (b : Bool) → (if b then None else result_err (entry_after [] (stated_pair pair))) ≡ None
+    by true = refl
+    by false = ap result_err taken
+
+pub well_counted : (count : ℕ) → 1 ≤ count → count ≤ entry_limit → is_miscounted count ≡ false
+well_counted count some limit = rw (none, most) refl
+  where
+    none : (count == 0) ≡ false
+    none = grind (arith, nat_tests)
+
+    most : nat_lt entry_limit count ≡ false
+    most = grind (arith, nat_tests)
+
+-- a fault that can come after the first entry
+abbrev pub is_later : LayerFault → Bool
+is_later Count = false
+is_later fault = not (is_of_first fault)
+
+after_first : (n : ℕ) → not (suc n == 0) ≡ true
+after_first n = ap not none
+  where
+    none : (suc n == 0) ≡ false
+    none = grind (arith, nat_tests)
+
+-- so an entry after others has such a fault
+fails_later : (first : Entry) (before : Entries) (one : Option Entry) (fault : LayerFault) → entry_after (first ∷ before) one ≡ Err fault → is_later fault ≡ true
+fails_later first before None fault is = let same : WrongEntry (length (first ∷ before)) ≡ fault = cc in ap is_later (sym same) ∙ after_first (length before)
+fails_later first before (Some entry) fault is = by (has_escaped_name entry.1.attrs) (comes_after others entry.0) (is_directory_at others (parent_path entry.0)) is
+  where
+    others : Entries
+    others = first ∷ before
+
+    by : (escaped after parent : Bool) → ◌≡◌ {A = Result Entries LayerFault} (elim (if escaped then Some (Escaped (length others)) else if not after then Some (Order (length others)) else if not parent then Some (NoParent (length others)) else None) [ Some f ↦ Err f | None ↦ Ok (others ++ entry ∷ []) ]) (Err fault) → is_later fault ≡ true
+    by true after parent told = let same : Escaped (length others) ≡ fault = cc in ap is_later (sym same) ∙ after_first (length before)
+    by false false parent told = let same : Order (length others) ≡ fault = cc in ap is_later (sym same)
+    by false true false told = let same : NoParent (length others) ≡ fault = cc in ap is_later (sym same)
+    by false true true told = let bad : Ok (others ++ entry ∷ []) ≡ Err fault = told in cc
+
+pub told_later : (first : Entry) (before : Entries) (one : Option Entry) (fault : LayerFault) → IsFaultOf (entry_after (first ∷ before) one) fault → is_later fault ≡ true
+told_later first before one Count is = fails_later first before one Count is
+told_later first before one (WrongEntry n) is = fails_later first before one (WrongEntry n) is
+told_later first before one (Escaped n) is = fails_later first before one (Escaped n) is
+told_later first before one Root is = fails_later first before one Root is
+told_later first before one NotJson is = refl
+told_later first before one Shape is = refl
+told_later first before one Version is = refl
+told_later first before one (Order n) is = refl
+told_later first before one (NoParent n) is = refl
+told_later first before one Memory is = refl
+
+-- what a result tells that has no fault of its count or of its first entry
+module _ {T : Type 0} (result : Result T LayerFault) (pairs : Entries) (later : (fault : LayerFault) → result ≡ Err fault → is_later fault ≡ true) where
+  pub told_count : is_miscounted (length pairs) ≡ false → (result ≡ Err Count) ↔ IsTrue (is_miscounted (length pairs))
+  told_count few = (λ is. let bad : false ≡ true = later Count is in cc, λ many. let bad : false ≡ true = sym few ∙ many in cc)
+
+  pub told_first : first_fault pairs ≡ None → (fault : LayerFault) → (first_fault pairs ≡ Some fault) ↔ ((result ≡ Err fault) × IsTrue (is_of_first fault))
+  told_first none fault = (λ is. let bad : None ≡ Some fault = sym none ∙ is in cc, λ told. let bad : false ≡ true = not_both fault (later fault told.0) told.1 in cc)
+    where
+      not_both : (fault : LayerFault) → is_later fault ≡ true → is_of_first fault ≡ true → false ≡ true
+      not_both Count after of = after
+      not_both (WrongEntry n) after of = sym (ap not of) ∙ after
+      not_both (Escaped n) after of = sym (ap not of) ∙ after
+      not_both Root after of = after
+      not_both NotJson after of = of
+      not_both Shape after of = of
+      not_both Version after of = of
+      not_both (Order n) after of = of
+      not_both (NoParent n) after of = of
+      not_both Memory after of = of
 
 pub one_taken : (before : Entries) (one : Option Entry) (more : List (Option Entry)) (entries : Entries) → entry_after before one ≡ Ok entries → entries_after before (one ∷ more) ≡ entries_after entries more
 one_taken before one more entries is = rw (is, entries_after) refl

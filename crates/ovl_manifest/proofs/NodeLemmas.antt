@@ -1,6 +1,6 @@
 -- The entries at and under one node of a layer's tree.
-use Rattle.std.proofs.Common.{◌≡◌, ℕ, zero, suc, ◌+◌, ◌<◌, ◌≤◌, length, get_or, take, drop, append_assoc, add-one, drop-cons, Ok, Err, Bool, true, false, cond, Some, None, List, [], ◌∷◌, ◌++◌, refl, sym, ap, ◌∙◌, subst, arith, inl, inr, ◌⊎◌}
-use Rattle.std.specs.Prelude.{not, nat_lt, slice_get, unwrap_or}
+use Rattle.std.proofs.Common.{◌≡◌, ℕ, zero, suc, ◌+◌, ◌<◌, length, get_or, take, drop, append_assoc, add-one, drop-cons, Ok, Err, Bool, true, false, cond, Some, None, List, [], ◌∷◌, ◌++◌, refl, sym, ap, ◌∙◌, subst, arith, inl, inr}
+use Rattle.std.specs.Prelude.{not, slice_get, unwrap_or}
 use Rattle.std.specs.List.{list_all, cons_option}
 use Rattle.std.specs.List.Sorted.{IsNonDecreasingBy, IsBinarySearchResult}
 use Rattle.std.specs.Cmp.{IsTotalOrder}
@@ -10,7 +10,7 @@ use Rattle.std.specs.declared.cmp.Ordering.{Ordering}
 use Rattle.std.specs.declared.cmp.Ordering.TheVariants.{Less, Equal, Greater}
 use Rattle.std.proofs.lemmas.Map.Text.{is_eq-slice_cmp}
 use Rattle.std.proofs.lemmas.List.{append-nil, map-append, take_more}
-use Rattle.std.proofs.lemmas.Bool.{ltb-true, ltb-false}
+use Rattle.std.proofs.lemmas.Bool.{cases_lt}
 use Rattle.std.proofs.lemmas.Option.{slice_get_read}
 use Rattle.std.proofs.lemmas.List.Elements.{filter_map-append}
 use Rattle.std.proofs.lemmas.List.Sorted.{searchable_from_sorted}
@@ -181,13 +181,6 @@ in_order_at nodes k d up inside =
 searchable : (nodes : List NodeView) (name : PathName) → ascends node_cmp nodes ≡ true → IsNonDecreasingBy (λ node. ordering_index (name_cmp node.name name)) nodes
 searchable nodes name up = searchable_from_sorted nat_list_cmp_total (λ node. node.name) nodes name (λ k d low inside. in_order_at nodes k d up inside)
 
-le_or_lt : (a b : ℕ) → (a ≤ b) ⊎ (b < a)
-le_or_lt a b = by (nat_lt b a) refl
-  where
-    by : (v : Bool) → nat_lt b a ≡ v → (a ≤ b) ⊎ (b < a)
-    by true e = inr (ltb-true b a e)
-    by false e = inl (ltb-false b a e)
-
 another : (node : NodeView) (name : PathName) (o : Ordering) → name_cmp node.name name ≡ o → is_eq (ordering_reverse o) ≡ false → not (name_eq name node.name) ≡ true
 another node name o e other = ap not (name_eq-cmp name node.name (ordering_reverse o) (nat_list_cmp_total.antisymm name node.name ∙ ap ordering_reverse e) ∙ other)
 
@@ -196,9 +189,9 @@ pub missing : (nodes : List NodeView) (place : ℕ) (name : PathName) → ascend
 missing nodes place name up answer =
     let parts = answer (searchable nodes name up) in
     entries_in-none name nodes (list_all-from_each (λ node. not (name_eq name node.name)) nodes (λ i d inside.
-    elim (le_or_lt place i) [
-      | inl after ↦ another (get_or nodes i d) name Greater (parts.1 i d after inside) refl
-      | inr before ↦ another (get_or nodes i d) name Less (parts.0 i d (omega arith) before) refl
+    elim (cases_lt i place) [
+      | inl before ↦ another (get_or nodes i d) name Less (parts.0 i d (omega arith) before) refl
+      | inr after ↦ another (get_or nodes i d) name Greater (parts.1 i d after inside) refl
     ]))
 
 -- where it found a place, the node there has it

@@ -1,7 +1,8 @@
 -- The layer that a manifest states, or its first fault.
-use Rattle.std.specs.Prelude.{◌≡◌, ⊤, ℕ, Bool, ◌&&◌, ◌||◌, ◌==◌, not, Option, Some, None, Result, Ok, Err, List, [], ◌∷◌, ◌++◌, if◌then◌else◌, length, map, codes, nat_lt, is_some, option_and_then}
+use Rattle.std.specs.Prelude.{◌≡◌, ⊤, ℕ, Bool, true, false, ◌&&◌, ◌||◌, ◌==◌, not, Option, Some, None, Result, Ok, Err, List, [], ◌∷◌, ◌++◌, if◌then◌else◌, length, map, codes, nat_lt, is_some, option_and_then}
 use Rattle.std.specs.List.{list_all}
 use Rattle.std.specs.Ordering.{is_lt}
+use Rattle.std.specs.Result.{result_err}
 use Rattle.std.specs.Str.{is_utf8}
 use Rattle.serde_json.specs.Data.{Num, unsigned, Data, Items, no_items, item}
 use Rattle.serde_json.specs.Find.{get, as_number, as_u64, as_i64, as_array}
@@ -50,9 +51,11 @@ entries_after before [] = Ok before
 entries_after before (stated ∷ more) = elim (entry_after before stated) [ Ok entries ↦ entries_after entries more | Err fault ↦ Err fault ]
 
 -- a layer has 1 to 1,048,576 entries
+abbrev pub is_miscounted : ℕ → Bool
+is_miscounted count = count == 0 || nat_lt entry_limit count
+
 abbrev pub layer_of_entries : List (Option Entry) → Result Entries LayerFault
-layer_of_entries stated =
-    if length stated == 0 || nat_lt entry_limit (length stated) then Err Count else entries_after [] stated
+layer_of_entries stated = if is_miscounted (length stated) then Err Count else entries_after [] stated
 
 -- the entries that values state, one after another
 abbrev pub stated_entries : Items → List (Option Entry)
@@ -69,6 +72,19 @@ stated_pair entry = if is_statable entry then Some entry else None
 -- the layer of pairs
 abbrev pub layer_of_pairs : Entries → Result Entries LayerFault
 layer_of_pairs pairs = layer_of_entries (map stated_pair pairs)
+
+-- the fault of the first pair, where there are as many pairs as a layer has
+abbrev pub first_fault : Entries → Option LayerFault
+first_fault [] = None
+first_fault (pair ∷ pairs) =
+    if is_miscounted (length (pair ∷ pairs)) then None else result_err (entry_after [] (stated_pair pair))
+
+-- the faults that only a first entry has
+abbrev pub is_of_first : LayerFault → Bool
+is_of_first (WrongEntry n) = n == 0
+is_of_first (Escaped n) = n == 0
+is_of_first Root = true
+is_of_first _ = false
 
 -- a whole number, and the version that is read
 abbrev pub is_whole : Num → Bool

@@ -1,7 +1,9 @@
-ghost use Rattle.std.specs.Prelude.{◌≡◌, ◌<◌, Ok, IfSome, IsTrue, MatchResult, [], length};
+ghost use Rattle.std.specs.Prelude.{◌≡◌, ◌<◌, ◌↔◌, Ok, Err, Some, IfSome, IsTrue, MatchResult, [], length};
 ghost use Rattle.ovl_inode.specs.Attributes.{has_escaped_name as escaped_test, is_escaped_name as escaped_name_test};
 ghost use Rattle.ovl_manifest.specs.Layers.{entry_limit, is_within_limits as within_limits_test};
-ghost use Rattle.ovl_manifest.specs.Manifest.{is_statable, stated_pair, entry_after, layer_of_pairs, IsFaultOf};
+ghost use Rattle.ovl_manifest.specs.Manifest.{is_statable, stated_pair, entry_after, layer_of_pairs, is_miscounted, first_fault, is_of_first, IsFaultOf};
+ghost use Rattle.ovl_manifest.specs.declared.faults.LayerFault.{LayerFault};
+ghost use Rattle.ovl_manifest.specs.declared.faults.LayerFault.TheVariants.{Count};
 ghost use Rattle.ovl_manifest.specs.Drafts.{draft_entries, IsDraft};
 
 use crate::drafts::Draft;
@@ -15,12 +17,16 @@ use std::alloc::Global;
 pub const ENTRY_LIMIT: usize = 1_048_576;
 
 /// The layer of these entries. It is refused with `Count`, or with the first fault of the first entry that has one, in
-/// the order of tests that `docs/FORMATS.md` tells; `Memory` can come at any time. `Entry` is told of a path of more
-/// than 64 names or 4,095 bytes of text, and of an inode that isn't sound.
+/// the order of tests that `docs/FORMATS.md` tells; `Memory` can come in place of a layer or of a later entry's fault, but
+/// `Count` and the faults of the first entry need none. `Entry` is told of a path of more than 64 names or 4,095 bytes
+/// of text, and of an inode that isn't sound.
 pub fn from_entries(alloc: Global, entries: Vec<(Path, Inode)>) -> Result<Layer, LayerFault>
-    ensures { MatchResult result
+    ensures value { MatchResult result
         (λ layer. layer_of_pairs entries.items ≡ Ok layer)
         (λ fault. IsFaultOf (layer_of_pairs entries.items) fault) }
+    ensures count { (result ≡ Err Count) ↔ IsTrue (is_miscounted (length entries.items)) }
+    ensures first { (fault : LayerFault)
+        → (first_fault entries.items ≡ Some fault) ↔ ((result ≡ Err fault) × IsTrue (is_of_first fault)) }
 {
     if entries.len() > ENTRY_LIMIT {
         return Err(LayerFault::Count);
@@ -43,7 +49,7 @@ pub(crate) fn start(alloc: Global, entry: Option<(Path, Inode)>) -> Result<Draft
     requires { IfSome entry (λ stated. IsTrue (is_statable stated)) }
     ensures { MatchResult result
         (λ draft. (entry_after [] entry ≡ Ok (draft_entries draft)) × IsDraft draft)
-        (λ fault. IsFaultOf (entry_after [] entry) fault) }
+        (λ fault. entry_after [] entry ≡ Err fault) }
 {
     let Some((path, inode)) = entry else {
         return Err(LayerFault::Entry(0));

@@ -1,9 +1,12 @@
-use Rattle.std.proofs.Common.{◌≡◌, ◌∷◌, ◌∙◌, ◌+◌, sym, ap, arith, length, map}
+use Rattle.std.proofs.Common.{◌≡◌, [], ◌∷◌, ◌∙◌, ◌+◌, Ok, Err, true, sym, ap, rules, arith, length, map}
+use Rattle.std.proofs.lemmas.Grind.{common_steps}
+use Rattle.std.proofs.lemmas.Result.{err_from_is_err_and}
 use Rattle.std.specs.Vec.Iter.{into_iter_items}
 use Rattle.ovl_manifest.specs.Manifest.{stated_pair, entry_after, entries_after}
+use Rattle.ovl_manifest.specs.declared.faults.LayerFault.{LayerFault}
 use Rattle.ovl_manifest.specs.Drafts.{draft_entries}
 use Rattle.ovl_manifest.proofs.ReadLemmas.{one_more}
-use Rattle.ovl_manifest.proofs.EntryLemmas.{stated_pair_statable, one_taken}
+use Rattle.ovl_manifest.proofs.EntryLemmas.{stated_pair_statable, one_taken, none_first, well_counted, is_later, told_later, told_count, told_first}
 use Rattle.ovl_manifest.proofs.entries.from_entries.Goals as goal
 
 pub start-requires : goal.start-requires
@@ -26,5 +29,41 @@ loop-entry-preserved c =
           ∙ at.invariant.left;
       count = one_more (draft_entries at.draft) (stated_pair c.in-Some-entry.entry) (draft_entries c.in_ok-draft-2.draft) next ∙ ap (λ n. n + 1) at.invariant.count;
       room = omega (arith, short, at.invariant.room);
+      first = at.invariant.first;
       exact = omega (arith, short, at.invariant.exact, c.in-Some-entry.ensures.steps.1);
     }
+
+pub loop-entry-init : goal.loop-entry-init
+loop-entry-init c =
+    let split : c.args.entries.items ≡ c.in-Some.root ∷ into_iter_items c.next.new.self = search rules in
+    record {
+      draft = search rules;
+      left = grind (arith, common_steps);
+      count = search rules;
+      room = search rules;
+      first = none_first c.args.entries.items (into_iter_items c.next.new.self) c.in-Some.root (draft_entries c.in_ok-draft.draft) split (ap (entry_after []) (sym c.stated.ensures) ∙ c.in_ok-draft.ensures.0);
+      exact = search rules;
+    }
+
+-- what `add` tells is no fault of the count or of the first entry
+added : (c : goal.After-drop-entry-iterator) (fault : LayerFault) → c.from_residual-in_err-draft-2.result ≡ Err fault → is_later fault ≡ true
+added c fault is =
+    let out = err_from_is_err_and c.from_residual-in_err-draft-2.result c.from_residual-in_err-draft-2.ensures.1 in
+    let same : c.in_err-draft-2.field-0.0 ≡ fault = cc in
+    ap is_later (sym same) ∙ told_later ([], c.loop-entry.draft.inode) _ c.stated-in-loop-entry.result c.in_err-draft-2.field-0.0 c.in_err-draft-2.ensures
+
+pub returns-in_err-draft-2-clause-count : goal.returns-in_err-draft-2-clause-count
+returns-in_err-draft-2-clause-count c =
+    let split : c.args.entries.items ≡ c.in-Some.root ∷ into_iter_items c.next.new.self = search rules in
+    told_count c.from_residual-in_err-draft-2.result c.args.entries.items (added c) (well_counted (length c.args.entries.items) (omega (arith, ap length split)) (omega (arith, c.len.ensures, c.args.entries.ok.0, c.if-len-gt-ENTRY_LIMIT.false)))
+
+pub returns-in_err-draft-2-clause-first : goal.returns-in_err-draft-2-clause-first
+returns-in_err-draft-2-clause-first c = told_first c.from_residual-in_err-draft-2.result c.args.entries.items (added c) c.loop-entry.invariant.first
+
+pub returns-in_err-finish-clause-first : goal.returns-in_err-finish-clause-first
+returns-in_err-finish-clause-first c =
+    let out = err_from_is_err_and c.from_residual-in_err-finish.result c.from_residual-in_err-finish.ensures.1 in
+    told_first c.from_residual-in_err-finish.result c.args.entries.items (λ fault is. let same : out.0 ≡ fault = cc in ap is_later (sym same ∙ out.2)) c.loop-entry.invariant.first
+
+pub returns-clause-first : goal.returns-clause-first
+returns-clause-first c = told_first (Ok c.in_ok-finish.field-0) c.args.entries.items (λ fault is. let bad : Ok c.in_ok-finish.field-0 ≡ Err fault = is in cc) c.loop-entry.invariant.first
