@@ -1,22 +1,23 @@
 -- Entries that a manifest can state, and the limits of their paths.
-use Rattle.std.proofs.Common.{◌≡◌, ℕ, suc, ◌+◌, ◌++◌, ◌<◌, ◌≤◌, ◌∙◌, subst, Ok, List, [], ◌∷◌, Bool, true, false, Option, Some, None, refl, sym, ap, length, length-append, take, get_or, arith, le-leb}
-use Rattle.std.specs.Prelude.{◌==◌, ◌↔◌, not, Result, Err, IfSome, IsTrue, flat_map, nat_le, nat_lt, is_none, if◌then◌else◌}
+use Rattle.std.proofs.Common.{◌≡◌, ℕ, suc, ◌+◌, ◌++◌, ◌<◌, ◌≤◌, ◌∙◌, subst, Ok, List, [], ◌∷◌, Bool, true, false, Option, Some, None, refl, sym, ap, length, length-append, map, take, get_or, arith, le-leb}
+use Rattle.std.specs.Prelude.{◌==◌, ◌&&◌, ◌↔◌, not, Result, Err, IfSome, IsTrue, flat_map, nat_le, nat_lt, is_none, if◌then◌else◌}
 use Rattle.std.specs.Result.{result_err}
 use Rattle.std.proofs.lemmas.Bool.Decides.{nat_tests}
 use Rattle.std.proofs.lemmas.Grind.{flat_map-append}
-use Rattle.std.proofs.lemmas.List.{take_more}
+use Rattle.std.proofs.lemmas.List.{take_more, length-map}
 use Rattle.serde_json.specs.Data.{Data}
 use Rattle.ovl_names.specs.Names.{name_fault, is_name, slash, name_limit}
 use Rattle.ovl_names.specs.declared.names.NameFault.TheVariants.{Empty, TooLong}
-use Rattle.ovl_names.specs.Paths.{PathNames, parent_path, depth_limit, text_limit}
+use Rattle.ovl_names.specs.Paths.{PathNames, parent_path, is_root, depth_limit, text_limit}
 use Rattle.ovl_names.proofs.Ascending.{both}
 use Rattle.ovl_inode.specs.Attributes.{has_escaped_name}
+use Rattle.ovl_inode.specs.Marks.{is_directory}
 use Rattle.ovl_manifest.specs.Layers.{Entry, Entries, is_directory_at, is_within_limits, entry_limit}
 use Rattle.ovl_manifest.specs.Fields.{entry_of}
-use Rattle.ovl_manifest.specs.Manifest.{is_statable, stated_pair, comes_after, entry_after, entries_after, is_miscounted, first_fault, is_of_first, IsFaultOf}
+use Rattle.ovl_manifest.specs.Manifest.{is_statable, stated_pair, comes_after, entry_after, entries_after, is_miscounted, layer_of_pairs, first_fault, is_of_first, IsFaultOf}
 use Rattle.ovl_manifest.specs.declared.faults.LayerFault.{LayerFault}
 use Rattle.ovl_manifest.specs.declared.faults.LayerFault.TheVariants.{NotJson, Shape, Version, Count, Entry as WrongEntry, Order, NoParent, Root, Escaped, Memory}
-use Rattle.ovl_manifest.proofs.ReadLemmas.{stated}
+use Rattle.ovl_manifest.proofs.ReadLemmas.{stated, counted, is_told}
 
 -- what a value states, a manifest can state
 pub stated_statable : (value : Data) (entry : Option Entry) → entry ≡ entry_of value → IfSome entry (λ e. IsTrue (is_statable e))
@@ -70,14 +71,42 @@ none_first pairs more pair entries is taken = ap first_fault is ∙ by (is_misco
     by true = refl
     by false = ap result_err taken
 
-pub well_counted : (count : ℕ) → 1 ≤ count → count ≤ entry_limit → is_miscounted count ≡ false
-well_counted count some limit = rw (none, most) refl
+pub well_counted : (pairs more : Entries) (pair : Entry) → pairs ≡ pair ∷ more → length pairs ≤ entry_limit → is_miscounted (length pairs) ≡ false
+well_counted pairs more pair is limit = rw (none, most) refl
   where
-    none : (count == 0) ≡ false
+    some : 1 ≤ length pairs
+    some = omega (arith, ap length is)
+
+    none : (length pairs == 0) ≡ false
     none = grind (arith, nat_tests)
 
-    most : nat_lt entry_limit count ≡ false
+    most : nat_lt entry_limit (length pairs) ≡ false
     most = grind (arith, nat_tests)
+
+-- where it isn't taken, its fault is one of a first entry, and is told
+fails_first : (one : Option Entry) (fault : LayerFault) → entry_after [] one ≡ Err fault → is_of_first fault ≡ true
+fails_first None fault is = let same : WrongEntry 0 ≡ fault = cc in ap is_of_first (sym same)
+fails_first (Some entry) fault is = by (has_escaped_name entry.1.attrs) (is_root entry.0 && is_directory entry.1) is
+  where
+    by : (escaped rooted : Bool) → ◌≡◌ {A = Result Entries LayerFault} (elim (if escaped then Some (Escaped 0) else if rooted then None else Some Root) [ Some f ↦ Err f | None ↦ Ok (entry ∷ []) ]) (Err fault) → is_of_first fault ≡ true
+    by true rooted told = let same : Escaped 0 ≡ fault = cc in ap is_of_first (sym same)
+    by false true told = let bad : Ok (entry ∷ []) ≡ Err fault = told in cc
+    by false false told = let same : Root ≡ fault = cc in ap is_of_first (sym same)
+
+pub first_refused : {T : Type 0} (result : Result T LayerFault) (pairs more : Entries) (pair : Entry) (fault : LayerFault) → pairs ≡ pair ∷ more → length pairs ≤ entry_limit → entry_after [] (stated_pair pair) ≡ Err fault → result ≡ Err fault → (told : LayerFault) → (first_fault pairs ≡ Some told) ↔ ((result ≡ Err told) × IsTrue (is_of_first told))
+first_refused result pairs more pair fault is limit fails err told = (
+  λ own. let same : Some fault ≡ Some told = sym first ∙ own in let one : fault ≡ told = cc in (err ∙ ap Err one, ap is_of_first (sym one) ∙ fails_first (stated_pair pair) fault fails),
+  λ both. let same : Err fault ≡ Err told = sym err ∙ both.0 in let one : fault ≡ told = cc in first ∙ ap Some one,
+)
+  where
+    first : first_fault pairs ≡ Some fault
+    first =
+        ap first_fault is
+        ∙ (ap (λ b. if b then None else result_err (entry_after [] (stated_pair pair))) (ap (λ (ps : Entries). is_miscounted (length ps)) (sym is) ∙ well_counted pairs more pair is limit)
+        ∙ ap result_err fails)
+
+pub layer_refused : (pairs more : Entries) (pair : Entry) (fault : LayerFault) → pairs ≡ pair ∷ more → length pairs ≤ entry_limit → entry_after [] (stated_pair pair) ≡ Err fault → IsFaultOf (layer_of_pairs pairs) fault
+layer_refused pairs more pair fault is limit fails = is_told (layer_of_pairs pairs) fault (ap layer_of_pairs is ∙ (counted (map stated_pair (pair ∷ more)) (omega arith) (omega (arith, length-map more stated_pair, ap length is)) ∙ rw (fails, entries_after) refl))
 
 -- a fault that can come after the first entry
 abbrev pub is_later : LayerFault → Bool
@@ -118,11 +147,11 @@ told_later first before one Memory is = refl
 
 -- what a result tells that has no fault of its count or of its first entry
 module _ {T : Type 0} (result : Result T LayerFault) (pairs : Entries) (later : (fault : LayerFault) → result ≡ Err fault → is_later fault ≡ true) where
-  pub told_count : is_miscounted (length pairs) ≡ false → (result ≡ Err Count) ↔ IsTrue (is_miscounted (length pairs))
-  told_count few = (λ is. let bad : false ≡ true = later Count is in cc, λ many. let bad : false ≡ true = sym few ∙ many in cc)
+  pub count_later : is_miscounted (length pairs) ≡ false → (result ≡ Err Count) ↔ IsTrue (is_miscounted (length pairs))
+  count_later few = (λ is. let bad : false ≡ true = later Count is in cc, λ many. let bad : false ≡ true = sym few ∙ many in cc)
 
-  pub told_first : first_fault pairs ≡ None → (fault : LayerFault) → (first_fault pairs ≡ Some fault) ↔ ((result ≡ Err fault) × IsTrue (is_of_first fault))
-  told_first none fault = (λ is. let bad : None ≡ Some fault = sym none ∙ is in cc, λ told. let bad : false ≡ true = not_both fault (later fault told.0) told.1 in cc)
+  pub first_later : first_fault pairs ≡ None → (fault : LayerFault) → (first_fault pairs ≡ Some fault) ↔ ((result ≡ Err fault) × IsTrue (is_of_first fault))
+  first_later none fault = (λ is. let bad : None ≡ Some fault = sym none ∙ is in cc, λ told. let bad : false ≡ true = not_both fault (later fault told.0) told.1 in cc)
     where
       not_both : (fault : LayerFault) → is_later fault ≡ true → is_of_first fault ≡ true → false ≡ true
       not_both Count after of = after

@@ -142,6 +142,19 @@ same_fault one other fails Root is = fails Root is
 same_fault one other fails (Escaped n) is = fails (Escaped n) is
 same_fault one other fails Memory is = tt
 
+-- and the fault that is stated is told
+pub is_told : (stated : Result Entries LayerFault) (fault : LayerFault) → stated ≡ Err fault → IsFaultOf stated fault
+is_told stated NotJson is = is
+is_told stated Shape is = is
+is_told stated Version is = is
+is_told stated Count is = is
+is_told stated (WrongEntry n) is = is
+is_told stated (Order n) is = is
+is_told stated (NoParent n) is = is
+is_told stated Root is = is
+is_told stated (Escaped n) is = is
+is_told stated Memory is = tt
+
 -- ---- the entries of values, one after another
 
 abbrev pub stated_of : List Value → List (Option Entry)

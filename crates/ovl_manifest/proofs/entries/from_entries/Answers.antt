@@ -1,12 +1,13 @@
-use Rattle.std.proofs.Common.{◌≡◌, [], ◌∷◌, ◌∙◌, ◌+◌, Ok, Err, true, sym, ap, rules, arith, length, map}
+use Rattle.std.proofs.Common.{◌≡◌, ◌≤◌, [], ◌∷◌, ◌∙◌, ◌+◌, Ok, Err, true, sym, ap, rules, arith, length, map}
 use Rattle.std.proofs.lemmas.Grind.{common_steps}
 use Rattle.std.proofs.lemmas.Result.{err_from_is_err_and}
 use Rattle.std.specs.Vec.Iter.{into_iter_items}
+use Rattle.ovl_manifest.specs.Layers.{entry_limit}
 use Rattle.ovl_manifest.specs.Manifest.{stated_pair, entry_after, entries_after}
 use Rattle.ovl_manifest.specs.declared.faults.LayerFault.{LayerFault}
 use Rattle.ovl_manifest.specs.Drafts.{draft_entries}
 use Rattle.ovl_manifest.proofs.ReadLemmas.{one_more}
-use Rattle.ovl_manifest.proofs.EntryLemmas.{stated_pair_statable, one_taken, none_first, well_counted, is_later, told_later, told_count, told_first}
+use Rattle.ovl_manifest.proofs.EntryLemmas.{stated_pair_statable, one_taken, none_first, layer_refused, first_refused, well_counted, is_later, told_later, count_later, first_later}
 use Rattle.ovl_manifest.proofs.entries.from_entries.Goals as goal
 
 pub start-requires : goal.start-requires
@@ -45,6 +46,19 @@ loop-entry-init c =
       exact = search rules;
     }
 
+pub returns-in_err-draft : goal.returns-in_err-draft
+returns-in_err-draft c =
+    let split : c.args.entries.items ≡ c.in-Some.root ∷ into_iter_items c.next.new.self = search rules in
+    let limit : length c.args.entries.items ≤ entry_limit = omega (arith, c.len.ensures, c.args.entries.ok.0, c.if-len-gt-ENTRY_LIMIT.false) in
+    let fails = ap (entry_after []) (sym c.stated.ensures) ∙ c.in_err-draft.ensures in
+    let out = err_from_is_err_and c.from_residual.result c.from_residual.ensures.1 in
+    let told = out.1 ∙ ap Err out.2 in
+    record {
+      value = rw told (layer_refused c.args.entries.items (into_iter_items c.next.new.self) c.in-Some.root c.in_err-draft.field-0.0 split limit fails);
+      count = grind (arith, common_steps);
+      first = first_refused c.from_residual.result c.args.entries.items (into_iter_items c.next.new.self) c.in-Some.root c.in_err-draft.field-0.0 split limit fails told;
+    }
+
 -- what `add` tells is no fault of the count or of the first entry
 added : (c : goal.After-drop-entry-iterator) (fault : LayerFault) → c.from_residual-in_err-draft-2.result ≡ Err fault → is_later fault ≡ true
 added c fault is =
@@ -55,15 +69,15 @@ added c fault is =
 pub returns-in_err-draft-2-clause-count : goal.returns-in_err-draft-2-clause-count
 returns-in_err-draft-2-clause-count c =
     let split : c.args.entries.items ≡ c.in-Some.root ∷ into_iter_items c.next.new.self = search rules in
-    told_count c.from_residual-in_err-draft-2.result c.args.entries.items (added c) (well_counted (length c.args.entries.items) (omega (arith, ap length split)) (omega (arith, c.len.ensures, c.args.entries.ok.0, c.if-len-gt-ENTRY_LIMIT.false)))
+    count_later c.from_residual-in_err-draft-2.result c.args.entries.items (added c) (well_counted c.args.entries.items (into_iter_items c.next.new.self) c.in-Some.root split (omega (arith, c.len.ensures, c.args.entries.ok.0, c.if-len-gt-ENTRY_LIMIT.false)))
 
 pub returns-in_err-draft-2-clause-first : goal.returns-in_err-draft-2-clause-first
-returns-in_err-draft-2-clause-first c = told_first c.from_residual-in_err-draft-2.result c.args.entries.items (added c) c.loop-entry.invariant.first
+returns-in_err-draft-2-clause-first c = first_later c.from_residual-in_err-draft-2.result c.args.entries.items (added c) c.loop-entry.invariant.first
 
 pub returns-in_err-finish-clause-first : goal.returns-in_err-finish-clause-first
 returns-in_err-finish-clause-first c =
     let out = err_from_is_err_and c.from_residual-in_err-finish.result c.from_residual-in_err-finish.ensures.1 in
-    told_first c.from_residual-in_err-finish.result c.args.entries.items (λ fault is. let same : out.0 ≡ fault = cc in ap is_later (sym same ∙ out.2)) c.loop-entry.invariant.first
+    first_later c.from_residual-in_err-finish.result c.args.entries.items (λ fault is. let same : out.0 ≡ fault = cc in ap is_later (sym same ∙ out.2)) c.loop-entry.invariant.first
 
 pub returns-clause-first : goal.returns-clause-first
-returns-clause-first c = told_first (Ok c.in_ok-finish.field-0) c.args.entries.items (λ fault is. let bad : Ok c.in_ok-finish.field-0 ≡ Err fault = is in cc) c.loop-entry.invariant.first
+returns-clause-first c = first_later (Ok c.in_ok-finish.field-0) c.args.entries.items (λ fault is. let bad : Ok c.in_ok-finish.field-0 ≡ Err fault = is in cc) c.loop-entry.invariant.first
