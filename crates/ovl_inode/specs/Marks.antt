@@ -1,12 +1,13 @@
 -- What an inode means to the overlay: the first case that holds is its mark.
 -- overlayfs.rst, "whiteouts and opaque directories", "renaming directories" and "Metadata only copy up".
-use Rattle.std.specs.Prelude.{ℕ, Bool, true, false, ◌&&◌, ◌==◌, not, if◌then◌else◌, Option, Some, None, List, is_some, codes}
+use Rattle.std.specs.Prelude.{ℕ, Bool, true, false, ◌&&◌, ◌==◌, not, if◌then◌else◌, Some, None, List, is_some, codes}
 use Rattle.ovl_names.specs.Names.{name_eq}
 use Rattle.ovl_inode.specs.declared.inodes.Inode.{Inode}
 use Rattle.ovl_inode.specs.declared.inodes.Kind.TheVariants.{Dir, File, Char}
 use Rattle.ovl_inode.specs.declared.marks.Mark.{Mark}
 use Rattle.ovl_inode.specs.declared.marks.Mark.TheVariants.{Whiteout, DirOpaque, DirMoved, DirBad, DirPlain, Meta, MetaBad, Leaf}
-use Rattle.ovl_inode.specs.declared.marks.Redirect.{Redirect}
+use Rattle.ovl_inode.specs.declared.marks.Reading.{Reading}
+use Rattle.ovl_inode.specs.declared.marks.Reading.TheVariants.{Absent, Malformed, Says}
 use Rattle.ovl_inode.specs.Attributes.{attribute, opaque_name, redirect_name, metacopy_name, whiteout_name}
 use Rattle.ovl_inode.specs.Redirects.{read_redirect}
 
@@ -45,20 +46,23 @@ abbrev pub has_opaque : Inode → Bool
 has_opaque inode = attribute_is inode opaque_name (codes "y")
 
 -- how `redirect` reads: absent, malformed, or what it says
-abbrev pub redirect_reading : Inode → Option (Option Redirect)
+abbrev pub redirect_reading : Inode → Reading
 redirect_reading inode =
-    elim (attribute inode.attrs redirect_name) [ Some value ↦ Some (read_redirect value) | None ↦ None ]
+    elim (attribute inode.attrs redirect_name) [
+      | Some value ↦ elim (read_redirect value) [ Some redirect ↦ Says redirect | None ↦ Malformed ]
+      | None ↦ Absent
+    ]
 
 -- the mark of a directory, and that of a metacopy file, with this reading of `redirect`
-abbrev pub directory_mark : Option (Option Redirect) → Mark
-directory_mark None = DirPlain
-directory_mark (Some None) = DirBad
-directory_mark (Some (Some redirect)) = DirMoved redirect
+abbrev pub directory_mark : Reading → Mark
+directory_mark Absent = DirPlain
+directory_mark Malformed = DirBad
+directory_mark (Says redirect) = DirMoved redirect
 
-abbrev pub metacopy_mark : Option (Option Redirect) → Mark
-metacopy_mark None = Meta None
-metacopy_mark (Some None) = MetaBad
-metacopy_mark (Some (Some redirect)) = Meta (Some redirect)
+abbrev pub metacopy_mark : Reading → Mark
+metacopy_mark Absent = Meta None
+metacopy_mark Malformed = MetaBad
+metacopy_mark (Says redirect) = Meta (Some redirect)
 
 -- the mark of an inode: the first case that holds
 abbrev pub mark_of : Inode → Mark

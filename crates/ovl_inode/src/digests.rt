@@ -9,8 +9,10 @@ use thiserror::Error;
 /// Why a text is no digest; where both hold, the first is given.
 #[derive(Clone, Copy, Debug, PartialEq, Eq, Error)]
 pub enum DigestFault {
+    /// It has not 64 bytes.
     #[error("the digest has not 64 digits")]
     Length,
+    /// It has a byte that is none of `0` to `9` and `a` to `f`.
     #[error("the digest has a byte that is no lower-case hexadecimal digit")]
     Digit,
 }

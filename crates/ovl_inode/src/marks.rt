@@ -24,14 +24,19 @@ pub enum Redirect {
 /// Why the value of a `redirect` is malformed; where several hold, the first of them is given.
 #[derive(Clone, Copy, Debug, PartialEq, Eq, Error)]
 pub enum RedirectFault {
+    /// It has no bytes.
     #[error("the redirect is empty")]
     Empty,
+    /// It is no UTF-8 text, or holds NUL.
     #[error("the redirect is not UTF-8 text without NUL")]
     Text,
+    /// It has an empty part, or is a name beside that holds `/`.
     #[error("the redirect has a separator out of place")]
     Slash,
+    /// A part is `.` or `..`, or has more than [`NAME_LIMIT`] bytes.
     #[error("the redirect has a part that is no name")]
     Part,
+    /// No memory was left.
     #[error("out of memory")]
     Memory,
 }
@@ -113,6 +118,7 @@ fn path_to(alloc: Global, rest: &str) -> Result<Path, RedirectFault>
     }
     let mut path = Path::root(alloc);
     for part in rest.split('/') {
+        // The part is a name: it isn't empty, holds no NUL and isn't bad.
         let Ok(name) = Name::of(alloc, part) else {
             return Err(RedirectFault::Memory);
         };
@@ -142,6 +148,7 @@ fn name_beside(alloc: Global, text: &str) -> Result<Name, RedirectFault>
     if is_bad_part(text) {
         return Err(RedirectFault::Part);
     }
+    // The text is a name: it isn't empty, holds no separator and no NUL, and isn't bad.
     let Ok(name) = Name::of(alloc, text) else {
         return Err(RedirectFault::Memory);
     };
@@ -203,9 +210,9 @@ fn directory_mark(alloc: Global, inode: &Inode) -> Result<Mark, AllocError>
         return Ok(Mark::DirOpaque);
     }
     Ok(match redirect_reading(alloc, inode)? {
-        None => Mark::DirPlain,
-        Some(None) => Mark::DirBad,
-        Some(Some(redirect)) => Mark::DirMoved(redirect),
+        Reading::Absent => Mark::DirPlain,
+        Reading::Malformed => Mark::DirBad,
+        Reading::Says(redirect) => Mark::DirMoved(redirect),
     })
 }
 
@@ -218,24 +225,31 @@ fn file_mark(alloc: Global, inode: &Inode) -> Result<Mark, AllocError>
         return Ok(Mark::Leaf);
     }
     Ok(match redirect_reading(alloc, inode)? {
-        None => Mark::Meta(None),
-        Some(None) => Mark::MetaBad,
-        Some(Some(redirect)) => Mark::Meta(Some(redirect)),
+        Reading::Absent => Mark::Meta(None),
+        Reading::Malformed => Mark::MetaBad,
+        Reading::Says(redirect) => Mark::Meta(Some(redirect)),
     })
 }
 
-// How `redirect` reads: absent, malformed, or what it says.
-fn redirect_reading(alloc: Global, inode: &Inode) -> Result<Option<Option<Redirect>>, AllocError>
+// How the attribute `redirect` of an inode reads.
+#[derive(Drop)]
+enum Reading {
+    Absent,
+    Malformed,
+    Says(Redirect),
+}
+
+fn redirect_reading(alloc: Global, inode: &Inode) -> Result<Reading, AllocError>
     ensures { IfOk result (λ reading. reading ≡ the_reading inode.now) }
 {
     let Some(value) = inode.attrs.get(overlay::REDIRECT) else {
-        return Ok(None);
+        return Ok(Reading::Absent);
     };
     match read_redirect(alloc, value) {
-        Ok(redirect) => Ok(Some(Some(redirect))),
+        Ok(redirect) => Ok(Reading::Says(redirect)),
         Err(RedirectFault::Memory) => Err(AllocError),
         Err(
             RedirectFault::Empty | RedirectFault::Text | RedirectFault::Slash | RedirectFault::Part,
-        ) => Ok(Some(None)),
+        ) => Ok(Reading::Malformed),
     }
 }

@@ -62,7 +62,7 @@ const FILE: Kind = Kind::File {
 
 #[test]
 fn a_moved_directory_has_its_redirect_in_its_mark(rt: HostRuntime) -> Result<(), Fail> {
-    let moved = inode_of(rt.alloc(), Kind::Dir, "trusted.overlay.redirect", b"/x")?;
+    let moved = inode_of(rt.alloc(), Kind::Dir, overlay::REDIRECT, b"/x")?;
     let mark = mark_of(rt.alloc(), &moved)?;
     let path = Path::parse(rt.alloc(), "/x")?;
     assert!(rt; matches!(&mark, Mark::DirMoved(Redirect::To(to)) if *to == path));
@@ -73,38 +73,67 @@ fn a_moved_directory_has_its_redirect_in_its_mark(rt: HostRuntime) -> Result<(),
 fn marks_are_the_first_case_that_holds(rt: HostRuntime) -> Result<(), Fail> {
     let alloc = rt.alloc();
     for (kind, attribute, value, shown) in [
-        (
-            Kind::Dir,
-            "trusted.overlay.opaque",
-            b"y".as_slice(),
-            "DirOpaque",
-        ),
-        (
-            Kind::Dir,
-            "trusted.overlay.opaque",
-            b"x".as_slice(),
-            "DirPlain",
-        ),
-        (
-            Kind::Dir,
-            "trusted.overlay.redirect",
-            b"".as_slice(),
-            "DirBad",
-        ),
+        (Kind::Dir, overlay::OPAQUE, b"y".as_slice(), "DirOpaque"),
+        (Kind::Dir, overlay::OPAQUE, b"x".as_slice(), "DirPlain"),
+        (Kind::Dir, overlay::REDIRECT, b"".as_slice(), "DirBad"),
         (DEVICE, "user.k", b"".as_slice(), "Whiteout"),
-        (
-            FILE,
-            "trusted.overlay.metacopy",
-            b"".as_slice(),
-            "Meta(None)",
-        ),
-        (FILE, "trusted.overlay.whiteout", b"".as_slice(), "Leaf"),
+        (FILE, overlay::METACOPY, b"".as_slice(), "Meta(None)"),
+        (FILE, overlay::WHITEOUT, b"".as_slice(), "Leaf"),
     ] {
         let inode = inode_of(alloc, kind, attribute, value)?;
         let mark = mark_of(alloc, &inode)?;
         assert_eq!(rt; format!(in alloc; "{mark:?}")?.as_str(), shown);
         assert_eq!(rt; is_whiteout(&inode), shown == "Whiteout");
         assert_eq!(rt; is_directory(&inode), shown.starts_with("Dir"));
+    }
+    Ok(())
+}
+
+#[test]
+fn a_redirect_stands_in_the_mark_of_what_it_moves(rt: HostRuntime) -> Result<(), Fail> {
+    let alloc = rt.alloc();
+    for (value, moved, meta) in [
+        (
+            b"/x".as_slice(),
+            "DirMoved(To(Path { names: [Name { text: \"x\" }] }))",
+            "Meta(Some(To(Path { names: [Name { text: \"x\" }] })))",
+        ),
+        (
+            b"r".as_slice(),
+            "DirMoved(Beside(Name { text: \"r\" }))",
+            "Meta(Some(Beside(Name { text: \"r\" })))",
+        ),
+        (b"a/b".as_slice(), "DirBad", "MetaBad"),
+    ] {
+        for (kind, shown) in [(Kind::Dir, moved), (FILE, meta)] {
+            let mut inode = inode_of(alloc, kind, overlay::METACOPY, b"")?;
+            inode.attrs.put(overlay::REDIRECT, value)?;
+            let mark = mark_of(alloc, &inode)?;
+            assert_eq!(rt; format!(in alloc; "{mark:?}")?.as_str(), shown);
+        }
+    }
+    Ok(())
+}
+
+#[test]
+fn faults_of_redirects_have_their_texts(rt: HostRuntime) -> Result<(), Fail> {
+    for (fault, text) in [
+        (RedirectFault::Empty, "the redirect is empty"),
+        (
+            RedirectFault::Text,
+            "the redirect is not UTF-8 text without NUL",
+        ),
+        (
+            RedirectFault::Slash,
+            "the redirect has a separator out of place",
+        ),
+        (
+            RedirectFault::Part,
+            "the redirect has a part that is no name",
+        ),
+        (RedirectFault::Memory, "out of memory"),
+    ] {
+        assert_eq!(rt; fault.to_string(rt.alloc())?.as_str(), text);
     }
     Ok(())
 }

@@ -150,7 +150,7 @@ fn kinds_are_copied(rt: HostRuntime) -> Result<(), Fail> {
 // An opaque directory with an attribute of its own.
 fn opaque(alloc: Global) -> Result<Inode, AttrFault> {
     let mut inode = plain(alloc, Kind::Dir);
-    inode.attrs.put("trusted.overlay.opaque", b"y")?;
+    inode.attrs.put(overlay::OPAQUE, b"y")?;
     inode.attrs.put("user.k", &[1])?;
     Ok(inode)
 }
@@ -170,7 +170,7 @@ fn an_inode_is_copied_with_its_attributes(rt: HostRuntime) -> Result<(), Fail> {
 fn an_inode_is_shown_without_the_overlays_attributes(rt: HostRuntime) -> Result<(), Fail> {
     let opaque = opaque(rt.alloc())?;
     let shown = visible(rt.alloc(), &opaque)?;
-    assert_eq!(rt; shown.attrs.get("trusted.overlay.opaque"), None);
+    assert_eq!(rt; shown.attrs.get(overlay::OPAQUE), None);
     assert_eq!(rt; shown.attrs.get("user.k"), Some([1].as_slice()));
     assert_eq!(rt; shown.mode, 0o644);
     assert_eq!(rt; opaque.attrs.visible(rt.alloc())?.pairs().len(), 1);
@@ -204,7 +204,7 @@ fn metacopy_files_have_no_contents(rt: HostRuntime) -> Result<(), Fail> {
         (0, Some(digest), false),
     ] {
         let mut inode = plain(rt.alloc(), Kind::File { size, blob });
-        inode.attrs.put("trusted.overlay.metacopy", &[])?;
+        inode.attrs.put(overlay::METACOPY, &[])?;
         assert_eq!(rt; sound(&inode), wanted, "at {inode:?}");
     }
     Ok(())
@@ -244,6 +244,29 @@ fn other_kinds_are_sound_by_their_mode(rt: HostRuntime) -> Result<(), Fail> {
             inode.mode = mode;
             assert_eq!(rt; sound(&inode), wanted, "at {inode:?}");
         }
+    }
+    Ok(())
+}
+
+#[test]
+fn faults_of_attributes_and_digests_have_their_texts(rt: HostRuntime) -> Result<(), Fail> {
+    for (fault, text) in [
+        (
+            AttrFault::Name,
+            "the attribute's name has not 1 to 255 bytes without NUL",
+        ),
+        (AttrFault::Memory, "out of memory"),
+    ] {
+        assert_eq!(rt; fault.to_string(rt.alloc())?.as_str(), text);
+    }
+    for (fault, text) in [
+        (DigestFault::Length, "the digest has not 64 digits"),
+        (
+            DigestFault::Digit,
+            "the digest has a byte that is no lower-case hexadecimal digit",
+        ),
+    ] {
+        assert_eq!(rt; fault.to_string(rt.alloc())?.as_str(), text);
     }
     Ok(())
 }

@@ -9,6 +9,7 @@ use Rattle.ovl_inode.specs.declared.digests.Digest.{Digest}
 use Rattle.ovl_inode.specs.declared.inodes.Kind.{Kind}
 use Rattle.ovl_inode.specs.declared.inodes.Kind.TheVariants.{Dir, File, Symlink, Char, Block, Fifo, Socket}
 use Rattle.ovl_inode.specs.Attributes.{Attributes}
+use Rattle.ovl_inode.specs.Kinds.{kind_word}
 use Rattle.ovl_manifest.specs.Layers.{Entry, Entries}
 
 -- a whole number, and bytes as lower-case hexadecimal digits
@@ -17,16 +18,6 @@ whole n = number (unsigned n)
 
 abbrev pub hexadecimal : List ℕ → Data
 hexadecimal bytes = string (encode_lower bytes)
-
--- the word of a kind
-abbrev pub kind_word : Kind → List ℕ
-kind_word Dir = codes "dir"
-kind_word (File size blob) = codes "file"
-kind_word (Symlink target) = codes "symlink"
-kind_word (Char major minor) = codes "char"
-kind_word (Block major minor) = codes "block"
-kind_word Fifo = codes "fifo"
-kind_word Socket = codes "socket"
 
 -- the members with those that only entries of a kind have
 abbrev pub with_blob : Option Digest → Members → Members

@@ -12,7 +12,7 @@ ghost use Rattle.ovl_manifest.specs.Manifest.{comes_after};
 ghost use Rattle.ovl_manifest.specs.Drafts.{draft_entries, inode_on_way as way_inode, IsDraft, CanTake};
 
 use crate::trees::{Layer, Node};
-use ovl_inode::{Inode, Kind};
+use ovl_inode::{Inode, is_directory};
 use ovl_names::Path;
 use std::alloc::{AllocError, Global};
 
@@ -66,7 +66,7 @@ impl Draft {
         if path.names()[..depth] != self.last.names()[..depth] {
             return false;
         }
-        is_dir(self.inode_on_way(depth))
+        is_directory(self.inode_on_way(depth))
     }
 
     // The inode of the directory on the way to the last entry that has `depth` names.
@@ -162,12 +162,6 @@ impl Draft {
             last,
         })
     }
-}
-
-fn is_dir(inode: &Inode) -> bool
-    ensures { result ≡ is_directory inode.now }
-{
-    matches!(inode.kind, Kind::Dir)
 }
 
 impl Node {

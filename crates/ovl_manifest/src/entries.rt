@@ -7,9 +7,12 @@ ghost use Rattle.ovl_manifest.specs.Drafts.{draft_entries, IsDraft};
 use crate::drafts::Draft;
 use crate::faults::LayerFault;
 use crate::trees::Layer;
-use ovl_inode::{Attrs, Inode, Kind, sound};
-use ovl_names::Path;
+use ovl_inode::{Attrs, Inode, is_directory, overlay, sound};
+use ovl_names::{DEPTH_LIMIT, Path, TEXT_LIMIT};
 use std::alloc::Global;
+
+/// The most entries of a layer.
+pub const ENTRY_LIMIT: usize = 1_048_576;
 
 /// The layer of these entries. It is refused with `Count`, or with the first fault of the first entry that has one, in
 /// the order of tests that `docs/FORMATS.md` tells; `Memory` can come at any time. `Entry` is told of a path of more
@@ -19,7 +22,7 @@ pub fn from_entries(alloc: Global, entries: Vec<(Path, Inode)>) -> Result<Layer,
         (λ layer. layer_of_pairs entries.items ≡ Ok layer)
         (λ fault. IsFaultOf (layer_of_pairs entries.items) fault) }
 {
-    if entries.len() > 1_048_576 {
+    if entries.len() > ENTRY_LIMIT {
         return Err(LayerFault::Count);
     }
     let mut entries = entries.into_iter();
@@ -48,7 +51,7 @@ pub(crate) fn start(alloc: Global, entry: Option<(Path, Inode)>) -> Result<Draft
     if has_escaped_name(&inode.attrs) {
         return Err(LayerFault::Escaped(0));
     }
-    if !path.is_empty() || !matches!(inode.kind, Kind::Dir) {
+    if !path.is_empty() || !is_directory(&inode) {
         return Err(LayerFault::Root);
     }
     Ok(Draft::start(alloc, inode))
@@ -95,21 +98,21 @@ fn stated(entry: (Path, Inode)) -> Option<(Path, Inode)>
     }
 }
 
-// Whether the path has at most 64 names, and its text at most 4,095 bytes.
+// Whether the path has at most `DEPTH_LIMIT` names, and its text at most `TEXT_LIMIT` bytes.
 fn is_within_limits(path: &Path) -> bool
     ensures { result ≡ within_limits_test path.now }
 {
-    if path.len() > 64 {
+    if path.len() > DEPTH_LIMIT {
         return false;
     }
     let mut bytes = 0;
     for name in path.names() {
         bytes += 1 + name.as_str().len();
     }
-    bytes <= 4095
+    bytes <= TEXT_LIMIT
 }
 
-// Whether the name of some attribute begins with `trusted.overlay.overlay.`.
+// Whether the name of some attribute begins with `overlay::ESCAPED_PREFIX`.
 fn has_escaped_name(attrs: &Attrs) -> bool
     ensures { result ≡ escaped_test attrs.now }
 {
@@ -122,5 +125,6 @@ fn has_escaped_name(attrs: &Attrs) -> bool
 fn is_escaped_name(name: &str) -> bool
     ensures { result ≡ escaped_name_test name.now }
 {
-    name.as_bytes().starts_with(b"trusted.overlay.overlay.")
+    name.as_bytes()
+        .starts_with(overlay::ESCAPED_PREFIX.as_bytes())
 }

@@ -5,7 +5,9 @@ ghost use Rattle.serde_json.specs.View.{view, members_view};
 ghost use Rattle.ovl_manifest.specs.Fields.{has_exactly, kind_members, text_field, natural_field, seconds_field, path_field, attribute_after, attributes_after, attributes_field, blob_field, file_kind, kind_named, kind_field, inode_with, inode_field, entry_of};
 
 use hex::FromHexError;
-use ovl_inode::{AttrFault, Attrs, Digest, Inode, Kind, Target, are_lower_digits, sound};
+use ovl_inode::{
+    AttrFault, Attrs, Digest, Inode, Kind, MODE_LIMIT, SIZE_LIMIT, Target, are_lower_digits, sound,
+};
 use ovl_names::{Path, PathFault};
 use serde_json::{Map, Value};
 use std::alloc::{AllocError, Global};
@@ -56,9 +58,9 @@ fn read_inode(alloc: Global, value: &Value) -> Result<Option<Inode>, AllocError>
 fn inode_of(kind: Kind, attrs: Attrs, value: &Value) -> Option<Inode>
     ensures { result ≡ inode_with kind attrs (view value.now) }
 {
-    let mode = natural(value, "mode", 4095)?;
-    let uid = natural(value, "uid", 4_294_967_295)?;
-    let gid = natural(value, "gid", 4_294_967_295)?;
+    let mode = natural(value, "mode", MODE_LIMIT as u64)?;
+    let uid = natural(value, "uid", u32::MAX as u64)?;
+    let gid = natural(value, "gid", u32::MAX as u64)?;
     let mtime = seconds(value, "mtime")?;
     Some(Inode {
         kind,
@@ -102,15 +104,15 @@ fn plain_kind(name: &str, value: &Value) -> Option<Kind>
     } else if name == "file" {
         read_file(value)
     } else if name == "char" {
-        let major = natural(value, "major", 4_294_967_295)?;
-        let minor = natural(value, "minor", 4_294_967_295)?;
+        let major = natural(value, "major", u32::MAX as u64)?;
+        let minor = natural(value, "minor", u32::MAX as u64)?;
         Some(Kind::Char {
             major: major as u32,
             minor: minor as u32,
         })
     } else if name == "block" {
-        let major = natural(value, "major", 4_294_967_295)?;
-        let minor = natural(value, "minor", 4_294_967_295)?;
+        let major = natural(value, "major", u32::MAX as u64)?;
+        let minor = natural(value, "minor", u32::MAX as u64)?;
         Some(Kind::Block {
             major: major as u32,
             minor: minor as u32,
@@ -127,7 +129,7 @@ fn plain_kind(name: &str, value: &Value) -> Option<Kind>
 fn read_file(value: &Value) -> Option<Kind>
     ensures { result ≡ file_kind (view value.now) }
 {
-    let size = natural(value, "size", 9_223_372_036_854_775_807)?;
+    let size = natural(value, "size", SIZE_LIMIT)?;
     let blob = read_blob(value)?;
     Some(Kind::File { size, blob })
 }

@@ -11,7 +11,7 @@ mod tests;
 mod trees;
 mod writing;
 
-pub use entries::from_entries;
+pub use entries::{ENTRY_LIMIT, from_entries};
 pub use faults::LayerFault;
 pub use reading::read_layer;
 pub use trees::{Cursor, Layer};

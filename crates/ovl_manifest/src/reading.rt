@@ -3,7 +3,7 @@ ghost use Rattle.serde_json.specs.View.{view, items_view};
 ghost use Rattle.ovl_manifest.specs.Layers.{entry_limit};
 ghost use Rattle.ovl_manifest.specs.Manifest.{entries_after, stated_entries, layer_of_value, read_layer as layer_stated, IsFaultOf};
 
-use crate::entries::{add, start};
+use crate::entries::{ENTRY_LIMIT, add, start};
 use crate::faults::LayerFault;
 use crate::fields::{is_made_of, read_entry};
 use crate::trees::Layer;
@@ -46,13 +46,13 @@ fn read_value(alloc: Global, value: &Value) -> Result<Layer, LayerFault>
     if version.as_u64() != Some(1) {
         return Err(LayerFault::Version);
     }
-    if entries.is_empty() || entries.len() > 1_048_576 {
+    if entries.is_empty() || entries.len() > ENTRY_LIMIT {
         return Err(LayerFault::Count);
     }
     read_entries(alloc, entries)
 }
 
-// The layer of at least one entry and at most 1,048,576.
+// The layer of at least one entry and at most `ENTRY_LIMIT`.
 fn read_entries(alloc: Global, values: &[Value]) -> Result<Layer, LayerFault>
     requires some { 1 ≤ length values.now }
     requires limit { length values.now ≤ entry_limit }

@@ -362,14 +362,28 @@ fn inodes_are_found_by_path(rt: HostRuntime) -> Result<(), Fail> {
     Ok(())
 }
 
+const OPAQUE_N: &str =
+    r#"{"gid":0,"kind":"dir","mode":493,"mtime":0,"path":"/n","uid":0,"xattrs":{"trusted.overlay.opaque":"79"}}"#;
+
+const MOVED_D: &str =
+    r#"{"gid":0,"kind":"dir","mode":493,"mtime":0,"path":"/n/d","uid":0,"xattrs":{"trusted.overlay.redirect":"2f78"}}"#;
+
+const WHITEOUT_X: &str =
+    r#"{"gid":0,"kind":"char","major":0,"minor":0,"mode":0,"mtime":0,"path":"/x","uid":0,"xattrs":{}}"#;
+
 #[test]
 fn the_names_in_a_directory_are_in_order(rt: HostRuntime) -> Result<(), Fail> {
     let alloc = rt.alloc();
-    let text = with_root(alloc, &[CHAR, DIR, IN_DIR, FILE])?;
+    let text = with_root(alloc, &[OPAQUE_N, MOVED_D, WHITEOUT_X])?;
     let layer = read_layer(alloc, text.as_bytes())?;
-    let names = layer.children(alloc, &Path::root(alloc))?;
-    assert_eq!(rt; names.len(), 3);
-    assert_eq!(rt; names[1].as_str(), "d");
+    for (path, names) in [("/", "n x "), ("/n", "d "), ("/x", ""), ("/z", "")] {
+        let mut listed = String::new(alloc);
+        for name in &layer.children(alloc, &Path::parse(alloc, path)?)? {
+            listed.push_str(name.as_str())?;
+            listed.push_str(" ")?;
+        }
+        assert_eq!(rt; listed.as_str(), names, "at {path:?}");
+    }
     Ok(())
 }
 
@@ -446,6 +460,28 @@ fn paths_have_at_most_64_names(rt: HostRuntime) -> Result<(), Fail> {
         fault_of(rt.alloc(), manifest.as_str()),
         Some(LayerFault::Entry(1))
     );
+    Ok(())
+}
+
+// The manifest of directories at each of the first paths down a chain of names.
+fn chain(alloc: Global, depth: usize) -> Result<String, AllocError> {
+    let mut text = format!(in alloc; "{{\"entries\":[{ROOT}")?;
+    let mut path = String::new(alloc);
+    for _ in 0..depth {
+        path.push_str("/n")?;
+        text.push_str(",")?;
+        text.push_str(DIR.replace(alloc, "/d", path.as_str())?.as_str())?;
+    }
+    text.push_str(r#"],"overlay-layer":1}"#)?;
+    Ok(text)
+}
+
+#[test]
+fn a_chain_of_directories_is_read_to_64_names(rt: HostRuntime) -> Result<(), Fail> {
+    for (depth, fault) in [(64, None), (65, Some(LayerFault::Entry(65)))] {
+        let text = chain(rt.alloc(), depth)?;
+        assert_eq!(rt; fault_of(rt.alloc(), text.as_str()), fault, "at {depth}");
+    }
     Ok(())
 }
 

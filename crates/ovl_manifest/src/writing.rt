@@ -3,7 +3,7 @@ ghost use Rattle.serde_json.specs.View.{view, items_view, members_view};
 ghost use Rattle.ovl_names.specs.Paths.{path_text as text_of_path};
 ghost use Rattle.ovl_manifest.specs.Layers.{IsLayer};
 ghost use Rattle.ovl_manifest.specs.Manifest.{read_layer};
-ghost use Rattle.ovl_manifest.specs.Text.{manifest_text, layer_value as value_of_layer, entry_value as value_of_entry, entry_items, common_members as common, attribute_members as attributes, with_kind, kind_word as word_of_kind, hexadecimal as hexadecimal_data};
+ghost use Rattle.ovl_manifest.specs.Text.{manifest_text, layer_value as value_of_layer, entry_value as value_of_entry, entry_items, common_members as common, attribute_members as attributes, with_kind, hexadecimal as hexadecimal_data};
 
 use crate::trees::Layer;
 use ovl_inode::{Attrs, Inode, Kind};
@@ -63,7 +63,7 @@ fn common_members(
         &mut members,
         alloc,
         "kind",
-        Value::try_from_str(alloc, kind_word(&inode.kind))?,
+        Value::try_from_str(alloc, inode.kind.word())?,
     )?;
     put(&mut members, alloc, "mode", Value::from(inode.mode))?;
     put(&mut members, alloc, "mtime", Value::from(inode.mtime))?;
@@ -113,20 +113,6 @@ fn put_kind(alloc: Global, members: &mut Map<String, Value>, kind: &Kind) -> Res
             put(members, alloc, "minor", Value::from(*minor))
         }
         Kind::Dir | Kind::Fifo | Kind::Socket => Ok(()),
-    }
-}
-
-fn kind_word(kind: &Kind) -> &'static str
-    ensures { result.now ≡ word_of_kind kind.now }
-{
-    match kind {
-        Kind::Dir => "dir",
-        Kind::File { .. } => "file",
-        Kind::Symlink { .. } => "symlink",
-        Kind::Char { .. } => "char",
-        Kind::Block { .. } => "block",
-        Kind::Fifo => "fifo",
-        Kind::Socket => "socket",
     }
 }
 

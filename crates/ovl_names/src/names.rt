@@ -18,16 +18,22 @@ pub const NAME_LIMIT: usize = 255;
 /// Why a text is no name; where several hold, the first of them is given.
 #[derive(Clone, Copy, Debug, PartialEq, Eq, Error)]
 pub enum NameFault {
+    /// It has no bytes.
     #[error("the name is empty")]
     Empty,
+    /// It has more than [`NAME_LIMIT`] bytes.
     #[error("the name has more than {max} bytes", max = NAME_LIMIT)]
     TooLong,
+    /// It is `.` or `..`.
     #[error("the name is `.` or `..`")]
     Dot,
+    /// It holds `/`.
     #[error("the name holds `/`")]
     Slash,
+    /// It holds NUL.
     #[error("the name holds NUL")]
     Nul,
+    /// No memory was left.
     #[error("out of memory")]
     Memory,
 }

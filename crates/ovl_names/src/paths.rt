@@ -24,16 +24,22 @@ pub const TEXT_LIMIT: usize = 4095;
 /// Why a text is no path; where several hold, the first of them is given.
 #[derive(Clone, Copy, Debug, PartialEq, Eq, Error)]
 pub enum PathFault {
+    /// It does not begin with `/`.
     #[error("the path does not begin with `/`")]
     NotAbsolute,
+    /// Nothing stands between two separators, or behind the last.
     #[error("the path has an empty part")]
     EmptyPart,
+    /// A part is no name, see [`NameFault`](crate::NameFault).
     #[error("the path has a part that is no name")]
     BadPart,
+    /// It has more than [`DEPTH_LIMIT`] names.
     #[error("the path has more than {max} names", max = DEPTH_LIMIT)]
     TooDeep,
+    /// It has more than [`TEXT_LIMIT`] bytes.
     #[error("the path has more than {max} bytes", max = TEXT_LIMIT)]
     TooLong,
+    /// No memory was left.
     #[error("out of memory")]
     Memory,
 }
@@ -100,6 +106,7 @@ impl Path {
         }
         let mut names = Vec::new(alloc);
         for part in rest.split('/') {
+            // No part is at fault, so that reading it as a name can fail only for want of memory.
             let Ok(name) = Name::of(alloc, part) else {
                 return Err(PathFault::Memory);
             };

@@ -10,7 +10,7 @@ short c = omega (arith, ap length c.as_str.ensures.value, name_length c.name-ite
 
 pub overflow_add-bytes-in-loop-name : goal.overflow_add-bytes-in-loop-name
 overflow_add-bytes-in-loop-name c =
-    let few : length c.names-name-items.result.now ≤ 64 = omega (arith, ap length c.names-name-items.ensures.value, c.len.ensures, c.if-len-gt64.false) in
+    let few : length c.names-name-items.result.now ≤ 64 = omega (arith, ap length c.names-name-items.ensures.value, c.len.ensures, c.if-len-gt-DEPTH_LIMIT.false) in
     omega (arith, short c, few, c.loop-name.invariant.small, c.loop-name-test.true)
 
 pub loop-name-preserved : goal.loop-name-preserved
@@ -29,4 +29,4 @@ returns c =
     let whole : c.loop-name.bytes ≡ length (slashed c.args.path.now) =
     c.loop-name.invariant.counted ∙ (ap (λ (n : ℕ). length (slashed (take n names))) all
     ∙ (ap (λ (front : PathNames). length (slashed front)) (take-length names) ∙ ap (λ (front : PathNames). length (slashed front)) c.names-name-items.ensures.value)) in
-    ap (λ (n : ℕ). nat_le n text_limit) whole ∙ limits c.args.path.now (omega (arith, c.len.ensures, c.if-len-gt64.false))
+    ap (λ (n : ℕ). nat_le n text_limit) whole ∙ limits c.args.path.now (omega (arith, c.len.ensures, c.if-len-gt-DEPTH_LIMIT.false))

@@ -29,7 +29,7 @@ returns-clause-value c =
     let way = on_way c.args.self.now c.requires.draft c.args.path.now c.requires.after (omega (arith, c.if-depth-len.false, c.len.ensures, depth))
     (subst (λ (n : ℕ). path_eq (take (n - 1) c.args.path.now) (take (n - 1) c.args.self.now.last) ≡ true) depth
     ((λ j. path_eq (take (c.len-depth.result - 1) (sym c.names.ensures.value j)) (take (c.len-depth.result - 1) (sym c.names-2.ensures.value j))) ∙ same)) in
-    c.is_dir.ensures ∙ (ap is_directory c.inode_on_way.ensures
+    c.is_directory.ensures ∙ (ap is_directory c.inode_on_way.ensures
     ∙ (ap (λ (n : ℕ). is_directory (inode_on_way c.args.self.now.inode c.args.self.now.spine.items (n - 1))) depth ∙ sym way))
 
 pub returns-clause-depth : goal.returns-clause-depth
