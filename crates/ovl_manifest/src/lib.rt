@@ -6,6 +6,7 @@ mod entries;
 mod faults;
 mod fields;
 mod reading;
+mod sheets;
 #[cfg(test)]
 mod tests;
 mod trees;
@@ -14,5 +15,6 @@ mod writing;
 pub use entries::{ENTRY_LIMIT, from_entries};
 pub use faults::LayerFault;
 pub use reading::read_layer;
+pub use sheets::{Sheet, SheetPlace, SheetRow};
 pub use trees::{Cursor, Layer};
 pub use writing::write_layer;
