@@ -12,3 +12,4 @@ pub mod TailLemmas
 pub mod ValueLemmas
 pub mod StatedLemmas
 pub mod BackLemmas
+pub mod SheetLemmas

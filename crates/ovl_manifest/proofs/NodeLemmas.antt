@@ -181,7 +181,7 @@ in_order_at nodes k d up inside =
 searchable : (nodes : List NodeView) (name : PathName) → ascends node_cmp nodes ≡ true → IsNonDecreasingBy (λ node. ordering_index (name_cmp node.name name)) nodes
 searchable nodes name up = searchable_from_sorted nat_list_cmp_total (λ node. node.name) nodes name (λ k d low inside. in_order_at nodes k d up inside)
 
-le_or_lt : (a b : ℕ) → (a ≤ b) ⊎ (b < a)
+pub le_or_lt : (a b : ℕ) → (a ≤ b) ⊎ (b < a)
 le_or_lt a b = by (nat_lt b a) refl
   where
     by : (v : Bool) → nat_lt b a ≡ v → (a ≤ b) ⊎ (b < a)

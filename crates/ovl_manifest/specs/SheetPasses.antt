@@ -1,40 +1,38 @@
 -- What the passes that make a sheet keep.
-use Rattle.std.specs.Prelude.{◌≡◌, ◌<◌, ◌≤◌, ℕ, suc, Option, Some, None, List, [], ◌∷◌, ◌++◌, length, map, drop, slice_get, slice_index}
+use Rattle.std.specs.Prelude.{◌≡◌, ◌<◌, ◌≤◌, ℕ, suc, true, Option, Some, None, List, [], ◌∷◌, ◌++◌, length, map, drop, slice_get, slice_index}
 use Rattle.std.specs.Vec.{vec_capacity}
 use Rattle.std.specs.declared.cmp.Ordering.{Ordering}
 use Rattle.std.specs.declared.cmp.Ordering.TheVariants.{Less}
 use Rattle.ovl_names.specs.Names.{PathName, name_cmp}
-use Rattle.ovl_names.specs.Paths.{PathNames, child_path}
 use Rattle.ovl_inode.specs.Marks.{mark_of}
 use Rattle.ovl_manifest.specs.declared.sheets.SheetRow.{SheetRow}
 use Rattle.ovl_manifest.specs.declared.sheets.Room.{Room}
 use Rattle.ovl_manifest.specs.Layers.{Entry, Entries}
 use Rattle.ovl_manifest.specs.LayerTrees.{placed}
-use Rattle.ovl_manifest.specs.Sheets.{last_name, path_at, afters_from, kid_numbers, are_earlier}
+use Rattle.ovl_manifest.specs.Sheets.{last_name, path_at, row_path, afters_from, kid_numbers, are_earlier}
 
 -- how an optional name is to another; none comes before each
 abbrev pub name_order : Option PathName → PathName → Ordering
 name_order None name = Less
 name_order (Some own) name = name_cmp own name
 
--- the name of the row of this number
+-- the name of a row, if there is one, and of the row of this number
+abbrev pub name_of_row : Option SheetRow → Option PathName
+name_of_row None = None
+name_of_row (Some row) = row.name
+
 abbrev pub row_name : List SheetRow → ℕ → Option PathName
-row_name rows number = elim (slice_get rows number) [ Some row ↦ row.name | None ↦ None ]
+row_name rows number = name_of_row (slice_get rows number)
 
 abbrev pub kid_order : List SheetRow → PathName → ℕ → Ordering
 kid_order rows name number = name_order (row_name rows number) name
-
--- the path of an entry of that last name, after these entries, by the number of its parent
-abbrev pub placed_path : Entries → ℕ → Option PathName → PathNames
-placed_path before parent None = []
-placed_path before parent (Some name) = child_path (path_at before parent) name
 
 -- these entries, and after them the others, each where its parent's number and its last name place it
 abbrev pub placed_by : Entries → List ℕ → Entries → Entries
 placed_by before parents [] = before
 placed_by before [] (entry ∷ entries) = before
 placed_by before (parent ∷ parents) (entry ∷ entries) =
-    placed_by (before ++ (placed_path before parent (last_name entry.0), entry.1) ∷ []) parents entries
+    placed_by (before ++ (row_path before parent (last_name entry.0), entry.1) ∷ []) parents entries
 
 -- the parents' numbers place the entries under the directory of that number, after so many other entries
 abbrev pub Place : ℕ → ℕ → List ℕ → Entries → Type 0

@@ -14,18 +14,23 @@ last_name [] = None
 last_name (name ∷ []) = Some name
 last_name (name ∷ other ∷ names) = last_name (other ∷ names)
 
--- the path of the entry of this number
+-- the path of an entry, if there is one, and of the entry of this number
+abbrev pub path_of : Option Entry → PathNames
+path_of None = []
+path_of (Some entry) = entry.0
+
 abbrev pub path_at : Entries → ℕ → PathNames
-path_at entries number = elim (slice_get entries number) [ Some entry ↦ entry.0 | None ↦ [] ]
+path_at entries number = path_of (slice_get entries number)
 
 -- the path of a row after these entries: that of its parent, with its name; one without a name is the root
-abbrev pub row_path : Entries → SheetRow → PathNames
-row_path before row = elim row.name [ Some name ↦ child_path (path_at before row.parent) name | None ↦ [] ]
+abbrev pub row_path : Entries → ℕ → Option PathName → PathNames
+row_path before parent None = []
+row_path before parent (Some name) = child_path (path_at before parent) name
 
 -- these entries, and after them those of the rows
 abbrev pub entries_with : Entries → List SheetRow → Entries
 entries_with before [] = before
-entries_with before (row ∷ rows) = entries_with (before ++ (row_path before row, row.inode) ∷ []) rows
+entries_with before (row ∷ rows) = entries_with (before ++ (row_path before row.parent row.name, row.inode) ∷ []) rows
 
 -- what the rows of a sheet mean: the entries of a layer, in the order of the rows
 abbrev pub entries_of_rows : List SheetRow → Entries
@@ -67,11 +72,11 @@ are_earlier number [] = true
 are_earlier number (parent ∷ parents) = nat_lt parent number && are_earlier (suc number) parents
 
 -- these rows are those of a layer, with the numbers of the rows directly below each, and the mark of each
-pub record IsSheet (rows : List SheetRow) (kids : List (List ℕ)) (marks : List Mark) : Type 0 where
+pub record IsSheet (rows : List SheetRow) (below : List (List ℕ)) (marked : List Mark) : Type 0 where
   pub layer : IsLayer (entries_of_rows rows)
   pub root : IsSomeAnd (slice_get rows 0) (λ row. (row.name ≡ None) × (row.parent ≡ 0))
   pub named : list_all (λ row. is_some row.name) (drop 1 rows) ≡ true
   pub earlier : are_earlier 1 (parents_of rows) ≡ true
   pub afters : map (λ row. row.after) rows ≡ afters_from 0 (entries_of_rows rows)
-  pub kids : (number : ℕ) → number < length rows → slice_get kids number ≡ Some (kid_numbers 1 (parents_of rows) number)
-  pub marks : marks ≡ map (λ row. mark_of row.inode) rows
+  pub kids : (number : ℕ) → number < length rows → slice_get below number ≡ Some (kid_numbers 1 (parents_of rows) number)
+  pub marks : marked ≡ map (λ row. mark_of row.inode) rows

@@ -1,4 +1,4 @@
-ghost use Rattle.std.specs.Prelude.{◌≡◌, ◌≢◌, ◌+◌, ◌<◌, ◌≤◌, ◌^◌, ◌++◌, [], ◌∷◌, length, map, drop, suc, vec_len, slice_get, Some, IfOk, IfErr, OnOk, MatchOption, IsTrue};
+ghost use Rattle.std.specs.Prelude.{◌≡◌, ◌≢◌, ℕ, ◌+◌, ◌<◌, ◌≤◌, ◌^◌, ◌++◌, [], ◌∷◌, length, map, drop, suc, vec_len, slice_get, Some, IfOk, IfErr, OnOk, MatchOption, IsTrue};
 ghost use Rattle.std.specs.Option.{option_map};
 ghost use Rattle.std.specs.Vec.{vec_capacity};
 ghost use Rattle.ovl_names.specs.Paths.{child_path};
@@ -195,6 +195,7 @@ impl<'a> SheetPlace<'a> {
             (λ child. (child ≡ entries_in name.now self.now) × (child ≢ [])) }
     {
         let sheet = self.sheet;
+        let _ = &sheet.rows;
         match sheet.child(self.number, name) {
             Some(number) => Some(SheetPlace { sheet, number }),
             None => None,
