@@ -1,6 +1,6 @@
 -- Which entries the rows of a sheet mean, and which rows its numbers lead to.
-use Rattle.std.proofs.Common.{◌≡◌, ◌≢◌, ℕ, zero, suc, ◌+◌, ◌-◌, ◌<◌, ◌≤◌, length, get_or, take, drop, map, cond, Bool, true, false, Option, Some, None, Ok, Err, List, [], ◌∷◌, ◌++◌, refl, sym, ap, ◌∙◌, subst, arith, length-append, add-one, inl, inr, ◌⊎◌}
-use Rattle.std.specs.Prelude.{◌==◌, not, nat_lt, slice_get, unwrap_or, is_some, IsSomeAnd}
+use Rattle.std.proofs.Common.{◌≡◌, ◌≢◌, Bor, ℕ, zero, suc, ◌+◌, ◌-◌, ◌<◌, ◌≤◌, length, get_or, take, drop, map, cond, Bool, true, false, Option, Some, None, Ok, Err, List, [], ◌∷◌, ◌++◌, refl, sym, ap, ◌∙◌, subst, arith, length-append, add-one, inl, inr, ◌⊎◌}
+use Rattle.std.specs.Prelude.{◌==◌, not, nat_lt, slice_get, unwrap_or, is_some, IsSomeAnd, IfSome}
 use Rattle.std.specs.Option.{option_map}
 use Rattle.std.specs.List.{list_all, filter_map, cons_option}
 use Rattle.std.specs.List.Sorted.{IsNonDecreasingBy, IsBinarySearchResult}
@@ -20,10 +20,11 @@ use Rattle.ovl_names.specs.Order.{ascends}
 use Rattle.ovl_names.proofs.Ascending.{both, list_all-get, reversed}
 use Rattle.ovl_inode.specs.declared.inodes.Inode.{Inode}
 use Rattle.ovl_inode.specs.declared.marks.Mark.{Mark}
+use Rattle.ovl_inode.specs.Marks.{mark_of}
 use Rattle.ovl_manifest.specs.declared.sheets.SheetRow.{SheetRow}
 use Rattle.ovl_manifest.specs.Layers.{Entry, Entries, entry_cmp, entry_at, name_below, names_below, IsLayer}
 use Rattle.ovl_manifest.specs.LayerTrees.{entry_in, entries_in, entries_under}
-use Rattle.ovl_manifest.specs.Sheets.{last_name, path_of, path_at, row_path, entries_with, entries_of_rows, kid_numbers, parents_of, are_earlier, IsSheet}
+use Rattle.ovl_manifest.specs.Sheets.{last_name, path_of, path_at, row_path, entries_with, entries_of_rows, count_deeper, afters_from, IsRowOf, kid_numbers, parents_of, are_earlier, IsSheet}
 use Rattle.ovl_manifest.specs.SheetPasses.{name_order, name_of_row, row_name, kid_order}
 use Rattle.ovl_manifest.proofs.NodeLemmas.{name_eq-same, name_eq-cmp, entry_at-under, le_or_lt}
 use Rattle.ovl_manifest.proofs.OpenLemmas.{path_cmp-under}
@@ -42,6 +43,16 @@ slice_get-seam (x ∷ xs) y ys = slice_get-seam xs y ys
 
 pub some-same : {X : Type 0} (x y : X) → Some x ≡ Some y → x ≡ y
 some-same x y e = ap (λ o. unwrap_or o x) e
+
+-- what a look into a slice gives
+pub looked-up : {X : Type 0} (found : Option (Bor X)) (xs : List X) (n : ℕ) → is_some found ≡ nat_lt n (length xs) → IfSome found (λ x. x.now ≡ get_or xs n x.now) → option_map (λ x. x.now) found ≡ slice_get xs n
+looked-up None xs n there is = sym (slice_get_past xs n (ltb-false n (length xs) (sym there)))
+looked-up (Some x) xs n there is = sym (slice_get_read xs (length xs) n x.now refl (ltb-true n (length xs) (sym there)) is)
+
+pub none-past : {X : Type 0} (xs : List X) (n : ℕ) → slice_get xs n ≡ None → length xs ≤ n
+none-past [] n none = omega arith
+none-past (x ∷ xs) zero none = let bad : Some x ≡ None = none in cc
+none-past (x ∷ xs) (suc n) none = omega (arith, none-past xs n none)
 
 -- of a list in order, each element comes before those of higher numbers
 pub ascends-apart : {X : Type 0} (cmp : X → X → Ordering) (xs : List X) (i j : ℕ) (x y : X) → ascends cmp xs ≡ true → i < j → slice_get xs i ≡ Some x → slice_get xs j ≡ Some y → is_lt (cmp x y) ≡ true
@@ -315,6 +326,14 @@ root-row : (rows : List SheetRow) → IsSomeAnd (slice_get rows 0) (λ row. (row
 root-row [] is = absurd is
 root-row (root ∷ rows) is = (root, refl, is.0, is.1)
 
+-- the number after the subtree of an entry
+pub afters-get : (start : ℕ) (entries : Entries) (k : ℕ) (entry : Entry) → slice_get entries k ≡ Some entry → slice_get (afters_from start entries) k ≡ Some (suc (start + k + count_deeper (length entry.0) (drop (suc k) entries)))
+afters-get start [] k entry at = let bad : None ≡ Some entry = at in cc
+afters-get start (first ∷ entries) zero entry at =
+    ap (λ (e : Entry). Some (suc (start + count_deeper (length e.0) entries))) (some-same first entry at) ∙ ap Some (omega arith)
+afters-get start (first ∷ entries) (suc k) entry at =
+    afters-get (suc start) entries k entry at ∙ ap Some (omega arith)
+
 -- the name of the row of a number, as bytes
 abbrev pub own_name : List SheetRow → ℕ → PathName
 own_name rows number = unwrap_or (row_name rows number) []
@@ -388,12 +407,7 @@ module _ (rows : List SheetRow) (below : List (List ℕ)) (marked : List Mark) (
   row-at number inside = by (slice_get rows number) refl
     where
       by : (o : Option SheetRow) → slice_get rows number ≡ o → (row : SheetRow) × (slice_get rows number ≡ Some row)
-      by None e = absurd (past rows number (subst (λ n. number < n) count inside) e)
-        where
-          past : (rows : List SheetRow) (number : ℕ) → number < length rows → slice_get rows number ≡ None → ⊥
-          past [] number inside none = absurd (omega arith)
-          past (row ∷ rows) zero inside none = let bad : Some row ≡ None = none in cc
-          past (row ∷ rows) (suc number) inside none = past rows number (omega arith) none
+      by None e = absurd (omega (arith, none-past rows number e, inside, count))
       by (Some row) e = (row, e)
 
   -- the rows directly below a directory
@@ -596,3 +610,59 @@ module _ (rows : List SheetRow) (below : List (List ℕ)) (marked : List Mark) (
   names-of directory inside =
       let root = root-row rows is.root in
       names-from_root (path_at layer directory) directory (own_name rows) layer (parents_of rows) (root.0.inode) (entry-of 0 root.0 root.1 ∙ ap (λ n. Some (row_path layer root.0.parent n, root.0.inode)) root.2) (omega (arith, count, parents-length rows root.0 root.1)) (named-below directory inside)
+
+  -- ---- what the sheet says of a number
+
+  pub root-path : path_at (entries_of_rows rows) 0 ≡ []
+  root-path =
+      let root = root-row rows is.root in
+      ap path_of (entry-of 0 root.0 root.1) ∙ ap (row_path layer root.0.parent) root.2
+
+  pub mark-at : (number : ℕ) → slice_get marked number ≡ option_map (λ entry. mark_of entry.1) (slice_get (entries_of_rows rows) number)
+  mark-at number =
+      ap (λ (marks : List Mark). slice_get marks number) is.marks
+      ∙ (slice_get-map (λ (row : SheetRow). mark_of row.inode) rows number ∙ by (slice_get rows number) refl)
+    where
+      by : (o : Option SheetRow) → slice_get rows number ≡ o → option_map (λ row. mark_of row.inode) o ≡ option_map (λ entry. mark_of entry.1) (slice_get layer number)
+      by None e = sym (ap (option_map (λ entry. mark_of entry.1)) (slice_get_past layer number (omega (arith, none-past rows number e, count))))
+      by (Some row) e = sym (ap (option_map (λ entry. mark_of entry.1)) (entry-of number row e))
+
+  parent-at : (number : ℕ) (row : SheetRow) → slice_get rows number ≡ Some row → (entry : Entry) × (slice_get layer row.parent ≡ Some entry) × (entry.0 ≡ parent_path (path_at layer number))
+  parent-at zero row at =
+      let root = root-row rows is.root in
+      let same : root.0 ≡ row = some-same root.0 row (sym root.1 ∙ at) in
+      let own : row.parent ≡ 0 = ap (λ (r : SheetRow). r.parent) (sym same) ∙ root.3 in
+      (
+        (row_path layer root.0.parent root.0.name, root.0.inode),
+        ap (slice_get layer) own ∙ entry-of 0 root.0 root.1,
+        ap (row_path layer root.0.parent) root.2 ∙ sym (ap parent_path root-path),
+      )
+  parent-at (suc j) row at =
+      let facts = row-after j row at in
+      let above = row-at row.parent (omega (arith, facts.0, slice_get_within rows (suc j) row at, count)) in
+      let here : slice_get layer row.parent ≡ Some (row_path layer above.0.parent above.0.name, above.0.inode) = entry-of row.parent above.0 above.1 in
+      (
+        (row_path layer above.0.parent above.0.name, above.0.inode),
+        here,
+        sym (ap path_of here) ∙ sym (ap parent_path (kid-path (suc j) row.parent row facts.1.0 at refl facts.1.1) ∙ parent_path-child (path_at layer row.parent) facts.1.0),
+      )
+
+  named-as : (row : SheetRow) (name : Option PathName) → row.name ≡ name → row.name ≡ last_name (row_path layer row.parent row.name)
+  named-as row None e = e ∙ sym (ap (λ n. last_name (row_path layer row.parent n)) e)
+  named-as row (Some name) e = e ∙ sym (ap (λ n. last_name (row_path layer row.parent n)) e ∙ last_name-child (path_at layer row.parent) name)
+
+  pub row-of : (number : ℕ) (row : SheetRow) → slice_get rows number ≡ Some row → IsRowOf (entries_of_rows rows) number row
+  row-of number row at =
+      let own : Entry = (row_path layer row.parent row.name, row.inode) in
+      let here : slice_get layer number ≡ Some own = entry-of number row at in
+      let above = parent-at number row at in
+      let after : Some row.after ≡ Some (suc (0 + number + count_deeper (length own.0) (drop (suc number) layer))) =
+      sym (slice_get-map (λ (r : SheetRow). r.after) rows number ∙ ap (option_map (λ (r : SheetRow). r.after)) at)
+      ∙ (ap (λ (ns : List ℕ). slice_get ns number) is.afters ∙ afters-get 0 layer number own here) in
+      record {
+        name = subst (λ o. IsSomeAnd o (λ entry. row.name ≡ last_name entry.0)) (sym here) (named-as row row.name refl);
+        inode = subst (λ o. IsSomeAnd o (λ entry. row.inode ≡ entry.1)) (sym here) refl;
+        parent = subst (λ o. IsSomeAnd o (λ entry. entry.0 ≡ parent_path (path_at layer number))) (sym above.1) above.2;
+        after = some-same row.after (suc (0 + number + count_deeper (length own.0) (drop (suc number) layer))) after
+            ∙ ((λ j. suc (0 + number + count_deeper (length (sym (ap path_of here) j)) (drop (suc number) layer))) ∙ omega arith);
+      }
