@@ -11,7 +11,7 @@ use Rattle.std.specs.declared.cmp.Ordering.TheVariants.{Less, Equal, Greater}
 use Rattle.std.proofs.lemmas.Bool.{ltb-true, ltb-false}
 use Rattle.std.proofs.lemmas.Bool.Decides.{nat_tests}
 use Rattle.std.proofs.lemmas.Option.{slice_get_within, slice_get_past, slice_get_read, slice_get-map}
-use Rattle.std.proofs.lemmas.List.{length-map}
+use Rattle.std.proofs.lemmas.List.{length-map, map-append, take_more}
 use Rattle.std.proofs.lemmas.List.Sorted.{searchable_from_sorted}
 use Rattle.std.proofs.Math.Seq.{take-append_seam}
 use Rattle.ovl_names.specs.Names.{PathName, name_cmp, name_eq}
@@ -666,3 +666,15 @@ module _ (rows : List SheetRow) (below : List (List ℕ)) (marked : List Mark) (
         after = some-same row.after (suc (0 + number + count_deeper (length own.0) (drop (suc number) layer))) after
             ∙ ((λ j. suc (0 + number + count_deeper (length (sym (ap path_of here) j)) (drop (suc number) layer))) ∙ omega arith);
       }
+
+-- the numbers that a sheet keeps for a directory
+pub own-numbers : {V : Type 0} (items : V → List ℕ) (lists : List V) (rows : List SheetRow) (marked : List Mark) → IsSheet rows (map items lists) marked
+    → (directory : ℕ) (own : V) → directory < length (entries_of_rows rows) → own ≡ get_or lists directory own → items own ≡ kid_numbers 1 (parents_of rows) directory
+own-numbers items lists rows marked is directory own inside at =
+    let listed : slice_get (map items lists) directory ≡ Some (kid_numbers 1 (parents_of rows) directory) =
+    is.kids directory (omega (arith, inside, count rows (map items lists) marked is)) in
+    own-kids items lists directory own (kid_numbers 1 (parents_of rows) directory) listed (kids-within items lists directory (kid_numbers 1 (parents_of rows) directory) listed) at
+
+pub kid-names-more : (rows : List SheetRow) (numbers : List ℕ) (i : ℕ) → i < length numbers → map (own_name rows) (take (i + 1) numbers) ≡ map (own_name rows) (take i numbers) ++ own_name rows (get_or numbers i 0) ∷ []
+kid-names-more rows numbers i inside =
+    ap (map (own_name rows)) (take_more numbers i 0 inside) ∙ map-append (own_name rows) (take i numbers) (get_or numbers i 0 ∷ [])

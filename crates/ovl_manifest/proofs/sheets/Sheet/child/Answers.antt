@@ -8,7 +8,7 @@ use Rattle.ovl_manifest.specs.Layers.{Entries}
 use Rattle.ovl_manifest.specs.LayerTrees.{entries_under}
 use Rattle.ovl_manifest.specs.Sheets.{path_at, kid_numbers, parents_of}
 use Rattle.ovl_manifest.specs.SheetPasses.{kid_order}
-use Rattle.ovl_manifest.proofs.SheetLemmas.{count, own-kids, kids-within, child-found, child-missing}
+use Rattle.ovl_manifest.proofs.SheetLemmas.{count, kids-within, own-numbers, child-found, child-missing}
 use Rattle.ovl_manifest.proofs.sheets.Sheet.child.Goals as goal
 
 pub index-requires : goal.index-requires
@@ -29,10 +29,8 @@ pub returns-in-Ok : goal.returns-in-Ok
 returns-in-Ok c =
     let rows : List SheetRow = c.self.inside.rows.items in
     let kids : List ℕ = kid_numbers 1 (parents_of rows) c.args.directory in
-    let inside : c.args.directory < length rows = omega (arith, c.requires, ap length c.self.view_is, count _ _ _ c.self.invariant) in
-    let at = c.self.invariant.kids c.args.directory inside in
     let same : c.as_slice-kids.result.now ≡ kids =
-    c.as_slice-kids.ensures.value ∙ own-kids (λ own. own.items) c.self.inside.kids.items c.args.directory c.index.result.now _ at (kids-within (λ own. own.items) c.self.inside.kids.items c.args.directory _ at) c.index.ensures in
+    c.as_slice-kids.ensures.value ∙ own-numbers (λ own. own.items) c.self.inside.kids.items rows _ c.self.invariant c.args.directory c.index.result.now (omega (arith, c.requires, ap length c.self.view_is)) c.index.ensures in
     let position = c.binary_search_by.ensures.position (kid_order c.as_slice-rows.result.now c.args.name.now) (always_returns_same _ _ _ (λ a r q k. (search (rules, tests), search (rules, tests)))) in
     let found = child-found rows _ _ c.self.invariant c.args.directory c.in-Ok.place c.args.name.now (omega (arith, c.in-Ok.ensures.bound, ap length same))
     (answered rows c.as_slice-rows.result.now kids c.as_slice-kids.result.now c.binary_search_by.result (Ok c.in-Ok.place) c.args.name.now c.as_slice-rows.ensures.value same c.in-Ok.is position) in
@@ -43,10 +41,8 @@ pub returns-in-Err : goal.returns-in-Err
 returns-in-Err c =
     let rows : List SheetRow = c.self.inside.rows.items in
     let kids : List ℕ = kid_numbers 1 (parents_of rows) c.args.directory in
-    let inside : c.args.directory < length rows = omega (arith, c.requires, ap length c.self.view_is, count _ _ _ c.self.invariant) in
-    let at = c.self.invariant.kids c.args.directory inside in
     let same : c.as_slice-kids.result.now ≡ kids =
-    c.as_slice-kids.ensures.value ∙ own-kids (λ own. own.items) c.self.inside.kids.items c.args.directory c.index.result.now _ at (kids-within (λ own. own.items) c.self.inside.kids.items c.args.directory _ at) c.index.ensures in
+    c.as_slice-kids.ensures.value ∙ own-numbers (λ own. own.items) c.self.inside.kids.items rows _ c.self.invariant c.args.directory c.index.result.now (omega (arith, c.requires, ap length c.self.view_is)) c.index.ensures in
     let position = c.binary_search_by.ensures.position (kid_order c.as_slice-rows.result.now c.args.name.now) (always_returns_same _ _ _ (λ a r q k. (search (rules, tests), search (rules, tests)))) in
     let none = child-missing rows _ _ c.self.invariant c.args.directory c.in-Err.field-0 c.args.name.now (omega (arith, c.requires, ap length c.self.view_is))
     (answered rows c.as_slice-rows.result.now kids c.as_slice-kids.result.now c.binary_search_by.result (Err c.in-Err.field-0) c.args.name.now c.as_slice-rows.ensures.value same c.in-Err.is position) in
