@@ -13,3 +13,4 @@ pub mod ValueLemmas
 pub mod StatedLemmas
 pub mod BackLemmas
 pub mod SheetLemmas
+pub mod SheetPassLemmas
