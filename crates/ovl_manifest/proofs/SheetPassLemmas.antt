@@ -267,3 +267,16 @@ rows-node parents afters number node kids below =
     let all : are_below node.below ≡ true = ap are_below (sym below) ∙ below-nodes kids in
     ap (λ rest. (record { name = Some node.name; inode = node.inode; parent = slice_index parents number; after = slice_index afters number }) ∷ rest)
     (rows-under parents afters (suc number) node.name node.below all)
+
+-- the entries of the first nodes, and those of the next, are no more than all
+pub kids-room : (nodes kids : List NodeView) (i : ℕ) (node : NodeView) → i < length nodes → node ≡ get_or nodes i node → entries_of_nodes kids ≡ node.below → length (entries_of_nodes (take i nodes)) + suc (length (entries_of_nodes kids)) ≤ length (entries_of_nodes nodes)
+kids-room nodes kids i node inside is below =
+    omega (arith, nodes-within nodes (i + 1), nodes-length nodes i node inside is, ap length below)
+
+pub afters-count : (before old : List ℕ) (entries : Entries) → old ≡ before ++ afters_from (length before) entries → length old ≡ length before + length entries
+afters-count before old entries is =
+    ap length is ∙ (length-append before (afters_from (length before) entries) ∙ omega (arith, afters-length (length before) entries))
+
+pub parents-count : (directory : ℕ) (before old : List ℕ) (entries : Entries) → AddsParents directory before old entries → length old ≡ length before + length entries
+parents-count directory before old entries is =
+    ap length is.grown ∙ (length-append before is.added ∙ omega (arith, is.count))
