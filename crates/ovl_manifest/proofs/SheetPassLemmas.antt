@@ -18,7 +18,7 @@ use Rattle.ovl_manifest.specs.LayerTrees.{NodeView, under, entries_from, entries
 use Rattle.ovl_manifest.specs.TreeFalls.{length-under}
 use Rattle.ovl_manifest.specs.Sheets.{last_name, path_of, path_at, row_path, count_deeper, afters_from, are_earlier}
 use Rattle.ovl_manifest.specs.SheetPasses.{placed_by, Place, AddsParents, rows_from}
-use Rattle.ovl_manifest.proofs.NodeLemmas.{entries_of_nodes-append, entries_of_nodes-more, placed-under, placed-append}
+use Rattle.ovl_manifest.proofs.NodeLemmas.{entries_of_nodes-append, entries_of_nodes-push, entries_of_nodes-more, placed-under, placed-append}
 use Rattle.ovl_manifest.proofs.SheetLemmas.{slice_get-front, slice_get-seam}
 
 -- ---- marks
@@ -280,3 +280,35 @@ afters-count before old entries is =
 pub parents-count : (directory : ℕ) (before old : List ℕ) (entries : Entries) → AddsParents directory before old entries → length old ≡ length before + length entries
 parents-count directory before old entries is =
     ap length is.grown ∙ (length-append before is.added ∙ omega (arith, is.count))
+
+-- ---- one node after another, as a vector of them is used up
+
+pub yielded-room : (nodes front rest kids : List NodeView) (node : NodeView) → front ++ node ∷ rest ≡ nodes → entries_of_nodes kids ≡ node.below → length (entries_of_nodes front) + suc (length (entries_of_nodes kids)) ≤ length (entries_of_nodes nodes)
+yielded-room nodes front rest kids node whole below =
+    omega (arith, ap (λ (ns : List NodeView). length (entries_of_nodes ns)) whole, ap length (entries_of_nodes-append front (node ∷ rest)), length-append (entries_of_nodes front) (entries_of_nodes (node ∷ rest)), length-append (under node.name (entries_from node.inode node.below)) (entries_of_nodes rest), length-under node.name (entries_from node.inode node.below), ap length below)
+
+pub rows-count : (before old : List SheetRow) (parents afters : List ℕ) (entries : Entries) → old ≡ before ++ rows_from parents afters (length before) entries → length old ≡ length before + length entries
+rows-count before old parents afters entries is =
+    ap length is ∙ (length-append before (rows_from parents afters (length before) entries) ∙ omega (arith, rows-length parents afters (length before) entries))
+
+pub rows-more : (before old pushed new : List SheetRow) (parents afters : List ℕ) (front kids : List NodeView) (node : NodeView) → entries_of_nodes kids ≡ node.below
+    → old ≡ before ++ rows_from parents afters (length before) (entries_of_nodes front)
+    → pushed ≡ old ++ (record { name = Some node.name; inode = node.inode; parent = slice_index parents (length old); after = slice_index afters (length old) }) ∷ []
+    → new ≡ pushed ++ rows_from parents afters (length pushed) (entries_of_nodes kids)
+    → new ≡ before ++ rows_from parents afters (length before) (entries_of_nodes (front ++ node ∷ []))
+rows-more before old pushed new parents afters front kids node below e f g =
+    let own : SheetRow = record { name = Some node.name; inode = node.inode; parent = slice_index parents (length old); after = slice_index afters (length old) } in
+    let first : List SheetRow = rows_from parents afters (length before) (entries_of_nodes front) in
+    let start : ℕ = length before + length (entries_of_nodes front) in
+    let count : length old ≡ start = rows-count before old parents afters (entries_of_nodes front) e in
+    let next : length pushed ≡ suc start = ap length f ∙ (length-append old (own ∷ []) ∙ omega (arith, count)) in
+    let more : rows_from parents afters (length before) (entries_of_nodes (front ++ node ∷ [])) ≡ first ++ own ∷ rows_from parents afters (suc start) node.below =
+    ap (rows_from parents afters (length before)) (entries_of_nodes-push front node)
+    ∙ (rows-append parents afters (length before) (entries_of_nodes front) (under node.name (entries_from node.inode node.below))
+    ∙ ap (λ (rows : List SheetRow). first ++ rows) (rows-node parents afters start node kids below
+    ∙ (λ j. (record { name = Some node.name; inode = node.inode; parent = slice_index parents (sym count j); after = slice_index afters (sym count j) }) ∷ rows_from parents afters (suc start) node.below))) in
+    g ∙ ((λ j. f j ++ rows_from parents afters (next j) (below j))
+    ∙ (append_assoc old (own ∷ []) (rows_from parents afters (suc start) node.below)
+    ∙ (ap (λ (rows : List SheetRow). rows ++ own ∷ rows_from parents afters (suc start) node.below) e
+    ∙ (append_assoc before first (own ∷ rows_from parents afters (suc start) node.below)
+    ∙ ap (λ (rows : List SheetRow). before ++ rows) (sym more)))))

@@ -341,6 +341,7 @@ impl Sheet {
 
 // Adds the rows at and under these nodes, where there is room for them.
 fn move_nodes(nodes: Vec<Node>, parents: &[u32], afters: &[u32], rows: &mut Vec<SheetRow>)
+    requires limit { vec_len rows.old + length (entries_of_nodes nodes.items) < 2 ^ 32 }
     requires room { vec_len rows.old + length (entries_of_nodes nodes.items) ≤ vec_capacity rows.old }
     requires parents { vec_len rows.old + length (entries_of_nodes nodes.items) ≤ length parents.now }
     requires afters { vec_len rows.old + length (entries_of_nodes nodes.items) ≤ length afters.now }
