@@ -1,12 +1,12 @@
 -- What the passes that make a sheet keep from one node to the next.
-use Rattle.std.proofs.Common.{◌≡◌, ℕ, zero, suc, ◌+◌, ◌<◌, ◌≤◌, length, get_or, set, take, drop, map, cond, Bool, true, false, Some, None, List, [], ◌∷◌, ◌++◌, refl, sym, ap, ◌∙◌, subst, arith, append_assoc, length-append, length-take-le, inl, inr}
-use Rattle.std.specs.Prelude.{◌&&◌, ◌==◌, nat_lt, slice_get, slice_index}
+use Rattle.std.proofs.Common.{◌≡◌, ℕ, zero, suc, ◌+◌, ◌<◌, ◌≤◌, length, get_or, set, take, drop, map, cond, Bool, true, false, Some, None, List, [], ◌∷◌, ◌++◌, refl, sym, ap, ◌∙◌, subst, arith, append_assoc, length-append, length-take-le, drop-cons, inl, inr}
+use Rattle.std.specs.Prelude.{◌&&◌, ◌==◌, nat_lt, slice_get, slice_index, is_some}
 use Rattle.std.specs.List.{list_all}
 use Rattle.std.proofs.lemmas.Bool.{ltb-true, cases_lt}
 use Rattle.std.specs.Option.{option_map}
 use Rattle.std.proofs.lemmas.Option.{get_or_from_slice_get, slice_get_read, slice_get-map}
 use Rattle.std.proofs.lemmas.Bool.Decides.{nat_tests}
-use Rattle.std.proofs.lemmas.List.{append-nil, map-append, take-append-drop, take_more, length-map}
+use Rattle.std.proofs.lemmas.List.{append-nil, map-append, take-append-drop, take_more, length-map, drop_all}
 use Rattle.std.proofs.lemmas.List.Folds.{list_all-append}
 use Rattle.ovl_names.specs.Names.{PathName}
 use Rattle.ovl_names.specs.Paths.{PathNames, child_path}
@@ -15,12 +15,12 @@ use Rattle.ovl_inode.specs.declared.inodes.Inode.{Inode}
 use Rattle.ovl_inode.specs.declared.marks.Mark.{Mark}
 use Rattle.ovl_inode.specs.Marks.{mark_of}
 use Rattle.ovl_manifest.specs.declared.sheets.SheetRow.{SheetRow}
-use Rattle.ovl_manifest.specs.Layers.{Entry, Entries}
+use Rattle.ovl_manifest.specs.Layers.{Entry, Entries, IsLayer}
 use Rattle.ovl_manifest.specs.LayerTrees.{NodeView, under, entries_from, entries_of_nodes, placed}
 use Rattle.ovl_manifest.specs.TreeFalls.{length-under}
-use Rattle.ovl_manifest.specs.Sheets.{last_name, path_of, path_at, row_path, count_deeper, afters_from, kid_numbers, are_earlier}
+use Rattle.ovl_manifest.specs.Sheets.{last_name, path_of, path_at, row_path, entries_with, entries_of_rows, count_deeper, afters_from, kid_numbers, parents_of, are_earlier, IsSheet}
 use Rattle.ovl_manifest.specs.SheetPasses.{placed_by, Place, AddsParents, rows_from}
-use Rattle.ovl_manifest.proofs.NodeLemmas.{entries_of_nodes-append, entries_of_nodes-push, entries_of_nodes-more, placed-under, placed-append}
+use Rattle.ovl_manifest.proofs.NodeLemmas.{entries_of_nodes-append, entries_of_nodes-push, entries_of_nodes-more, placed-root, placed-under, placed-append}
 use Rattle.ovl_manifest.proofs.SheetLemmas.{slice_get-front, slice_get-seam}
 
 -- ---- marks
@@ -465,3 +465,79 @@ written-lists items lists pushed final own found written place number none is in
 
 pub written-length : {V : Type 0} (pushed final : List V) (written : V) (place : ℕ) → final ≡ set pushed place written → length final ≡ length pushed
 written-length pushed final written place end = ap length end ∙ length-set-any pushed place written
+
+-- ---- the room of a layer
+
+pub root-place : (inode : Inode) (nodes : List NodeView) (parents : List ℕ) (adds : AddsParents 0 (0 ∷ []) parents (entries_of_nodes nodes)) → placed_by [] parents (entries_from inode (entries_of_nodes nodes)) ≡ entries_from inode (entries_of_nodes nodes)
+root-place inode nodes parents adds =
+    ap (λ (ps : List ℕ). placed_by [] ps (entries_from inode (entries_of_nodes nodes))) adds.grown
+    ∙ (adds.place (([], inode) ∷ []) refl
+    ∙ ap (λ (entries : Entries). ([], inode) ∷ entries) (placed-root (entries_of_nodes nodes)))
+
+pub root-afters : (inode : Inode) (nodes : List NodeView) (first : ℕ) (afters : List ℕ) → first ≡ suc (length (entries_of_nodes nodes)) → afters ≡ (first ∷ []) ++ afters_from 1 (entries_of_nodes nodes) → afters ≡ afters_from 0 (entries_from inode (entries_of_nodes nodes))
+root-afters inode nodes first afters one is =
+    let head : first ≡ suc (0 + count_deeper 0 (entries_of_nodes nodes)) = omega (arith, one, deeper-all (entries_of_nodes nodes) (below-nodes nodes)) in
+    is ∙ ap (λ n. n ∷ afters_from 1 (entries_of_nodes nodes)) head
+
+-- ---- the sheet in its room
+
+with-placed : (before : Entries) (parents afters : List ℕ) (number : ℕ) (entries : Entries) → number + length entries ≤ length parents → entries_with before (rows_from parents afters number entries) ≡ placed_by before (drop number parents) entries
+with-placed before parents afters number [] few = refl
+with-placed before parents afters number (entry ∷ entries) few =
+    let next : drop number parents ≡ slice_index parents number ∷ drop (suc number) parents = drop-cons parents number 0 (omega (arith, few)) in
+    with-placed (before ++ (row_path before (slice_index parents number) (last_name entry.0), entry.1) ∷ []) parents afters (suc number) entries (omega (arith, few))
+    ∙ sym (ap (λ (ps : List ℕ). placed_by before ps (entry ∷ entries)) next)
+
+rows-parents : (parents afters : List ℕ) (number : ℕ) (entries : Entries) → number + length entries ≡ length parents → map (λ row. row.parent) (rows_from parents afters number entries) ≡ drop number parents
+rows-parents parents afters number [] all = sym (drop_all number parents (omega (arith, all)))
+rows-parents parents afters number (entry ∷ entries) all =
+    ap (λ rest. slice_index parents number ∷ rest) (rows-parents parents afters (suc number) entries (omega (arith, all)))
+    ∙ sym (drop-cons parents number 0 (omega (arith, all)))
+
+rows-afters : (parents afters : List ℕ) (number : ℕ) (entries : Entries) → number + length entries ≡ length afters → map (λ row. row.after) (rows_from parents afters number entries) ≡ drop number afters
+rows-afters parents afters number [] all = sym (drop_all number afters (omega (arith, all)))
+rows-afters parents afters number (entry ∷ entries) all =
+    ap (λ rest. slice_index afters number ∷ rest) (rows-afters parents afters (suc number) entries (omega (arith, all)))
+    ∙ sym (drop-cons afters number 0 (omega (arith, all)))
+
+rows-marks : (parents afters : List ℕ) (number : ℕ) (entries : Entries) → map (λ row. mark_of row.inode) (rows_from parents afters number entries) ≡ marks_of entries
+rows-marks parents afters number [] = refl
+rows-marks parents afters number (entry ∷ entries) = ap (λ rest. mark_of entry.1 ∷ rest) (rows-marks parents afters (suc number) entries)
+
+last_name-some : (path : PathNames) → nat_lt 0 (length path) ≡ true → is_some (last_name path) ≡ true
+last_name-some [] some = let bad : false ≡ true = some in cc
+last_name-some (name ∷ []) some = refl
+last_name-some (name ∷ other ∷ path) some = last_name-some (other ∷ path) (grind (arith, nat_tests))
+
+rows-named : (parents afters : List ℕ) (number : ℕ) (entries : Entries) → are_below entries ≡ true → list_all (λ row. is_some row.name) (rows_from parents afters number entries) ≡ true
+rows-named parents afters number [] all = refl
+rows-named parents afters number (entry ∷ entries) all =
+    let parts = both {a = nat_lt 0 (length entry.0)} {b = are_below entries} all in
+    λ j. last_name-some entry.0 parts.0 j && rows-named parents afters (suc number) entries parts.1 j
+
+module _ (inode : Inode) (nodes : List NodeView) (parents afters : List ℕ) (count : length parents ≡ suc (length (entries_of_nodes nodes)))
+    (place : placed_by [] parents (entries_from inode (entries_of_nodes nodes)) ≡ entries_from inode (entries_of_nodes nodes)) where
+  abbrev own_layer : Entries
+  own_layer = entries_from inode (entries_of_nodes nodes)
+
+  abbrev own_rows : List SheetRow
+  own_rows = rows_from parents afters 0 (entries_from inode (entries_of_nodes nodes))
+
+  pub filled-entries : entries_of_rows (rows_from parents afters 0 (entries_from inode (entries_of_nodes nodes))) ≡ entries_from inode (entries_of_nodes nodes)
+  filled-entries = with-placed [] parents afters 0 own_layer (omega (arith, count)) ∙ place
+
+  pub filled-sheet : IsLayer (entries_from inode (entries_of_nodes nodes)) → slice_get parents 0 ≡ Some 0 → are_earlier 1 (drop 1 parents) ≡ true → afters ≡ afters_from 0 (entries_from inode (entries_of_nodes nodes))
+      → (below : List (List ℕ)) → ((number : ℕ) → number < length (entries_from inode (entries_of_nodes nodes)) → slice_get below number ≡ Some (kid_numbers 1 (drop 1 parents) number))
+      → (marked : List Mark) → marked ≡ marks_of (entries_from inode (entries_of_nodes nodes)) → IsSheet (rows_from parents afters 0 (entries_from inode (entries_of_nodes nodes))) below marked
+  filled-sheet is root earlier ends below kids marked marks =
+      let parts : parents_of own_rows ≡ drop 1 parents = rows-parents parents afters 1 (entries_of_nodes nodes) (omega (arith, count)) in
+      let last : length afters ≡ suc (length (entries_of_nodes nodes)) = ap length ends ∙ afters-length 0 own_layer in
+      record {
+        layer = subst IsLayer (sym filled-entries) is;
+        root = (refl, get_or_from_slice_get parents 0 0 0 root);
+        named = rows-named parents afters 1 (entries_of_nodes nodes) (below-nodes nodes);
+        earlier = ap (are_earlier 1) parts ∙ earlier;
+        afters = rows-afters parents afters 0 own_layer (omega (arith, last)) ∙ (ends ∙ ap (afters_from 0) (sym filled-entries));
+        kids = λ number inside. kids number (omega (arith, inside, rows-length parents afters 0 own_layer)) ∙ ap (λ (ps : List ℕ). Some (kid_numbers 1 ps number)) (sym parts);
+        marks = marks ∙ sym (rows-marks parents afters 0 own_layer);
+      }
