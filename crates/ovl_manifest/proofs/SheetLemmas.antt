@@ -631,8 +631,7 @@ module _ (rows : List SheetRow) (below : List (List ℕ)) (marked : List Mark) (
   parent-at zero row at =
       let root = root-row rows is.root in
       let same : root.0 ≡ row = some-same root.0 row (sym root.1 ∙ at) in
-      let own : row.parent ≡ 0 = ap (λ (r : SheetRow). r.parent) (sym same) ∙ root.3 in
-      (
+      let own : row.parent ≡ 0 = ap (λ (r : SheetRow). r.parent) (sym same) ∙ root.3 in (
         (row_path layer root.0.parent root.0.name, root.0.inode),
         ap (slice_get layer) own ∙ entry-of 0 root.0 root.1,
         ap (row_path layer root.0.parent) root.2 ∙ sym (ap parent_path root-path),
@@ -640,8 +639,7 @@ module _ (rows : List SheetRow) (below : List (List ℕ)) (marked : List Mark) (
   parent-at (suc j) row at =
       let facts = row-after j row at in
       let above = row-at row.parent (omega (arith, facts.0, slice_get_within rows (suc j) row at, count)) in
-      let here : slice_get layer row.parent ≡ Some (row_path layer above.0.parent above.0.name, above.0.inode) = entry-of row.parent above.0 above.1 in
-      (
+      let here : slice_get layer row.parent ≡ Some (row_path layer above.0.parent above.0.name, above.0.inode) = entry-of row.parent above.0 above.1 in (
         (row_path layer above.0.parent above.0.name, above.0.inode),
         here,
         sym (ap path_of here) ∙ sym (ap parent_path (kid-path (suc j) row.parent row facts.1.0 at refl facts.1.1) ∙ parent_path-child (path_at layer row.parent) facts.1.0),

@@ -401,8 +401,8 @@ kids-step lists next before parent m number early count each is n less =
     old k within = elim (cases_lt k m) [
       | inl low ↦ slice_get-front lists ([] ∷ []) k (omega (arith, low, count)) ∙ each k low
       | inr high ↦
-        let here : k ≡ length lists = omega (arith, high, within, count) in
-        ap (slice_get (lists ++ [] ∷ [])) here ∙ (slice_get-seam lists [] [] ∙ ap Some (sym (kid-none 1 before k early (omega (arith, number, here, count)))))
+          let here : k ≡ length lists = omega (arith, high, within, count) in
+          ap (slice_get (lists ++ [] ∷ [])) here ∙ (slice_get-seam lists [] [] ∙ ap Some (sym (kid-none 1 before k early (omega (arith, number, here, count)))))
     ]
 
     by : (b : Bool) → (parent == n) ≡ b → slice_get (set (lists ++ [] ∷ []) parent (get_or (lists ++ [] ∷ []) parent [] ++ m ∷ [])) n ≡ Some (kid_numbers 1 before n ++ cond (parent == n) (m ∷ []) [])

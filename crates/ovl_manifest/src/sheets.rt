@@ -174,7 +174,12 @@ fn order_of_kid(rows: &[SheetRow], number: u32, name: &Name) -> Ordering
     ensures { result ≡ kid_order rows.now name.now number }
 {
     match rows.get(number as usize) {
-        Some(SheetRow { name: Some(own), .. }) => own.cmp(name),
+        Some(
+            SheetRow {
+                name: Some(own),
+                ..
+            },
+        ) => own.cmp(name),
         _ => Ordering::Less,
     }
 }
@@ -301,7 +306,7 @@ fn kids_of(alloc: Global, parents: &[u32]) -> Result<Vec<Vec<u32>>, AllocError>
     requires limit { length parents.now < 2 ^ 32 }
     ensures { IfOk result (λ kids. (length kids.items ≡ length parents.now)
         × ((number : ℕ) → number < length parents.now
-            → slice_get (map (λ own. own.items) kids.items) number ≡ Some (kid_numbers 1 (drop 1 parents.now) number))) }
+        → slice_get (map (λ own. own.items) kids.items) number ≡ Some (kid_numbers 1 (drop 1 parents.now) number))) }
 {
     let mut kids = Vec::new(alloc);
     for number in 0..parents.len() {

@@ -45,8 +45,7 @@ move_nodes-requires t c =
     let whole = ap (λ (rest : List NodeView). c.loop-node.yielded ++ rest) (sym c.in-Some.ensures.steps.0) ∙ c.loop-node.invariant.rest in
     let room = yielded-room c.args.nodes.items c.loop-node.yielded c.next.new.self.rest.items c.node.inside.children.items c.in-Some.node whole (ap (λ (node : NodeView). node.below) c.node.view_is) in
     let count = rows-count c.args.rows.now.items c.loop-node.rows.items c.args.parents.now c.args.afters.now (entries_of_nodes c.loop-node.yielded) c.loop-node.invariant.rows in
-    let more = ap length c.put_row.ensures.rows ∙ length-append c.loop-node.rows.items _ in
-    (
+    let more = ap length c.put_row.ensures.rows ∙ length-append c.loop-node.rows.items _ in (
       omega (arith, c.decreases, room),
       (
         omega (arith, c.requires.limit, room, count, more, c.put_row.new.rows.ok.0, c.args.rows.now.ok.0),

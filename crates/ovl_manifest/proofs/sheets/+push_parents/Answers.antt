@@ -20,8 +20,7 @@ push_parents-requires t c =
     let nodes : List NodeView = c.args.nodes.now in
     let below = ap entries_of_nodes c.deref.ensures.value ∙ ap (λ (node : NodeView). node.below) c.node.view_is in
     let room = kids-room nodes c.deref.result.now c.loop-node.node-index c.node-item.result c.loop-node-test.true c.node-item.is below in
-    let count = parents-count c.args.directory c.args.parents.now.items c.loop-node.parents.items (entries_of_nodes (take c.loop-node.node-index nodes)) c.loop-node.invariant in
-    (
+    let count = parents-count c.args.directory c.args.parents.now.items c.loop-node.parents.items (entries_of_nodes (take c.loop-node.node-index nodes)) c.loop-node.invariant in (
       omega (arith, c.decreases, room),
       (
         omega (arith, c.len-number.ensures, c.in_ok-push.ensures.len),

@@ -43,15 +43,15 @@ loop-kid-preserved c =
     slice_get_read rows (length rows) number c.index-in-loop-kid.result.now refl (slice_get_within rows number row.0 listed) c.index-in-loop-kid.ensures in
     elim c.match-index.branch [
       | in-Some+in_ok-copy+in_ok-push w ↦
-        let named : own_name rows number ≡ w.in-Some.name =
-        ap (λ o. unwrap_or (name_of_row o) []) at ∙ ap (λ n. unwrap_or n []) w.in-Some.is in
-        ap (λ v. v.items) w.names-is
-        ∙ (w.in_ok-push.ensures.items
-        ∙ ((λ j. c.loop-kid.invariant j ++ (w.in_ok-copy.ensures ∙ sym named) j ∷ [])
-        ∙ sym (kid-names-more rows c.as_slice-kids.result.now c.loop-kid.kid-index c.loop-kid-test.true)))
+          let named : own_name rows number ≡ w.in-Some.name =
+          ap (λ o. unwrap_or (name_of_row o) []) at ∙ ap (λ n. unwrap_or n []) w.in-Some.is in
+          ap (λ v. v.items) w.names-is
+          ∙ (w.in_ok-push.ensures.items
+          ∙ ((λ j. c.loop-kid.invariant j ++ (w.in_ok-copy.ensures ∙ sym named) j ∷ [])
+          ∙ sym (kid-names-more rows c.as_slice-kids.result.now c.loop-kid.kid-index c.loop-kid-test.true)))
       | in_default w ↦
-        let one : c.index-in-loop-kid.result.now ≡ row.0 = some-same c.index-in-loop-kid.result.now row.0 (sym at ∙ listed) in
-        absurd (w.in_default.not-Some row.3.0 (ap (λ (r : SheetRow). r.name) one ∙ row.3.1))
+          let one : c.index-in-loop-kid.result.now ≡ row.0 = some-same c.index-in-loop-kid.result.now row.0 (sym at ∙ listed) in
+          absurd (w.in_default.not-Some row.3.0 (ap (λ (r : SheetRow). r.name) one ∙ row.3.1))
     ]
 
 pub returns : goal.returns
