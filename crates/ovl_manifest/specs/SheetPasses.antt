@@ -7,7 +7,7 @@ use Rattle.ovl_names.specs.Names.{PathName, name_cmp}
 use Rattle.ovl_inode.specs.Marks.{mark_of}
 use Rattle.ovl_manifest.specs.declared.sheets.SheetRow.{SheetRow}
 use Rattle.ovl_manifest.specs.declared.sheets.Room.{Room}
-use Rattle.ovl_manifest.specs.Layers.{Entry, Entries}
+use Rattle.ovl_manifest.specs.Layers.{Entries}
 use Rattle.ovl_manifest.specs.LayerTrees.{placed}
 use Rattle.ovl_manifest.specs.Sheets.{last_name, path_at, row_path, afters_from, kid_numbers, are_earlier}
 

@@ -1,4 +1,4 @@
-use Rattle.std.proofs.Common.{◌≡◌, ◌≤◌, ◌∙◌, ◌++◌, ◌∷◌, [], Some, List, length, sym, ap, append_assoc, length-append, arith}
+use Rattle.std.proofs.Common.{◌∙◌, ◌++◌, ◌∷◌, [], Some, List, length, sym, ap, append_assoc, length-append, arith}
 use Rattle.std.specs.Prelude.{slice_index}
 use Rattle.ovl_manifest.specs.LayerTrees.{NodeView, entries_of_nodes}
 use Rattle.ovl_manifest.specs.SheetPasses.{rows_from}

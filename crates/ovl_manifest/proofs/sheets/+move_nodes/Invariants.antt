@@ -1,4 +1,4 @@
-use Rattle.std.proofs.Common.{◌≡◌, ◌≤◌, ◌++◌, length, vec_len}
+use Rattle.std.proofs.Common.{◌≡◌, ◌≤◌, ◌++◌, length}
 use Rattle.std.specs.Vec.{vec_capacity}
 use Rattle.ovl_manifest.specs.LayerTrees.{entries_of_nodes}
 use Rattle.ovl_manifest.specs.SheetPasses.{rows_from}

@@ -1,4 +1,4 @@
-use Rattle.std.proofs.Common.{◌∙◌, List, take, ap, sym, subst, arith}
+use Rattle.std.proofs.Common.{◌∙◌, List, take, ap, subst, arith}
 use Rattle.std.proofs.lemmas.List.{take_all}
 use Rattle.ovl_manifest.specs.LayerTrees.{NodeView, entries_of_nodes}
 use Rattle.ovl_manifest.specs.SheetPasses.{AddsParents}

@@ -1,4 +1,4 @@
-use Rattle.std.proofs.Common.{◌≡◌, ◌<◌, ◌∙◌, ℕ, List, length, get_or, map, ap, arith}
+use Rattle.std.proofs.Common.{◌<◌, ◌∙◌, ℕ, length, get_or, map, ap, arith}
 use Rattle.std.proofs.lemmas.List.{length-map}
 use Rattle.ovl_manifest.proofs.SheetPassLemmas.{parent-inside, kids-more, kids-first, pushed-lists, written-lists, written-length}
 use Rattle.ovl_manifest.proofs.sheets.kids_of.Goals as goal

@@ -1,10 +1,8 @@
-use Rattle.std.proofs.Common.{◌≡◌, ◌∙◌, ◌++◌, ◌∷◌, ℕ, suc, [], Some, List, length, map, drop, sym, ap, subst, arith}
+use Rattle.std.proofs.Common.{◌≡◌, ◌∙◌, ◌++◌, ◌∷◌, ℕ, suc, [], Some, List, length, drop, ap, subst, arith}
 use Rattle.std.specs.Prelude.{slice_get}
 use Rattle.ovl_inode.specs.declared.inodes.Inode.{Inode}
-use Rattle.ovl_inode.specs.declared.marks.Mark.{Mark}
-use Rattle.ovl_inode.specs.Marks.{mark_of}
 use Rattle.ovl_manifest.specs.Layers.{Entries}
-use Rattle.ovl_manifest.specs.LayerTrees.{NodeView, entries_from, entries_of_nodes}
+use Rattle.ovl_manifest.specs.LayerTrees.{NodeView, entries_of_nodes}
 use Rattle.ovl_manifest.specs.Sheets.{afters_from, are_earlier, kid_numbers}
 use Rattle.ovl_manifest.specs.SheetPasses.{AddsParents, IsRoomFor}
 use Rattle.ovl_manifest.proofs.SheetPassLemmas.{marks_of, parents-count, root-place, root-afters}

@@ -1,4 +1,4 @@
-use Rattle.std.proofs.Common.{◌≡◌, ◌<◌, ◌∙◌, [], length, refl, sym, ap, arith}
+use Rattle.std.proofs.Common.{◌<◌, ◌∙◌, [], length, refl, sym, ap, arith}
 use Rattle.std.proofs.lemmas.Option.{slice_get_read}
 use Rattle.ovl_manifest.specs.Layers.{Entries, entry_at}
 use Rattle.ovl_manifest.specs.LayerTrees.{entries_under}
