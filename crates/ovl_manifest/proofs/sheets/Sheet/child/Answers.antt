@@ -1,4 +1,4 @@
-use Rattle.std.proofs.Common.{◌≡◌, ◌<◌, ◌∙◌, ℕ, [], List, Result, length, get_or, Ok, Err, sym, ap, subst, rules, tests, arith}
+use Rattle.std.proofs.Common.{◌≡◌, ◌<◌, ◌∙◌, ℕ, [], List, Result, length, map, get_or, Ok, Err, sym, ap, subst, rules, tests, arith}
 use Rattle.std.specs.List.Sorted.{IsBinarySearchResult}
 use Rattle.std.proofs.lemmas.Fn.{always_returns_same}
 use Rattle.ovl_names.specs.Names.{PathName}
@@ -32,7 +32,7 @@ returns-in-Ok c =
     let same : c.as_slice-kids.result.now ≡ kids =
     c.as_slice-kids.ensures.value ∙ own-numbers (λ own. own.items) c.self.inside.kids.items rows _ c.self.invariant c.args.directory c.index.result.now (omega (arith, c.requires, ap length c.self.view_is)) c.index.ensures in
     let position = c.binary_search_by.ensures.position (kid_order c.as_slice-rows.result.now c.args.name.now) (always_returns_same _ _ _ (λ a r q k. (search (rules, tests), search (rules, tests)))) in
-    let found = child-found rows _ _ c.self.invariant c.args.directory c.in-Ok.place c.args.name.now (omega (arith, c.in-Ok.ensures.bound, ap length same))
+    let found = child-found rows (map (λ own. own.items) c.self.inside.kids.items) c.self.inside.marks.items c.self.invariant c.args.directory c.in-Ok.place c.args.name.now (omega (arith, c.in-Ok.ensures.bound, ap length same))
     (answered rows c.as_slice-rows.result.now kids c.as_slice-kids.result.now c.binary_search_by.result (Ok c.in-Ok.place) c.args.name.now c.as_slice-rows.ensures.value same c.in-Ok.is position) in
     subst (λ (numbers : List ℕ). (get_or numbers c.in-Ok.place 0 < length c.args.self.now) × (path_at c.args.self.now (get_or numbers c.in-Ok.place 0) ≡ child_path (path_at c.args.self.now c.args.directory) c.args.name.now)) (sym same)
     (subst (λ (layer : Entries). (get_or kids c.in-Ok.place 0 < length layer) × (path_at layer (get_or kids c.in-Ok.place 0) ≡ child_path (path_at layer c.args.directory) c.args.name.now)) c.self.view_is found)
@@ -44,6 +44,6 @@ returns-in-Err c =
     let same : c.as_slice-kids.result.now ≡ kids =
     c.as_slice-kids.ensures.value ∙ own-numbers (λ own. own.items) c.self.inside.kids.items rows _ c.self.invariant c.args.directory c.index.result.now (omega (arith, c.requires, ap length c.self.view_is)) c.index.ensures in
     let position = c.binary_search_by.ensures.position (kid_order c.as_slice-rows.result.now c.args.name.now) (always_returns_same _ _ _ (λ a r q k. (search (rules, tests), search (rules, tests)))) in
-    let none = child-missing rows _ _ c.self.invariant c.args.directory c.in-Err.field-0 c.args.name.now (omega (arith, c.requires, ap length c.self.view_is))
+    let none = child-missing rows (map (λ own. own.items) c.self.inside.kids.items) c.self.inside.marks.items c.self.invariant c.args.directory c.in-Err.field-0 c.args.name.now (omega (arith, c.requires, ap length c.self.view_is))
     (answered rows c.as_slice-rows.result.now kids c.as_slice-kids.result.now c.binary_search_by.result (Err c.in-Err.field-0) c.args.name.now c.as_slice-rows.ensures.value same c.in-Err.is position) in
     subst (λ (layer : Entries). entries_under (child_path (path_at layer c.args.directory) c.args.name.now) layer ≡ []) c.self.view_is none
