@@ -525,3 +525,59 @@ fn inodes_that_no_manifest_states_are_refused(rt: HostRuntime) -> Result<(), Fai
     );
     Ok(())
 }
+
+// The sheet of two directories, each with a file.
+fn sheet_of_two(alloc: Global) -> Result<Sheet, Fail> {
+    let n = DIR.replace(alloc, "/d", "/n")?;
+    let z = FILE.replace(alloc, "/f", "/n/z")?;
+    let x = DIR.replace(alloc, "/d", "/x")?;
+    let k = FILE.replace(alloc, "/f", "/x/k")?;
+    let text = with_root(alloc, &[n.as_str(), z.as_str(), x.as_str(), k.as_str()])?;
+    match Sheet::of(alloc, read_layer(alloc, text.as_bytes())?) {
+        Ok(sheet) => Ok(sheet),
+        Err(_) => Err(Fail::from(AllocError)),
+    }
+}
+
+// The name, the parent and the number after of a row of a sheet, and `None` past the last.
+fn row_of(alloc: Global, sheet: &Sheet, number: u32) -> Result<Option<String>, AllocError> {
+    let Some(row) = sheet.row(number) else {
+        return Ok(None);
+    };
+    let name = match &row.name {
+        Some(name) => name.as_str(),
+        None => "/",
+    };
+    Ok(Some(format!(in alloc; "{name} {} {}", row.parent, row.after)?))
+}
+
+#[test]
+fn a_sheet_has_a_row_for_each_entry(rt: HostRuntime) -> Result<(), Fail> {
+    let alloc = rt.alloc();
+    let sheet = sheet_of_two(alloc)?;
+    for (number, row) in [
+        (0, Some("/ 0 5")),
+        (1, Some("n 0 3")),
+        (2, Some("z 1 3")),
+        (3, Some("x 0 5")),
+        (4, Some("k 3 5")),
+        (5, None),
+    ] {
+        let found = row_of(alloc, &sheet, number)?;
+        assert_eq!(rt; found.as_deref(), row, "row {number}");
+    }
+    Ok(())
+}
+
+#[test]
+fn a_sheet_has_the_inodes_of_its_layer(rt: HostRuntime) -> Result<(), Fail> {
+    let alloc = rt.alloc();
+    let sheet = sheet_of_two(alloc)?;
+    for (path, mtime) in [("/x/k", Some(-7)), ("/x/z", None), ("/k", None)] {
+        let found = sheet
+            .at(&Path::parse(alloc, path)?)
+            .map(|inode| inode.mtime);
+        assert_eq!(rt; found, mtime, "at {path:?}");
+    }
+    Ok(())
+}

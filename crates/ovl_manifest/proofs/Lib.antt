@@ -12,3 +12,5 @@ pub mod TailLemmas
 pub mod ValueLemmas
 pub mod StatedLemmas
 pub mod BackLemmas
+pub mod SheetLemmas
+pub mod SheetPassLemmas

@@ -5,3 +5,5 @@ pub mod Fields
 pub mod Manifest
 pub mod Text
 pub mod Drafts
+pub mod Sheets
+pub mod SheetPasses

@@ -6,11 +6,13 @@ mod entries;
 mod faults;
 mod fields;
 mod reading;
+mod sheets;
 mod trees;
 mod writing;
 
 pub use entries::{ENTRY_LIMIT, from_entries};
 pub use faults::LayerFault;
 pub use reading::read_layer;
+pub use sheets::{Sheet, SheetPlace, SheetRow};
 pub use trees::{Cursor, Layer};
 pub use writing::write_layer;

@@ -1,0 +1,382 @@
+ghost use Rattle.std.specs.Prelude.{◌≡◌, ◌≢◌, ℕ, ◌+◌, ◌<◌, ◌≤◌, ◌^◌, ◌++◌, [], ◌∷◌, length, map, drop, suc, vec_len, slice_get, Some, IfOk, IfErr, OnOk, MatchOption, IsTrue};
+ghost use Rattle.std.specs.Option.{option_map};
+ghost use Rattle.std.specs.Vec.{vec_capacity};
+ghost use Rattle.ovl_names.specs.Paths.{child_path};
+ghost use Rattle.ovl_inode.specs.Marks.{mark_of as the_mark};
+ghost use Rattle.ovl_manifest.specs.Layers.{IsLayer, entry_at, names_below};
+ghost use Rattle.ovl_manifest.specs.LayerTrees.{entries_in, entries_under, entries_of_nodes};
+ghost use Rattle.ovl_manifest.specs.Sheets.{IsRowOf, path_at, afters_from, kid_numbers, are_earlier};
+ghost use Rattle.ovl_manifest.specs.SheetPasses.{AddsParents, IsRoomFor, rows_from, kid_order};
+
+use crate::trees::{Layer, Node};
+use ovl_inode::{Inode, Mark, mark_of};
+use ovl_names::{Name, Path};
+use std::alloc::{AllocError, Global};
+use std::cmp::Ordering;
+use std::marker::Model;
+
+/// A row of a [`Sheet`].
+#[derive(Debug, Drop)]
+pub struct SheetRow {
+    /// The last name of its path; the root has none.
+    pub name: Option<Name>,
+    /// The inode, as the layer has it.
+    pub inode: Inode,
+    /// The number of its directory's row; the root's is its own.
+    pub parent: u32,
+    /// The number after those of the rows under it.
+    pub after: u32,
+}
+
+/// A layer as a flat table, seen as its entries in path order: the row of number `n` is that of the entry `n`, counted
+/// from 0, so the root is row 0. Beside the rows it keeps the numbers of those directly below each, and each one's mark.
+#[derive(Drop)]
+pub struct Sheet {
+    rows: Vec<SheetRow>,
+    kids: Vec<Vec<u32>>,
+    marks: Vec<Mark>,
+}
+
+impl Model for Sheet {
+    ghost use Rattle.std.specs.Prelude.{map};
+    ghost use Rattle.ovl_manifest.specs.Layers.{Entries};
+    ghost use Rattle.ovl_manifest.specs.Sheets.{IsSheet, entries_of_rows};
+
+    ghost Value = { Entries };
+
+    ghost view = { λ a. entries_of_rows a.rows.items };
+
+    ghost invariant = { λ a. IsSheet a.rows.items (map (λ own. own.items) a.kids.items) a.marks.items };
+}
+
+/// A place in a sheet, seen as the entries at and under it, their paths counted from it.
+#[derive(Drop)]
+pub struct SheetPlace<'a> {
+    sheet: &'a Sheet,
+    number: u32,
+}
+
+impl<'a> Model for SheetPlace<'a> {
+    ghost use Rattle.std.specs.Prelude.{◌<◌, length};
+    ghost use Rattle.ovl_manifest.specs.Layers.{Entries};
+    ghost use Rattle.ovl_manifest.specs.LayerTrees.{entries_under};
+    ghost use Rattle.ovl_manifest.specs.Sheets.{path_at};
+
+    ghost Value = { Entries };
+
+    ghost view = { λ a. entries_under (path_at a.sheet.now a.number) a.sheet.now };
+
+    ghost invariant = { λ a. a.number < length a.sheet.now };
+}
+
+impl Sheet {
+    /// The sheet of a layer, whose nodes are moved into it. All memory is taken before the first is moved: where a
+    /// growth was refused, the layer comes back as it was.
+    pub fn of(alloc: Global, layer: Layer) -> Result<Sheet, Layer>
+        ensures value { IfOk result (λ sheet. sheet ≡ layer) }
+        ensures back { IfErr result (λ back. back ≡ layer) }
+    {
+        match Room::of(alloc, &layer) {
+            Ok(room) => Ok(Sheet::filled(layer, room)),
+            Err(AllocError) => Err(layer),
+        }
+    }
+
+    /// The number of rows, at least one; takes no memory.
+    pub fn len(&self) -> u32
+        ensures value { result ≡ length self.now }
+        ensures layer { IsLayer self.now }
+    {
+        self.rows.len() as u32
+    }
+
+    /// The row of a number, and `None` past the last; takes no memory.
+    pub fn row(&self, number: u32) -> Option<&SheetRow>
+        ensures { MatchOption result (length self.now ≤ number) (λ row. IsRowOf self.now number row.now) }
+    {
+        self.rows.get(number as usize)
+    }
+
+    /// The mark of the row of a number, as its inode alone says it, and `None` past the last; takes no memory.
+    pub fn mark(&self, number: u32) -> Option<&Mark>
+        ensures { option_map (λ mark. mark.now) result ≡ option_map (λ entry. the_mark entry.1) (slice_get self.now number) }
+    {
+        self.marks.get(number as usize)
+    }
+
+    /// The number of the entry `name` in the directory of a number, and `None` where there is none; takes no memory,
+    /// and time for the logarithm of the directory's entries.
+    pub fn child(&self, directory: u32, name: &Name) -> Option<u32>
+        requires { directory < length self.now }
+        ensures { MatchOption result
+            (entries_under (child_path (path_at self.now directory) name.now) self.now ≡ [])
+            (λ child. (child < length self.now) × (path_at self.now child ≡ child_path (path_at self.now directory) name.now)) }
+    {
+        let rows = self.rows.as_slice();
+        let kids = self.kids[directory as usize].as_slice();
+        match kids.binary_search_by(|kid| order_of_kid(rows, *kid, name)) {
+            Ok(place) => Some(kids[place]),
+            Err(_) => None,
+        }
+    }
+
+    /// The place of the root.
+    pub fn root(&self) -> SheetPlace<'_>
+        ensures value { result ≡ self.now }
+        ensures layer { IsLayer self.now }
+    {
+        let _ = &self.rows;
+        SheetPlace {
+            sheet: self,
+            number: 0,
+        }
+    }
+
+    /// The place of a path, and `None` where there is no entry; takes no memory.
+    pub fn place(&self, path: &Path) -> Option<SheetPlace<'_>>
+        ensures { MatchOption result
+            (entries_under path.now self.now ≡ [])
+            (λ place. (place ≡ entries_under path.now self.now) × (place ≢ [])) }
+    {
+        let mut place = self.root();
+        for name in path.names() {
+            let Some(child) = place.child(name) else {
+                return None;
+            };
+            place = child;
+        }
+        Some(place)
+    }
+
+    /// The inode at a path, and `None` where there is no entry; takes no memory.
+    pub fn at(&self, path: &Path) -> Option<&Inode>
+        ensures { option_map (λ inode. inode.now) result ≡ entry_at self.now path.now }
+    {
+        match self.place(path) {
+            Some(place) => Some(place.inode()),
+            None => None,
+        }
+    }
+
+    /// The names directly below a path, in order; none where there is no directory. Fails only for want of memory.
+    pub fn children(&self, alloc: Global, path: &Path) -> Result<Vec<Name>, AllocError>
+        ensures { IfOk result (λ names. names.items ≡ names_below self.now path.now) }
+    {
+        match self.place(path) {
+            Some(place) => place.names(alloc),
+            None => Ok(Vec::new(alloc)),
+        }
+    }
+}
+
+// How the name of the row of a number is to another; a row without a name, and none at all, come before each.
+fn order_of_kid(rows: &[SheetRow], number: u32, name: &Name) -> Ordering
+    ensures { result ≡ kid_order rows.now name.now number }
+{
+    match rows.get(number as usize) {
+        Some(
+            SheetRow {
+                name: Some(own),
+                ..
+            },
+        ) => own.cmp(name),
+        _ => Ordering::Less,
+    }
+}
+
+impl<'a> SheetPlace<'a> {
+    /// The inode at the place.
+    pub fn inode(&self) -> &'a Inode
+        ensures { entry_at self.now [] ≡ Some result.now }
+    {
+        let sheet = self.sheet;
+        &sheet.rows[self.number as usize].inode
+    }
+
+    /// The place of the entry `name`, and `None` where there is none; takes no memory.
+    pub fn child(&self, name: &Name) -> Option<SheetPlace<'a>>
+        ensures { MatchOption result
+            (entries_in name.now self.now ≡ [])
+            (λ child. (child ≡ entries_in name.now self.now) × (child ≢ [])) }
+    {
+        let sheet = self.sheet;
+        let _ = &sheet.rows;
+        match sheet.child(self.number, name) {
+            Some(number) => Some(SheetPlace { sheet, number }),
+            None => None,
+        }
+    }
+
+    /// The names directly below the place, in order; fails only for want of memory.
+    pub fn names(&self, alloc: Global) -> Result<Vec<Name>, AllocError>
+        ensures { IfOk result (λ names. names.items ≡ names_below self.now []) }
+    {
+        let sheet = self.sheet;
+        let kids = sheet.kids[self.number as usize].as_slice();
+        let mut names = Vec::with_capacity(alloc, kids.len())?;
+        for kid in kids {
+            if let Some(name) = &sheet.rows[*kid as usize].name {
+                names.push(name.copy(alloc)?)?;
+            }
+        }
+        Ok(names)
+    }
+}
+
+// The memory of a layer's sheet, taken before the layer's nodes are moved, with all that the sheet says beside them.
+#[derive(Drop)]
+struct Room {
+    rows: Vec<SheetRow>,
+    parents: Vec<u32>,
+    afters: Vec<u32>,
+    kids: Vec<Vec<u32>>,
+    marks: Vec<Mark>,
+}
+
+impl Room {
+    // The room of a layer's sheet; its rows are still empty.
+    fn of(alloc: Global, layer: &Layer) -> Result<Room, AllocError>
+        ensures { IfOk result (λ room. IsRoomFor layer.now room) }
+    {
+        let mut parents = Vec::new(alloc);
+        parents.push(0)?;
+        push_parents(&layer.children, 0, &mut parents)?;
+        let mut afters = Vec::new(alloc);
+        afters.push(parents.len() as u32)?;
+        push_afters(&layer.children, &mut afters)?;
+        let mut marks = Vec::new(alloc);
+        marks.push(mark_of(alloc, &layer.inode)?)?;
+        push_marks(alloc, &layer.children, &mut marks)?;
+        let kids = kids_of(alloc, &parents)?;
+        let rows = Vec::with_capacity(alloc, parents.len())?;
+        Ok(Room {
+            rows,
+            parents,
+            afters,
+            kids,
+            marks,
+        })
+    }
+}
+
+// Adds the number of the parent of each entry at and under these nodes, which lie in the directory of this number.
+fn push_parents(nodes: &[Node], directory: u32, parents: &mut Vec<u32>) -> Result<(), AllocError>
+    requires directory { directory < vec_len parents.old }
+    requires limit { vec_len parents.old + length (entries_of_nodes nodes.now) < 2 ^ 32 }
+    ensures { OnOk result (AddsParents directory parents.old.items parents.new.items (entries_of_nodes nodes.now)) }
+{
+    for node in nodes {
+        let number = parents.len() as u32;
+        parents.push(directory)?;
+        push_parents(&node.children, number, parents)?;
+    }
+    Ok(())
+}
+
+// Adds the number after the subtree of each entry at and under these nodes, the first of which has the next number.
+fn push_afters(nodes: &[Node], afters: &mut Vec<u32>) -> Result<(), AllocError>
+    requires limit { vec_len afters.old + length (entries_of_nodes nodes.now) < 2 ^ 32 }
+    ensures { OnOk result (afters.new.items
+        ≡ afters.old.items ++ afters_from (vec_len afters.old) (entries_of_nodes nodes.now)) }
+{
+    for node in nodes {
+        let number = afters.len();
+        afters.push(0)?;
+        push_afters(&node.children, afters)?;
+        afters[number] = afters.len() as u32;
+    }
+    Ok(())
+}
+
+// Adds the mark of each entry at and under these nodes.
+fn push_marks(alloc: Global, nodes: &[Node], marks: &mut Vec<Mark>) -> Result<(), AllocError>
+    ensures { OnOk result (marks.new.items
+        ≡ marks.old.items ++ map (λ entry. the_mark entry.1) (entries_of_nodes nodes.now)) }
+{
+    for node in nodes {
+        marks.push(mark_of(alloc, &node.inode)?)?;
+        push_marks(alloc, &node.children, marks)?;
+    }
+    Ok(())
+}
+
+// The numbers of the rows directly below each row, by the parents of all; the first row is the root.
+fn kids_of(alloc: Global, parents: &[u32]) -> Result<Vec<Vec<u32>>, AllocError>
+    requires earlier { IsTrue (are_earlier 1 (drop 1 parents.now)) }
+    requires limit { length parents.now < 2 ^ 32 }
+    ensures { IfOk result (λ kids. (length kids.items ≡ length parents.now)
+        × ((number : ℕ) → number < length parents.now
+        → slice_get (map (λ own. own.items) kids.items) number ≡ Some (kid_numbers 1 (drop 1 parents.now) number))) }
+{
+    let mut kids = Vec::new(alloc);
+    for number in 0..parents.len() {
+        kids.push(Vec::new(alloc))?;
+        if number > 0 {
+            kids[parents[number] as usize].push(number as u32)?;
+        }
+    }
+    Ok(kids)
+}
+
+impl Sheet {
+    // The sheet of a layer in the room that was taken for it.
+    fn filled(layer: Layer, room: Room) -> Sheet
+        requires { IsRoomFor layer room }
+        ensures { result ≡ layer }
+    {
+        let Layer { inode, children } = layer;
+        let Room {
+            mut rows,
+            parents,
+            afters,
+            kids,
+            marks,
+        } = room;
+        let root = SheetRow {
+            name: None,
+            inode,
+            parent: 0,
+            after: afters[0],
+        };
+        put_row(&mut rows, root);
+        move_nodes(children, &parents, &afters, &mut rows);
+        Sheet { rows, kids, marks }
+    }
+}
+
+// Adds the rows at and under these nodes, where there is room for them.
+fn move_nodes(nodes: Vec<Node>, parents: &[u32], afters: &[u32], rows: &mut Vec<SheetRow>)
+    requires limit { vec_len rows.old + length (entries_of_nodes nodes.items) < 2 ^ 32 }
+    requires room { vec_len rows.old + length (entries_of_nodes nodes.items) ≤ vec_capacity rows.old }
+    requires parents { vec_len rows.old + length (entries_of_nodes nodes.items) ≤ length parents.now }
+    requires afters { vec_len rows.old + length (entries_of_nodes nodes.items) ≤ length afters.now }
+    ensures rows { rows.new.items
+        ≡ rows.old.items ++ rows_from parents.now afters.now (vec_len rows.old) (entries_of_nodes nodes.items) }
+    ensures room { vec_capacity rows.old ≤ vec_capacity rows.new }
+{
+    for node in nodes {
+        let Node {
+            name,
+            inode,
+            children,
+        } = node;
+        let number = rows.len();
+        let row = SheetRow {
+            name: Some(name),
+            inode,
+            parent: parents[number],
+            after: afters[number],
+        };
+        put_row(rows, row);
+        move_nodes(children, parents, afters, rows);
+    }
+}
+
+// Adds a row, where there is room for it.
+fn put_row(rows: &mut Vec<SheetRow>, row: SheetRow)
+    requires { vec_len rows.old < vec_capacity rows.old }
+    ensures rows { rows.new.items ≡ rows.old.items ++ row ∷ [] }
+    ensures room { vec_capacity rows.old ≤ vec_capacity rows.new }
+{
+    let _ = rows.push(row);
+}
