@@ -1,5 +1,5 @@
 use ovl_inode::{Attrs, Inode, Kind};
-use ovl_manifest::{Layer, LayerFault, from_entries, read_layer, write_layer};
+use ovl_manifest::{Layer, LayerFault, Sheet, from_entries, read_layer, write_layer};
 use ovl_names::{Name, Path};
 use std::alloc::{AllocError, Global};
 use std::test::Fail;
