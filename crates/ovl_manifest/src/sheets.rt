@@ -29,7 +29,7 @@ pub struct SheetRow {
 }
 
 /// A layer as a flat table, seen as its entries in path order: the row of number `n` is that of the entry `n`, counted
-/// from 0, so the root is row 0. Beside the rows it keeps the numbers of those directly below each, and each one's mark.
+/// from 0, so that of the root is the first. Beside the rows it keeps the numbers of those directly below each, and each one's mark.
 #[derive(Drop)]
 pub struct Sheet {
     rows: Vec<SheetRow>,
