@@ -629,6 +629,9 @@ module _ (rows : List SheetRow) (below : List (List ℕ)) (marked : List Mark) (
       let root = root-row rows is.root in
       ap path_of (entry-of 0 root.0 root.1) ∙ ap (row_path layer root.0.parent) root.2
 
+  pub root-inside : 0 < length (entries_of_rows rows)
+  root-inside = let root = root-row rows is.root in slice_get_within layer 0 (row_path layer root.0.parent root.0.name, root.0.inode) (entry-of 0 root.0 root.1)
+
   pub mark-at : (number : ℕ) (mark : Mark) → number < length (entries_of_rows rows) → slice_get marked number ≡ Some mark → option_map mark_of (entry_at (entries_of_rows rows) (path_at (entries_of_rows rows) number)) ≡ Some mark
   mark-at number mark inside at =
       let row = row-at number inside in

@@ -91,6 +91,16 @@ impl Sheet {
         self.rows.len() as u32
     }
 
+    /// The number of the root's row, which is the first.
+    pub fn root_number(&self) -> u32
+        ensures inside { result < length self.now }
+        ensures path { path_at self.now result ≡ [] }
+        ensures layer { IsLayer self.now }
+    {
+        let _rows = &self.rows;
+        0
+    }
+
     /// The row of a number, and `None` past the last; takes no memory.
     pub fn row(&self, number: u32) -> Option<&SheetRow>
         ensures { MatchOption result (length self.now ≤ number) (λ row. IsRowOf self.now number row.now) }
