@@ -1,11 +1,12 @@
 -- Laws of the merged tree.
-use Rattle.std.specs.Prelude.{◌≡◌, ◌*◌, ◌≤◌, true, length}
+use Rattle.std.specs.Prelude.{◌≡◌, ℕ, ◌*◌, ◌≤◌, true, length, drop}
 use Rattle.std.specs.List.{All}
 use Rattle.ovl_names.specs.Names.{PathName}
 use Rattle.ovl_names.specs.Paths.{PathNames, child_path, depth_limit}
 use Rattle.ovl_manifest.specs.Layers.{IsLayer}
 use Rattle.ovl_lookup.specs.Stacks.{StackView}
 use Rattle.ovl_lookup.specs.Merged.{shows, shows_directory}
+use Rattle.ovl_lookup.specs.Views.{reached, reached_below}
 
 -- where something is shown in a directory, the directory is shown
 abbrev pub ShowsParents : Type 0
@@ -16,3 +17,8 @@ ShowsParents = (stack : StackView) → All IsLayer stack.layers → (path : Path
 abbrev pub ShowsWithinDepth : Type 0
 ShowsWithinDepth = (stack : StackView) → All IsLayer stack.layers → (path : PathNames) →
     shows stack path ≡ true → length path ≤ depth_limit * length stack.layers
+
+-- the view of a directory of the layers from one on, with one more name
+abbrev pub ViewsGoOn : Type 0
+ViewsGoOn = (stack : StackView) → All IsLayer stack.layers → (from : ℕ) (path : PathNames) (name : PathName) →
+    reached (drop from stack.layers) from (child_path path name) ≡ reached_below stack.layers name (reached (drop from stack.layers) from path)

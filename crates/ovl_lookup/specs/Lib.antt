@@ -4,4 +4,6 @@ pub mod Trace
 pub mod Merged
 pub mod Passes
 pub mod Sound
+pub mod Words
+pub mod Views
 pub mod Laws

@@ -1,5 +1,5 @@
 //! Laws of the merged tree; the contract of each is its statement.
-ghost use Rattle.ovl_lookup.specs.Laws.{ShowsParents, ShowsWithinDepth};
+ghost use Rattle.ovl_lookup.specs.Laws.{ShowsParents, ShowsWithinDepth, ViewsGoOn};
 
 /// The merged tree is closed under parents: where something is shown in a directory, that directory is shown.
 pub fn merged_tree_has_parents()
@@ -9,4 +9,9 @@ pub fn merged_tree_has_parents()
 /// The merged tree is no deeper than 64 times the number of layers.
 pub fn merged_tree_is_within_depth()
     ensures { ShowsWithinDepth }
+{}
+
+/// How the view of a directory goes on with one more name.
+pub fn views_go_on()
+    ensures { ViewsGoOn }
 {}
