@@ -5,8 +5,9 @@ use Rattle.ovl_names.specs.Names.{PathName}
 use Rattle.ovl_names.specs.Paths.{PathNames, child_path, depth_limit}
 use Rattle.ovl_manifest.specs.Layers.{IsLayer}
 use Rattle.ovl_lookup.specs.Stacks.{StackView}
+use Rattle.ovl_lookup.specs.Trace.{things_found}
 use Rattle.ovl_lookup.specs.Merged.{shows, shows_directory}
-use Rattle.ovl_lookup.specs.Views.{reached, reached_below}
+use Rattle.ovl_lookup.specs.Views.{reached, reached_below, found_below}
 
 -- where something is shown in a directory, the directory is shown
 abbrev pub ShowsParents : Type 0
@@ -22,3 +23,8 @@ ShowsWithinDepth = (stack : StackView) → All IsLayer stack.layers → (path : 
 abbrev pub ViewsGoOn : Type 0
 ViewsGoOn = (stack : StackView) → All IsLayer stack.layers → (from : ℕ) (path : PathNames) (name : PathName) →
     reached (drop from stack.layers) from (child_path path name) ≡ reached_below stack.layers name (reached (drop from stack.layers) from path)
+
+-- what is found with one more name, by the view of the directory; nothing where that is empty
+abbrev pub ViewsFind : Type 0
+ViewsFind = (stack : StackView) → All IsLayer stack.layers → (from : ℕ) (path : PathNames) (name : PathName) →
+    things_found (drop from stack.layers) (child_path path name) ≡ found_below stack.layers name (reached (drop from stack.layers) from path)

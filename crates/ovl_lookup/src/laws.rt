@@ -1,5 +1,5 @@
 //! Laws of the merged tree; the contract of each is its statement.
-ghost use Rattle.ovl_lookup.specs.Laws.{ShowsParents, ShowsWithinDepth, ViewsGoOn};
+ghost use Rattle.ovl_lookup.specs.Laws.{ShowsParents, ShowsWithinDepth, ViewsGoOn, ViewsFind};
 
 /// The merged tree is closed under parents: where something is shown in a directory, that directory is shown.
 pub fn merged_tree_has_parents()
@@ -14,4 +14,9 @@ pub fn merged_tree_is_within_depth()
 /// How the view of a directory goes on with one more name.
 pub fn views_go_on()
     ensures { ViewsGoOn }
+{}
+
+/// What is found with one more name, by the view of the directory.
+pub fn views_find()
+    ensures { ViewsFind }
 {}
