@@ -19,15 +19,17 @@ use Rattle.ovl_manifest.specs.Layers.{Entries, IsLayer, entry_at, is_directory_a
 use Rattle.ovl_lookup.specs.declared.steps.Step.{Step}
 use Rattle.ovl_lookup.specs.Walk.{walk, walk_beyond, walk_to_file, nothing_found, turn, is_shut}
 use Rattle.ovl_lookup.specs.Trace.{things_found}
-use Rattle.ovl_lookup.specs.Laws.{ViewsGoOn, ViewsFind}
+use Rattle.ovl_lookup.specs.Merged.{shown_of, is_shown_directory}
+use Rattle.ovl_lookup.specs.Laws.{ViewsGoOn, ViewsFind, ViewsShow}
 use Rattle.ovl_lookup.specs.Passes.{entered_path, entered_closed}
-use Rattle.ovl_lookup.specs.Views.{Reached, reached, entry_in, entered, below_entry, reached_below, found_below}
-use Rattle.ovl_lookup.proofs.WalkFacts.{walk-stop, no-directory-below}
+use Rattle.ovl_lookup.specs.Views.{Reached, reached, is_reached, entry_in, entered, below_entry, reached_below, found_below}
+use Rattle.ovl_lookup.proofs.WalkFacts.{walk-whole, walk-stop, no-directory-below}
 use Rattle.ovl_lookup.proofs.ChildLemmas.{all-first, all-rest}
 use Rattle.ovl_lookup.proofs.WalkLaws.{directory_found, Beyond, walk-end, walk-past}
-use Rattle.ovl_lookup.proofs.EntryLaws.{entry-parent, entry-above}
+use Rattle.ovl_lookup.proofs.EntryLaws.{directory-entry, entry-parent, entry-above}
 use Rattle.ovl_lookup.proofs.ChildLaws.{walk-child_directory, walk-child_end}
-use Rattle.ovl_lookup.proofs.LookLaws.{found_by, found-by, found-file}
+use Rattle.ovl_lookup.proofs.LookLaws.{found_by, found-by, found-file, file-shown}
+use Rattle.ovl_lookup.proofs.FoundLemmas.{things_found-step, shown_of-full, directory-kind}
 
 -- ---- the first of the layers from a number on
 
@@ -397,6 +399,62 @@ found-child all (layer ∷ layers) i path name whole each = by (λ p n. found-ch
         inside (Some inode) e = found-entry all layer layers i path name is (layer-here all i layer layers whole).0 (layer-here all i layer layers whole).1 later holds inode e (is_directory inode) refl (is_whiteout inode) refl
     by later (inr b) = found-past all layer layers i path name is (layer-here all i layer layers whole).0 (layer-here all i layer layers whole).1 later (past layer path is b)
 
+-- ---- a directory is shown exactly where some layer has one
+
+first-shown : (inode : Inode) (below : List Inode) → is_shown_directory (shown_of (inode ∷ below)) ≡ is_directory inode
+first-shown inode below = by (is_directory inode) refl
+  where
+    by : (d : Bool) → is_directory inode ≡ d → is_shown_directory (shown_of (inode ∷ below)) ≡ is_directory inode
+    by true d = ap is_shown_directory (shown_of-full inode below (ap (λ b. b && has_metacopy inode) (directory-kind inode.kind d)))
+    by false d = file-shown inode below d ∙ sym d
+
+pub directory-reached : (ls : List Entries) (i : ℕ) (path : PathNames) → All IsLayer ls → is_shown_directory (shown_of (things_found ls path)) ≡ is_reached (reached ls i path)
+directory-reached [] i path each = refl
+directory-reached (layer ∷ layers) i path each = by (λ p. directory-reached layers (suc i) p (all-rest IsLayer layer layers each)) (walk-end layer path is)
+  where
+    is : IsLayer layer
+    is = all-first IsLayer layer layers each
+
+    next : PathNames
+    next = (walk layer path).next
+
+    first : (inode : Inode) → (walk layer path).found ≡ Some inode → is_shown_directory (shown_of (things_found (layer ∷ layers) path)) ≡ is_directory inode
+    first inode finds =
+        ap (λ found. is_shown_directory (shown_of found))
+        (things_found-step layer layers path ∙ ap (λ (o : Option Inode). cons_option o (cond (walk layer path).closed [] (things_found layers (walk layer path).next))) finds)
+        ∙ first-shown inode (cond (walk layer path).closed [] (things_found layers (walk layer path).next))
+
+    past_by : (later : (p : PathNames) → is_shown_directory (shown_of (things_found layers p)) ≡ is_reached (reached layers (suc i) p)) → (closed : Bool) → is_shown_directory (shown_of (cond closed [] (things_found layers next))) ≡ is_reached (cond closed [] (reached layers (suc i) next))
+    past_by later true = refl
+    past_by later false = later next
+
+    by : ((p : PathNames) → is_shown_directory (shown_of (things_found layers p)) ≡ is_reached (reached layers (suc i) p)) → (is_directory_at layer path ≡ true) ⊎ Beyond layer path → is_shown_directory (shown_of (things_found (layer ∷ layers) path)) ≡ is_reached (reached (layer ∷ layers) i path)
+    by later (inl holds) =
+        let entry = directory-entry layer path holds in
+        first entry.0 (ap (λ (s : Step). s.found) (walk-whole layer path holds) ∙ entry.1)
+        ∙ (ap directory_found (sym entry.1) ∙ (holds
+        ∙ sym (ap is_reached (reached-by layer layers i path (Some entry.0) (walk layer path) entry.1 refl ∙ ap (λ b. cond b (record { layer = i; path = path; next = (walk layer path).next; closed = (walk layer path).closed } ∷ cond (walk layer path).closed [] (reached layers (suc i) (walk layer path).next)) []) (ap directory_found (sym entry.1) ∙ holds)))))
+    by later (inr b) = ending (past layer path is b)
+      where
+        file_reached : (file : FileAt layer path) → reached (layer ∷ layers) i path ≡ []
+        file_reached file =
+            reached-by layer layers i path (Some file.inode) (walk layer path) file.here refl
+            ∙ ap (λ b. cond b (record { layer = i; path = path; next = (walk layer path).next; closed = (walk layer path).closed } ∷ cond (walk layer path).closed [] (reached layers (suc i) (walk layer path).next)) []) file.file
+
+        file_shown : (file : FileAt layer path) → ((walk layer path).found ≡ Some file.inode) ⊎ (((walk layer path).found ≡ None) × ((walk layer path).closed ≡ true)) → is_shown_directory (shown_of (things_found (layer ∷ layers) path)) ≡ false
+        file_shown file (inl finds) = first file.inode finds ∙ file.file
+        file_shown file (inr (finds, closed)) =
+            ap (λ found. is_shown_directory (shown_of found))
+            (things_found-step layer layers path ∙ (λ j. cons_option (finds j) (cond (closed j) [] (things_found layers (walk layer path).next))))
+
+        ending : NothingAt layer path ⊎ FileAt layer path → is_shown_directory (shown_of (things_found (layer ∷ layers) path)) ≡ is_reached (reached (layer ∷ layers) i path)
+        ending (inl nothing) =
+            ap (λ found. is_shown_directory (shown_of found))
+            (things_found-step layer layers path ∙ ap (λ (o : Option Inode). cons_option o (cond (walk layer path).closed [] (things_found layers (walk layer path).next))) nothing.finds)
+            ∙ (past_by later (walk layer path).closed
+            ∙ ap is_reached (sym (reached-by layer layers i path None (walk layer path) nothing.none refl)))
+        ending (inr file) = file_shown file file.finds ∙ ap is_reached (sym (file_reached file))
+
 -- ---- the laws
 
 drop-each : (layers : List Entries) (i : ℕ) → All IsLayer layers → All IsLayer (drop i layers)
@@ -409,3 +467,6 @@ views-go_on stack each from path name = reached-child stack.layers (drop from st
 
 pub views-find : ViewsFind
 views-find stack each from path name = found-child stack.layers (drop from stack.layers) from path name refl (drop-each stack.layers from each)
+
+pub views-show : ViewsShow
+views-show stack each from path = directory-reached (drop from stack.layers) from path (drop-each stack.layers from each)

@@ -4,10 +4,10 @@ use Rattle.std.specs.List.{All}
 use Rattle.ovl_names.specs.Names.{PathName}
 use Rattle.ovl_names.specs.Paths.{PathNames, child_path, depth_limit}
 use Rattle.ovl_manifest.specs.Layers.{IsLayer}
-use Rattle.ovl_lookup.specs.Stacks.{StackView}
+use Rattle.ovl_lookup.specs.Stacks.{StackView, from_layer}
 use Rattle.ovl_lookup.specs.Trace.{things_found}
 use Rattle.ovl_lookup.specs.Merged.{shows, shows_directory}
-use Rattle.ovl_lookup.specs.Views.{reached, reached_below, found_below}
+use Rattle.ovl_lookup.specs.Views.{reached, is_reached, reached_below, found_below}
 
 -- where something is shown in a directory, the directory is shown
 abbrev pub ShowsParents : Type 0
@@ -18,6 +18,11 @@ ShowsParents = (stack : StackView) → All IsLayer stack.layers → (path : Path
 abbrev pub ShowsWithinDepth : Type 0
 ShowsWithinDepth = (stack : StackView) → All IsLayer stack.layers → (path : PathNames) →
     shows stack path ≡ true → length path ≤ depth_limit * length stack.layers
+
+-- a directory is shown exactly where its view isn't empty
+abbrev pub ViewsShow : Type 0
+ViewsShow = (stack : StackView) → All IsLayer stack.layers → (from : ℕ) (path : PathNames) →
+    shows_directory (from_layer from stack) path ≡ is_reached (reached (drop from stack.layers) from path)
 
 -- the view of a directory of the layers from one on, with one more name
 abbrev pub ViewsGoOn : Type 0

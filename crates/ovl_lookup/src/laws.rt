@@ -1,5 +1,5 @@
 //! Laws of the merged tree; the contract of each is its statement.
-ghost use Rattle.ovl_lookup.specs.Laws.{ShowsParents, ShowsWithinDepth, ViewsGoOn, ViewsFind};
+ghost use Rattle.ovl_lookup.specs.Laws.{ShowsParents, ShowsWithinDepth, ViewsGoOn, ViewsFind, ViewsShow};
 
 /// The merged tree is closed under parents: where something is shown in a directory, that directory is shown.
 pub fn merged_tree_has_parents()
@@ -9,6 +9,11 @@ pub fn merged_tree_has_parents()
 /// The merged tree is no deeper than 64 times the number of layers.
 pub fn merged_tree_is_within_depth()
     ensures { ShowsWithinDepth }
+{}
+
+/// A directory is shown exactly where its view isn't empty.
+pub fn views_show()
+    ensures { ViewsShow }
 {}
 
 /// How the view of a directory goes on with one more name.
