@@ -13,4 +13,5 @@ pub mod LookLaws
 pub mod EntryLaws
 pub mod ChildLaws
 pub mod ViewLemmas
+pub mod PlaceLemmas
 mod Rows

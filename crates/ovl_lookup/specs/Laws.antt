@@ -7,7 +7,7 @@ use Rattle.ovl_manifest.specs.Layers.{IsLayer}
 use Rattle.ovl_lookup.specs.Stacks.{StackView, from_layer}
 use Rattle.ovl_lookup.specs.Trace.{things_found}
 use Rattle.ovl_lookup.specs.Merged.{shows, shows_directory}
-use Rattle.ovl_lookup.specs.Views.{reached, is_reached, reached_below, found_below}
+use Rattle.ovl_lookup.specs.Views.{IsPlace, EndsWhereClosed, reached, is_reached, reached_below, found_below}
 
 -- where something is shown in a directory, the directory is shown
 abbrev pub ShowsParents : Type 0
@@ -23,6 +23,11 @@ ShowsWithinDepth = (stack : StackView) → All IsLayer stack.layers → (path : 
 abbrev pub ViewsShow : Type 0
 ViewsShow = (stack : StackView) → All IsLayer stack.layers → (from : ℕ) (path : PathNames) →
     shows_directory (from_layer from stack) path ≡ is_reached (reached (drop from stack.layers) from path)
+
+-- where a view's places are, and how they go on
+abbrev pub ViewsStand : Type 0
+ViewsStand = (stack : StackView) → All IsLayer stack.layers → (from : ℕ) (path : PathNames) →
+    All (IsPlace stack.layers from) (reached (drop from stack.layers) from path) × EndsWhereClosed (reached (drop from stack.layers) from path)
 
 -- the view of a directory of the layers from one on, with one more name
 abbrev pub ViewsGoOn : Type 0

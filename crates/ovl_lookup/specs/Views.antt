@@ -1,6 +1,6 @@
 -- Views of directories: the layers that have a directory where the walks of a path come to it, and how a view goes on
 -- with one more name.
-use Rattle.std.specs.Prelude.{ℕ, suc, Bool, true, false, ◌||◌, Option, Some, None, List, [], ◌∷◌, if◌then◌else◌, drop, is_some, slice_get}
+use Rattle.std.specs.Prelude.{◌≡◌, ℕ, suc, ◌<◌, ◌≤◌, Bool, true, false, ◌||◌, Option, Some, None, List, [], ◌∷◌, if◌then◌else◌, length, drop, is_some, slice_get, IfSome, ⊤}
 use Rattle.ovl_names.specs.Names.{PathName}
 use Rattle.ovl_names.specs.Paths.{PathNames, child_path}
 use Rattle.ovl_inode.specs.declared.inodes.Inode.{Inode}
@@ -9,7 +9,7 @@ use Rattle.ovl_inode.specs.declared.marks.Mark.TheVariants.{DirMoved, DirPlain, 
 use Rattle.ovl_inode.specs.declared.marks.Redirect.TheVariants.{To, Beside}
 use Rattle.ovl_inode.specs.Marks.{mark_of, is_directory, is_whiteout}
 use Rattle.ovl_manifest.specs.Layers.{Entries, entry_at, is_directory_at}
-use Rattle.ovl_lookup.specs.Walk.{walk}
+use Rattle.ovl_lookup.specs.Walk.{walk, turn, is_shut}
 use Rattle.ovl_lookup.specs.Trace.{things_found}
 use Rattle.ovl_lookup.specs.Passes.{entered_path, entered_closed}
 
@@ -35,6 +35,19 @@ reached (layer ∷ layers) i path =
 abbrev pub is_reached : List Reached → Bool
 is_reached [] = false
 is_reached (place ∷ places) = true
+
+-- a place of such a view, by all layers of the stack: the layer has that directory, whose walk goes on so
+pub record IsPlace (layers : List Entries) (from : ℕ) (place : Reached) : Type 0 where
+  pub not_above : from ≤ place.layer
+  pub inside : place.layer < length layers
+  pub directory : IfSome (slice_get layers place.layer) (λ layer. is_directory_at layer place.path ≡ true)
+  pub next : IfSome (slice_get layers place.layer) (λ layer. place.next ≡ turn layer place.path)
+  pub closed : IfSome (slice_get layers place.layer) (λ layer. place.closed ≡ is_shut layer place.path)
+
+-- after a place whose walk is closed there is none
+abbrev pub EndsWhereClosed : List Reached → Type 0
+EndsWhereClosed [] = ⊤
+EndsWhereClosed (place ∷ rest) = (place.closed ≡ true → rest ≡ []) × EndsWhereClosed rest
 
 -- what stands at a name in a directory that is reached, by all layers of the stack
 abbrev pub entry_in : List Entries → PathName → Reached → Option Inode

@@ -1,5 +1,5 @@
 //! Laws of the merged tree; the contract of each is its statement.
-ghost use Rattle.ovl_lookup.specs.Laws.{ShowsParents, ShowsWithinDepth, ViewsGoOn, ViewsFind, ViewsShow};
+ghost use Rattle.ovl_lookup.specs.Laws.{ShowsParents, ShowsWithinDepth, ViewsGoOn, ViewsFind, ViewsShow, ViewsStand};
 
 /// The merged tree is closed under parents: where something is shown in a directory, that directory is shown.
 pub fn merged_tree_has_parents()
@@ -14,6 +14,11 @@ pub fn merged_tree_is_within_depth()
 /// A directory is shown exactly where its view isn't empty.
 pub fn views_show()
     ensures { ViewsShow }
+{}
+
+/// Where a view's places are, and how they go on.
+pub fn views_stand()
+    ensures { ViewsStand }
 {}
 
 /// How the view of a directory goes on with one more name.
