@@ -14,4 +14,5 @@ pub mod EntryLaws
 pub mod ChildLaws
 pub mod ViewLemmas
 pub mod PlaceLemmas
+pub mod TopLemmas
 mod Rows

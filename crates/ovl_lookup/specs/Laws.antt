@@ -8,6 +8,7 @@ use Rattle.ovl_lookup.specs.Stacks.{StackView, from_layer}
 use Rattle.ovl_lookup.specs.Trace.{things_found}
 use Rattle.ovl_lookup.specs.Merged.{shows, shows_directory}
 use Rattle.ovl_lookup.specs.Views.{IsPlace, EndsWhereClosed, reached, is_reached, reached_below, found_below}
+use Rattle.ovl_lookup.specs.ViewPasses.{AreLooks, tops_of, looks_from_tops}
 
 -- where something is shown in a directory, the directory is shown
 abbrev pub ShowsParents : Type 0
@@ -38,3 +39,9 @@ ViewsGoOn = (stack : StackView) → All IsLayer stack.layers → (from : ℕ) (p
 abbrev pub ViewsFind : Type 0
 ViewsFind = (stack : StackView) → All IsLayer stack.layers → (from : ℕ) (path : PathNames) (name : PathName) →
     things_found (drop from stack.layers) (child_path path name) ≡ found_below stack.layers name (reached (drop from stack.layers) from path)
+
+-- the looks of all names in a directory, each from the first place of the view that has the name
+abbrev pub ViewsLook : Type 0
+ViewsLook = (stack : StackView) → All IsLayer stack.layers → (from : ℕ) (path : PathNames) →
+    let places = reached (drop from stack.layers) from path in
+    AreLooks (from_layer from stack) path (looks_from_tops stack.layers places (tops_of stack.layers places))

@@ -6,4 +6,5 @@ pub mod Passes
 pub mod Sound
 pub mod Words
 pub mod Views
+pub mod ViewPasses
 pub mod Laws

@@ -1,5 +1,5 @@
 //! Laws of the merged tree; the contract of each is its statement.
-ghost use Rattle.ovl_lookup.specs.Laws.{ShowsParents, ShowsWithinDepth, ViewsGoOn, ViewsFind, ViewsShow, ViewsStand};
+ghost use Rattle.ovl_lookup.specs.Laws.{ShowsParents, ShowsWithinDepth, ViewsGoOn, ViewsFind, ViewsShow, ViewsStand, ViewsLook};
 
 /// The merged tree is closed under parents: where something is shown in a directory, that directory is shown.
 pub fn merged_tree_has_parents()
@@ -29,4 +29,9 @@ pub fn views_go_on()
 /// What is found with one more name, by the view of the directory.
 pub fn views_find()
     ensures { ViewsFind }
+{}
+
+/// The looks of all names in a directory, by the first place of its view that has the name.
+pub fn views_look()
+    ensures { ViewsLook }
 {}
