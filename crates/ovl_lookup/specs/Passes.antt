@@ -1,5 +1,5 @@
 -- What the passes over names and layers keep.
-use Rattle.std.specs.Prelude.{ℕ, zero, suc, Bool, false, ◌||◌, Option, Some, None, List, [], ◌∷◌, ◌++◌, if◌then◌else◌, is_some, unwrap_or, drop, filter, map}
+use Rattle.std.specs.Prelude.{◌≡◌, ℕ, zero, suc, ◌<◌, ◌≤◌, Bool, true, false, ◌||◌, Option, Some, None, List, [], ◌∷◌, ◌++◌, if◌then◌else◌, is_some, unwrap_or, length, take, drop, filter, map, slice_get, IfSome}
 use Rattle.std.specs.List.{flat_map}
 use Rattle.std.specs.BTreeSet.{insert_key}
 use Rattle.ovl_names.specs.Names.{PathName, name_cmp}
@@ -7,12 +7,25 @@ use Rattle.ovl_names.specs.Paths.{PathNames, child_path}
 use Rattle.ovl_inode.specs.declared.inodes.Inode.{Inode}
 use Rattle.ovl_inode.specs.declared.marks.Mark.{Mark}
 use Rattle.ovl_inode.specs.Marks.{is_metacopy, is_data}
-use Rattle.ovl_manifest.specs.Layers.{Entries, names_below}
+use Rattle.ovl_manifest.specs.Layers.{Entries, IsLayer, is_directory_at, names_below}
+use Rattle.ovl_manifest.specs.Sheets.{path_at}
+use Rattle.ovl_lookup.specs.declared.steps.Descent.{Descent}
 use Rattle.ovl_lookup.specs.declared.looks.Look.{Look}
-use Rattle.ovl_lookup.specs.Walk.{walk, origin_path, name_in_lower, is_closing}
+use Rattle.ovl_lookup.specs.Walk.{walk, turn, is_shut, origin_path, name_in_lower, is_closing}
 use Rattle.ovl_lookup.specs.Stacks.{StackView}
 use Rattle.ovl_lookup.specs.Trace.{things_found}
 use Rattle.ovl_lookup.specs.Merged.{look, shows}
+
+-- how far a path goes through directories of a layer: the row of the last of them, and how the layers below know it
+pub record IsDescent (layer : Entries) (path : PathNames) (descent : Descent) : Type 0 where
+  pub layered : IsLayer layer
+  pub inside : descent.row < length layer
+  pub within : descent.depth ≤ length path
+  pub here : path_at layer descent.row ≡ take descent.depth path
+  pub directory : is_directory_at layer (take descent.depth path) ≡ true
+  pub turned : descent.next ≡ turn layer (take descent.depth path)
+  pub shut : descent.closed ≡ is_shut layer (take descent.depth path)
+  pub stops : IfSome (slice_get path descent.depth) (λ name. is_directory_at layer (child_path (take descent.depth path) name) ≡ false)
 
 -- the path and the flag in a directory of this mark, by those of its parent
 abbrev pub entered_path : Mark → PathNames → PathName → PathNames
