@@ -2,9 +2,9 @@ ghost use Rattle.std.specs.Prelude.{◌≤◌, length};
 
 use ovl_inode::Kind;
 use ovl_lookup::{Look, Stack, StackFault, Step, walk};
-use ovl_manifest::{Layer, read_layer};
+use ovl_manifest::{Layer, Sheet, read_layer};
 use ovl_names::{Name, Path};
-use std::alloc::Global;
+use std::alloc::{AllocError, Global};
 use std::test::Fail;
 
 const DIR: &str = "\"kind\":\"dir\",\"mode\":493";
@@ -48,6 +48,13 @@ fn layer_of(alloc: Global, entries: &[(&str, &str, &str)]) -> Result<Layer, Fail
     Ok(read_layer(alloc, text.as_bytes())?)
 }
 
+fn sheet_of(alloc: Global, entries: &[(&str, &str, &str)]) -> Result<Sheet, Fail> {
+    match Sheet::of(alloc, layer_of(alloc, entries)?) {
+        Ok(sheet) => Ok(sheet),
+        Err(_) => Err(Fail::from(AllocError)),
+    }
+}
+
 fn push_entry(alloc: Global, text: &mut String, entry: (&str, &str, &str)) -> Result<(), Fail> {
     let (path, kind, attributes) = entry;
     let entry = format!(in alloc;
@@ -78,7 +85,7 @@ fn moved_in_opaque(alloc: Global) -> Result<Stack, Fail> {
     let mut layers = Vec::new(alloc);
     layers.push(upper)?;
     layers.push(lower)?;
-    Ok(Stack::of(layers)?)
+    Ok(Stack::of(alloc, layers)?)
 }
 
 #[test]
@@ -93,16 +100,21 @@ fn a_stack_has_1_to_128_layers(rt: HostRuntime) -> Result<(), Fail> {
         for _ in 0..count {
             layers.push(layer_of(rt.alloc(), &[])?)?;
         }
-        assert_eq!(rt; Stack::of(layers).err(), fault, "at {count}");
+        assert_eq!(rt; Stack::of(rt.alloc(), layers).err(), fault, "at {count}");
     }
     assert_eq!(rt; moved_in_opaque(rt.alloc())?.layers(), 2);
     Ok(())
 }
 
 #[test]
-fn a_fault_of_a_stack_has_its_text(rt: HostRuntime) -> Result<(), Fail> {
-    let text = StackFault::Layers.to_string(rt.alloc())?;
-    assert_eq!(rt; text.as_str(), "layers must be 1 to 128");
+fn faults_of_a_stack_have_their_texts(rt: HostRuntime) -> Result<(), Fail> {
+    for (fault, wanted) in [
+        (StackFault::Layers, "layers must be 1 to 128"),
+        (StackFault::Memory, "out of memory"),
+    ] {
+        let text = fault.to_string(rt.alloc())?;
+        assert_eq!(rt; text.as_str(), wanted);
+    }
     Ok(())
 }
 
@@ -120,7 +132,7 @@ fn step_line(alloc: Global, step: &Step) -> Result<String, Fail> {
 
 #[test]
 fn walks_end_where_the_layer_does(rt: HostRuntime) -> Result<(), Fail> {
-    let upper = layer_of(rt.alloc(), &OPAQUE_OVER_MOVED)?;
+    let upper = sheet_of(rt.alloc(), &OPAQUE_OVER_MOVED)?;
     let stack = moved_in_opaque(rt.alloc())?;
     for (path, line) in [
         ("/n/d/k", "nothing /x/k open"),
@@ -138,7 +150,7 @@ fn walks_end_where_the_layer_does(rt: HostRuntime) -> Result<(), Fail> {
 }
 
 // Metacopy files and directories with redirects of each form, also in an opaque directory.
-fn redirects(alloc: Global) -> Result<Layer, Fail> {
+fn redirects(alloc: Global) -> Result<Sheet, Fail> {
     let entries = [
         ("/a", METACOPY, METACOPY_TO_X),
         ("/b", METACOPY, METACOPY_BESIDE_R),
@@ -149,12 +161,12 @@ fn redirects(alloc: Global) -> Result<Layer, Fail> {
         ("/n/f", METACOPY, METACOPY_TO_X),
         ("/n/g", METACOPY, METACOPY_BESIDE_R),
     ];
-    layer_of(alloc, &entries)
+    sheet_of(alloc, &entries)
 }
 
 #[test]
 fn walks_follow_the_redirects_that_are_well_formed(rt: HostRuntime) -> Result<(), Fail> {
-    let layer = redirects(rt.alloc())?;
+    let sheet = redirects(rt.alloc())?;
     for (path, line) in [
         ("/a", "found /x open"),
         ("/b", "found /r open"),
@@ -167,7 +179,7 @@ fn walks_follow_the_redirects_that_are_well_formed(rt: HostRuntime) -> Result<()
         ("/n/g", "found /n/r closed"),
     ] {
         let path = Path::parse(rt.alloc(), path)?;
-        let step = walk(rt.alloc(), &layer, &path)?;
+        let step = walk(rt.alloc(), &sheet, &path)?;
         assert_eq!(rt; step_line(rt.alloc(), &step)?.as_str(), line, "at {path:?}");
     }
     Ok(())
@@ -231,7 +243,7 @@ fn metacopies_over(alloc: Global, lowest: &str) -> Result<Stack, Fail> {
     layers.push(upper)?;
     layers.push(middle)?;
     layers.push(lower)?;
-    Ok(Stack::of(layers)?)
+    Ok(Stack::of(alloc, layers)?)
 }
 
 #[test]
