@@ -15,14 +15,13 @@ import hashlib
 import json
 import math
 import os
-import re
 import shutil
-import subprocess
 import sys
 import tempfile
 from dataclasses import dataclass
 from typing import Callable
 
+import instructions
 import run
 
 CONTENTS = b"x"
@@ -148,14 +147,6 @@ class Cost:
     instructions: int | None
 
 
-def instructions(command):
-    """How many instructions a run takes, by valgrind."""
-    words = ["valgrind", "--tool=callgrind", "--callgrind-out-file=/dev/null", *command]
-    said = subprocess.run(words, stdin=subprocess.DEVNULL, stdout=subprocess.DEVNULL, stderr=subprocess.PIPE, check=False)
-    counted = re.search(rb"Collected : (\d+)", said.stderr)
-    return int(counted[1]) if counted else None
-
-
 def cost(program, case, size, longest):
     with tempfile.TemporaryDirectory(prefix="ovl-growth-") as folder:
         blobs = os.path.join(folder, "blobs")
@@ -169,7 +160,7 @@ def cost(program, case, size, longest):
             sys.exit(f"growth.py: {case.name}: status {status} at {size}")
         counted = None
         if seconds <= longest and shutil.which("valgrind"):
-            counted = instructions(command)
+            counted = instructions.instructions(command, (0,))
         return Cost(size, sum(map(os.path.getsize, [*layers, report])), seconds, peak, counted)
 
 

@@ -5,6 +5,7 @@ mod chains;
 mod crews;
 mod gates;
 mod hauls;
+mod notes;
 mod runs;
 mod seating;
 mod tallies;

@@ -35,14 +35,28 @@ impl Tally {
             ((self.new.known ≡ self.old.known) × (self.new.delivered ≡ self.old.delivered)) }
         ensures failed { self.new.failed ≡ self.old.failed }
     {
-        if self.delivered == self.known {
+        self.deliver_many(1, kids)
+    }
+
+    /// Notes that so many of the known pieces were delivered, and that the kids of all of them are known now. Refuses,
+    /// with nothing changed, exactly where more than 2^64 - 1 pieces would be known or fewer are undelivered.
+    pub(crate) fn deliver_many(&mut self, pieces: u64, kids: u64) -> bool
+        ensures possible { IsTrue result
+            ↔ ((self.old.known + kids < 2 ^ 64) × (self.old.delivered + pieces ≤ self.old.known)) }
+        ensures counted { OnTrue result
+            ((self.new.known ≡ self.old.known + kids) × (self.new.delivered ≡ self.old.delivered + pieces)) }
+        ensures refused { OnFalse result
+            ((self.new.known ≡ self.old.known) × (self.new.delivered ≡ self.old.delivered)) }
+        ensures failed { self.new.failed ≡ self.old.failed }
+    {
+        if pieces > self.known - self.delivered {
             return false;
         }
         let Some(known) = self.known.checked_add(kids) else {
             return false;
         };
         self.known = known;
-        self.delivered += 1;
+        self.delivered += pieces;
         true
     }
 

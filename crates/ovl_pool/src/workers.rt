@@ -5,6 +5,7 @@ ghost use Rattle.ovl_pool.specs.Passes.{HasPasses, ends_of, post_of};
 
 use crate::gates::Gate;
 use crate::hauls::Haul;
+use crate::notes::{Notes, Prospect};
 use crate::tallies::Tally;
 use crossbeam_utils::Backoff;
 use ovl_board::{Parcel, Piece, Work, copies};
@@ -61,8 +62,8 @@ impl Worker {
     }
 }
 
-/// Serves pieces until all that are known are delivered, or a worker met a fault, which it sees after each piece. Where
-/// it finds none, it spins for a moment, then yields its processor, and tries again (`Backoff::snooze`); it doesn't sleep.
+/// Serves pieces until all that are known are delivered, or a worker met a fault. A worker that finds no piece spins for
+/// a moment, then yields its processor, and tries again (`Backoff::snooze`); it doesn't sleep.
 pub(crate) fn labor<W: Work, G: Gate, R: Wait>(
     rt: &R,
     alloc: Global,
@@ -78,28 +79,23 @@ pub(crate) fn labor<W: Work, G: Gate, R: Wait>(
     ensures same { post_of result.0 ≡ post_of worker }
 {
     let mut haul = Haul::empty(alloc);
+    let mut notes = Notes::of(rt, tally);
     let idle = Backoff::new();
     for _ in rt.forever() {
-        let Some(piece) = worker.find(thieves) else {
-            if tally.lock(rt).is_over() {
-                break;
+        let prospect = match worker.find(thieves) {
+            Some(piece) => {
+                let Worker { lane, others: _ } = &mut worker;
+                attend(alloc, work, gate, &mut notes, lane, piece, &mut haul)
             }
-            idle.snooze();
-            continue;
+            None => notes.settle(),
         };
-        idle.reset();
-        if !gate.pass(&piece) {
-            haul.refused = Some(piece);
-            tally.lock(rt).fail();
-            break;
-        }
-        let Worker { lane, others: _ } = &mut worker;
-        match serve(rt, alloc, work, tally, lane, piece, &mut haul.parcels) {
-            Ok(Prospect::GoOn) => {}
-            Ok(Prospect::Stop) => break,
+        match prospect {
+            Ok(Prospect::Work) => idle.reset(),
+            Ok(Prospect::Wait) => idle.snooze(),
+            Ok(Prospect::End) => break,
             Err(AllocError) => {
                 haul.starved = true;
-                tally.lock(rt).fail();
+                notes.fail();
                 break;
             }
         }
@@ -107,20 +103,34 @@ pub(crate) fn labor<W: Work, G: Gate, R: Wait>(
     (worker, haul)
 }
 
-// Whether a worker goes on, or another one met a fault.
-#[derive(Clone, Copy)]
-enum Prospect {
-    GoOn,
-    Stop,
-}
-
-// Visits a piece, keeps its parcel, has the tally note it, and only then pushes its kids. Fails for want of memory, or
-// where a lane or the tally is at its end.
-fn serve<W: Work, R: Wait>(
-    rt: &R,
+// Asks the gate, and then serves the piece. Fails as that does.
+fn attend<W: Work, G: Gate, R: Wait>(
     alloc: Global,
     work: &W,
-    tally: &Mutex<Tally>,
+    gate: &G,
+    notes: &mut Notes<'_, R>,
+    lane: &mut Lane,
+    piece: Piece,
+    haul: &mut Haul<W::Out>,
+) -> Result<Prospect, AllocError>
+    requires { IsOwnHaul W.seen (W.kids_of work.now) (W.out_of work.now) (G.may_refuse gate.now) haul.old }
+    ensures own { IsOwnHaul W.seen (W.kids_of work.now) (W.out_of work.now) (G.may_refuse gate.now) haul.new }
+    ensures same { ends_of lane.new ≡ ends_of lane.old }
+{
+    if !gate.pass(&piece) {
+        haul.refused = Some(piece);
+        notes.fail();
+        return Ok(Prospect::End);
+    }
+    serve(alloc, work, notes, lane, piece, &mut haul.parcels)
+}
+
+// Visits a piece, keeps its parcel, notes it, and only then pushes its kids. Fails for want of memory, or where a lane or
+// the tally is at its end.
+fn serve<W: Work, R: Wait>(
+    alloc: Global,
+    work: &W,
+    notes: &mut Notes<'_, R>,
     lane: &mut Lane,
     piece: Piece,
     parcels: &mut Vec<Parcel<W::Out>>,
@@ -133,21 +143,9 @@ fn serve<W: Work, R: Wait>(
     let below = copies(alloc, &kids)?;
     let count = kids.len() as u64;
     parcels.push(Parcel { piece, kids, out })?;
-    let prospect = note(rt, tally, count)?;
+    let prospect = notes.deliver(count)?;
     push_all(lane, below)?;
     Ok(prospect)
-}
-
-// Has the tally note that a piece with so many kids was delivered. Fails where it is at its end.
-fn note<R: Wait>(rt: &R, tally: &Mutex<Tally>, kids: u64) -> Result<Prospect, AllocError> {
-    let mut tally = tally.lock(rt);
-    if !tally.deliver(kids) {
-        return Err(AllocError);
-    }
-    if tally.failed {
-        return Ok(Prospect::Stop);
-    }
-    Ok(Prospect::GoOn)
 }
 
 fn push_all(lane: &mut Lane, pieces: Vec<Piece>) -> Result<(), AllocError>
