@@ -1,16 +1,82 @@
 -- Views of directories over a stack, place by place.
-use Rattle.std.proofs.Common.{◌≡◌, ℕ, suc, ◌+◌, ◌<◌, ◌≤◌, length, arith, add-one, Bool, true, false, cond, Option, Some, None, is_some, get_or, List, [], ◌∷◌, ◌++◌, drop, map, refl, sym, ap, ◌∙◌, subst}
+use Rattle.std.proofs.Common.{◌≡◌, ℕ, suc, ◌+◌, ◌<◌, ◌≤◌, length, arith, add-one, Bool, true, false, cond, Option, Some, None, is_some, get_or, List, [], ◌∷◌, ◌++◌, take, drop, map, refl, sym, ap, ◌∙◌, subst, inl, inr, ◌⊎◌}
 use Rattle.std.specs.Prelude.{◌||◌, slice_get, IsSomeAnd}
+use Rattle.std.proofs.Math.Bool.{or-true}
 use Rattle.ovl_names.specs.Names.{PathName}
 use Rattle.ovl_names.specs.Paths.{PathNames, child_path}
 use Rattle.ovl_inode.specs.declared.inodes.Inode.{Inode}
-use Rattle.ovl_manifest.specs.Layers.{Entries, entry_at}
-use Rattle.ovl_manifest.specs.Sheets.{path_at}
+use Rattle.ovl_manifest.specs.Layers.{Entry, Entries, IsLayer, entry_at, is_directory_at}
+use Rattle.ovl_manifest.specs.Sheets.{path_of, path_at}
+use Rattle.ovl_manifest.proofs.SheetLemmas.{none-past, entry_at-number}
+use Rattle.ovl_lookup.specs.declared.steps.Descent.{Descent}
+use Rattle.ovl_lookup.specs.declared.steps.Step.{Step}
 use Rattle.ovl_lookup.specs.declared.views.DirPlace.{DirPlace}
+use Rattle.ovl_lookup.specs.Walk.{walk, walk_beyond}
+use Rattle.ovl_lookup.specs.Passes.{IsDescent}
 use Rattle.ovl_lookup.specs.Stacks.{StackView}
 use Rattle.ovl_lookup.specs.Views.{Reached, entry_in}
-use Rattle.ovl_lookup.specs.DirViews.{place_in, path_in}
+use Rattle.ovl_lookup.specs.DirViews.{place_in}
+use Rattle.ovl_lookup.proofs.WalkFacts.{cut, drop-head, stopped, walk-ends, no-directory-below}
+use Rattle.ovl_lookup.proofs.WalkLaws.{Beyond}
+use Rattle.ovl_lookup.proofs.ViewLemmas.{NothingAt, FileAt, past}
 
 -- what stands at a name in a place, by the place's layer
 pub entry-here : (stack : StackView) (name : PathName) (place : DirPlace) (layer : Entries) → slice_get stack.layers place.layer ≡ Some layer → entry_in stack.layers name (place_in stack place) ≡ entry_at layer (child_path (path_at layer place.row) name)
 entry-here stack name place layer at = λ j. elim (at j) as (λ _. Option Inode) [ Some own ↦ entry_at own (child_path (elim (at j) as (λ _. PathNames) [ Some entries ↦ path_at entries place.row | None ↦ [] ]) name) | None ↦ None ]
+
+-- an entry stands at the path of each row
+pub entry-of_row : (layer : Entries) (number : ℕ) → IsLayer layer → number < length layer → (inode : Inode) × (entry_at layer (path_at layer number) ≡ Some inode)
+entry-of_row layer number is inside = by (slice_get layer number) refl
+  where
+    by : (o : Option Entry) → slice_get layer number ≡ o → (inode : Inode) × (entry_at layer (path_at layer number) ≡ Some inode)
+    by None e = absurd (omega (arith, none-past layer number e, inside))
+    by (Some entry) e = (entry.1, ap (λ o. entry_at layer (path_of o)) e ∙ entry_at-number layer number entry is.in_order e)
+
+-- ---- where the walk of a path leads, by how far it goes through directories
+
+module _ (layer : Entries) (path : PathNames) (descent : Descent) (name : PathName) (is : IsDescent layer path descent) (inside : descent.depth < length path) (at : name ≡ get_or path descent.depth name) where
+  abbrev above : PathNames
+  above = take descent.depth path
+
+  whole : above ++ name ∷ drop (descent.depth + 1) path ≡ path
+  whole = cut layer path descent.depth name inside at
+
+  none : is_directory_at layer (child_path above name) ≡ false
+  none = stopped layer path descent name is inside at
+
+  walked : (found : Option Inode) → entry_at layer (child_path above name) ≡ found → walk_beyond found descent.next descent.closed name (drop (descent.depth + 1) path) ≡ walk layer path
+  walked found here = walk-ends layer path descent.depth name inside at is.layered is.directory none found descent.next descent.closed (sym here) is.turned is.shut
+
+  pub not-directory : is_directory_at layer path ≡ false
+  not-directory = ap (is_directory_at layer) (sym whole) ∙ no-directory-below layer above name is.layered none (drop (descent.depth + 1) path)
+
+  pub ends-there : (found : Option Inode) → entry_at layer (child_path above name) ≡ found → (is_some found || descent.closed) ≡ true → (is_some (entry_at layer path) || (walk layer path).closed) ≡ true
+  ends-there None here shut = ap (λ (s : Step). is_some (entry_at layer path) || s.closed) (sym (walked None here)) ∙ (ap (λ b. is_some (entry_at layer path) || b) shut ∙ or-true (is_some (entry_at layer path)))
+  ends-there (Some inode) here shut = by (drop (descent.depth + 1) path) refl
+    where
+      by : (rest : PathNames) → drop (descent.depth + 1) path ≡ rest → (is_some (entry_at layer path) || (walk layer path).closed) ≡ true
+      by [] e =
+          ap (λ (o : Option Inode). is_some o || (walk layer path).closed) (ap (entry_at layer) (sym whole ∙ ap (λ (r : PathNames). above ++ name ∷ r) e) ∙ here)
+      by (other ∷ rest) e =
+          ap (λ (s : Step). is_some (entry_at layer path) || s.closed) (sym (walked (Some inode) here) ∙ ap (walk_beyond (Some inode) descent.next descent.closed name) e)
+          ∙ or-true (is_some (entry_at layer path))
+
+  pub goes-past : entry_at layer (child_path above name) ≡ None → descent.closed ≡ false → (entry_at layer path ≡ None) × ((walk layer path).closed ≡ false) × (descent.next ++ drop descent.depth path ≡ (walk layer path).next)
+  goes-past here open_ = (by (past layer path is.layered beyond), closed, next)
+    where
+      beyond : Beyond layer path
+      beyond = record { directory = above; name = name; rest = drop (descent.depth + 1) path; whole = whole; holds = is.directory; stops = none }
+
+      closed : (walk layer path).closed ≡ false
+      closed = ap (λ (s : Step). s.closed) (sym (walked None here)) ∙ open_
+
+      next : descent.next ++ drop descent.depth path ≡ (walk layer path).next
+      next = ap (λ (r : PathNames). descent.next ++ r) (drop-head path descent.depth name inside at) ∙ ap (λ (s : Step). s.next) (walked None here)
+
+      by : NothingAt layer path ⊎ FileAt layer path → entry_at layer path ≡ None
+      by (inl nothing) = nothing.none
+      by (inr file) = absurd (never file.finds)
+        where
+          never : ((walk layer path).found ≡ Some file.inode) ⊎ (((walk layer path).found ≡ None) × ((walk layer path).closed ≡ true)) → ⊥
+          never (inl found) = let bad : None ≡ Some file.inode = ap (λ (s : Step). s.found) (walked None here) ∙ found in cc
+          never (inr shut) = let bad : false ≡ true = sym closed ∙ shut.1 in cc

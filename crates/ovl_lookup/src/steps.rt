@@ -121,7 +121,10 @@ pub(crate) fn arrive(alloc: Global, sheet: &Sheet, path: &Path) -> Result<Arriva
     if depth == names.len() {
         return Ok(Arrival::Directory { row, next, closed });
     }
-    if closed || sheet.child(row, &names[depth]).is_some() {
+    if let Some(_file) = sheet.child(row, &names[depth]) {
+        return Ok(Arrival::End);
+    }
+    if closed {
         return Ok(Arrival::End);
     }
     Ok(Arrival::Past(next.joined(alloc, &names[depth..])?))

@@ -134,7 +134,7 @@ fn push_reached(
     for layer in from..stack.layers() {
         match arrive(alloc, stack.sheet(layer), &place)? {
             Arrival::Directory { row, next, closed } => {
-                let below = next.copy(alloc)?;
+                place = next.copy(alloc)?;
                 places.push(DirPlace {
                     layer,
                     row,
@@ -144,7 +144,6 @@ fn push_reached(
                 if closed {
                     return Ok(());
                 }
-                place = below;
             }
             Arrival::Past(next) => place = next,
             Arrival::End => return Ok(()),
