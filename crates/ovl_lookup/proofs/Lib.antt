@@ -15,4 +15,5 @@ pub mod ChildLaws
 pub mod ViewLemmas
 pub mod PlaceLemmas
 pub mod TopLemmas
+pub mod ViewSteps
 mod Rows
