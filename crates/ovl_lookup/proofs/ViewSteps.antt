@@ -1,7 +1,6 @@
 -- The steps of passes over layers and over the places of a view.
 use Rattle.std.proofs.Common.{◌≡◌, ℕ, zero, suc, ◌+◌, Bool, true, false, cond, Option, Some, None, is_some, List, [], ◌∷◌, ◌++◌, drop, refl, sym, ap, ◌∙◌, append_assoc, add-one, arith}
 use Rattle.std.specs.Prelude.{◌||◌, slice_get}
-use Rattle.std.specs.List.{All}
 use Rattle.std.proofs.Math.Bool.{or-true}
 use Rattle.ovl_names.specs.Names.{PathName}
 use Rattle.ovl_names.specs.Paths.{PathNames, child_path}
@@ -10,13 +9,13 @@ use Rattle.ovl_inode.specs.declared.marks.Mark.{Mark}
 use Rattle.ovl_inode.specs.Marks.{mark_of, is_directory, is_whiteout}
 use Rattle.ovl_manifest.specs.Layers.{Entries, IsLayer, entry_at, is_directory_at}
 use Rattle.ovl_lookup.specs.declared.steps.Step.{Step}
-use Rattle.ovl_lookup.specs.Walk.{walk, walk_beyond, nothing_found, turn, is_shut}
+use Rattle.ovl_lookup.specs.Walk.{walk, walk_beyond, turn, is_shut}
 use Rattle.ovl_lookup.specs.Trace.{things_found}
 use Rattle.ovl_lookup.specs.Views.{Reached, reached, entry_in, entered, below_entry, reached_below, found_below}
-use Rattle.ovl_lookup.proofs.WalkFacts.{walk-whole, walk-stop, no-directory-below}
+use Rattle.ovl_lookup.proofs.WalkFacts.{walk-stop}
 use Rattle.ovl_lookup.proofs.WalkLaws.{directory_found}
 use Rattle.ovl_lookup.proofs.EntryLaws.{entry-above}
-use Rattle.ovl_lookup.proofs.ViewLemmas.{reached_by, reached-by, reached_below_by, found_below_by}
+use Rattle.ovl_lookup.proofs.ViewLemmas.{reached_below_by, found_below_by}
 
 -- what a list has from a place on
 drop-next : {X : Type 0} (xs : List X) (i : ℕ) (x : X) → slice_get xs i ≡ Some x → drop i xs ≡ x ∷ drop (suc i) xs
@@ -28,59 +27,61 @@ pub drop-here : {X : Type 0} (xs : List X) (i : ℕ) (x : X) → slice_get xs i 
 drop-here xs i x here = rw add-one (drop-next xs i x here)
 
 -- ---- the layers from `i` on, of which the first is `layer`
-module _ (layers : List Entries) (i : ℕ) (layer : Entries) (here : slice_get layers i ≡ Some layer) where
-  -- the path is a directory of it
-  pub reached-directory : (path : PathNames) → is_directory_at layer path ≡ true → reached (drop i layers) i path ≡ record { layer = i; path = path; next = turn layer path; closed = is_shut layer path } ∷ cond (is_shut layer path) [] (reached (drop (i + 1) layers) (i + 1) (turn layer path))
-  reached-directory path holds =
+module _ (layers : List Entries) (i : ℕ) (layer : Entries) (here : slice_get layers i ≡ Some layer) (path : PathNames) where
+  first-reached : (d : Bool) (e : Bool) (closed : Bool) (next : PathNames) → is_directory_at layer path ≡ d → (is_some (entry_at layer path) || (walk layer path).closed) ≡ e → closed ≡ (walk layer path).closed → next ≡ (walk layer path).next → reached (drop i layers) i path ≡ cond d (record { layer = i; path = path; next = next; closed = closed } ∷ cond closed [] (reached (drop (i + 1) layers) (i + 1) next)) (cond e [] (reached (drop (i + 1) layers) (i + 1) next))
+  first-reached d e closed next is_d is_e is_closed is_next =
       ap (λ (ls : List Entries). reached ls i path) (drop-here layers i layer here)
-      ∙ (reached-by layer (drop (i + 1) layers) i path (entry_at layer path) (record { found = entry_at layer path; next = turn layer path; closed = is_shut layer path }) refl (walk-whole layer path holds)
-      ∙ (ap (λ b. cond b (record { layer = i; path = path; next = turn layer path; closed = is_shut layer path } ∷ cond (is_shut layer path) [] (reached (drop (i + 1) layers) (suc i) (turn layer path))) (cond (is_some (entry_at layer path) || is_shut layer path) [] (reached (drop (i + 1) layers) (suc i) (turn layer path)))) holds
-      ∙ rw add-one refl))
+      ∙ ((λ j. cond (is_d j) (record { layer = i; path = path; next = sym is_next j; closed = sym is_closed j } ∷ cond (sym is_closed j) [] (reached (drop (i + 1) layers) (suc i) (sym is_next j))) (cond (is_e j) [] (reached (drop (i + 1) layers) (suc i) (sym is_next j))))
+      ∙ rw add-one refl)
 
-  -- the path goes through directories of it, up to `directory`, and then on
-  pub reached-past : IsLayer layer → (directory : PathNames) (name : PathName) (rest : PathNames) → is_directory_at layer directory ≡ true → is_directory_at layer (child_path directory name) ≡ false → reached (drop i layers) i (directory ++ name ∷ rest) ≡ cond (is_some (entry_at layer (child_path directory name)) || is_shut layer directory) [] (reached (drop (i + 1) layers) (i + 1) (turn layer directory ++ name ∷ rest))
-  reached-past is directory name rest holds stops = ap (λ (ls : List Entries). reached ls i path) (drop-here layers i layer here) ∙ (by (entry_at layer (child_path directory name)) refl rest refl ∙ rw add-one refl)
+  -- it has a directory there
+  pub arrives-directory : (next : PathNames) (closed : Bool) → is_directory_at layer path ≡ true → next ≡ (walk layer path).next → closed ≡ (walk layer path).closed → reached (drop i layers) i path ≡ record { layer = i; path = path; next = next; closed = closed } ∷ cond closed [] (reached (drop (i + 1) layers) (i + 1) next)
+  arrives-directory next closed holds is_next is_closed = first-reached true (is_some (entry_at layer path) || (walk layer path).closed) closed next holds refl is_closed is_next
+
+  -- nothing is there, and the walk goes on
+  pub arrives-past : (next : PathNames) → entry_at layer path ≡ None → (walk layer path).closed ≡ false → next ≡ (walk layer path).next → reached (drop i layers) i path ≡ reached (drop (i + 1) layers) (i + 1) next
+  arrives-past next none opens is_next = first-reached false false false next (ap directory_found none) (λ j. is_some (none j) || opens j) (sym opens) is_next
+
+  -- a file or a whiteout is there, or the walk is closed
+  pub arrives-end : is_directory_at layer path ≡ false → (is_some (entry_at layer path) || (walk layer path).closed) ≡ true → reached (drop i layers) i path ≡ []
+  arrives-end none over = first-reached false true (walk layer path).closed (walk layer path).next none over refl refl
+
+-- ---- a path that goes through the directory `directory`, and then on where there is none
+module _ (layer : Entries) (is : IsLayer layer) (directory : PathNames) (name : PathName) (rest : PathNames) (holds : is_directory_at layer directory ≡ true) (stops : is_directory_at layer (child_path directory name) ≡ false) where
+  -- no entry stands deeper
+  none-deeper : (other : PathName) (more : PathNames) → entry_at layer (directory ++ name ∷ other ∷ more) ≡ None
+  none-deeper other more = by (entry_at layer (directory ++ name ∷ other ∷ more)) refl
+    where
+      by : (entry : Option Inode) → entry_at layer (directory ++ name ∷ other ∷ more) ≡ entry → entry ≡ None
+      by None e = refl
+      by (Some inode) e =
+          let above = entry-above layer (child_path directory name) other more inode is (ap (entry_at layer) (append_assoc directory (name ∷ []) (other ∷ more)) ∙ e) in
+          let bad : true ≡ false = sym above ∙ stops in cc
+
+  pub none-past : entry_at layer (child_path directory name) ≡ None → entry_at layer (directory ++ name ∷ rest) ≡ None
+  none-past none = by rest refl
+    where
+      by : (tail : PathNames) → rest ≡ tail → entry_at layer (directory ++ name ∷ rest) ≡ None
+      by [] r = ap (λ (tail : PathNames). entry_at layer (directory ++ name ∷ tail)) r ∙ none
+      by (other ∷ more) r = ap (λ (tail : PathNames). entry_at layer (directory ++ name ∷ tail)) r ∙ none-deeper other more
+
+  -- an entry at the name, or a shut directory, ends the view
+  pub over-past : (is_some (entry_at layer (child_path directory name)) || is_shut layer directory) ≡ true → (is_some (entry_at layer (directory ++ name ∷ rest)) || (walk layer (directory ++ name ∷ rest)).closed) ≡ true
+  over-past over = by (entry_at layer (child_path directory name)) refl rest refl
     where
       path : PathNames
       path = directory ++ name ∷ rest
 
-      below : List Entries
-      below = drop (i + 1) layers
-
-      on : PathNames → List Reached
-      on next = reached below (suc i) next
-
-      -- no directory is there
-      beyond : (entry : Option Inode) (step : Step) → entry_at layer path ≡ entry → walk layer path ≡ step → reached (layer ∷ below) i path ≡ cond (is_some entry || step.closed) [] (on step.next)
-      beyond entry step e walked =
-          reached-by layer below i path entry step e walked
-          ∙ ap (λ b. cond b (record { layer = i; path = path; next = step.next; closed = step.closed } ∷ cond step.closed [] (on step.next)) (cond (is_some entry || step.closed) [] (on step.next))) (ap directory_found (sym e) ∙ no-directory-below layer directory name is stops rest)
+      closed-past : (walk layer path).closed ≡ true → (is_some (entry_at layer path) || (walk layer path).closed) ≡ true
+      closed-past closed = ap (λ b. is_some (entry_at layer path) || b) closed ∙ or-true (is_some (entry_at layer path))
 
       walked : walk layer path ≡ walk_beyond (entry_at layer (child_path directory name)) (turn layer directory) (is_shut layer directory) name rest
       walked = walk-stop layer directory name rest is holds stops
 
-      none : (other : PathName) (more : PathNames) → rest ≡ other ∷ more → entry_at layer path ≡ None
-      none other more r = found (entry_at layer path) refl
-        where
-          found : (entry : Option Inode) → entry_at layer path ≡ entry → entry ≡ None
-          found None e = refl
-          found (Some inode) e =
-              let whole : child_path directory name ++ other ∷ more ≡ path = append_assoc directory (name ∷ []) (other ∷ more) ∙ ap (λ (tail : PathNames). directory ++ name ∷ tail) (sym r) in
-              let bad : true ≡ false = sym (entry-above layer (child_path directory name) other more inode is (ap (entry_at layer) whole ∙ e)) ∙ stops in cc
-
-      by : (entry : Option Inode) → entry_at layer (child_path directory name) ≡ entry → (tail : PathNames) → rest ≡ tail → reached (layer ∷ below) i path ≡ cond (is_some (entry_at layer (child_path directory name)) || is_shut layer directory) [] (on (turn layer directory ++ name ∷ rest))
-      by None e [] r =
-          beyond None (nothing_found (turn layer directory ++ name ∷ rest) (is_shut layer directory)) (ap (λ (tail : PathNames). entry_at layer (directory ++ name ∷ tail)) r ∙ e) (walked ∙ ap (λ (o : Option Inode). walk_beyond o (turn layer directory) (is_shut layer directory) name rest) e)
-          ∙ sym (ap (λ (o : Option Inode). cond (is_some o || is_shut layer directory) [] (on (turn layer directory ++ name ∷ rest))) e)
-      by None e (other ∷ more) r =
-          beyond None (nothing_found (turn layer directory ++ name ∷ rest) (is_shut layer directory)) (none other more r) (walked ∙ ap (λ (o : Option Inode). walk_beyond o (turn layer directory) (is_shut layer directory) name rest) e)
-          ∙ sym (ap (λ (o : Option Inode). cond (is_some o || is_shut layer directory) [] (on (turn layer directory ++ name ∷ rest))) e)
-      by (Some inode) e [] r =
-          beyond (Some inode) (walk layer path) (ap (λ (tail : PathNames). entry_at layer (directory ++ name ∷ tail)) r ∙ e) refl
-          ∙ sym (ap (λ (o : Option Inode). cond (is_some o || is_shut layer directory) [] (on (turn layer directory ++ name ∷ rest))) e)
-      by (Some inode) e (other ∷ more) r =
-          beyond None (nothing_found (turn layer directory ++ name ∷ other ∷ more) true) (none other more r) (walked ∙ (λ j. walk_beyond (e j) (turn layer directory) (is_shut layer directory) name (r j)))
-          ∙ sym (ap (λ (o : Option Inode). cond (is_some o || is_shut layer directory) [] (on (turn layer directory ++ name ∷ rest))) e)
+      by : (entry : Option Inode) → entry_at layer (child_path directory name) ≡ entry → (tail : PathNames) → rest ≡ tail → (is_some (entry_at layer path) || (walk layer path).closed) ≡ true
+      by None e tail r = closed-past (ap (λ (s : Step). s.closed) (walked ∙ ap (λ (o : Option Inode). walk_beyond o (turn layer directory) (is_shut layer directory) name rest) e) ∙ (ap (λ (o : Option Inode). is_some o || is_shut layer directory) (sym e) ∙ over))
+      by (Some inode) e [] r = ap (λ (o : Option Inode). is_some o || (walk layer path).closed) (ap (λ (tail : PathNames). entry_at layer (directory ++ name ∷ tail)) r ∙ e)
+      by (Some inode) e (other ∷ more) r = closed-past (ap (λ (s : Step). s.closed) (walked ∙ (λ j. walk_beyond (e j) (turn layer directory) (is_shut layer directory) name (r j))))
 
 -- ---- the places from `k` on, of which the first is `place`
 module _ (all : List Entries) (name : PathName) (places : List Reached) (k : ℕ) (place : Reached) (here : slice_get places k ≡ Some place) where
