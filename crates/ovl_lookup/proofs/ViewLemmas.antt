@@ -78,7 +78,7 @@ mark-cases false true false file of_directory of_file marked unmarked none = mar
 mark-cases false false opaque true of_directory of_file marked unmarked none = unmarked
 mark-cases false false opaque false of_directory of_file marked unmarked none = refl
 
-pub mark-directory : (inode : Inode) → is_whiteout inode ≡ false → is_directory_mark (mark_of inode) ≡ is_directory inode
+mark-directory : (inode : Inode) → is_whiteout inode ≡ false → is_directory_mark (mark_of inode) ≡ is_directory inode
 mark-directory inode none =
     mark-cases (is_whiteout inode) (is_directory inode) (has_opaque inode) (is_regular inode && has_metacopy inode)
     (directory_mark (redirect_reading inode)) (metacopy_mark (redirect_reading inode)) (directory_mark-is inode) (metacopy_mark-isnt inode) none
@@ -94,6 +94,13 @@ directory_kind _ had is = refl
 
 pub directory-unhidden : (inode : Inode) → is_directory inode ≡ true → is_whiteout inode ≡ false
 directory-unhidden inode is = directory_kind inode.kind (has_attribute inode whiteout_name) is
+
+-- the mark of a directory, and of another thing that is found
+pub directory-marked : (inode : Inode) → is_directory inode ≡ true → is_directory_mark (mark_of inode) ≡ true
+directory-marked inode is = mark-directory inode (directory-unhidden inode is) ∙ is
+
+pub file-marked : (inode : Inode) → is_whiteout inode ≡ false → is_directory inode ≡ false → is_directory_mark (mark_of inode) ≡ false
+file-marked inode none file = mark-directory inode none ∙ file
 
 -- ---- below an entry, by its mark: `f` goes on in the layers below, `h` in the view
 
@@ -282,7 +289,7 @@ module _ (all : List Entries) (layer : Entries) (layers : List Entries) (i : ℕ
 
     view-entry : is_directory_at layer path ≡ true → (inode : Inode) → entry_at layer (child_path path name) ≡ Some inode → (d : Bool) → is_directory inode ≡ d → reached (layer ∷ layers) i (child_path path name) ≡ reached_below all name (reached (layer ∷ layers) i path)
     view-entry holds inode e true d =
-        let mark : is_directory_mark (mark_of inode) ≡ true = mark-directory inode (directory-unhidden inode d) ∙ d in
+        let mark = directory-marked inode d in
         let step : Step = record { found = Some inode; next = entered_path (mark_of inode) (walk layer path).next name; closed = entered_closed (mark_of inode) (walk layer path).closed } in
         reached-by layer layers i (child_path path name) (Some inode) step e (walk-child_directory layer path name is inode e d)
         ∙ (ap (λ b. cond b (entered name (mark_of inode) place ∷ cond step.closed [] (reached layers (suc i) step.next)) []) d
@@ -358,7 +365,7 @@ module _ (all : List Entries) (layer : Entries) (layers : List Entries) (i : ℕ
 
   found-entry : is_directory_at layer path ≡ true → (inode : Inode) → entry_at layer (child_path path name) ≡ Some inode → (d : Bool) → is_directory inode ≡ d → (w : Bool) → is_whiteout inode ≡ w → things_found (layer ∷ layers) (child_path path name) ≡ found_below all name (reached (layer ∷ layers) i path)
   found-entry holds inode e true d w h =
-      let mark : is_directory_mark (mark_of inode) ≡ true = mark-directory inode (directory-unhidden inode d) ∙ d in
+      let mark = directory-marked inode d in
       found-inode holds inode e (directory-unhidden inode d)
       (found-by layer layers (child_path path name) (record { found = Some inode; next = entered_path (mark_of inode) (walk layer path).next name; closed = entered_closed (mark_of inode) (walk layer path).closed }) (walk-child_directory layer path name is inode e d)
       ∙ ap (λ found. inode ∷ found) (directory-on (things_found layers) (found_below all) (reached layers (suc i)) (λ n. refl) later (mark_of inode) (walk layer path).closed (walk layer path).next name mark))
@@ -368,7 +375,7 @@ module _ (all : List Entries) (layer : Entries) (layers : List Entries) (i : ℕ
       ∙ sym (found-here all layer layers i path name is here rest (Some inode) holds e
       ∙ ap (λ b. cond b [] (inode ∷ below_entry (mark_of inode) name (things_found (drop (suc i) all)) (λ other. found_below all other view_rest))) w))
   found-entry holds inode e false d false w =
-      let mark : is_directory_mark (mark_of inode) ≡ false = mark-directory inode w ∙ d in
+      let mark = file-marked inode w d in
       found-inode holds inode e w
       (found-by layer layers (child_path path name) (walk_beyond (Some inode) (walk layer path).next (walk layer path).closed name []) (walk-child_end layer path name is (Some inode) holds e d [])
       ∙ (ap (λ b. found_by (cond b (nothing_found (child_path (walk layer path).next name) true) (walk_to_file inode (mark_of inode) (walk layer path).next (walk layer path).closed name)) layers) w
