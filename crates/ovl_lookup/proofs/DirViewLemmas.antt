@@ -1,7 +1,8 @@
 -- Views of directories over a stack, place by place.
-use Rattle.std.proofs.Common.{◌≡◌, ℕ, suc, ◌+◌, ◌<◌, ◌≤◌, length, arith, add-one, Bool, true, false, cond, Option, Some, None, is_some, get_or, List, [], ◌∷◌, ◌++◌, take, drop, map, refl, sym, ap, ◌∙◌, subst, inl, inr, ◌⊎◌}
+use Rattle.std.proofs.Common.{◌≡◌, ℕ, suc, ◌+◌, ◌<◌, ◌≤◌, length, arith, add-one, Bool, true, false, cond, Option, Some, None, is_some, get_or, List, [], ◌∷◌, ◌++◌, take, drop, map, refl, sym, ap, ◌∙◌, subst, append_assoc, inl, inr, ◌⊎◌}
 use Rattle.std.specs.Prelude.{◌||◌, slice_get, IsSomeAnd}
 use Rattle.std.proofs.Math.Bool.{or-true}
+use Rattle.std.proofs.lemmas.List.{map_push}
 use Rattle.ovl_names.specs.Names.{PathName}
 use Rattle.ovl_names.specs.Paths.{PathNames, child_path}
 use Rattle.ovl_inode.specs.declared.inodes.Inode.{Inode}
@@ -15,7 +16,7 @@ use Rattle.ovl_lookup.specs.Walk.{walk, walk_beyond}
 use Rattle.ovl_lookup.specs.Passes.{IsDescent}
 use Rattle.ovl_lookup.specs.Stacks.{StackView}
 use Rattle.ovl_lookup.specs.Views.{Reached, entry_in}
-use Rattle.ovl_lookup.specs.DirViews.{place_in}
+use Rattle.ovl_lookup.specs.DirViews.{place_in, places_in, IsPlaceOver}
 use Rattle.ovl_lookup.proofs.WalkFacts.{cut, drop-head, stopped, walk-ends, no-directory-below}
 use Rattle.ovl_lookup.proofs.WalkLaws.{Beyond}
 use Rattle.ovl_lookup.proofs.ViewLemmas.{NothingAt, FileAt, past}
@@ -80,3 +81,23 @@ module _ (layer : Entries) (path : PathNames) (descent : Descent) (name : PathNa
           never : ((walk layer path).found ≡ Some file.inode) ⊎ (((walk layer path).found ≡ None) × ((walk layer path).closed ≡ true)) → ⊥
           never (inl found) = let bad : None ≡ Some file.inode = ap (λ (s : Step). s.found) (walked None here) ∙ found in cc
           never (inr shut) = let bad : false ≡ true = sym closed ∙ shut.1 in cc
+
+-- ---- places that were added
+
+module _ (stack : StackView) where
+  pub places-push : (places : List DirPlace) (own : DirPlace) → places_in stack (places ++ own ∷ []) ≡ places_in stack places ++ place_in stack own ∷ []
+  places-push places own = map_push (place_in stack) places own
+
+  -- one more place, and then the rest
+  pub pushed : (old so_far new : List DirPlace) (own : DirPlace) (rest more : List Reached) → new ≡ so_far ++ own ∷ [] → places_in stack so_far ++ place_in stack own ∷ rest ≡ places_in stack old ++ more → places_in stack new ++ rest ≡ places_in stack old ++ more
+  pushed old so_far new own rest more is same =
+      ap (λ (ps : List DirPlace). places_in stack ps ++ rest) is
+      ∙ (ap (λ (ps : List Reached). ps ++ rest) (places-push so_far own)
+      ∙ (append_assoc (places_in stack so_far) (place_in stack own ∷ []) rest ∙ same))
+
+  -- a row of a layer is a place
+  pub row-over : (place : DirPlace) (layer : Entries) → slice_get stack.layers place.layer ≡ Some layer → place.row < length layer → IsPlaceOver stack place
+  row-over place layer at inside = subst (λ (o : Option Entries). IsSomeAnd o (λ own. place.row < length own)) (sym at) inside
+
+  pub place-is : (place : DirPlace) (layer : Entries) (path : PathNames) → slice_get stack.layers place.layer ≡ Some layer → path_at layer place.row ≡ path → place_in stack place ≡ record { layer = place.layer; path = path; next = place.next; closed = place.closed }
+  place-is place layer path at is = λ j. record { layer = place.layer; path = ((λ i. elim (at i) as (λ _. PathNames) [ Some entries ↦ path_at entries place.row | None ↦ [] ]) ∙ is) j; next = place.next; closed = place.closed }

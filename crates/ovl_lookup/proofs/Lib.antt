@@ -16,4 +16,5 @@ pub mod ViewLemmas
 pub mod PlaceLemmas
 pub mod TopLemmas
 pub mod DirViewLemmas
+pub mod ViewSteps
 mod Rows
