@@ -3,6 +3,8 @@ use Rattle.std.proofs.Common.{◌≡◌, ℕ, suc, ◌+◌, ◌<◌, ◌≤◌, 
 use Rattle.std.specs.Prelude.{◌||◌, slice_get, IsSomeAnd}
 use Rattle.std.proofs.Math.Bool.{or-true}
 use Rattle.std.proofs.lemmas.List.{map_push}
+use Rattle.std.proofs.lemmas.List.Elements.{All-push}
+use Rattle.std.specs.List.{All}
 use Rattle.ovl_names.specs.Names.{PathName}
 use Rattle.ovl_names.specs.Paths.{PathNames, child_path}
 use Rattle.ovl_inode.specs.declared.inodes.Inode.{Inode}
@@ -11,11 +13,13 @@ use Rattle.ovl_manifest.specs.Sheets.{path_of, path_at}
 use Rattle.ovl_manifest.proofs.SheetLemmas.{none-past, entry_at-number}
 use Rattle.ovl_lookup.specs.declared.steps.Descent.{Descent}
 use Rattle.ovl_lookup.specs.declared.steps.Step.{Step}
+use Rattle.ovl_lookup.specs.declared.steps.Arrival.TheVariants.{Directory}
 use Rattle.ovl_lookup.specs.declared.views.DirPlace.{DirPlace}
 use Rattle.ovl_lookup.specs.Walk.{walk, walk_beyond}
-use Rattle.ovl_lookup.specs.Passes.{IsDescent}
+use Rattle.ovl_lookup.specs.Passes.{IsDescent, IsArrival}
 use Rattle.ovl_lookup.specs.Stacks.{StackView}
-use Rattle.ovl_lookup.specs.Views.{Reached, entry_in}
+use Rattle.ovl_lookup.specs.Views.{Reached, reached, entry_in}
+use Rattle.ovl_lookup.proofs.ViewSteps.{arrives-directory}
 use Rattle.ovl_lookup.specs.DirViews.{place_in, places_in, IsPlaceOver}
 use Rattle.ovl_lookup.proofs.WalkFacts.{cut, drop-head, stopped, walk-ends, no-directory-below}
 use Rattle.ovl_lookup.proofs.WalkLaws.{Beyond}
@@ -101,3 +105,19 @@ module _ (stack : StackView) where
 
   pub place-is : (place : DirPlace) (layer : Entries) (path : PathNames) → slice_get stack.layers place.layer ≡ Some layer → path_at layer place.row ≡ path → place_in stack place ≡ record { layer = place.layer; path = path; next = place.next; closed = place.closed }
   place-is place layer path at is = λ j. record { layer = place.layer; path = ((λ i. elim (at i) as (λ _. PathNames) [ Some entries ↦ path_at entries place.row | None ↦ [] ]) ∙ is) j; next = place.next; closed = place.closed }
+
+  -- a layer that has the directory, and then the layers below it
+  pub directory-step : (i : ℕ) (layer : Entries) (path : PathNames) (row : ℕ) (next : PathNames) (closed : Bool) → slice_get stack.layers i ≡ Some layer → IsArrival layer path (Directory row next closed)
+      → (old so_far new : List DirPlace) (more : List Reached) → new ≡ so_far ++ (record { layer = i; row = row; next = next; closed = closed }) ∷ [] → places_in stack so_far ++ reached (drop i stack.layers) i path ≡ places_in stack old ++ more
+      → places_in stack new ++ cond closed [] (reached (drop (i + 1) stack.layers) (i + 1) next) ≡ places_in stack old ++ more
+  directory-step i layer path row next closed at arrival old so_far new more is same =
+      let own : DirPlace = record { layer = i; row = row; next = next; closed = closed } in
+      let rest : List Reached = cond closed [] (reached (drop (i + 1) stack.layers) (i + 1) next) in
+      pushed old so_far new own rest more is
+      (ap (λ (p : Reached). places_in stack so_far ++ p ∷ rest) (place-is own layer path at arrival.2)
+      ∙ (ap (λ (ps : List Reached). places_in stack so_far ++ ps) (sym (arrives-directory stack.layers i layer at path next closed arrival.0 arrival.3 arrival.4))
+      ∙ same))
+
+  pub over-push : (old so_far new : List DirPlace) (own : DirPlace) (layer : Entries) → slice_get stack.layers own.layer ≡ Some layer → own.row < length layer → new ≡ so_far ++ own ∷ [] → (All (IsPlaceOver stack) old → All (IsPlaceOver stack) so_far) → All (IsPlaceOver stack) old → All (IsPlaceOver stack) new
+  over-push old so_far new own layer at inside is over all =
+      subst (λ (ps : List DirPlace). All (IsPlaceOver stack) ps) (sym is) (All-push (IsPlaceOver stack) so_far own (over all) (row-over own layer at inside))
