@@ -1,14 +1,18 @@
 -- Views of directories over a stack, as the program keeps them.
-use Rattle.std.specs.Prelude.{◌≡◌, ℕ, ◌<◌, ◌≤◌, ◌++◌, true, Some, None, List, [], drop, length, map, slice_get, IsSomeAnd}
+use Rattle.std.specs.Prelude.{◌≡◌, ℕ, ◌<◌, ◌≤◌, ◌++◌, true, Option, Some, None, List, [], drop, length, map, slice_get, IsSomeAnd}
 use Rattle.std.specs.List.{All}
 use Rattle.ovl_names.specs.Names.{PathName}
 use Rattle.ovl_names.specs.Paths.{PathNames, child_path}
+use Rattle.ovl_inode.specs.declared.marks.Mark.{Mark}
+use Rattle.ovl_inode.specs.declared.marks.Mark.TheVariants.{DirMoved, DirPlain, Meta}
+use Rattle.ovl_inode.specs.declared.marks.Redirect.TheVariants.{To, Beside}
 use Rattle.ovl_inode.specs.Marks.{mark_of}
 use Rattle.ovl_manifest.specs.Sheets.{path_at}
 use Rattle.ovl_lookup.specs.declared.views.DirPlace.{DirPlace}
 use Rattle.ovl_lookup.specs.declared.views.PlaceEntry.{PlaceEntry}
 use Rattle.ovl_lookup.specs.declared.views.DirView.{DirView}
 use Rattle.ovl_lookup.specs.Stacks.{StackView, from_layer}
+use Rattle.ovl_lookup.specs.Passes.{entered_path, entered_closed}
 use Rattle.ovl_lookup.specs.Merged.{shows_directory}
 use Rattle.ovl_lookup.specs.Views.{Reached, reached, entry_in}
 
@@ -51,3 +55,25 @@ pub record IsEntryIn (stack : StackView) (name : PathName) (place : DirPlace) (e
   pub mark : entry.mark.now ≡ mark_of entry.inode.now
   pub row : IsSomeAnd (slice_get stack.layers place.layer)
       (λ layer. (entry.row < length layer) × (path_at layer entry.row ≡ child_path (path_at layer place.row) name))
+
+-- the place of the directory that an entry of a place is
+abbrev pub place_below : DirPlace → PlaceEntry → PathName → DirPlace
+place_below place entry name = record {
+  layer = place.layer;
+  row = entry.row;
+  next = entered_path entry.mark.now place.next name;
+  closed = entered_closed entry.mark.now place.closed;
+}
+
+-- where the layers below go on below an entry of this mark: at a path from the root, or beside it by a name
+abbrev pub path_on : Mark → Option PathNames
+path_on (DirMoved (To origin)) = Some origin
+path_on (Meta (Some (To origin))) = Some origin
+path_on _ = None
+
+abbrev pub name_on : Mark → PathName → Option PathName
+name_on DirPlain name = Some name
+name_on (DirMoved (Beside own)) name = Some own
+name_on (Meta None) name = Some name
+name_on (Meta (Some (Beside own))) name = Some own
+name_on _ name = None

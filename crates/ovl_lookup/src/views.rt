@@ -1,10 +1,11 @@
-ghost use Rattle.std.specs.Prelude.{◌≡◌, ◌≤◌, false, None, suc, drop, length, not, map, IfOk, OnOk, MatchOption};
+ghost use Rattle.std.specs.Prelude.{◌≡◌, ◌≤◌, ◌++◌, [], ◌∷◌, false, None, suc, drop, length, not, map, IfOk, OnOk, MatchOption};
+ghost use Rattle.std.specs.Option.{option_map};
 ghost use Rattle.std.specs.List.{All};
 ghost use Rattle.ovl_names.specs.Paths.{child_path};
 ghost use Rattle.ovl_lookup.specs.Stacks.{from_layer};
 ghost use Rattle.ovl_lookup.specs.Merged.{shows_directory};
 ghost use Rattle.ovl_lookup.specs.Views.{reached, entry_in, reached_below};
-ghost use Rattle.ovl_lookup.specs.DirViews.{IsViewOver, IsViewOf, IsPlaceOver, IsEntryIn, AddsPlaces, place_in, places_in};
+ghost use Rattle.ovl_lookup.specs.DirViews.{path_on, name_on, IsViewOver, IsViewOf, IsPlaceOver, IsEntryIn, AddsPlaces, place_in, places_in, place_below};
 
 use crate::Stack;
 use crate::steps::{Arrival, Entered, arrive, enter};
@@ -163,6 +164,7 @@ fn push_below(
     requires { All (IsPlaceOver stack.now) places.now }
     ensures { OnOk result (AddsPlaces stack.now below.old.items below.new.items (reached_below stack.now.layers name.now (places_in stack.now places.now))) }
 {
+    let _ = &stack.layers;
     let mut own = name;
     for place in places {
         let Some(entry) = place.entry(stack, own) else {
@@ -171,22 +173,71 @@ fn push_below(
         if !is_directory(entry.inode) {
             return Ok(());
         }
-        let next = place.next.copy(alloc)?;
-        let Entered { next, closed } = enter(alloc, entry.mark, own, place.closed, next)?;
-        below.push(DirPlace {
-            layer: place.layer,
-            row: entry.row,
-            next,
-            closed,
-        })?;
-        match entry.mark {
-            Mark::DirPlain => {}
-            Mark::DirMoved(Redirect::Beside(other)) => own = other,
-            Mark::DirMoved(Redirect::To(origin)) => {
-                return push_reached(alloc, stack, place.layer + 1, origin, below);
-            }
-            _ => return Ok(()),
+        push_entered(alloc, place, &entry, own, below)?;
+        if let Some(origin) = goes_on_at(entry.mark) {
+            return push_reached(alloc, stack, place.layer + 1, origin, below);
         }
+        let Some(other) = goes_on_by(entry.mark, own) else {
+            return Ok(());
+        };
+        own = other;
     }
     Ok(())
+}
+
+// Adds the place of the directory that this entry of a place is.
+fn push_entered(
+    alloc: Global,
+    place: &DirPlace,
+    entry: &PlaceEntry<'_>,
+    name: &Name,
+    below: &mut Vec<DirPlace>,
+) -> Result<(), AllocError>
+    ensures { OnOk result (below.new.items ≡ below.old.items ++ place_below place.now entry.now name.now ∷ []) }
+{
+    let next = place.next.copy(alloc)?;
+    let Entered { next, closed } = enter(alloc, entry.mark, name, place.closed, next)?;
+    below.push(DirPlace {
+        layer: place.layer,
+        row: entry.row,
+        next,
+        closed,
+    })?;
+    Ok(())
+}
+
+// The path from the root at which the layers below go on below an entry of this mark, where it has an absolute redirect.
+fn goes_on_at(mark: &Mark) -> Option<&Path>
+    ensures { option_map (λ path. path.now) result ≡ path_on mark.now }
+{
+    match mark {
+        Mark::DirMoved(Redirect::To(origin)) => Some(origin),
+        Mark::Meta(Some(Redirect::To(origin))) => Some(origin),
+        Mark::DirMoved(Redirect::Beside(_))
+        | Mark::Meta(Some(Redirect::Beside(_)) | None)
+        | Mark::Whiteout
+        | Mark::DirOpaque
+        | Mark::DirBad
+        | Mark::DirPlain
+        | Mark::MetaBad
+        | Mark::Leaf => None,
+    }
+}
+
+// The name by which they know it in the same directory, where it hides nothing.
+fn goes_on_by<'a>(mark: &'a Mark, name: &'a Name) -> Option<&'a Name>
+    ensures { option_map (λ own. own.now) result ≡ name_on mark.now name.now }
+{
+    match mark {
+        Mark::DirMoved(Redirect::Beside(own)) => Some(own),
+        Mark::Meta(Some(Redirect::Beside(own))) => Some(own),
+        Mark::DirPlain | Mark::Meta(None) => Some(name),
+        Mark::DirMoved(Redirect::To(_))
+        | Mark::Meta(Some(Redirect::To(_)))
+        | Mark::Whiteout
+        | Mark::DirOpaque
+        | Mark::DirBad
+        | Mark::MetaBad
+        | Mark::Leaf => None,
+    }
 }

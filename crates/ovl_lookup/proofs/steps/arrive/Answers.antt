@@ -39,9 +39,10 @@ returns-in-Some c =
     let inside : descent.depth < length path = grind (arith, nat_tests, is.within, ap length same) in
     let at : name ≡ get_or path descent.depth name = c.index-names-depth.is ∙ ap (λ (ns : PathNames). get_or ns descent.depth name) same in
     let path_is = c.in-Some.ensures.1 ∙ ap (λ (p : PathNames). child_path p name) is.here in
-    let found = entry-of_row layer c.in-Some._file is.layered c.in-Some.ensures.0 in
-    (not-directory layer path descent name is inside at,
-    ends-there layer path descent name is inside at (Some found.0) (sym (ap (entry_at layer) path_is) ∙ found.1) refl)
+    let found = entry-of_row layer c.in-Some._file is.layered c.in-Some.ensures.0 in (
+      not-directory layer path descent name is inside at,
+      ends-there layer path descent name is inside at (Some found.0) (sym (ap (entry_at layer) path_is) ∙ found.1) refl,
+    )
 
 pub returns-then-closed : goal.returns-then-closed
 returns-then-closed c =
