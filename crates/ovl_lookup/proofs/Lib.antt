@@ -15,4 +15,6 @@ pub mod ChildLaws
 pub mod ViewLemmas
 pub mod PlaceLemmas
 pub mod TopLemmas
+pub mod DirViewLemmas
+pub mod ViewSteps
 mod Rows

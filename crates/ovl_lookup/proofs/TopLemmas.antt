@@ -1,7 +1,7 @@
 -- The names in the directories of a view, each with the first place that has it, and what is shown there.
-use Rattle.std.proofs.Common.{◌≡◌, ℕ, zero, suc, ◌+◌, length, arith, Bool, true, false, cond, Option, Some, None, is_some, List, [], ◌∷◌, ◌++◌, drop, map, refl, sym, ap, ◌∙◌, subst, append_assoc, length-append}
+use Rattle.std.proofs.Common.{◌≡◌, ℕ, zero, suc, length, arith, Bool, true, false, cond, Option, Some, None, is_some, List, [], ◌∷◌, ◌++◌, drop, map, refl, sym, ap, ◌∙◌, subst, append_assoc, length-append}
 use Rattle.std.specs.Prelude.{◌||◌, ◌&&◌, not, filter, slice_get}
-use Rattle.std.specs.List.{All, AllByRecursion, list_any, flat_map}
+use Rattle.std.specs.List.{AllByRecursion, list_any, flat_map}
 use Rattle.std.specs.Map.{lookup}
 use Rattle.std.specs.BTreeMap.{insert_entry, is_at}
 use Rattle.std.specs.BTreeSet.{insert_key}
@@ -16,19 +16,18 @@ use Rattle.std.proofs.lemmas.List.Elements.{All-from_recursion}
 use Rattle.std.proofs.lemmas.List.Folds.{list_any-append}
 use Rattle.std.proofs.lemmas.Grind.{flat_map-append}
 use Rattle.ovl_names.specs.Names.{PathName, name_eq, name_cmp}
-use Rattle.ovl_names.specs.Paths.{PathNames, child_path}
+use Rattle.ovl_names.specs.Paths.{child_path}
 use Rattle.ovl_names.specs.Order.{ascends}
 use Rattle.ovl_names.proofs.Ascending.{ascends-filter}
 use Rattle.ovl_inode.specs.declared.inodes.Inode.{Inode}
-use Rattle.ovl_manifest.specs.Layers.{Entries, IsLayer, entry_at, names_below}
+use Rattle.ovl_manifest.specs.Layers.{Entries, entry_at, names_below}
 use Rattle.ovl_manifest.proofs.NodeLemmas.{name_eq-cmp}
 use Rattle.ovl_lookup.specs.declared.looks.Look.{Look}
-use Rattle.ovl_lookup.specs.Stacks.{StackView, from_layer}
-use Rattle.ovl_lookup.specs.Trace.{things_found}
-use Rattle.ovl_lookup.specs.Merged.{AreKids, look, shows, shown_of, is_nothing}
+use Rattle.ovl_lookup.specs.Stacks.{from_layer}
+use Rattle.ovl_lookup.specs.Merged.{look, shown_of, is_nothing}
 use Rattle.ovl_lookup.specs.Laws.{ViewsLook}
 use Rattle.ovl_lookup.specs.Views.{Reached, reached, entry_in, found_below}
-use Rattle.ovl_lookup.specs.ViewPasses.{names_in, put_top, put_tops, tops_along, tops_of, look_from_top, looks_from_tops, AreLooks}
+use Rattle.ovl_lookup.specs.ViewPasses.{names_in, put_top, put_tops, tops_along, tops_of, looks_from_tops, AreLooks}
 use Rattle.ovl_lookup.proofs.ChildLemmas.{any_found, shown-any, names_below-has}
 use Rattle.ovl_lookup.proofs.KidLemmas.{ascends-insert, any-insert, any-filter}
 use Rattle.ovl_lookup.proofs.ViewLemmas.{found_below_by, views-find}

@@ -78,7 +78,7 @@ mark-cases false true false file of_directory of_file marked unmarked none = mar
 mark-cases false false opaque true of_directory of_file marked unmarked none = unmarked
 mark-cases false false opaque false of_directory of_file marked unmarked none = refl
 
-pub mark-directory : (inode : Inode) → is_whiteout inode ≡ false → is_directory_mark (mark_of inode) ≡ is_directory inode
+mark-directory : (inode : Inode) → is_whiteout inode ≡ false → is_directory_mark (mark_of inode) ≡ is_directory inode
 mark-directory inode none =
     mark-cases (is_whiteout inode) (is_directory inode) (has_opaque inode) (is_regular inode && has_metacopy inode)
     (directory_mark (redirect_reading inode)) (metacopy_mark (redirect_reading inode)) (directory_mark-is inode) (metacopy_mark-isnt inode) none
@@ -94,6 +94,13 @@ directory_kind _ had is = refl
 
 pub directory-unhidden : (inode : Inode) → is_directory inode ≡ true → is_whiteout inode ≡ false
 directory-unhidden inode is = directory_kind inode.kind (has_attribute inode whiteout_name) is
+
+-- the mark of a directory, and of another thing that is found
+pub directory-marked : (inode : Inode) → is_directory inode ≡ true → is_directory_mark (mark_of inode) ≡ true
+directory-marked inode is = mark-directory inode (directory-unhidden inode is) ∙ is
+
+pub file-marked : (inode : Inode) → is_whiteout inode ≡ false → is_directory inode ≡ false → is_directory_mark (mark_of inode) ≡ false
+file-marked inode none file = mark-directory inode none ∙ file
 
 -- ---- below an entry, by its mark: `f` goes on in the layers below, `h` in the view
 
@@ -282,7 +289,7 @@ module _ (all : List Entries) (layer : Entries) (layers : List Entries) (i : ℕ
 
     view-entry : is_directory_at layer path ≡ true → (inode : Inode) → entry_at layer (child_path path name) ≡ Some inode → (d : Bool) → is_directory inode ≡ d → reached (layer ∷ layers) i (child_path path name) ≡ reached_below all name (reached (layer ∷ layers) i path)
     view-entry holds inode e true d =
-        let mark : is_directory_mark (mark_of inode) ≡ true = mark-directory inode (directory-unhidden inode d) ∙ d in
+        let mark = directory-marked inode d in
         let step : Step = record { found = Some inode; next = entered_path (mark_of inode) (walk layer path).next name; closed = entered_closed (mark_of inode) (walk layer path).closed } in
         reached-by layer layers i (child_path path name) (Some inode) step e (walk-child_directory layer path name is inode e d)
         ∙ (ap (λ b. cond b (entered name (mark_of inode) place ∷ cond step.closed [] (reached layers (suc i) step.next)) []) d
@@ -315,6 +322,53 @@ module _ (all : List Entries) (layer : Entries) (layers : List Entries) (i : ℕ
         ∙ ap (reached_below all name) (sym (reached-by layer layers i path (Some file.inode) (walk layer path) file.here refl
         ∙ ap (λ b. cond b (place ∷ rest_of) []) file.file))
 
+  -- ---- what is found with one more name
+  module _ (later : (p : PathNames) (n : PathName) → things_found layers (child_path p n) ≡ found_below all n (reached layers (suc i) p)) where
+    found-on : (shut : Bool) (next : PathNames) → cond shut [] (things_found layers (child_path next name)) ≡ found_below all name (cond shut [] (reached layers (suc i) next))
+    found-on shut next = goes-on (things_found layers) (found_below all) (reached layers (suc i)) (λ n. refl) later shut next name
+
+    found-none : is_directory_at layer path ≡ true → entry_at layer (child_path path name) ≡ None → things_found (layer ∷ layers) (child_path path name) ≡ found_below all name (reached (layer ∷ layers) i path)
+    found-none holds e =
+        found-by layer layers (child_path path name) (nothing_found (child_path (walk layer path).next name) (walk layer path).closed) (walk-child_end layer path name is None holds e refl [])
+        ∙ (found-on (walk layer path).closed (walk layer path).next
+        ∙ sym (found-here None holds e))
+
+    -- the first thing found is this inode, and then what the layers below have
+    found-inode : is_directory_at layer path ≡ true → (inode : Inode) → entry_at layer (child_path path name) ≡ Some inode → is_whiteout inode ≡ false → things_found (layer ∷ layers) (child_path path name) ≡ inode ∷ below_entry (mark_of inode) name (things_found layers) (λ other. found_below all other rest_of) → things_found (layer ∷ layers) (child_path path name) ≡ found_below all name (reached (layer ∷ layers) i path)
+    found-inode holds inode e w found =
+        found
+        ∙ (ap (λ (more : List Entries). inode ∷ below_entry (mark_of inode) name (things_found more) (λ other. found_below all other rest_of)) rest
+        ∙ sym (found-here (Some inode) holds e
+        ∙ ap (λ b. cond b [] (inode ∷ below_entry (mark_of inode) name (things_found (drop (suc i) all)) (λ other. found_below all other rest_of))) w))
+
+    found-entry : is_directory_at layer path ≡ true → (inode : Inode) → entry_at layer (child_path path name) ≡ Some inode → (d : Bool) → is_directory inode ≡ d → (w : Bool) → is_whiteout inode ≡ w → things_found (layer ∷ layers) (child_path path name) ≡ found_below all name (reached (layer ∷ layers) i path)
+    found-entry holds inode e true d w h =
+        let mark = directory-marked inode d in
+        found-inode holds inode e (directory-unhidden inode d)
+        (found-by layer layers (child_path path name) (record { found = Some inode; next = entered_path (mark_of inode) (walk layer path).next name; closed = entered_closed (mark_of inode) (walk layer path).closed }) (walk-child_directory layer path name is inode e d)
+        ∙ ap (λ found. inode ∷ found) (directory-on (things_found layers) (found_below all) (reached layers (suc i)) (λ n. refl) later (mark_of inode) (walk layer path).closed (walk layer path).next name mark))
+    found-entry holds inode e false d true w =
+        found-by layer layers (child_path path name) (walk_beyond (Some inode) (walk layer path).next (walk layer path).closed name []) (walk-child_end layer path name is (Some inode) holds e d [])
+        ∙ (ap (λ b. found_by (cond b (nothing_found (child_path (walk layer path).next name) true) (walk_to_file inode (mark_of inode) (walk layer path).next (walk layer path).closed name)) layers) w
+        ∙ sym (found-here (Some inode) holds e
+        ∙ ap (λ b. cond b [] (inode ∷ below_entry (mark_of inode) name (things_found (drop (suc i) all)) (λ other. found_below all other rest_of))) w))
+    found-entry holds inode e false d false w =
+        let mark = file-marked inode w d in
+        found-inode holds inode e w
+        (found-by layer layers (child_path path name) (walk_beyond (Some inode) (walk layer path).next (walk layer path).closed name []) (walk-child_end layer path name is (Some inode) holds e d [])
+        ∙ (ap (λ b. found_by (cond b (nothing_found (child_path (walk layer path).next name) true) (walk_to_file inode (mark_of inode) (walk layer path).next (walk layer path).closed name)) layers) w
+        ∙ file-on (things_found layers) (found_below all) (reached layers (suc i)) (λ n. refl) later inode (mark_of inode) (walk layer path).closed (walk layer path).next name mark))
+
+    found-past : NothingAt layer path ⊎ FileAt layer path → things_found (layer ∷ layers) (child_path path name) ≡ found_below all name (reached (layer ∷ layers) i path)
+    found-past (inl nothing) =
+        found-by layer layers (child_path path name) (nothing_found (child_path (walk layer path).next name) (walk layer path).closed) (nothing.below name)
+        ∙ (found-on (walk layer path).closed (walk layer path).next
+        ∙ ap (found_below all name) (sym (reached-by layer layers i path None (walk layer path) nothing.none refl)))
+    found-past (inr file) =
+        found-by layer layers (child_path path name) (nothing_found (file.below name).0 true) (file.below name).1
+        ∙ ap (found_below all name) (sym (reached-by layer layers i path (Some file.inode) (walk layer path) file.here refl
+        ∙ ap (λ b. cond b (place ∷ rest_of) []) file.file))
+
 pub reached-child : (all ls : List Entries) (i : ℕ) (path : PathNames) (name : PathName) → ls ≡ drop i all → All IsLayer ls → reached ls i (child_path path name) ≡ reached_below all name (reached ls i path)
 reached-child all [] i path name whole each = refl
 reached-child all (layer ∷ layers) i path name whole each = by (λ p n. reached-child all layers (suc i) p n (layer-here all i layer layers whole).1 (all-rest IsLayer layer layers each)) (walk-end layer path is)
@@ -329,60 +383,6 @@ reached-child all (layer ∷ layers) i path name whole each = by (λ p n. reache
         inside None e = view-none all layer layers i path name is (layer-here all i layer layers whole).0 (layer-here all i layer layers whole).1 later holds e
         inside (Some inode) e = view-entry all layer layers i path name is (layer-here all i layer layers whole).0 (layer-here all i layer layers whole).1 later holds inode e (is_directory inode) refl
     by later (inr b) = view-past all layer layers i path name is (layer-here all i layer layers whole).0 (layer-here all i layer layers whole).1 later (past layer path is b) (no-directory layer path is b)
-
--- ---- what is found with one more name
--- the layers of a stack from `layer`, of number `i`, on
-module _ (all : List Entries) (layer : Entries) (layers : List Entries) (i : ℕ) (path : PathNames) (name : PathName) (is : IsLayer layer) (here : slice_get all i ≡ Some layer) (rest : layers ≡ drop (suc i) all) (later : (p : PathNames) (n : PathName) → things_found layers (child_path p n) ≡ found_below all n (reached layers (suc i) p)) where
-  abbrev view_place : Reached
-  view_place = record { layer = i; path = path; next = (walk layer path).next; closed = (walk layer path).closed }
-
-  abbrev view_rest : List Reached
-  view_rest = cond (walk layer path).closed [] (reached layers (suc i) (walk layer path).next)
-
-  found-on : (shut : Bool) (next : PathNames) → cond shut [] (things_found layers (child_path next name)) ≡ found_below all name (cond shut [] (reached layers (suc i) next))
-  found-on shut next = goes-on (things_found layers) (found_below all) (reached layers (suc i)) (λ n. refl) later shut next name
-
-  found-none : is_directory_at layer path ≡ true → entry_at layer (child_path path name) ≡ None → things_found (layer ∷ layers) (child_path path name) ≡ found_below all name (reached (layer ∷ layers) i path)
-  found-none holds e =
-      found-by layer layers (child_path path name) (nothing_found (child_path (walk layer path).next name) (walk layer path).closed) (walk-child_end layer path name is None holds e refl [])
-      ∙ (found-on (walk layer path).closed (walk layer path).next
-      ∙ sym (found-here all layer layers i path name is here rest None holds e))
-
-  -- the first thing found is this inode, and then what the layers below have
-  found-inode : is_directory_at layer path ≡ true → (inode : Inode) → entry_at layer (child_path path name) ≡ Some inode → is_whiteout inode ≡ false → things_found (layer ∷ layers) (child_path path name) ≡ inode ∷ below_entry (mark_of inode) name (things_found layers) (λ other. found_below all other view_rest) → things_found (layer ∷ layers) (child_path path name) ≡ found_below all name (reached (layer ∷ layers) i path)
-  found-inode holds inode e w found =
-      found
-      ∙ (ap (λ (more : List Entries). inode ∷ below_entry (mark_of inode) name (things_found more) (λ other. found_below all other view_rest)) rest
-      ∙ sym (found-here all layer layers i path name is here rest (Some inode) holds e
-      ∙ ap (λ b. cond b [] (inode ∷ below_entry (mark_of inode) name (things_found (drop (suc i) all)) (λ other. found_below all other view_rest))) w))
-
-  found-entry : is_directory_at layer path ≡ true → (inode : Inode) → entry_at layer (child_path path name) ≡ Some inode → (d : Bool) → is_directory inode ≡ d → (w : Bool) → is_whiteout inode ≡ w → things_found (layer ∷ layers) (child_path path name) ≡ found_below all name (reached (layer ∷ layers) i path)
-  found-entry holds inode e true d w h =
-      let mark : is_directory_mark (mark_of inode) ≡ true = mark-directory inode (directory-unhidden inode d) ∙ d in
-      found-inode holds inode e (directory-unhidden inode d)
-      (found-by layer layers (child_path path name) (record { found = Some inode; next = entered_path (mark_of inode) (walk layer path).next name; closed = entered_closed (mark_of inode) (walk layer path).closed }) (walk-child_directory layer path name is inode e d)
-      ∙ ap (λ found. inode ∷ found) (directory-on (things_found layers) (found_below all) (reached layers (suc i)) (λ n. refl) later (mark_of inode) (walk layer path).closed (walk layer path).next name mark))
-  found-entry holds inode e false d true w =
-      found-by layer layers (child_path path name) (walk_beyond (Some inode) (walk layer path).next (walk layer path).closed name []) (walk-child_end layer path name is (Some inode) holds e d [])
-      ∙ (ap (λ b. found_by (cond b (nothing_found (child_path (walk layer path).next name) true) (walk_to_file inode (mark_of inode) (walk layer path).next (walk layer path).closed name)) layers) w
-      ∙ sym (found-here all layer layers i path name is here rest (Some inode) holds e
-      ∙ ap (λ b. cond b [] (inode ∷ below_entry (mark_of inode) name (things_found (drop (suc i) all)) (λ other. found_below all other view_rest))) w))
-  found-entry holds inode e false d false w =
-      let mark : is_directory_mark (mark_of inode) ≡ false = mark-directory inode w ∙ d in
-      found-inode holds inode e w
-      (found-by layer layers (child_path path name) (walk_beyond (Some inode) (walk layer path).next (walk layer path).closed name []) (walk-child_end layer path name is (Some inode) holds e d [])
-      ∙ (ap (λ b. found_by (cond b (nothing_found (child_path (walk layer path).next name) true) (walk_to_file inode (mark_of inode) (walk layer path).next (walk layer path).closed name)) layers) w
-      ∙ file-on (things_found layers) (found_below all) (reached layers (suc i)) (λ n. refl) later inode (mark_of inode) (walk layer path).closed (walk layer path).next name mark))
-
-  found-past : NothingAt layer path ⊎ FileAt layer path → things_found (layer ∷ layers) (child_path path name) ≡ found_below all name (reached (layer ∷ layers) i path)
-  found-past (inl nothing) =
-      found-by layer layers (child_path path name) (nothing_found (child_path (walk layer path).next name) (walk layer path).closed) (nothing.below name)
-      ∙ (found-on (walk layer path).closed (walk layer path).next
-      ∙ ap (found_below all name) (sym (reached-by layer layers i path None (walk layer path) nothing.none refl)))
-  found-past (inr file) =
-      found-by layer layers (child_path path name) (nothing_found (file.below name).0 true) (file.below name).1
-      ∙ ap (found_below all name) (sym (reached-by layer layers i path (Some file.inode) (walk layer path) file.here refl
-      ∙ ap (λ b. cond b (view_place ∷ view_rest) []) file.file))
 
 pub found-child : (all ls : List Entries) (i : ℕ) (path : PathNames) (name : PathName) → ls ≡ drop i all → All IsLayer ls → things_found ls (child_path path name) ≡ found_below all name (reached ls i path)
 found-child all [] i path name whole each = refl

@@ -118,16 +118,17 @@ mark_at-child : (layer : Entries) (path : PathNames) (name : PathName) (mark : M
 mark_at-child layer [] name mark here = marked (entry_at layer (child_path [] name)) ∙ here
 mark_at-child layer (first ∷ path) name mark here = marked (entry_at layer (child_path (first ∷ path) name)) ∙ here
 
+-- the names from `i` on
+pub drop-head : (names : PathNames) (i : ℕ) (name : PathName) → i < length names → name ≡ get_or names i name → drop i names ≡ name ∷ drop (i + 1) names
+drop-head names i name inside is = rw add-one (drop-cons names i name inside ∙ ap (λ n. n ∷ drop (suc i) names) (sym is))
+
 -- one turn of the loop at the name `i` of a path
 module _ (layer : Entries) (names : PathNames) (i : ℕ) (name : PathName) (inside : i < length names) (is : name ≡ get_or names i name) where
   pub taken : child_path (take i names) name ≡ take (i + 1) names
   taken = rw add-one (ap (λ n. take i names ++ n ∷ []) is ∙ sym (take-suc names i name inside))
 
-  cons : drop i names ≡ name ∷ drop (i + 1) names
-  cons = rw add-one (drop-cons names i name inside ∙ ap (λ n. n ∷ drop (suc i) names) (sym is))
-
-  cut : take i names ++ name ∷ drop (i + 1) names ≡ names
-  cut = ap (λ (r : PathNames). take i names ++ r) (sym cons) ∙ take-append-drop i names
+  pub cut : take i names ++ name ∷ drop (i + 1) names ≡ names
+  cut = ap (λ (r : PathNames). take i names ++ r) (sym (drop-head names i name inside is)) ∙ take-append-drop i names
 
   pub turn-next : (mark : Mark) → option_map mark_of (entry_at layer (child_path (take i names) name)) ≡ Some mark → entered_path mark (turn layer (take i names)) name ≡ turn layer (take (i + 1) names)
   turn-next mark here = sym (turn-entered layer (take i names) name mark (mark_at-child layer (take i names) name mark here)) ∙ ap (turn layer) taken
@@ -144,7 +145,7 @@ module _ (layer : Entries) (names : PathNames) (i : ℕ) (name : PathName) (insi
 
   pub walk-misses : IsLayer layer → is_directory_at layer (take i names) ≡ true → is_directory_at layer (child_path (take i names) name) ≡ false → (next : PathNames) (closed : Bool) → entry_at layer (child_path (take i names) name) ≡ None → next ≡ turn layer (take i names) → closed ≡ is_shut layer (take i names) → nothing_found (next ++ drop i names) closed ≡ walk layer names
   walk-misses layered directory none next closed here turned shut =
-      ap (λ (r : PathNames). nothing_found (next ++ r) closed) cons
+      ap (λ (r : PathNames). nothing_found (next ++ r) closed) (drop-head names i name inside is)
       ∙ walk-ends layered directory none None next closed (sym here) turned shut
 
 -- where a descent stops there is no directory

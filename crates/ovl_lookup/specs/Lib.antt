@@ -7,4 +7,5 @@ pub mod Sound
 pub mod Words
 pub mod Views
 pub mod ViewPasses
+pub mod DirViews
 pub mod Laws

@@ -15,9 +15,9 @@ use Rattle.ovl_lookup.specs.Passes.{entered_path, entered_closed}
 
 -- a layer that has a directory where the walks of a path come to it
 pub record Reached : Type 0 where
-  pub layer : ℕ          -- its number in the stack
-  pub path : PathNames   -- the directory's path in it
-  pub next : PathNames   -- how its walk goes on
+  pub layer : ℕ  -- its number in the stack
+  pub path : PathNames  -- the directory's path in it
+  pub next : PathNames  -- how its walk goes on
   pub closed : Bool
 
 -- the view of a path over these layers, of which the first has this number: a layer that has nothing there is passed
@@ -79,9 +79,9 @@ reached_below layers name [] = []
 reached_below layers name (place ∷ rest) =
     elim (entry_in layers name place) [
       | Some inode ↦
-        if is_directory inode
-        then entered name (mark_of inode) place ∷ below_entry (mark_of inode) name (reached (drop (suc place.layer) layers) (suc place.layer)) (λ other. reached_below layers other rest)
-        else []
+          if is_directory inode
+          then entered name (mark_of inode) place ∷ below_entry (mark_of inode) name (reached (drop (suc place.layer) layers) (suc place.layer)) (λ other. reached_below layers other rest)
+          else []
       | None ↦ reached_below layers name rest
     ]
 
@@ -91,7 +91,7 @@ found_below layers name [] = []
 found_below layers name (place ∷ rest) =
     elim (entry_in layers name place) [
       | Some inode ↦
-        if is_whiteout inode then []
-        else inode ∷ below_entry (mark_of inode) name (things_found (drop (suc place.layer) layers)) (λ other. found_below layers other rest)
+          if is_whiteout inode then []
+          else inode ∷ below_entry (mark_of inode) name (things_found (drop (suc place.layer) layers)) (λ other. found_below layers other rest)
       | None ↦ found_below layers name rest
     ]

@@ -1,4 +1,4 @@
-ghost use Rattle.std.specs.Prelude.{◌≡◌, ◌<◌, ◌≤◌, ◌↔◌, ◌⊎◌, Err, length, IfOk, MatchResult, slice_get, IfSome};
+ghost use Rattle.std.specs.Prelude.{◌≡◌, ◌<◌, ◌≤◌, ◌↔◌, ◌⊎◌, Some, Err, length, IfOk, MatchResult, slice_get, IfSome};
 ghost use Rattle.std.specs.Option.{option_map};
 ghost use Rattle.std.specs.List.{All};
 ghost use Rattle.ovl_manifest.specs.Layers.{IsLayer, entry_at, names_below};
@@ -78,6 +78,14 @@ impl Stack {
         ensures each { All IsLayer self.now.layers }
     {
         self.layers.len()
+    }
+
+    /// The sheet of layer `i`, which is below the number of layers.
+    pub fn sheet(&self, i: usize) -> &Sheet
+        requires { i < length self.now.layers }
+        ensures { slice_get self.now.layers i ≡ Some result.now }
+    {
+        &self.layers[i]
     }
 
     /// The inode that layer `i` has at a path, and `None` where it has no entry; `i` is below the number of layers.

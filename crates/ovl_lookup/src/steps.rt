@@ -3,7 +3,7 @@ ghost use Rattle.ovl_names.specs.Paths.{child_path};
 ghost use Rattle.ovl_inode.specs.Marks.{mark_of as the_mark};
 ghost use Rattle.ovl_manifest.specs.Layers.{is_directory_at};
 ghost use Rattle.ovl_manifest.specs.Sheets.{path_at};
-ghost use Rattle.ovl_lookup.specs.Passes.{IsDescent, entered_path, entered_closed};
+ghost use Rattle.ovl_lookup.specs.Passes.{IsDescent, IsArrival, entered_path, entered_closed};
 ghost use Rattle.ovl_lookup.specs.Walk.{walk as the_walk, nothing_found, walk_beyond, walk_to_file};
 
 use ovl_inode::{Inode, Mark, Redirect, is_directory, is_whiteout};
@@ -97,6 +97,37 @@ pub(crate) fn descend(alloc: Global, sheet: &Sheet, path: &Path) -> Result<Desce
         next,
         closed,
     })
+}
+
+// Where the walk of a path in one layer leads: to a directory's row, past the layer, or no further.
+#[derive(Drop)]
+pub(crate) enum Arrival {
+    Directory { row: u32, next: Path, closed: bool },
+    Past(Path),
+    End,
+}
+
+// Where the walk of a path leads.
+pub(crate) fn arrive(alloc: Global, sheet: &Sheet, path: &Path) -> Result<Arrival, AllocError>
+    ensures { IfOk result (λ arrival. IsArrival sheet.now path.now arrival) }
+{
+    let names = path.names();
+    let Descent {
+        row,
+        depth,
+        next,
+        closed,
+    } = descend(alloc, sheet, path)?;
+    if depth == names.len() {
+        return Ok(Arrival::Directory { row, next, closed });
+    }
+    if let Some(_file) = sheet.child(row, &names[depth]) {
+        return Ok(Arrival::End);
+    }
+    if closed {
+        return Ok(Arrival::End);
+    }
+    Ok(Arrival::Past(next.joined(alloc, &names[depth..])?))
 }
 
 // The row of the directory `name` in the directory of a row, and `None` where there is none.
