@@ -1,6 +1,7 @@
 mod Ascent
 mod Plain
 mod BlobLemmas
+mod BlobRanges
 mod DataLemmas
 mod FindLemmas
 mod LayerFacts
