@@ -19,32 +19,7 @@ use Rattle.ovl_inode.specs.Bytes.{is_digest, are_bytes}
 use Rattle.ovl_check.specs.declared.blobs.Blob.{Blob}
 use Rattle.ovl_check.specs.Blobs.{BlobView, blob_view, blob_views, digest_cmp, are_in_order, AreNamedByDigests, first_digits, wrong_names, wrong_names_under}
 use Rattle.ovl_check.proofs.BlobLemmas.{in_order-pairs}
-
--- ---- a list without what fails a test at its ends
-
-filter-after : {X : Type 0} (p : X → Bool) (xs : List X) (start : ℕ) → ((k : ℕ) (d : X) → k < start → k < length xs → p (get_or xs k d) ≡ false) → filter p (drop start xs) ≡ filter p xs
-filter-after p xs zero none = refl
-filter-after p [] (suc start) none = refl
-filter-after p (x ∷ xs) (suc start) none =
-    filter-after p xs start (λ k d early inside. none (suc k) d (omega arith) (omega arith))
-    ∙ sym (ap (λ b. cond b (x ∷ filter p xs) (filter p xs)) (none 0 x (omega arith) (omega arith)))
-
-filter-before : {X : Type 0} (p : X → Bool) (xs : List X) (end : ℕ) → ((k : ℕ) (d : X) → end ≤ k → k < length xs → p (get_or xs k d) ≡ false) → filter p (take end xs) ≡ filter p xs
-filter-before p [] zero none = refl
-filter-before p [] (suc end) none = refl
-filter-before p (x ∷ xs) zero none =
-    filter-before p xs zero (λ k d late inside. none (suc k) d (omega arith) (omega arith))
-    ∙ sym (ap (λ b. cond b (x ∷ filter p xs) (filter p xs)) (none 0 x (omega arith) (omega arith)))
-filter-before p (x ∷ xs) (suc end) none =
-    ap (λ rest. cond (p x) (x ∷ rest) rest) (filter-before p xs end (λ k d late inside. none (suc k) d (omega arith) (omega arith)))
-
-filter-map : {X Y : Type 0} (f : X → Y) (p : Y → Bool) (xs : List X) → filter p (map f xs) ≡ map f (filter (λ x. p (f x)) xs)
-filter-map f p [] = refl
-filter-map {X} {Y} f p (x ∷ xs) = by (p (f x)) (filter-map f p xs)
-  where
-    by : (b : Bool) → filter p (map f xs) ≡ map f (filter (λ x. p (f x)) xs) → cond b (f x ∷ filter p (map f xs)) (filter p (map f xs)) ≡ map f (cond b (x ∷ filter (λ x. p (f x)) xs) (filter (λ x. p (f x)) xs))
-    by true later = ap (λ rest. f x ∷ rest) later
-    by false later = later
+use Rattle.ovl_check.proofs.Filters.{filter-after, filter-before, filter-map}
 
 -- ---- the first bytes of names
 

@@ -1,4 +1,4 @@
--- The size of a metacopy file's data, by what the layers below show.
+-- The size of the data below metacopy files, by what is shown.
 use Rattle.std.proofs.Common.{◌≡◌, ℕ, Bool, true, false, cond, Option, Some, None, List, [], ◌∷◌, refl, sym, ap, ◌∙◌}
 use Rattle.std.specs.Prelude.{◌&&◌, not}
 use Rattle.std.specs.Option.{option_map}
@@ -49,7 +49,8 @@ below-data (inode ∷ found) contents is = by (below-data found contents) (is_me
     by later false true e is = ap is_data (sym (ap (λ (o : Option Inode). elim o as (λ _. Inode) [ Some i ↦ i | None ↦ contents ]) is)) ∙ e
     by later false false e is = let bad : None ≡ Some contents = is in cc
 
-shown-size : (found : List Inode) → size_shown (shown_of found) ≡ option_map size_of (data_below found)
+-- what is shown has the size of the data below
+pub shown-size : (found : List Inode) → size_shown (shown_of found) ≡ option_map size_of (data_below found)
 shown-size [] = refl
 shown-size (inode ∷ found) = by (is_regular inode && has_metacopy inode) refl
   where
@@ -88,22 +89,3 @@ shown-size (inode ∷ found) = by (is_regular inode && has_metacopy inode) refl
             ap size_shown (shown_of-broken inode found bare (data_of-bad inode found meta parts.0 parts.1))
             ∙ sym (ap (option_map size_of) (data_below-other inode found meta parts.1))
     by false plain = full (is_regular inode) (has_metacopy inode) refl refl plain
-
-same_mark : (mark : Mark) → is_meta (Some mark) ≡ is_metacopy_mark mark
-same_mark (Meta redirect) = refl
-same_mark _ = refl
-
-meta-inode : (layer : Entries) (path : PathNames) (inode : Inode) → entry_at layer path ≡ Some inode → is_meta (mark_at layer path) ≡ true → is_metacopy inode ≡ true
-meta-inode layer [] inode here is = let bad : false ≡ true = is in cc
-meta-inode layer (name ∷ names) inode here is =
-    sym (same_mark (mark_of inode))
-    ∙ (sym (ap (λ (o : Option Inode). is_meta (elim o as (λ _. Option Mark) [ Some i ↦ Some (mark_of i) | None ↦ None ])) here) ∙ is)
-
-pub data-size : (layer : Entries) (below : StackView) (path : PathNames) (inode : Inode) (step : Step) → step ≡ walk layer path → step.closed ≡ false → entry_at layer path ≡ Some inode → is_meta (mark_at layer path) ≡ true → size_shown (look below step.next) ≡ option_map size_of (data_at layer below path inode)
-data-size layer below path inode step is opened here meta =
-    let metacopy = meta-inode layer path inode here meta in
-    let parts = bare_file inode (metacopy-file inode metacopy).1 in
-    shown-size (things_found below.layers step.next)
-    ∙ (sym (ap (option_map size_of) (data_of-metacopy inode (things_found below.layers step.next) metacopy parts.0 parts.1))
-    ∙ (λ j. option_map size_of (data_of (inode ∷ cond (sym opened j) [] (things_found below.layers step.next))))
-    ∙ ap (λ (s : Step). option_map size_of (data_of (inode ∷ cond s.closed [] (things_found below.layers s.next)))) is)

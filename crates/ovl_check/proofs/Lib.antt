@@ -6,7 +6,11 @@ mod DataLemmas
 mod FindLemmas
 mod LayerFacts
 mod OutLemmas
-mod CodeLemmas
+mod Filters
+mod MarkLemmas
+mod HeldLemmas
+mod GatherLemmas
+mod FactLemmas
 mod DoubleLemmas
 mod MemberLemmas
 mod FinishLemmas
