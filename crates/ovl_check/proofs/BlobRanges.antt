@@ -1,5 +1,5 @@
 -- Among ascending blobs, those whose names begin with two digits are a range.
-use Rattle.std.proofs.Common.{◌≡◌, ℕ, zero, suc, ◌+◌, ◌≤◌, ◌<◌, inl, inr, true, false, cond, Bool, Result, Ok, Err, List, [], ◌∷◌, length, get_or, take, drop, map, refl, sym, ap, ◌∙◌, subst, arith, length-drop}
+use Rattle.std.proofs.Common.{◌≡◌, ℕ, zero, suc, ◌+◌, ◌≤◌, ◌<◌, inl, inr, true, false, Bool, Result, Ok, Err, List, [], ◌∷◌, length, get_or, take, drop, map, refl, sym, ap, ◌∙◌, subst, arith, length-drop}
 use Rattle.std.specs.Prelude.{◌==◌, filter, slice_index, nat_lt, nat_le, MatchResult}
 use Rattle.std.specs.Result.{is_err}
 use Rattle.std.specs.List.Sorted.{IsNonDecreasingBy, IsPartitionPoint}
@@ -19,7 +19,7 @@ use Rattle.ovl_inode.specs.Bytes.{is_digest, are_bytes}
 use Rattle.ovl_check.specs.declared.blobs.Blob.{Blob}
 use Rattle.ovl_check.specs.Blobs.{BlobView, blob_view, blob_views, digest_cmp, are_in_order, AreNamedByDigests, first_digits, wrong_names, wrong_names_under}
 use Rattle.ovl_check.proofs.BlobLemmas.{in_order-pairs}
-use Rattle.ovl_check.proofs.Filters.{filter-after, filter-before, filter-map}
+use Rattle.ovl_check.proofs.ListFacts.{filter-after, filter-before, filter-map}
 
 -- ---- the first bytes of names
 

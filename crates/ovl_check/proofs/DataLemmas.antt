@@ -2,23 +2,14 @@
 use Rattle.std.proofs.Common.{◌≡◌, ℕ, Bool, true, false, cond, Option, Some, None, List, [], ◌∷◌, refl, sym, ap, ◌∙◌}
 use Rattle.std.specs.Prelude.{◌&&◌, not}
 use Rattle.std.specs.Option.{option_map}
-use Rattle.ovl_names.specs.Paths.{PathNames}
 use Rattle.ovl_names.proofs.Ascending.{both}
 use Rattle.ovl_inode.specs.declared.inodes.Inode.{Inode}
 use Rattle.ovl_inode.specs.declared.inodes.Kind.{Kind}
 use Rattle.ovl_inode.specs.declared.inodes.Kind.TheVariants.{File}
-use Rattle.ovl_inode.specs.declared.marks.Mark.{Mark}
-use Rattle.ovl_inode.specs.declared.marks.Mark.TheVariants.{Meta}
 use Rattle.ovl_inode.specs.Kinds.{size_of}
-use Rattle.ovl_inode.specs.Marks.{mark_of, is_metacopy, is_metacopy_mark, is_regular, has_metacopy, is_data}
-use Rattle.ovl_manifest.specs.Layers.{Entries, entry_at}
-use Rattle.ovl_lookup.specs.declared.steps.Step.{Step}
-use Rattle.ovl_lookup.specs.Walk.{walk, mark_at}
-use Rattle.ovl_lookup.specs.Stacks.{StackView}
-use Rattle.ovl_lookup.specs.Trace.{things_found}
-use Rattle.ovl_lookup.specs.Merged.{look, shown_of, data_of}
+use Rattle.ovl_inode.specs.Marks.{is_metacopy, is_regular, has_metacopy, is_data}
+use Rattle.ovl_lookup.specs.Merged.{shown_of}
 use Rattle.ovl_lookup.specs.Passes.{data_below}
-use Rattle.ovl_lookup.specs.Sound.{is_meta, data_at}
 use Rattle.ovl_lookup.proofs.FoundLemmas.{metacopy-file, bare_file, data_of-metacopy, data_of-bad, data_below-metacopy, data_below-data, data_below-other, shown_of-full, shown_of-contents, shown_of-broken}
 use Rattle.ovl_check.specs.Checks.{size_shown}
 

@@ -7,14 +7,15 @@ use Rattle.std.proofs.Math.Bool.{and-false}
 use Rattle.std.proofs.lemmas.Bool.{or_parts}
 use Rattle.std.proofs.lemmas.List.{map-append}
 use Rattle.std.proofs.lemmas.List.Elements.{filter_more}
-use Rattle.ovl_names.specs.Paths.{PathNames, parent_path}
+use Rattle.ovl_names.specs.Names.{PathName}
+use Rattle.ovl_names.specs.Paths.{PathNames, child_path, parent_path}
 use Rattle.ovl_inode.specs.declared.inodes.Inode.{Inode}
 use Rattle.ovl_inode.specs.declared.marks.Mark.{Mark}
 use Rattle.ovl_inode.specs.declared.marks.Mark.TheVariants.{Whiteout as WhiteoutMark, DirMoved, Meta}
 use Rattle.ovl_inode.specs.Kinds.{size_of, blob_of}
 use Rattle.ovl_inode.specs.Marks.{is_directory, is_regular, is_whiteout, attribute_is}
 use Rattle.ovl_inode.specs.Attributes.{impure_name}
-use Rattle.ovl_manifest.specs.Layers.{Entries}
+use Rattle.ovl_manifest.specs.Layers.{Entries, entry_at}
 use Rattle.ovl_lookup.specs.declared.looks.Look.{Look}
 use Rattle.ovl_lookup.specs.declared.looks.Look.TheVariants.{Nothing as NothingLook, Shown, Broken}
 use Rattle.ovl_lookup.specs.Walk.{mark_at, walk, natural_path}
@@ -23,10 +24,10 @@ use Rattle.ovl_lookup.specs.Merged.{look, is_nothing, is_shown_directory}
 use Rattle.ovl_lookup.specs.Sound.{is_moved, is_malformed, is_meta, is_seen_there, data_at, has_other_size, redirect_is_lost, redirect_is_of_wrong_kind, redirect_is_open, data_is_missing, data_is_of_other_size}
 use Rattle.ovl_check.specs.declared.findings.Code.{Code}
 use Rattle.ovl_check.specs.declared.findings.Code.TheVariants.{RedirectForm, RedirectLost, RedirectKind, RedirectDouble, RedirectOpen, DataMissing, DataSize, BlobMissing, BlobSize, BlobDigest, OrphanWhiteout, WhiteoutInOpaque as InOpaqueCode, WhiteoutUnmarked, ImpureMissing, MarkIgnored}
+use Rattle.ovl_check.specs.declared.findings.Finding.{Finding}
 use Rattle.ovl_check.specs.declared.facts.Content.TheVariants.{Directory as DirectoryShown, Other as OtherShown}
 use Rattle.ovl_check.specs.declared.facts.KindFacts.{KindFacts}
 use Rattle.ovl_check.specs.declared.facts.KindFacts.TheVariants.{WhiteoutInOpaque, Whiteout, Moved, Metacopy}
-use Rattle.ovl_check.specs.declared.facts.OldPlace.{OldPlace}
 use Rattle.ovl_check.specs.declared.facts.OldPlace.TheVariants.{Hidden, Open}
 use Rattle.ovl_check.specs.declared.facts.NamedBlob.{NamedBlob}
 use Rattle.ovl_check.specs.declared.facts.NamedBlob.TheVariants.{Unnamed}
@@ -34,16 +35,16 @@ use Rattle.ovl_check.specs.declared.facts.Facts.{Facts}
 use Rattle.ovl_check.specs.Codes.{all_codes}
 use Rattle.ovl_check.specs.Findings.{finding}
 use Rattle.ovl_check.specs.Blobs.{BlobView, is_wrong as is_wrong_blob}
-use Rattle.ovl_check.specs.Checks.{CheckView, layer_at, layers_below, holds_alone, findings_alone}
+use Rattle.ovl_check.specs.Checks.{CheckView, layer_at, layers_below, holds_alone, findings_alone, findings_at_path}
 use Rattle.ovl_check.specs.Conditions.{find_blob, has_blob, is_in_opaque as is_in_opaque_at, is_in_marked, whiteout_is_orphan, whiteout_is_in_opaque, whiteout_is_unmarked, blob_is_missing, blob_is_of_other_size, blob_is_wrong, opaque_is_ignored, redirect_is_ignored, metacopy_is_ignored, whiteout_is_ignored}
-use Rattle.ovl_check.specs.Facts.{AreFacts, tells, content_of, old_place, kind_at, blob_found, blob_named, is_whiteout_mark, is_lost, is_of_wrong_kind, is_open, lacks_data, has_data_of_other_size, is_missing, is_of_other_length, is_wrong, is_orphan, is_in_opaque, is_outside_marked, is_unmarked, mark_says_nothing}
+use Rattle.ovl_check.specs.Facts.{AreFacts, tells, found_at_child, content_of, kind_at, blob_found, blob_named, is_whiteout_mark, is_lost, is_of_wrong_kind, is_open, lacks_data, has_data_of_other_size, is_missing, is_of_other_length, is_wrong, is_orphan, is_in_opaque, is_outside_marked, is_unmarked, mark_says_nothing}
 
 -- a test that fails for both kinds of whiteouts
 never-whiteout : (test : KindFacts → Bool) (opaque marked hides : Bool) → test WhiteoutInOpaque ≡ false → test (Whiteout marked hides) ≡ false → test (cond opaque WhiteoutInOpaque (Whiteout marked hides)) ≡ false
 never-whiteout test true marked hides one other = one
 never-whiteout test false marked hides one other = other
 
-none_kept : {X : Type 0} (test : X → Bool) (xs : List X) → list_any test xs ≡ false → filter test xs ≡ []
+pub none_kept : {X : Type 0} (test : X → Bool) (xs : List X) → list_any test xs ≡ false → filter test xs ≡ []
 none_kept test [] none = refl
 none_kept {X} test (x ∷ xs) none =
     let parts = or_parts (test x) (list_any test xs) none in
@@ -264,9 +265,21 @@ module _ (work : CheckView) (i : ℕ) (path : PathNames) (facts : Facts) (are : 
   pub codes-told : filter (tells facts) all_codes ≡ filter (holds_alone work i (path, inode)) all_codes
   codes-told = λ j. filter (λ code. told code j) all_codes
 
-  -- where they tell none, nothing is found
-  pub none-told : list_any (tells facts) all_codes ≡ false → [] ≡ findings_alone work i (path, inode)
-  none-told none = sym (ap (map (finding i path)) (sym codes-told ∙ none_kept (tells facts) all_codes none))
+-- what is found at a directory, and at what it holds, by the facts of each
+module _ (work : CheckView) (i n : ℕ) (same : n ≡ i) (path : PathNames) (inode : Inode) (facts : Facts) (own : facts.inode.now ≡ inode) (are : AreFacts work n path facts) where
+  alone : map (finding i path) (filter (tells facts) all_codes) ≡ findings_alone work i (path, inode)
+  alone =
+      ap (map (finding i path)) (codes-told work n path facts are)
+      ∙ (λ j. map (finding i path) (filter (holds_alone work (same j) (path, own j)) all_codes))
+
+  pub found-at : entry_at (layer_at work.stack i) path ≡ Some inode → map (finding i path) (filter (tells facts) all_codes) ≡ findings_at_path work i path
+  found-at here = alone ∙ sym (ap (λ (o : Option Inode). elim o as (λ _. List Finding) [ Some found ↦ findings_alone work i (path, found) | None ↦ [] ]) here)
+
+  pub found-child : (directory : PathNames) (name : PathName) → path ≡ child_path directory name → is_directory inode ≡ false → map (finding i path) (filter (tells facts) all_codes) ≡ found_at_child work i directory (name, inode)
+  found-child directory name is none =
+      alone
+      ∙ (ap (λ (p : PathNames). findings_alone work i (p, inode)) is
+      ∙ sym (ap (λ b. cond b [] (findings_alone work i (child_path directory name, inode))) none))
 
 -- the loop over the codes
 pub codes-more : {X Y : Type 0} (f : X → Y) (test : X → Bool) (xs : List X) (i : ℕ) (d : X) (start old new : List Y) (answer : Bool) → i < length xs → old ≡ start ++ map f (filter test (take i xs)) → answer ≡ test (get_or xs i d) → new ≡ old ++ cond answer (f (get_or xs i d) ∷ []) [] → new ≡ start ++ map f (filter test (take (i + 1) xs))

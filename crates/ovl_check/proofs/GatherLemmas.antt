@@ -1,29 +1,28 @@
 -- The facts of a directory and of what it holds, by what is gathered of it.
-use Rattle.std.proofs.Common.{◌≡◌, ℕ, ◌⊎◌, inl, inr, Bool, true, false, cond, Option, Some, None, List, [], ◌∷◌, ◌++◌, length, drop, refl, sym, ap, ◌∙◌}
-use Rattle.std.specs.Prelude.{◌||◌, not, codes}
+use Rattle.std.proofs.Common.{◌≡◌, ◌⊎◌, inl, inr, Bool, true, false, cond, Option, Some, None, [], ◌∷◌, ◌++◌, length, drop, refl, sym, ap, ◌∙◌}
+use Rattle.std.specs.Prelude.{◌||◌, ◌↔◌, IsTrue, not, codes}
 use Rattle.std.specs.Option.{option_map}
 use Rattle.std.proofs.Math.Seq.{drop-append_seam}
+use Rattle.std.proofs.lemmas.Bool.{false_from_ne_true}
 use Rattle.ovl_names.specs.Names.{PathName}
-use Rattle.ovl_names.specs.Paths.{PathNames, child_path, parent_path}
+use Rattle.ovl_names.specs.Paths.{PathNames, child_path, parent_path, is_root}
 use Rattle.ovl_inode.specs.declared.inodes.Inode.{Inode}
 use Rattle.ovl_inode.specs.declared.marks.Mark.{Mark}
-use Rattle.ovl_inode.specs.declared.marks.Mark.TheVariants.{Whiteout as WhiteoutMark, DirOpaque, DirMoved, DirBad, DirPlain, Meta, MetaBad, Leaf}
+use Rattle.ovl_inode.specs.declared.marks.Mark.TheVariants.{Whiteout as WhiteoutMark, DirMoved, DirPlain, Meta}
 use Rattle.ovl_inode.specs.declared.marks.Redirect.{Redirect}
 use Rattle.ovl_inode.specs.Attributes.{opaque_name}
 use Rattle.ovl_inode.specs.Kinds.{size_of}
 use Rattle.ovl_inode.specs.Marks.{mark_of, is_whiteout, is_directory, is_metacopy, is_metacopy_mark, attribute_is}
-use Rattle.ovl_manifest.specs.Layers.{Entries, entry_at, is_directory_at}
+use Rattle.ovl_manifest.specs.Layers.{Entries, entry_at}
 use Rattle.ovl_lookup.specs.declared.steps.Step.{Step}
 use Rattle.ovl_lookup.specs.Walk.{mark_at, walk, walk_beyond, walk_to_file, turn, is_shut, natural_path}
 use Rattle.ovl_lookup.specs.Stacks.{StackView}
 use Rattle.ovl_lookup.specs.Trace.{things_found}
 use Rattle.ovl_lookup.specs.Merged.{look, is_nothing, data_of}
-use Rattle.ovl_lookup.specs.Passes.{data_below}
-use Rattle.ovl_lookup.specs.Sound.{data_at, is_seen_there}
+use Rattle.ovl_lookup.specs.Sound.{data_at}
 use Rattle.ovl_lookup.proofs.WalkFacts.{walk-whole, walk-stop, parent_path-child}
 use Rattle.ovl_lookup.proofs.FoundLemmas.{metacopy-file, bare_file, data_of-metacopy}
 use Rattle.ovl_check.specs.declared.directories.Directory.{Directory}
-use Rattle.ovl_check.specs.declared.facts.KindFacts.{KindFacts}
 use Rattle.ovl_check.specs.declared.facts.KindFacts.TheVariants.{WhiteoutInOpaque, Whiteout, Moved, Metacopy, Other}
 use Rattle.ovl_check.specs.Conditions.{is_opaque, is_in_opaque, is_in_marked}
 use Rattle.ovl_check.specs.Facts.{IsGathered, old_place, data_size, data_size_on, whiteout_in, whiteout_at, kind_at, is_whiteout_mark}
@@ -33,6 +32,10 @@ use Rattle.ovl_check.proofs.MarkLemmas.{is_directory_mark, directory-stays, whit
 pub mark-child : (layer : Entries) (directory : PathNames) (name : PathName) (inode : Inode) → entry_at layer (child_path directory name) ≡ Some inode → mark_at layer (child_path directory name) ≡ Some (mark_of inode)
 mark-child layer [] name inode here = ap (λ (o : Option Inode). elim o as (λ _. Option Mark) [ Some i ↦ Some (mark_of i) | None ↦ None ]) here
 mark-child layer (first ∷ directory) name inode here = ap (λ (o : Option Inode). elim o as (λ _. Option Mark) [ Some i ↦ Some (mark_of i) | None ↦ None ]) here
+
+pub root-told : (b : Bool) (path : PathNames) → IsTrue b ↔ (path ≡ []) → b ≡ is_root path
+root-told b [] told = told.1 refl
+root-told b (name ∷ path) told = false_from_ne_true b (λ t. let bad : name ∷ path ≡ [] = told.0 t in absurd (cc))
 
 -- ---- the directory itself
 

@@ -6,7 +6,6 @@ use Rattle.std.proofs.lemmas.List.Folds.{flat_map-map}
 use Rattle.std.proofs.lemmas.Simd.{map-map}
 use Rattle.ovl_names.specs.Names.{PathName}
 use Rattle.ovl_names.specs.Paths.{PathNames, child_path}
-use Rattle.ovl_names.proofs.Ascending.{both}
 use Rattle.ovl_inode.specs.declared.inodes.Inode.{Inode}
 use Rattle.ovl_inode.specs.Attributes.{origin_name}
 use Rattle.ovl_inode.specs.Marks.{is_directory, has_attribute}
@@ -20,7 +19,7 @@ use Rattle.ovl_check.specs.Checks.{CheckView, layer_at, findings_alone, findings
 use Rattle.ovl_check.specs.Conditions.{has_origin_at}
 use Rattle.ovl_check.specs.Facts.{held, held_in, child_seen, found_at_child}
 use Rattle.ovl_check.proofs.Ascent.{list_all-Every}
-use Rattle.ovl_check.proofs.Filters.{filter-map, any-map}
+use Rattle.ovl_check.proofs.ListFacts.{filter-map, any-map}
 use Rattle.ovl_check.proofs.LayerFacts.{below-In}
 
 -- ---- by name

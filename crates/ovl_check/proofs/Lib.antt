@@ -6,7 +6,7 @@ mod DataLemmas
 mod FindLemmas
 mod LayerFacts
 mod OutLemmas
-mod Filters
+mod ListFacts
 mod MarkLemmas
 mod HeldLemmas
 mod GatherLemmas

@@ -15,7 +15,7 @@ use Rattle.ovl_check.specs.Blobs.{BlobView}
 use Rattle.ovl_check.specs.Conditions.{holds}
 use Rattle.ovl_check.specs.Findings.{finding, findings_at, findings_in, findings_from}
 use Rattle.ovl_check.specs.Laws.{FindingsTellSoundness}
-use Rattle.ovl_check.proofs.Filters.{any-map}
+use Rattle.ovl_check.proofs.ListFacts.{any-map}
 
 -- ---- tests of lists
 

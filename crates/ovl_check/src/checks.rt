@@ -1,4 +1,4 @@
-ghost use Rattle.std.specs.Prelude.{◌≡◌, ◌<◌, ◌++◌, ◌∷◌, [], if◌then◌else◌, true, Some, IfOk, OnOk, length, map, filter};
+ghost use Rattle.std.specs.Prelude.{◌≡◌, ◌<◌, ◌++◌, ◌∷◌, [], if◌then◌else◌, true, Some, None, IfOk, OnOk, length, map, filter};
 ghost use Rattle.std.specs.List.{flat_map};
 ghost use Rattle.ovl_names.specs.Paths.{child_path};
 ghost use Rattle.ovl_manifest.specs.Layers.{entry_at};
@@ -91,14 +91,31 @@ fn directory_out(
 {
     let mut findings = Vec::new(alloc);
     push_directory(alloc, work, layer, &directory, &mut findings)?;
-    push_files(alloc, work, layer, &directory, &directory.children, &mut findings)?;
+    push_files(
+        alloc,
+        work,
+        layer,
+        &directory,
+        &directory.children,
+        &mut findings,
+    )?;
     let moved = is_moved(&directory.mark);
     let Directory { next, closed, .. } = directory;
     Ok(CheckOut {
         findings,
-        place: if closed { None } else { Some(next) },
+        place: place_of(next, closed),
         moved,
     })
+}
+
+// The path that goes on from a walk, where that is open.
+fn place_of(next: Path, closed: bool) -> Option<Path>
+    ensures { result ≡ (if closed then None else Some next) }
+{
+    if closed {
+        return None;
+    }
+    Some(next)
 }
 
 fn nothing(alloc: Global) -> CheckOut

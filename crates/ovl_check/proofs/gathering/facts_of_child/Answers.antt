@@ -35,7 +35,7 @@ returns c =
         kind = elim c.match-mark.branch [
           | in-Whiteout+in_ok-kind-in-Whiteout w ↦ w.kind-is ∙ (w.in_ok-kind-in-Whiteout.ensures ∙ child-whiteout layer below directory gathered name inode c.requires.entry c.requires.none c.args.mark.now w.in-Whiteout.is)
           | in-Meta+in_ok-data_size-in-Meta w ↦ w.kind-is ∙ (ap (λ size. Metacopy size) w.in_ok-data_size-in-Meta.ensures ∙ child-metacopy layer below directory gathered name inode c.requires.entry c.requires.none c.args.mark.now w.in-Meta.redirect c.requires.marked w.in-Meta.is)
-          | in_default w ↦ w.kind-is ∙ child-other layer below directory gathered name inode c.requires.entry c.requires.none c.args.mark.now c.requires.marked ? ?
+          | in_default w ↦ w.kind-is ∙ child-other layer below directory gathered name inode c.requires.entry c.requires.none c.args.mark.now c.requires.marked w.in_default.not-Whiteout w.in_default.not-Meta
         ];
         blob = c.blob_named.ensures;
         origin = sym (ap (list_any (λ other. has_origin_at layer (child_path path other))) (names_below-none layer path gathered.layered none));

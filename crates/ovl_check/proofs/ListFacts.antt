@@ -1,7 +1,8 @@
--- Lists through a test, through a map, and cut at their ends.
-use Rattle.std.proofs.Common.{◌≡◌, ℕ, zero, suc, ◌≤◌, ◌<◌, Bool, true, false, cond, List, [], ◌∷◌, length, get_or, take, drop, map, refl, sym, ap, ◌∙◌, arith}
+-- Lists through a test and through a map, and their fronts and ends.
+use Rattle.std.proofs.Common.{◌≡◌, ℕ, zero, suc, ◌+◌, ◌≤◌, ◌<◌, Bool, true, false, cond, List, [], ◌∷◌, ◌++◌, length, get_or, take, drop, map, refl, sym, ap, ◌∙◌, arith, append_assoc}
 use Rattle.std.specs.Prelude.{◌||◌, filter}
-use Rattle.std.specs.List.{list_any}
+use Rattle.std.specs.List.{list_any, flat_map}
+use Rattle.std.proofs.lemmas.List.{take_more, flat_map_more}
 
 -- a list without what fails a test at its front, and at its end
 pub filter-after : {X : Type 0} (p : X → Bool) (xs : List X) (start : ℕ) → ((k : ℕ) (d : X) → k < start → k < length xs → p (get_or xs k d) ≡ false) → filter p (drop start xs) ≡ filter p xs
@@ -31,3 +32,11 @@ filter-map {X} {Y} f p (x ∷ xs) = by (p (f x)) (filter-map f p xs)
 pub any-map : {X Y : Type 0} (f : X → Y) (p : Y → Bool) (xs : List X) → list_any p (map f xs) ≡ list_any (λ x. p (f x)) xs
 any-map f p [] = refl
 any-map f p (x ∷ xs) = ap (λ b. p (f x) || b) (any-map f p xs)
+
+-- the loop over what is found
+pub flat-more : {X Y : Type 0} (f : X → List Y) (xs : List X) (i : ℕ) (d : X) (start old new : List Y) → i < length xs → old ≡ start ++ flat_map f (take i xs) → new ≡ old ++ f (get_or xs i d) → new ≡ start ++ flat_map f (take (i + 1) xs)
+flat-more f xs i d start old new inside so_far added =
+    added
+    ∙ (ap (λ ys. ys ++ f (get_or xs i d)) so_far
+    ∙ (append_assoc start (flat_map f (take i xs)) (f (get_or xs i d))
+    ∙ ap (λ ys. start ++ ys) (flat_map_more f [] (take i xs) (get_or xs i d) ∙ ap (flat_map f) (sym (take_more xs i d inside)))))
