@@ -16,4 +16,5 @@ pub mod ViewLemmas
 pub mod PlaceLemmas
 pub mod TopLemmas
 pub mod ViewSteps
+pub mod KidNames
 mod Rows
