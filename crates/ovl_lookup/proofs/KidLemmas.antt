@@ -78,7 +78,7 @@ turn_about true false c = refl
 turn_about false true c = refl
 turn_about false false c = refl
 
-any-insert : (q name : PathName) (names : List PathName) → list_any (name_eq q) (insert_key name_cmp names name) ≡ (name_eq q name || list_any (name_eq q) names)
+pub any-insert : (q name : PathName) (names : List PathName) → list_any (name_eq q) (insert_key name_cmp names name) ≡ (name_eq q name || list_any (name_eq q) names)
 any-insert q name [] = refl
 any-insert q name (first ∷ names) = by (any-insert q name names) (name_cmp name first) refl
   where
@@ -97,7 +97,7 @@ any-put q names (name ∷ more) =
     ∙ turn_about (name_eq q name) (list_any (name_eq q) names) (list_any (name_eq q) more))
 
 -- those that pass a test
-any-filter : (q : PathName) (test : PathName → Bool) (names : List PathName) → list_any (name_eq q) (filter test names) ≡ (list_any (name_eq q) names && test q)
+pub any-filter : (q : PathName) (test : PathName → Bool) (names : List PathName) → list_any (name_eq q) (filter test names) ≡ (list_any (name_eq q) names && test q)
 any-filter q test [] = refl
 any-filter q test (name ∷ names) = by (any-filter q test names) (test name) refl (name_eq q name) refl
   where

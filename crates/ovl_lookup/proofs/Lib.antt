@@ -8,4 +8,14 @@ pub mod ListLemmas
 pub mod LawLemmas
 pub mod Notation
 pub mod RowStacks
+pub mod WalkLaws
+pub mod LookLaws
+pub mod EntryLaws
+pub mod ChildLaws
+pub mod ViewLemmas
+pub mod PlaceLemmas
+pub mod TopLemmas
+pub mod DirViewLemmas
+pub mod ViewSteps
+pub mod KidNames
 mod Rows

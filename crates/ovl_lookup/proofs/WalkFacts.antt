@@ -1,6 +1,8 @@
 -- A walk ends at its longest prefix that is a directory of the layer.
 use Rattle.std.proofs.Common.{◌≡◌, ℕ, suc, ◌+◌, ◌-◌, Bool, true, false, cond, Option, Some, None, is_some, List, [], ◌∷◌, ◌++◌, length, take, drop, refl, sym, ap, ◌∙◌, subst, append_assoc, arith, length-append, ◌<◌, get_or, add-one, take-suc, drop-cons, length-drop, take_all, ◌≤◌}
-use Rattle.std.specs.Prelude.{◌||◌, ◌&&◌, unwrap_or}
+use Rattle.std.specs.Prelude.{◌||◌, ◌&&◌, unwrap_or, IfSome}
+use Rattle.std.specs.Option.{option_map}
+use Rattle.std.proofs.lemmas.Option.{slice_get_read}
 use Rattle.std.specs.List.{list_all}
 use Rattle.std.specs.Map.{lookup}
 use Rattle.std.specs.Cmp.Lexicographic.{pointwise_decides, bytes_decides}
@@ -12,10 +14,9 @@ use Rattle.ovl_inode.specs.declared.inodes.Inode.{Inode}
 use Rattle.ovl_inode.specs.declared.marks.Mark.{Mark}
 use Rattle.ovl_inode.specs.Marks.{mark_of, is_directory}
 use Rattle.ovl_manifest.specs.Layers.{Entries, entry_at, is_directory_at, IsLayer, has_parent}
-use Rattle.ovl_manifest.specs.LayerTrees.{entries_in, entries_under}
-use Rattle.ovl_manifest.proofs.NodeLemmas.{entry_at-under}
 use Rattle.ovl_lookup.specs.Walk.{mark_at, origin_path, name_in_lower, is_closing, nothing_found, turn, is_shut, walk, walk_from, walk_beyond}
-use Rattle.ovl_lookup.specs.Passes.{entered_path, entered_closed}
+use Rattle.ovl_lookup.specs.declared.steps.Descent.{Descent}
+use Rattle.ovl_lookup.specs.Passes.{IsDescent, entered_path, entered_closed}
 use Rattle.ovl_lookup.proofs.Turns.{turn-child, turn-moved, is_shut-child, is_shut-moved}
 
 pub longest-whole : (test : PathNames → Bool) (path : PathNames) → test path ≡ true → longest test path ≡ path
@@ -108,93 +109,57 @@ is_shut-entered layer path name mark is = by (is_some (origin_path (Some mark)))
     by false e = is_shut-child layer path name (ap (λ m. is_some (origin_path m)) is ∙ e) ∙ ap (λ m. is_shut layer path || is_closing m) is
     by true e = is_shut-moved layer path name (ap (λ m. is_some (origin_path m)) is ∙ e)
 
-mark_at-child : (layer : Entries) (path : PathNames) (name : PathName) (inode : Inode) → entry_at layer (child_path path name) ≡ Some inode → mark_at layer (child_path path name) ≡ Some (mark_of inode)
-mark_at-child layer [] name inode here = by (entry_at layer (child_path [] name)) here
-  where
-    by : (found : Option Inode) → found ≡ Some inode → elim found as (λ _. Option Mark) [ Some inode ↦ Some (mark_of inode) | None ↦ None ] ≡ Some (mark_of inode)
-    by None e = cc
-    by (Some other) e = ap (λ (o : Option Inode). elim o as (λ _. Option Mark) [ Some inode ↦ Some (mark_of inode) | None ↦ None ]) e
-mark_at-child layer (first ∷ path) name inode here = by (entry_at layer (child_path (first ∷ path) name)) here
-  where
-    by : (found : Option Inode) → found ≡ Some inode → elim found as (λ _. Option Mark) [ Some inode ↦ Some (mark_of inode) | None ↦ None ] ≡ Some (mark_of inode)
-    by None e = cc
-    by (Some other) e = ap (λ (o : Option Inode). elim o as (λ _. Option Mark) [ Some inode ↦ Some (mark_of inode) | None ↦ None ]) e
+marked : (found : Option Inode) → elim found as (λ _. Option Mark) [ Some inode ↦ Some (mark_of inode) | None ↦ None ] ≡ option_map mark_of found
+marked None = refl
+marked (Some inode) = refl
 
--- a place goes on by one name
-entries_under-child : (path : PathNames) (name : PathName) (entries : Entries) → entries_under (child_path path name) entries ≡ entries_in name (entries_under path entries)
-entries_under-child [] name entries = refl
-entries_under-child (first ∷ path) name entries = entries_under-child path name (entries_in first entries)
+-- the mark of the entry of a name
+mark_at-child : (layer : Entries) (path : PathNames) (name : PathName) (mark : Mark) → option_map mark_of (entry_at layer (child_path path name)) ≡ Some mark → mark_at layer (child_path path name) ≡ Some mark
+mark_at-child layer [] name mark here = marked (entry_at layer (child_path [] name)) ∙ here
+mark_at-child layer (first ∷ path) name mark here = marked (entry_at layer (child_path (first ∷ path) name)) ∙ here
 
--- the test of a directory at what is found
-abbrev directory_found : Option Inode → Bool
-directory_found found = elim found as (λ _. Bool) [ Some inode ↦ is_directory inode | None ↦ false ]
+-- the names from `i` on
+pub drop-head : (names : PathNames) (i : ℕ) (name : PathName) → i < length names → name ≡ get_or names i name → drop i names ≡ name ∷ drop (i + 1) names
+drop-head names i name inside is = rw add-one (drop-cons names i name inside ∙ ap (λ n. n ∷ drop (suc i) names) (sym is))
 
 -- one turn of the loop at the name `i` of a path
 module _ (layer : Entries) (names : PathNames) (i : ℕ) (name : PathName) (inside : i < length names) (is : name ≡ get_or names i name) where
-  taken : take (i + 1) names ≡ child_path (take i names) name
-  taken = rw add-one (take-suc names i name inside ∙ ap (λ n. take i names ++ n ∷ []) (sym is))
+  pub taken : child_path (take i names) name ≡ take (i + 1) names
+  taken = rw add-one (ap (λ n. take i names ++ n ∷ []) is ∙ sym (take-suc names i name inside))
 
-  cut : take i names ++ name ∷ drop (i + 1) names ≡ names
-  cut =
-      let rest : drop i names ≡ name ∷ drop (i + 1) names = rw add-one (drop-cons names i name inside ∙ ap (λ n. n ∷ drop (suc i) names) (sym is)) in
-      ap (λ (r : PathNames). take i names ++ r) (sym rest) ∙ take-append-drop i names
+  pub cut : take i names ++ name ∷ drop (i + 1) names ≡ names
+  cut = ap (λ (r : PathNames). take i names ++ r) (sym (drop-head names i name inside is)) ∙ take-append-drop i names
 
-  pub walk-beyond : IsLayer layer → is_directory_at layer (take i names) ≡ true → (found : Option Inode) → found ≡ entry_at layer (take (i + 1) names) → directory_found found ≡ false → walk_beyond found (turn layer (take i names)) (is_shut layer (take i names)) name (drop (i + 1) names) ≡ walk layer names
-  walk-beyond layered directory found here none =
-      let at : found ≡ entry_at layer (child_path (take i names) name) = here ∙ ap (entry_at layer) taken in
-      ap (λ (o : Option Inode). walk_beyond o (turn layer (take i names)) (is_shut layer (take i names)) name (drop (i + 1) names)) at
-      ∙ (sym (walk-stop layer (take i names) name (drop (i + 1) names) layered directory (ap directory_found (sym at) ∙ none))
+  pub turn-next : (mark : Mark) → option_map mark_of (entry_at layer (child_path (take i names) name)) ≡ Some mark → entered_path mark (turn layer (take i names)) name ≡ turn layer (take (i + 1) names)
+  turn-next mark here = sym (turn-entered layer (take i names) name mark (mark_at-child layer (take i names) name mark here)) ∙ ap (turn layer) taken
+
+  pub shut-next : (mark : Mark) → option_map mark_of (entry_at layer (child_path (take i names) name)) ≡ Some mark → entered_closed mark (is_shut layer (take i names)) ≡ is_shut layer (take (i + 1) names)
+  shut-next mark here = sym (is_shut-entered layer (take i names) name mark (mark_at-child layer (take i names) name mark here)) ∙ ap (is_shut layer) taken
+
+  -- the walk ends at the name `i`
+  pub walk-ends : IsLayer layer → is_directory_at layer (take i names) ≡ true → is_directory_at layer (child_path (take i names) name) ≡ false → (found : Option Inode) (next : PathNames) (closed : Bool) → found ≡ entry_at layer (child_path (take i names) name) → next ≡ turn layer (take i names) → closed ≡ is_shut layer (take i names) → walk_beyond found next closed name (drop (i + 1) names) ≡ walk layer names
+  walk-ends layered directory none found next closed here turned shut =
+      (λ j. walk_beyond (here j) (turned j) (shut j) name (drop (i + 1) names))
+      ∙ (sym (walk-stop layer (take i names) name (drop (i + 1) names) layered directory none)
       ∙ ap (walk layer) cut)
 
-  pub directory-next : (inode : Inode) → Some inode ≡ entry_at layer (take (i + 1) names) → is_directory inode ≡ true → is_directory_at layer (take (i + 1) names) ≡ true
-  directory-next inode here holds = ap directory_found (sym here) ∙ holds
+  pub walk-misses : IsLayer layer → is_directory_at layer (take i names) ≡ true → is_directory_at layer (child_path (take i names) name) ≡ false → (next : PathNames) (closed : Bool) → entry_at layer (child_path (take i names) name) ≡ None → next ≡ turn layer (take i names) → closed ≡ is_shut layer (take i names) → nothing_found (next ++ drop i names) closed ≡ walk layer names
+  walk-misses layered directory none next closed here turned shut =
+      ap (λ (r : PathNames). nothing_found (next ++ r) closed) (drop-head names i name inside is)
+      ∙ walk-ends layered directory none None next closed (sym here) turned shut
 
-  pub turn-next : (inode : Inode) → Some inode ≡ entry_at layer (take (i + 1) names) → entered_path (mark_of inode) (turn layer (take i names)) name ≡ turn layer (take (i + 1) names)
-  turn-next inode here =
-      sym (turn-entered layer (take i names) name (mark_of inode) (mark_at-child layer (take i names) name inode (ap (entry_at layer) (sym taken) ∙ sym here)))
-      ∙ ap (turn layer) (sym taken)
+-- where a descent stops there is no directory
+pub stopped : (layer : Entries) (path : PathNames) (descent : Descent) (name : PathName) → IsDescent layer path descent → descent.depth < length path → name ≡ get_or path descent.depth name → is_directory_at layer (child_path (take descent.depth path) name) ≡ false
+stopped layer path descent name is inside at =
+    subst (λ (o : Option PathName). IfSome o (λ own. is_directory_at layer (child_path (take descent.depth path) own) ≡ false)) (slice_get_read path (length path) descent.depth name refl inside at) is.stops
 
-  pub shut-next : (inode : Inode) → Some inode ≡ entry_at layer (take (i + 1) names) → entered_closed (mark_of inode) (is_shut layer (take i names)) ≡ is_shut layer (take (i + 1) names)
-  shut-next inode here =
-      sym (is_shut-entered layer (take i names) name (mark_of inode) (mark_at-child layer (take i names) name inode (ap (entry_at layer) (sym taken) ∙ sym here)))
-      ∙ ap (is_shut layer) (sym taken)
-
-  -- the place of the name `i`, by that of the names before it
-  pub place-next : (place child : Entries) → place ≡ entries_under (take i names) layer → child ≡ entries_in name place → child ≡ entries_under (take (i + 1) names) layer
-  place-next place child here is_in =
-      is_in
-      ∙ (ap (entries_in name) here
-      ∙ (sym (entries_under-child (take i names) name layer)
-      ∙ ap (λ (p : PathNames). entries_under p layer) (sym taken)))
-
-  pub entry-next : (place child : Entries) → place ≡ entries_under (take i names) layer → child ≡ entries_in name place → entry_at layer (take (i + 1) names) ≡ entry_at child []
-  entry-next place child here is_in =
-      entry_at-under (take (i + 1) names) layer ∙ ap (λ (e : Entries). entry_at e []) (sym (place-next place child here is_in))
-
-  -- the walk ends at the name `i`, in the words of the loop
-  pub walk-ends : IsLayer layer → is_directory_at layer (take i names) ≡ true → (found : Option Inode) (next rest path : PathNames) (closed : Bool) → found ≡ entry_at layer (take (i + 1) names) → directory_found found ≡ false → next ≡ turn layer (take i names) → closed ≡ is_shut layer (take i names) → rest ≡ drop (i + 1) names → names ≡ path → walk_beyond found next closed name rest ≡ walk layer path
-  walk-ends layered directory found next rest path closed here none turned shut tail same =
-      (λ j. walk_beyond found (turned j) (shut j) name (tail j))
-      ∙ (walk-beyond layered directory found here none
-      ∙ ap (walk layer) same)
-
-  pub walk-misses : IsLayer layer → is_directory_at layer (take i names) ≡ true → (next rest path : PathNames) (closed : Bool) → entry_at layer (take (i + 1) names) ≡ None → next ≡ turn layer (take i names) → closed ≡ is_shut layer (take i names) → rest ≡ drop i names → names ≡ path → nothing_found (next ++ rest) closed ≡ walk layer path
-  walk-misses layered directory next rest path closed here turned shut tail same =
-      let cons : drop i names ≡ name ∷ drop (i + 1) names = rw add-one (drop-cons names i name inside ∙ ap (λ n. n ∷ drop (suc i) names) (sym is)) in
-      ap (λ (r : PathNames). nothing_found (next ++ r) closed) (tail ∙ cons)
-      ∙ walk-ends layered directory None next (drop (i + 1) names) path closed (sym here) refl turned shut refl same
-
-pub take_past : (names : PathNames) (i : ℕ) → length names ≤ i → take i names ≡ names
-take_past names i past = take_all i names past
+-- a walk that came to the end of its path
+pub walk-ends_whole : (layer : Entries) (names : PathNames) (i : ℕ) (found : Option Inode) (next : PathNames) (closed : Bool) → length names ≤ i → is_directory_at layer (take i names) ≡ true → found ≡ entry_at layer (take i names) → next ≡ turn layer (take i names) → closed ≡ is_shut layer (take i names) → record { found = found; next = next; closed = closed } ≡ walk layer names
+walk-ends_whole layer names i found next closed past directory here turned shut =
+    (λ j. record { found = here j; next = turned j; closed = shut j })
+    ∙ (sym (walk-whole layer (take i names) directory)
+    ∙ ap (walk layer) (take_all i names past))
 
 -- the rest of a list as a slice gives it
 pub take-rest : (names : PathNames) (i : ℕ) → take (length names - i) (drop i names) ≡ drop i names
 take-rest names i = ap (λ n. take n (drop i names)) (sym (length-drop i names)) ∙ take-length (drop i names)
-
--- a walk that came to the end of its path
-pub walk-ends_whole : (layer : Entries) (names : PathNames) (i : ℕ) (found : Option Inode) (next path : PathNames) (closed : Bool) → length names ≤ i → is_directory_at layer (take i names) ≡ true → found ≡ entry_at layer names → next ≡ turn layer (take i names) → closed ≡ is_shut layer (take i names) → names ≡ path → record { found = found; next = next; closed = closed } ≡ walk layer path
-walk-ends_whole layer names i found next path closed past directory here turned shut same =
-    let whole : take i names ≡ names = take_past names i past in
-    (λ j. record { found = here j; next = (turned ∙ ap (turn layer) whole) j; closed = (shut ∙ ap (is_shut layer) whole) j })
-    ∙ (sym (walk-whole layer names (ap (is_directory_at layer) (sym whole) ∙ directory))
-    ∙ ap (walk layer) same)

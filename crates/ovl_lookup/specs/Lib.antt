@@ -4,4 +4,8 @@ pub mod Trace
 pub mod Merged
 pub mod Passes
 pub mod Sound
+pub mod Words
+pub mod Views
+pub mod ViewPasses
+pub mod DirViews
 pub mod Laws

@@ -1,5 +1,5 @@
 -- What the passes over names and layers keep.
-use Rattle.std.specs.Prelude.{ℕ, zero, suc, Bool, false, ◌||◌, Option, Some, None, List, [], ◌∷◌, ◌++◌, if◌then◌else◌, is_some, unwrap_or, drop, filter, map}
+use Rattle.std.specs.Prelude.{◌≡◌, ℕ, zero, suc, ◌<◌, ◌≤◌, Bool, true, false, ◌||◌, Option, Some, None, List, [], ◌∷◌, ◌++◌, if◌then◌else◌, is_some, unwrap_or, length, take, drop, filter, map, slice_get, IfSome}
 use Rattle.std.specs.List.{flat_map}
 use Rattle.std.specs.BTreeSet.{insert_key}
 use Rattle.ovl_names.specs.Names.{PathName, name_cmp}
@@ -7,12 +7,39 @@ use Rattle.ovl_names.specs.Paths.{PathNames, child_path}
 use Rattle.ovl_inode.specs.declared.inodes.Inode.{Inode}
 use Rattle.ovl_inode.specs.declared.marks.Mark.{Mark}
 use Rattle.ovl_inode.specs.Marks.{is_metacopy, is_data}
-use Rattle.ovl_manifest.specs.Layers.{Entries, names_below}
+use Rattle.ovl_manifest.specs.Layers.{Entries, IsLayer, entry_at, is_directory_at, names_below}
+use Rattle.ovl_manifest.specs.Sheets.{path_at}
+use Rattle.ovl_lookup.specs.declared.steps.Descent.{Descent}
+use Rattle.ovl_lookup.specs.declared.steps.Arrival.{Arrival}
+use Rattle.ovl_lookup.specs.declared.steps.Arrival.TheVariants.{Directory, Past, End}
 use Rattle.ovl_lookup.specs.declared.looks.Look.{Look}
-use Rattle.ovl_lookup.specs.Walk.{walk, origin_path, name_in_lower, is_closing}
+use Rattle.ovl_lookup.specs.Walk.{walk, turn, is_shut, origin_path, name_in_lower, is_closing}
 use Rattle.ovl_lookup.specs.Stacks.{StackView}
 use Rattle.ovl_lookup.specs.Trace.{things_found}
-use Rattle.ovl_lookup.specs.Merged.{look, shows}
+use Rattle.ovl_lookup.specs.declared.looks.Look.TheVariants.{Shown, Broken}
+use Rattle.ovl_inode.specs.Inodes.{visible}
+use Rattle.ovl_lookup.specs.Merged.{look, shows, without_blob}
+
+-- how far a path goes through directories of a layer: the row of the last of them, and how the layers below know it
+pub record IsDescent (layer : Entries) (path : PathNames) (descent : Descent) : Type 0 where
+  pub layered : IsLayer layer
+  pub inside : descent.row < length layer
+  pub within : descent.depth ≤ length path
+  pub here : path_at layer descent.row ≡ take descent.depth path
+  pub directory : is_directory_at layer (take descent.depth path) ≡ true
+  pub turned : descent.next ≡ turn layer (take descent.depth path)
+  pub shut : descent.closed ≡ is_shut layer (take descent.depth path)
+  pub stops : IfSome (slice_get path descent.depth) (λ name. is_directory_at layer (child_path (take descent.depth path) name) ≡ false)
+
+-- where the walk of a path in a layer leads: to a directory, past the layer where nothing is there, or no further
+abbrev pub IsArrival : Entries → PathNames → Arrival → Type 0
+IsArrival layer path (Directory row next closed) =
+    (is_directory_at layer path ≡ true) × (row < length layer) × (path_at layer row ≡ path)
+    × (next ≡ (walk layer path).next) × (closed ≡ (walk layer path).closed)
+IsArrival layer path (Past next) =
+    (entry_at layer path ≡ None) × ((walk layer path).closed ≡ false) × (next ≡ (walk layer path).next)
+IsArrival layer path End =
+    (is_directory_at layer path ≡ false) × ((is_some (entry_at layer path) || (walk layer path).closed) ≡ true)
 
 -- the path and the flag in a directory of this mark, by those of its parent
 abbrev pub entered_path : Mark → PathNames → PathName → PathNames
@@ -24,6 +51,11 @@ entered_closed mark closed = if is_some (origin_path (Some mark)) then false els
 -- what the layers from `i` on find, where the walk above them gave this path and flag
 abbrev pub found_on : StackView → ℕ → PathNames → Bool → List Inode
 found_on stack i next closed = if closed then [] else things_found (drop i stack.layers) next
+
+-- what is shown of a metacopy file, by its data
+abbrev pub shown_with : Inode → Option Inode → Look
+shown_with inode (Some contents) = Shown (record (visible inode) { kind = contents.kind })
+shown_with inode None = Broken (record (visible inode) { kind = without_blob inode.kind })
 
 -- the data below metacopy files, by what is found there
 abbrev pub data_below : List Inode → Option Inode

@@ -1,5 +1,5 @@
 //! Laws of the merged tree; the contract of each is its statement.
-ghost use Rattle.ovl_lookup.specs.Laws.{ShowsParents, ShowsWithinDepth};
+ghost use Rattle.ovl_lookup.specs.Laws.{ShowsParents, ShowsWithinDepth, ViewsGoOn, ViewsFind, ViewsShow, ViewsStand, ViewsLook};
 
 /// The merged tree is closed under parents: where something is shown in a directory, that directory is shown.
 pub fn merged_tree_has_parents()
@@ -9,4 +9,29 @@ pub fn merged_tree_has_parents()
 /// The merged tree is no deeper than 64 times the number of layers.
 pub fn merged_tree_is_within_depth()
     ensures { ShowsWithinDepth }
+{}
+
+/// A directory is shown exactly where its view isn't empty.
+pub fn views_show()
+    ensures { ViewsShow }
+{}
+
+/// Where a view's places are, and how they go on.
+pub fn views_stand()
+    ensures { ViewsStand }
+{}
+
+/// How the view of a directory goes on with one more name.
+pub fn views_go_on()
+    ensures { ViewsGoOn }
+{}
+
+/// What is found with one more name, by the view of the directory.
+pub fn views_find()
+    ensures { ViewsFind }
+{}
+
+/// The looks of all names in a directory, by the first place of its view that has the name.
+pub fn views_look()
+    ensures { ViewsLook }
 {}

@@ -6,7 +6,9 @@ mod lists;
 mod looks;
 mod stacks;
 mod steps;
+mod views;
 
 pub use looks::Look;
 pub use stacks::{LAYER_LIMIT, Stack, StackFault};
 pub use steps::{Step, walk};
+pub use views::DirView;

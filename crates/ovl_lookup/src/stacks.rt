@@ -1,13 +1,14 @@
-ghost use Rattle.std.specs.Prelude.{◌≡◌, ◌<◌, ◌≤◌, ◌↔◌, ◌⊎◌, length, IfOk, IsErr, MatchResult, slice_get, IfSome};
+ghost use Rattle.std.specs.Prelude.{◌≡◌, ◌<◌, ◌≤◌, ◌↔◌, ◌⊎◌, Some, Err, length, IfOk, MatchResult, slice_get, IfSome};
 ghost use Rattle.std.specs.Option.{option_map};
 ghost use Rattle.std.specs.List.{All};
 ghost use Rattle.ovl_manifest.specs.Layers.{IsLayer, entry_at, names_below};
 ghost use Rattle.ovl_lookup.specs.Walk.{walk as the_walk, open_natural_path};
+ghost use Rattle.ovl_lookup.specs.declared.stacks.StackFault.TheVariants.{Layers, Memory};
 ghost use Rattle.ovl_lookup.specs.Stacks.{layer_limit};
 
 use crate::{Step, walk};
 use ovl_inode::Inode;
-use ovl_manifest::Layer;
+use ovl_manifest::{Layer, Sheet};
 use ovl_names::{Name, Path};
 use std::alloc::{AllocError, Global};
 use std::marker::Model;
@@ -22,12 +23,23 @@ pub enum StackFault {
     /// There is none, or there are more than [`LAYER_LIMIT`].
     #[error("layers must be 1 to {max}", max = LAYER_LIMIT)]
     Layers,
+    /// No memory was left.
+    #[error("out of memory")]
+    Memory,
+}
+
+impl From<AllocError> for StackFault {
+    ghost from_gives = { λ _ fault. fault ≡ Memory };
+
+    fn from(_: AllocError) -> StackFault {
+        StackFault::Memory
+    }
 }
 
 /// A stack of 1 to [`LAYER_LIMIT`] layers, the topmost first.
 #[derive(Drop)]
 pub struct Stack {
-    pub(crate) layers: Vec<Layer>,
+    pub(crate) layers: Vec<Sheet>,
 }
 
 impl Model for Stack {
@@ -45,13 +57,15 @@ impl Model for Stack {
 
 impl Stack {
     /// The stack of these layers, the topmost first; refused exactly where they are none or more than [`LAYER_LIMIT`].
-    pub fn of(layers: Vec<Layer>) -> Result<Stack, StackFault>
+    /// Where memory was short, the layers are dropped.
+    pub fn of(alloc: Global, layers: Vec<Layer>) -> Result<Stack, StackFault>
         ensures value { IfOk result (λ stack. stack.layers ≡ layers.items) }
-        ensures refused { IsErr result ↔ ((length layers.items ≡ 0) ⊎ (layer_limit < length layers.items)) }
+        ensures refused { (result ≡ Err Layers) ↔ ((length layers.items ≡ 0) ⊎ (layer_limit < length layers.items)) }
     {
         if layers.is_empty() || layers.len() > LAYER_LIMIT {
             return Err(StackFault::Layers);
         }
+        let layers = sheets_of(alloc, layers)?;
         keep_layers(&layers);
         Ok(Stack { layers })
     }
@@ -64,6 +78,14 @@ impl Stack {
         ensures each { All IsLayer self.now.layers }
     {
         self.layers.len()
+    }
+
+    /// The sheet of layer `i`, which is below the number of layers.
+    pub fn sheet(&self, i: usize) -> &Sheet
+        requires { i < length self.now.layers }
+        ensures { slice_get self.now.layers i ≡ Some result.now }
+    {
+        &self.layers[i]
     }
 
     /// The inode that layer `i` has at a path, and `None` where it has no entry; `i` is below the number of layers.
@@ -115,8 +137,22 @@ impl Stack {
     }
 }
 
+// A sheet of each layer, in their order; the layers are dropped where memory was short.
+fn sheets_of(alloc: Global, layers: Vec<Layer>) -> Result<Vec<Sheet>, AllocError>
+    ensures { IfOk result (λ sheets. sheets.items ≡ layers.items) }
+{
+    let mut sheets = Vec::with_capacity(alloc, layers.len())?;
+    for layer in layers {
+        let Ok(sheet) = Sheet::of(alloc, layer) else {
+            return Err(AllocError);
+        };
+        sheets.push(sheet)?;
+    }
+    Ok(sheets)
+}
+
 // Each of these is a layer, since its type keeps that.
-fn keep_layers(layers: &[Layer])
+fn keep_layers(layers: &[Sheet])
     ensures { All IsLayer layers.now }
 {
     for layer in layers {

@@ -1,9 +1,13 @@
-ghost use Rattle.std.specs.Prelude.{◌≡◌, ◌≢◌, ◌++◌, false, Some, None, IfOk, MatchResult};
-ghost use Rattle.ovl_lookup.specs.Passes.{entered_path, entered_closed};
+ghost use Rattle.std.specs.Prelude.{◌≡◌, ◌≢◌, ◌<◌, ◌++◌, false, true, Some, None, length, IfOk, MatchResult, MatchOption};
+ghost use Rattle.ovl_names.specs.Paths.{child_path};
+ghost use Rattle.ovl_inode.specs.Marks.{mark_of as the_mark};
+ghost use Rattle.ovl_manifest.specs.Layers.{is_directory_at};
+ghost use Rattle.ovl_manifest.specs.Sheets.{path_at};
+ghost use Rattle.ovl_lookup.specs.Passes.{IsDescent, IsArrival, entered_path, entered_closed};
 ghost use Rattle.ovl_lookup.specs.Walk.{walk as the_walk, nothing_found, walk_beyond, walk_to_file};
 
-use ovl_inode::{Inode, Mark, Redirect, is_directory, is_whiteout, mark_of};
-use ovl_manifest::Layer;
+use ovl_inode::{Inode, Mark, Redirect, is_directory, is_whiteout};
+use ovl_manifest::Sheet;
 use ovl_names::{Name, Path};
 use std::alloc::{AllocError, Global};
 
@@ -22,63 +26,155 @@ pub struct Step {
 /// closed. A path may have any number of names. Fails only for want of memory.
 /// overlayfs.rst: "whiteouts and opaque directories", "renaming directories", "Metadata only copy up", "Data-only lower
 /// layers"; a redirect of one name, beside the old one, is this profile's.
-pub fn walk(alloc: Global, layer: &Layer, path: &Path) -> Result<Step, AllocError>
-    ensures { IfOk result (λ step. step ≡ the_walk layer.now path.now) }
+pub fn walk(alloc: Global, sheet: &Sheet, path: &Path) -> Result<Step, AllocError>
+    ensures { IfOk result (λ step. step ≡ the_walk sheet.now path.now) }
 {
     let names = path.names();
-    let mut place = layer.root();
+    let Descent {
+        row,
+        depth,
+        next,
+        closed,
+    } = descend(alloc, sheet, path)?;
+    if depth == names.len() {
+        return Ok(Step {
+            found: Some(sheet.inode(row).copy(alloc)?),
+            next,
+            closed,
+        });
+    }
+    let name = &names[depth];
+    match sheet.child(row, name) {
+        Some(number) => beyond(
+            alloc,
+            sheet.inode(number),
+            sheet.mark(number),
+            next,
+            closed,
+            name,
+            &names[depth + 1..],
+        ),
+        None => missing(alloc, next, closed, &names[depth..]),
+    }
+}
+
+// How far a path goes through directories of a layer: the row of the last of them, how many names lead to it, the path
+// by which the layer below knows it, and whether the layers below are hidden there.
+#[derive(Drop)]
+pub(crate) struct Descent {
+    pub(crate) row: u32,
+    pub(crate) depth: usize,
+    pub(crate) next: Path,
+    pub(crate) closed: bool,
+}
+
+// How far a path goes through directories.
+pub(crate) fn descend(alloc: Global, sheet: &Sheet, path: &Path) -> Result<Descent, AllocError>
+    ensures { IfOk result (λ descent. IsDescent sheet.now path.now descent) }
+{
+    let names = path.names();
+    let mut row = sheet.root_number();
     let mut next = Path::root(alloc);
     let mut closed = false;
     for i in 0..names.len() {
         let name = &names[i];
-        let Some(child) = place.child(name) else {
-            return missing(alloc, next, closed, &names[i..]);
+        let Some(child) = directory_below(sheet, row, name) else {
+            return Ok(Descent {
+                row,
+                depth: i,
+                next,
+                closed,
+            });
         };
-        let inode = child.inode();
-        if !is_directory(inode) {
-            return beyond(alloc, inode, next, closed, name, &names[i + 1..]);
-        }
-        let mark = mark_of(alloc, inode)?;
-        let entered = enter(alloc, mark, name, closed, next)?;
+        let entered = enter(alloc, sheet.mark(child), name, closed, next)?;
         next = entered.next;
         closed = entered.closed;
-        place = child;
+        row = child;
     }
-    Ok(Step {
-        found: Some(place.inode().copy(alloc)?),
+    Ok(Descent {
+        row,
+        depth: names.len(),
         next,
         closed,
     })
 }
 
+// Where the walk of a path in one layer leads: to a directory's row, past the layer, or no further.
+#[derive(Drop)]
+pub(crate) enum Arrival {
+    Directory { row: u32, next: Path, closed: bool },
+    Past(Path),
+    End,
+}
+
+// Where the walk of a path leads.
+pub(crate) fn arrive(alloc: Global, sheet: &Sheet, path: &Path) -> Result<Arrival, AllocError>
+    ensures { IfOk result (λ arrival. IsArrival sheet.now path.now arrival) }
+{
+    let names = path.names();
+    let Descent {
+        row,
+        depth,
+        next,
+        closed,
+    } = descend(alloc, sheet, path)?;
+    if depth == names.len() {
+        return Ok(Arrival::Directory { row, next, closed });
+    }
+    if let Some(_file) = sheet.child(row, &names[depth]) {
+        return Ok(Arrival::End);
+    }
+    if closed {
+        return Ok(Arrival::End);
+    }
+    Ok(Arrival::Past(next.joined(alloc, &names[depth..])?))
+}
+
+// The row of the directory `name` in the directory of a row, and `None` where there is none.
+fn directory_below(sheet: &Sheet, row: u32, name: &Name) -> Option<u32>
+    requires { row < length sheet.now }
+    ensures { MatchOption result
+        (is_directory_at sheet.now (child_path (path_at sheet.now row) name.now) ≡ false)
+        (λ child. (child < length sheet.now) × (path_at sheet.now child ≡ child_path (path_at sheet.now row) name.now)
+        × (is_directory_at sheet.now (path_at sheet.now child) ≡ true)) }
+{
+    let Some(child) = sheet.child(row, name) else {
+        return None;
+    };
+    if !is_directory(sheet.inode(child)) {
+        return None;
+    }
+    Some(child)
+}
+
 // Where a walk has come to in a directory: the path by which the layer below knows it, and whether the layers below are
 // hidden there.
 #[derive(Drop)]
-struct Entered {
-    next: Path,
-    closed: bool,
+pub(crate) struct Entered {
+    pub(crate) next: Path,
+    pub(crate) closed: bool,
 }
 
 // How the next path and its flag go on in a directory of this mark.
-fn enter(
+pub(crate) fn enter(
     alloc: Global,
-    mark: Mark,
+    mark: &Mark,
     name: &Name,
     closed: bool,
     next: Path,
 ) -> Result<Entered, AllocError>
-    ensures { IfOk result (λ entered. entered ≡ record { next = entered_path mark next name.now; closed = entered_closed mark closed }) }
+    ensures { IfOk result (λ entered. entered ≡ record { next = entered_path mark.now next name.now; closed = entered_closed mark.now closed }) }
 {
     let mut next = next;
     match mark {
         Mark::DirMoved(Redirect::To(origin)) => {
             return Ok(Entered {
-                next: origin,
+                next: origin.copy(alloc)?,
                 closed: false,
             });
         }
         Mark::DirMoved(Redirect::Beside(own)) => {
-            next.push(own)?;
+            next.push(own.copy(alloc)?)?;
             return Ok(Entered { next, closed });
         }
         Mark::DirOpaque | Mark::DirBad => {
@@ -106,11 +202,13 @@ fn missing(alloc: Global, next: Path, closed: bool, rest: &[Name]) -> Result<Ste
 fn beyond(
     alloc: Global,
     inode: &Inode,
+    mark: &Mark,
     next: Path,
     closed: bool,
     name: &Name,
     rest: &[Name],
 ) -> Result<Step, AllocError>
+    requires { mark.now ≡ the_mark inode.now }
     ensures { IfOk result (λ step. step ≡ walk_beyond (Some inode.now) next closed name.now rest.now) }
 {
     let mut next = next;
@@ -118,7 +216,6 @@ fn beyond(
         next.push(name.copy(alloc)?)?;
         return missing(alloc, next, true, rest);
     }
-    let mark = mark_of(alloc, inode)?;
     let found = inode.copy(alloc)?;
     file_step(alloc, mark, found, next, closed, name)
 }
@@ -126,13 +223,13 @@ fn beyond(
 // The walk's end at a non-directory of this mark, which is found.
 fn file_step(
     alloc: Global,
-    mark: Mark,
+    mark: &Mark,
     inode: Inode,
     next: Path,
     closed: bool,
     name: &Name,
 ) -> Result<Step, AllocError>
-    ensures { IfOk result (λ step. step ≡ walk_to_file inode mark next closed name.now) }
+    ensures { IfOk result (λ step. step ≡ walk_to_file inode mark.now next closed name.now) }
 {
     let mut next = next;
     let found = Some(inode);
@@ -140,12 +237,12 @@ fn file_step(
         Mark::Meta(Some(Redirect::To(origin))) => {
             return Ok(Step {
                 found,
-                next: origin,
+                next: origin.copy(alloc)?,
                 closed: false,
             });
         }
         Mark::Meta(Some(Redirect::Beside(own))) => {
-            next.push(own)?;
+            next.push(own.copy(alloc)?)?;
             return Ok(Step {
                 found,
                 next,

@@ -2,7 +2,7 @@
 use Rattle.std.proofs.Common.{◌≡◌, ◌≢◌, Bor, ℕ, zero, suc, ◌+◌, ◌-◌, ◌<◌, ◌≤◌, length, get_or, take, drop, map, cond, Bool, true, false, Option, Some, None, Ok, Err, List, [], ◌∷◌, ◌++◌, refl, sym, ap, ◌∙◌, subst, arith, length-append, add-one, inl, inr, ◌⊎◌}
 use Rattle.std.specs.Prelude.{◌==◌, not, nat_lt, slice_get, unwrap_or, is_some, IsSomeAnd, IfSome}
 use Rattle.std.specs.Option.{option_map}
-use Rattle.std.specs.List.{list_all, filter_map, cons_option}
+use Rattle.std.specs.List.{list_all, filter_map, cons_option, All}
 use Rattle.std.specs.List.Sorted.{IsNonDecreasingBy, IsBinarySearchResult}
 use Rattle.std.specs.Ordering.{is_lt, is_eq, ordering_index}
 use Rattle.std.specs.Cmp.Lexicographic.{nat_list_cmp_total, pointwise_decides, bytes_decides}
@@ -63,6 +63,15 @@ ascends-apart cmp (first ∷ xs) zero (suc j) x y up before at other =
     ap (λ f. is_lt (cmp f y)) (sym (some-same first x at)) ∙ list_all-get (λ later. is_lt (cmp first later)) xs j y parts.0 other
 ascends-apart cmp (first ∷ xs) (suc i) (suc j) x y up before at other =
     ascends-apart cmp xs i j x y (both {a = list_all (λ later. is_lt (cmp first later)) xs} {b = ascends cmp xs} up).1 (omega arith) at other
+
+-- two functions that give the same for each element
+map-each : {X Y : Type 0} (f g : X → Y) (xs : List X) → ((i : ℕ) (d : X) → i < length xs → f (get_or xs i d) ≡ g (get_or xs i d)) → map f xs ≡ map g xs
+map-each f g [] each = refl
+map-each f g (x ∷ xs) each = λ j. each 0 x (omega arith) j ∷ map-each f g xs (λ i d inside. each (suc i) d (omega (arith, inside))) j
+
+map-map : {X Y Z : Type 0} (f : Y → Z) (g : X → Y) (xs : List X) → map f (map g xs) ≡ map (λ x. f (g x)) xs
+map-map f g [] = refl
+map-map f g (x ∷ xs) = ap (λ rest. f (g x) ∷ rest) (map-map f g xs)
 
 -- ---- paths with one more name
 
@@ -494,13 +503,15 @@ module _ (rows : List SheetRow) (below : List (List ℕ)) (marked : List Mark) (
       ap (λ (entries : Entries). entry_at entries []) (sym none)
       ∙ (sym (entry_at-under (path_at layer number) layer) ∙ (ap (λ o. entry_at layer (path_of o)) at ∙ found)) in cc
 
-  -- the inode of a row is that at its place
-  pub inode-at : (number : ℕ) (row : SheetRow) → slice_get rows number ≡ Some row → entry_at (entries_under (path_at (entries_of_rows rows) number) (entries_of_rows rows)) [] ≡ Some row.inode
-  inode-at number row at =
+  -- the inode of a row is that at its path, and at its place
+  pub entry_at-row : (number : ℕ) (row : SheetRow) → slice_get rows number ≡ Some row → entry_at (entries_of_rows rows) (path_at (entries_of_rows rows) number) ≡ Some row.inode
+  entry_at-row number row at =
       let entry : Entry = (row_path layer row.parent row.name, row.inode) in
       let here : slice_get layer number ≡ Some entry = entry-of number row at in
-      sym (entry_at-under (path_at layer number) layer)
-      ∙ (ap (λ o. entry_at layer (path_of o)) here ∙ entry_at-number layer number entry is.layer.in_order here)
+      ap (λ o. entry_at layer (path_of o)) here ∙ entry_at-number layer number entry is.layer.in_order here
+
+  pub inode-at : (number : ℕ) (row : SheetRow) → slice_get rows number ≡ Some row → entry_at (entries_under (path_at (entries_of_rows rows) number) (entries_of_rows rows)) [] ≡ Some row.inode
+  inode-at number row at = sym (entry_at-under (path_at layer number) layer) ∙ entry_at-row number row at
 
   -- the name of a row directly below a directory, as the search compares it
   own_named : (directory i d : ℕ) (name : PathName) → i < length (kid_numbers 1 (parents_of rows) directory)
@@ -618,14 +629,34 @@ module _ (rows : List SheetRow) (below : List (List ℕ)) (marked : List Mark) (
       let root = root-row rows is.root in
       ap path_of (entry-of 0 root.0 root.1) ∙ ap (row_path layer root.0.parent) root.2
 
-  pub mark-at : (number : ℕ) → slice_get marked number ≡ option_map (λ entry. mark_of entry.1) (slice_get (entries_of_rows rows) number)
-  mark-at number =
-      ap (λ (marks : List Mark). slice_get marks number) is.marks
-      ∙ (slice_get-map (λ (row : SheetRow). mark_of row.inode) rows number ∙ by (slice_get rows number) refl)
+  pub root-inside : 0 < length (entries_of_rows rows)
+  root-inside = let root = root-row rows is.root in slice_get_within layer 0 (row_path layer root.0.parent root.0.name, root.0.inode) (entry-of 0 root.0 root.1)
+
+  pub mark-at : (number : ℕ) (mark : Mark) → number < length (entries_of_rows rows) → slice_get marked number ≡ Some mark → option_map mark_of (entry_at (entries_of_rows rows) (path_at (entries_of_rows rows) number)) ≡ Some mark
+  mark-at number mark inside at =
+      let row = row-at number inside in
+      ap (option_map mark_of) (entry_at-row number row.0 row.1)
+      ∙ (sym (ap (option_map (λ (row : SheetRow). mark_of row.inode)) row.1)
+      ∙ (sym (slice_get-map (λ (row : SheetRow). mark_of row.inode) rows number)
+      ∙ (ap (λ (marks : List Mark). slice_get marks number) (sym is.marks) ∙ at)))
+
+  -- the paths of the rows directly below a directory
+  pub kids-inside : (directory : ℕ) → All (λ kid. kid < length (entries_of_rows rows)) (kid_numbers 1 (parents_of rows) directory)
+  kids-inside directory i d inside =
+      let row = kid-row directory i d inside in
+      omega (arith, slice_get_within rows (get_or (kid_numbers 1 (parents_of rows) directory) i d) row.0 row.1, count)
+
+  pub kids-paths : (directory : ℕ) → directory < length (entries_of_rows rows) → map (path_at (entries_of_rows rows)) (kid_numbers 1 (parents_of rows) directory) ≡ map (child_path (path_at (entries_of_rows rows) directory)) (names_below (entries_of_rows rows) (path_at (entries_of_rows rows) directory))
+  kids-paths directory inside =
+      map-each (path_at layer) (λ kid. child_path (path_at layer directory) (own_name rows kid)) (kid_numbers 1 (parents_of rows) directory) each
+      ∙ (sym (map-map (child_path (path_at layer directory)) (own_name rows) (kid_numbers 1 (parents_of rows) directory))
+      ∙ ap (map (child_path (path_at layer directory))) (sym (names-of directory inside)))
     where
-      by : (o : Option SheetRow) → slice_get rows number ≡ o → option_map (λ row. mark_of row.inode) o ≡ option_map (λ entry. mark_of entry.1) (slice_get layer number)
-      by None e = sym (ap (option_map (λ entry. mark_of entry.1)) (slice_get_past layer number (omega (arith, none-past rows number e, count))))
-      by (Some row) e = sym (ap (option_map (λ entry. mark_of entry.1)) (entry-of number row e))
+      each : (i d : ℕ) → i < length (kid_numbers 1 (parents_of rows) directory) → path_at layer (get_or (kid_numbers 1 (parents_of rows) directory) i d) ≡ child_path (path_at layer directory) (own_name rows (get_or (kid_numbers 1 (parents_of rows) directory) i d))
+      each i d within =
+          let row = kid-row directory i d within in
+          kid-path (get_or (kid_numbers 1 (parents_of rows) directory) i d) directory row.0 row.3.0 row.1 row.2 row.3.1
+          ∙ ap (child_path (path_at layer directory)) (sym (ap (λ o. unwrap_or (name_of_row o) []) row.1 ∙ ap (λ n. unwrap_or n []) row.3.1))
 
   parent-at : (number : ℕ) (row : SheetRow) → slice_get rows number ≡ Some row → (entry : Entry) × (slice_get layer row.parent ≡ Some entry) × (entry.0 ≡ parent_path (path_at layer number))
   parent-at zero row at =

@@ -1,5 +1,6 @@
 ghost use Rattle.std.specs.Prelude.{◌≡◌, ◌≢◌, ℕ, ◌+◌, ◌<◌, ◌≤◌, ◌^◌, ◌++◌, [], ◌∷◌, length, map, drop, suc, vec_len, slice_get, Some, IfOk, IfErr, OnOk, MatchOption, IsTrue};
 ghost use Rattle.std.specs.Option.{option_map};
+ghost use Rattle.std.specs.List.{All};
 ghost use Rattle.std.specs.Vec.{vec_capacity};
 ghost use Rattle.ovl_names.specs.Paths.{child_path};
 ghost use Rattle.ovl_inode.specs.Marks.{mark_of as the_mark};
@@ -90,6 +91,16 @@ impl Sheet {
         self.rows.len() as u32
     }
 
+    /// The number of the root's row, which is the first.
+    pub fn root_number(&self) -> u32
+        ensures inside { result < length self.now }
+        ensures path { path_at self.now result ≡ [] }
+        ensures layer { IsLayer self.now }
+    {
+        let _rows = &self.rows;
+        0
+    }
+
     /// The row of a number, and `None` past the last; takes no memory.
     pub fn row(&self, number: u32) -> Option<&SheetRow>
         ensures { MatchOption result (length self.now ≤ number) (λ row. IsRowOf self.now number row.now) }
@@ -97,11 +108,30 @@ impl Sheet {
         self.rows.get(number as usize)
     }
 
-    /// The mark of the row of a number, as its inode alone says it, and `None` past the last; takes no memory.
-    pub fn mark(&self, number: u32) -> Option<&Mark>
-        ensures { option_map (λ mark. mark.now) result ≡ option_map (λ entry. the_mark entry.1) (slice_get self.now number) }
+    /// The inode of the row of a number, which is below the number of rows; takes no memory.
+    pub fn inode(&self, number: u32) -> &Inode
+        requires { number < length self.now }
+        ensures { entry_at self.now (path_at self.now number) ≡ Some result.now }
     {
-        self.marks.get(number as usize)
+        &self.rows[number as usize].inode
+    }
+
+    /// The mark of the row of a number, as its inode alone says it; the number is below that of rows. Takes no memory.
+    pub fn mark(&self, number: u32) -> &Mark
+        requires { number < length self.now }
+        ensures { option_map the_mark (entry_at self.now (path_at self.now number)) ≡ Some result.now }
+    {
+        &self.marks[number as usize]
+    }
+
+    /// The numbers of the rows directly below the row of a number, in the order of their names; takes no memory.
+    pub fn kids(&self, directory: u32) -> &[u32]
+        requires { directory < length self.now }
+        ensures inside { All (λ kid. kid < length self.now) result.now }
+        ensures paths { map (path_at self.now) result.now
+            ≡ map (child_path (path_at self.now directory)) (names_below self.now (path_at self.now directory)) }
+    {
+        self.kids[directory as usize].as_slice()
     }
 
     /// The number of the entry `name` in the directory of a number, and `None` where there is none; takes no memory,

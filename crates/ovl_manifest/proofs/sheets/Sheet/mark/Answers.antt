@@ -1,15 +1,25 @@
-use Rattle.std.proofs.Common.{◌∙◌, List, ap}
-use Rattle.std.specs.Prelude.{slice_get}
+use Rattle.std.proofs.Common.{◌≡◌, ◌<◌, ℕ, ap, subst, refl, List, Some, length, arith}
 use Rattle.std.specs.Option.{option_map}
+use Rattle.std.proofs.lemmas.List.{length-map}
+use Rattle.std.proofs.lemmas.Option.{slice_get_read}
 use Rattle.ovl_inode.specs.declared.marks.Mark.{Mark}
 use Rattle.ovl_inode.specs.Marks.{mark_of}
-use Rattle.ovl_manifest.specs.Layers.{Entries}
-use Rattle.ovl_manifest.proofs.SheetLemmas.{looked-up, mark-at}
+use Rattle.ovl_manifest.specs.declared.sheets.SheetRow.{SheetRow}
+use Rattle.ovl_manifest.specs.Layers.{Entries, entry_at}
+use Rattle.ovl_manifest.specs.Sheets.{path_at, IsSheet, entries_of_rows}
+use Rattle.ovl_manifest.proofs.SheetLemmas.{count, mark-at}
 use Rattle.ovl_manifest.proofs.sheets.Sheet.mark.Goals as goal
+
+-- there is a mark for each row
+within : (rows : List SheetRow) (below : List (List ℕ)) (marked : List Mark) (layer : Entries) (number : ℕ) → IsSheet rows below marked → entries_of_rows rows ≡ layer → number < length layer → number < length marked
+within rows below marked layer number is same inside =
+    omega (arith, inside, ap length same, count rows below marked is, ap length is.marks, length-map rows (λ (row : SheetRow). mark_of row.inode))
+
+pub index-requires : goal.index-requires
+index-requires c = omega (arith, within _ _ _ c.args.self.now c.args.number c.self.invariant c.self.view_is c.requires, c.self.inside.marks.ok.0)
 
 pub returns : goal.returns
 returns c =
-    looked-up c.get.result c.deref.result.now c.args.number c.get.ensures.lookup.0 c.get.ensures.lookup.1
-    ∙ (ap (λ (marks : List Mark). slice_get marks c.args.number) c.deref.ensures.value
-    ∙ (mark-at _ _ _ c.self.invariant c.args.number
-    ∙ ap (λ (entries : Entries). option_map (λ entry. mark_of entry.1) (slice_get entries c.args.number)) c.self.view_is))
+    let at = slice_get_read c.self.inside.marks.items (length c.self.inside.marks.items) c.args.number c.index.result.now refl (within _ _ _ c.args.self.now c.args.number c.self.invariant c.self.view_is c.requires) c.index.ensures in
+    subst (λ (layer : Entries). option_map mark_of (entry_at layer (path_at layer c.args.number)) ≡ Some c.index.result.now) c.self.view_is
+    (mark-at _ _ _ c.self.invariant c.args.number c.index.result.now (omega (arith, c.requires, ap length c.self.view_is)) at)

@@ -1,0 +1,237 @@
+-- Views of directories over a stack, place by place.
+use Rattle.std.proofs.Common.{◌≡◌, ℕ, suc, ◌+◌, ◌<◌, ◌≤◌, length, arith, add-one, Bool, true, false, cond, Option, Some, None, is_some, get_or, List, [], ◌∷◌, ◌++◌, take, drop, map, refl, sym, ap, ◌∙◌, subst, append_assoc, inl, inr, ◌⊎◌}
+use Rattle.std.specs.Prelude.{◌||◌, unwrap_or, slice_get, IsSomeAnd}
+use Rattle.std.specs.Option.{option_map}
+use Rattle.std.proofs.lemmas.Option.{slice_get-map, slice_get_read, slice_get_within}
+use Rattle.std.proofs.Math.Bool.{or-true}
+use Rattle.std.proofs.lemmas.List.{map_push}
+use Rattle.std.proofs.lemmas.List.Elements.{All-push}
+use Rattle.std.specs.List.{All}
+use Rattle.ovl_names.specs.Names.{PathName}
+use Rattle.ovl_names.specs.Paths.{PathNames, child_path}
+use Rattle.ovl_inode.specs.declared.inodes.Inode.{Inode}
+use Rattle.ovl_manifest.specs.Layers.{Entry, Entries, IsLayer, entry_at, is_directory_at}
+use Rattle.ovl_manifest.specs.Sheets.{path_of, path_at}
+use Rattle.ovl_manifest.proofs.SheetLemmas.{none-past, entry_at-number}
+use Rattle.ovl_lookup.specs.declared.steps.Descent.{Descent}
+use Rattle.ovl_lookup.specs.declared.steps.Step.{Step}
+use Rattle.ovl_lookup.specs.declared.steps.Arrival.TheVariants.{Directory}
+use Rattle.ovl_lookup.specs.declared.views.DirPlace.{DirPlace}
+use Rattle.ovl_lookup.specs.declared.views.PlaceEntry.{PlaceEntry}
+use Rattle.ovl_lookup.specs.Walk.{walk, walk_beyond}
+use Rattle.ovl_lookup.specs.Passes.{IsDescent, IsArrival, entered_path, entered_closed}
+use Rattle.ovl_lookup.specs.Stacks.{StackView}
+use Rattle.ovl_lookup.specs.Views.{Reached, reached, is_reached, entry_in, entered, below_entry, reached_below}
+use Rattle.ovl_lookup.proofs.ViewSteps.{arrives-directory, below-directory}
+use Rattle.ovl_inode.specs.Marks.{is_directory}
+use Rattle.ovl_inode.specs.declared.marks.Mark.{Mark}
+use Rattle.ovl_inode.specs.declared.marks.Mark.TheVariants.{Whiteout, DirOpaque, DirMoved, DirBad, DirPlain, Meta, MetaBad, Leaf}
+use Rattle.ovl_inode.specs.declared.marks.Redirect.TheVariants.{To, Beside}
+use Rattle.ovl_lookup.specs.DirViews.{path_on, name_on, IsEntryIn, place_below, place_in, places_in, IsPlaceOver}
+use Rattle.ovl_lookup.proofs.WalkFacts.{cut, drop-head, stopped, walk-ends, no-directory-below}
+use Rattle.ovl_lookup.proofs.WalkLaws.{Beyond}
+use Rattle.ovl_lookup.proofs.ViewLemmas.{NothingAt, FileAt, past}
+
+same_some : {X : Type 0} (one other : X) → Some one ≡ Some other → one ≡ other
+same_some one other e = ap (λ o. unwrap_or o one) e
+
+-- what stands at a name in a place, by the place's layer
+pub entry-here : (stack : StackView) (name : PathName) (place : DirPlace) (layer : Entries) → slice_get stack.layers place.layer ≡ Some layer → entry_in stack.layers name (place_in stack place) ≡ entry_at layer (child_path (path_at layer place.row) name)
+entry-here stack name place layer at = λ j. elim (at j) as (λ _. Option Inode) [ Some own ↦ entry_at own (child_path (elim (at j) as (λ _. PathNames) [ Some entries ↦ path_at entries place.row | None ↦ [] ]) name) | None ↦ None ]
+
+-- an entry stands at the path of each row
+pub entry-of_row : (layer : Entries) (number : ℕ) → IsLayer layer → number < length layer → (inode : Inode) × (entry_at layer (path_at layer number) ≡ Some inode)
+entry-of_row layer number is inside = by (slice_get layer number) refl
+  where
+    by : (o : Option Entry) → slice_get layer number ≡ o → (inode : Inode) × (entry_at layer (path_at layer number) ≡ Some inode)
+    by None e = absurd (omega (arith, none-past layer number e, inside))
+    by (Some entry) e = (entry.1, ap (λ o. entry_at layer (path_of o)) e ∙ entry_at-number layer number entry is.in_order e)
+
+-- ---- where the walk of a path leads, by how far it goes through directories
+
+module _ (layer : Entries) (path : PathNames) (descent : Descent) (name : PathName) (is : IsDescent layer path descent) (inside : descent.depth < length path) (at : name ≡ get_or path descent.depth name) where
+  abbrev above : PathNames
+  above = take descent.depth path
+
+  whole : above ++ name ∷ drop (descent.depth + 1) path ≡ path
+  whole = cut layer path descent.depth name inside at
+
+  none : is_directory_at layer (child_path above name) ≡ false
+  none = stopped layer path descent name is inside at
+
+  walked : (found : Option Inode) → entry_at layer (child_path above name) ≡ found → walk_beyond found descent.next descent.closed name (drop (descent.depth + 1) path) ≡ walk layer path
+  walked found here = walk-ends layer path descent.depth name inside at is.layered is.directory none found descent.next descent.closed (sym here) is.turned is.shut
+
+  pub not-directory : is_directory_at layer path ≡ false
+  not-directory = ap (is_directory_at layer) (sym whole) ∙ no-directory-below layer above name is.layered none (drop (descent.depth + 1) path)
+
+  pub ends-there : (found : Option Inode) → entry_at layer (child_path above name) ≡ found → (is_some found || descent.closed) ≡ true → (is_some (entry_at layer path) || (walk layer path).closed) ≡ true
+  ends-there None here shut = ap (λ (s : Step). is_some (entry_at layer path) || s.closed) (sym (walked None here)) ∙ (ap (λ b. is_some (entry_at layer path) || b) shut ∙ or-true (is_some (entry_at layer path)))
+  ends-there (Some inode) here shut = by (drop (descent.depth + 1) path) refl
+    where
+      by : (rest : PathNames) → drop (descent.depth + 1) path ≡ rest → (is_some (entry_at layer path) || (walk layer path).closed) ≡ true
+      by [] e =
+          ap (λ (o : Option Inode). is_some o || (walk layer path).closed) (ap (entry_at layer) (sym whole ∙ ap (λ (r : PathNames). above ++ name ∷ r) e) ∙ here)
+      by (other ∷ rest) e =
+          ap (λ (s : Step). is_some (entry_at layer path) || s.closed) (sym (walked (Some inode) here) ∙ ap (walk_beyond (Some inode) descent.next descent.closed name) e)
+          ∙ or-true (is_some (entry_at layer path))
+
+  pub goes-past : entry_at layer (child_path above name) ≡ None → descent.closed ≡ false → (entry_at layer path ≡ None) × ((walk layer path).closed ≡ false) × (descent.next ++ drop descent.depth path ≡ (walk layer path).next)
+  goes-past here open_ = (by (past layer path is.layered beyond), closed, next)
+    where
+      beyond : Beyond layer path
+      beyond = record { directory = above; name = name; rest = drop (descent.depth + 1) path; whole = whole; holds = is.directory; stops = none }
+
+      closed : (walk layer path).closed ≡ false
+      closed = ap (λ (s : Step). s.closed) (sym (walked None here)) ∙ open_
+
+      next : descent.next ++ drop descent.depth path ≡ (walk layer path).next
+      next = ap (λ (r : PathNames). descent.next ++ r) (drop-head path descent.depth name inside at) ∙ ap (λ (s : Step). s.next) (walked None here)
+
+      by : NothingAt layer path ⊎ FileAt layer path → entry_at layer path ≡ None
+      by (inl nothing) = nothing.none
+      by (inr file) = absurd (never file.finds)
+        where
+          never : ((walk layer path).found ≡ Some file.inode) ⊎ (((walk layer path).found ≡ None) × ((walk layer path).closed ≡ true)) → ⊥
+          never (inl found) = let bad : None ≡ Some file.inode = ap (λ (s : Step). s.found) (walked None here) ∙ found in cc
+          never (inr shut) = let bad : false ≡ true = sym closed ∙ shut.1 in cc
+
+-- ---- places that were added
+
+module _ (stack : StackView) where
+  pub places-push : (places : List DirPlace) (own : DirPlace) → places_in stack (places ++ own ∷ []) ≡ places_in stack places ++ place_in stack own ∷ []
+  places-push places own = map_push (place_in stack) places own
+
+  -- one more place, and then the rest
+  pub pushed : (old so_far new : List DirPlace) (own : DirPlace) (rest more : List Reached) → new ≡ so_far ++ own ∷ [] → places_in stack so_far ++ place_in stack own ∷ rest ≡ places_in stack old ++ more → places_in stack new ++ rest ≡ places_in stack old ++ more
+  pushed old so_far new own rest more is same =
+      ap (λ (ps : List DirPlace). places_in stack ps ++ rest) is
+      ∙ (ap (λ (ps : List Reached). ps ++ rest) (places-push so_far own)
+      ∙ (append_assoc (places_in stack so_far) (place_in stack own ∷ []) rest ∙ same))
+
+  -- a row of a layer is a place
+  pub row-over : (place : DirPlace) (layer : Entries) → slice_get stack.layers place.layer ≡ Some layer → place.row < length layer → IsPlaceOver stack place
+  row-over place layer at inside = subst (λ (o : Option Entries). IsSomeAnd o (λ own. place.row < length own)) (sym at) inside
+
+  pub place-is : (place : DirPlace) (layer : Entries) (path : PathNames) → slice_get stack.layers place.layer ≡ Some layer → path_at layer place.row ≡ path → place_in stack place ≡ record { layer = place.layer; path = path; next = place.next; closed = place.closed }
+  place-is place layer path at is = λ j. record { layer = place.layer; path = ((λ i. elim (at i) as (λ _. PathNames) [ Some entries ↦ path_at entries place.row | None ↦ [] ]) ∙ is) j; next = place.next; closed = place.closed }
+
+  -- a layer that has the directory, and then the layers below it
+  pub directory-step : (i : ℕ) (layer : Entries) (path : PathNames) (row : ℕ) (next : PathNames) (closed : Bool) → slice_get stack.layers i ≡ Some layer → IsArrival layer path (Directory row next closed)
+      → (old so_far new : List DirPlace) (more : List Reached) → new ≡ so_far ++ (record { layer = i; row = row; next = next; closed = closed }) ∷ [] → places_in stack so_far ++ reached (drop i stack.layers) i path ≡ places_in stack old ++ more
+      → places_in stack new ++ cond closed [] (reached (drop (i + 1) stack.layers) (i + 1) next) ≡ places_in stack old ++ more
+  directory-step i layer path row next closed at arrival old so_far new more is same =
+      let own : DirPlace = record { layer = i; row = row; next = next; closed = closed } in
+      let rest : List Reached = cond closed [] (reached (drop (i + 1) stack.layers) (i + 1) next) in
+      pushed old so_far new own rest more is
+      (ap (λ (p : Reached). places_in stack so_far ++ p ∷ rest) (place-is own layer path at arrival.2)
+      ∙ (ap (λ (ps : List Reached). places_in stack so_far ++ ps) (sym (arrives-directory stack.layers i layer at path next closed arrival.0 arrival.3 arrival.4))
+      ∙ same))
+
+  pub over-push : (old so_far new : List DirPlace) (own : DirPlace) (layer : Entries) → slice_get stack.layers own.layer ≡ Some layer → own.row < length layer → new ≡ so_far ++ own ∷ [] → (All (IsPlaceOver stack) old → All (IsPlaceOver stack) so_far) → All (IsPlaceOver stack) old → All (IsPlaceOver stack) new
+  over-push old so_far new own layer at inside is over all =
+      subst (λ (ps : List DirPlace). All (IsPlaceOver stack) ps) (sym is) (All-push (IsPlaceOver stack) so_far own (over all) (row-over own layer at inside))
+
+-- ---- what goes on below an entry
+
+module _ {X : Type 0} (name : PathName) (from_root : PathNames → List X) (beside : PathName → List X) where
+  pub on-path : (mark : Mark) (origin : PathNames) → path_on mark ≡ Some origin → below_entry mark name from_root beside ≡ from_root origin
+  on-path (DirMoved (To own)) origin e = ap from_root (same_some own origin e)
+  on-path (Meta (Some (To own))) origin e = ap from_root (same_some own origin e)
+  on-path (DirMoved (Beside own)) origin e = let bad : None ≡ Some origin = e in cc
+  on-path (Meta (Some (Beside own))) origin e = let bad : None ≡ Some origin = e in cc
+  on-path (Meta None) origin e = let bad : None ≡ Some origin = e in cc
+  on-path Whiteout origin e = let bad : None ≡ Some origin = e in cc
+  on-path DirOpaque origin e = let bad : None ≡ Some origin = e in cc
+  on-path DirBad origin e = let bad : None ≡ Some origin = e in cc
+  on-path DirPlain origin e = let bad : None ≡ Some origin = e in cc
+  on-path MetaBad origin e = let bad : None ≡ Some origin = e in cc
+  on-path Leaf origin e = let bad : None ≡ Some origin = e in cc
+
+  pub on-name : (mark : Mark) (own : PathName) → name_on mark name ≡ Some own → below_entry mark name from_root beside ≡ beside own
+  on-name DirPlain own e = ap beside (same_some name own e)
+  on-name (DirMoved (Beside other)) own e = ap beside (same_some other own e)
+  on-name (Meta None) own e = ap beside (same_some name own e)
+  on-name (Meta (Some (Beside other))) own e = ap beside (same_some other own e)
+  on-name (DirMoved (To origin)) own e = let bad : None ≡ Some own = e in cc
+  on-name (Meta (Some (To origin))) own e = let bad : None ≡ Some own = e in cc
+  on-name Whiteout own e = let bad : None ≡ Some own = e in cc
+  on-name DirOpaque own e = let bad : None ≡ Some own = e in cc
+  on-name DirBad own e = let bad : None ≡ Some own = e in cc
+  on-name MetaBad own e = let bad : None ≡ Some own = e in cc
+  on-name Leaf own e = let bad : None ≡ Some own = e in cc
+
+  pub on-none : (mark : Mark) → path_on mark ≡ None → name_on mark name ≡ None → below_entry mark name from_root beside ≡ []
+  on-none Whiteout p n = refl
+  on-none DirOpaque p n = refl
+  on-none DirBad p n = refl
+  on-none MetaBad p n = refl
+  on-none Leaf p n = refl
+  on-none DirPlain p n = let bad : Some name ≡ None = n in cc
+  on-none (Meta None) p n = let bad : Some name ≡ None = n in cc
+  on-none (DirMoved (Beside own)) p n = let bad : Some own ≡ None = n in cc
+  on-none (Meta (Some (Beside own))) p n = let bad : Some own ≡ None = n in cc
+  on-none (DirMoved (To origin)) p n = let bad : Some origin ≡ None = p in cc
+  on-none (Meta (Some (To origin))) p n = let bad : Some origin ≡ None = p in cc
+
+-- ---- the places below an entry of a place
+
+-- a list of places by its number
+pub place-at : (stack : StackView) (places : List DirPlace) (k : ℕ) (own : DirPlace) → k < length places → own ≡ get_or places k own → slice_get (places_in stack places) k ≡ Some (place_in stack own)
+place-at stack places k own inside at =
+    slice_get-map (place_in stack) places k ∙ ap (option_map (place_in stack)) (slice_get_read places (length places) k own refl inside at)
+
+module _ (stack : StackView) (name : PathName) (places : List DirPlace) (k : ℕ) (own : DirPlace) (at : slice_get (places_in stack places) k ≡ Some (place_in stack own)) where
+  abbrev left : ℕ → List Reached
+  left n = drop n (places_in stack places)
+
+  -- the directory of the name there
+  entered-there : (entry : PlaceEntry) → IsEntryIn stack name own entry → place_in stack (place_below own entry name) ≡ entered name entry.mark.now (place_in stack own)
+  entered-there entry is = λ j. record { layer = own.layer; path = by (slice_get stack.layers own.layer) is.row j; next = entered_path entry.mark.now own.next name; closed = entered_closed entry.mark.now own.closed }
+    where
+      by : (o : Option Entries) → IsSomeAnd o (λ layer. (entry.row < length layer) × (path_at layer entry.row ≡ child_path (path_at layer own.row) name))
+          → elim o as (λ _. PathNames) [ Some entries ↦ path_at entries entry.row | None ↦ [] ] ≡ child_path (elim o as (λ _. PathNames) [ Some entries ↦ path_at entries own.row | None ↦ [] ]) name
+      by None row = absurd row
+      by (Some layer) row = row.1
+
+  over-there : (entry : PlaceEntry) → IsEntryIn stack name own entry → IsPlaceOver stack (place_below own entry name)
+  over-there entry is = by (slice_get stack.layers own.layer) is.row
+    where
+      by : (o : Option Entries) → IsSomeAnd o (λ layer. (entry.row < length layer) × (path_at layer entry.row ≡ child_path (path_at layer own.row) name)) → IsSomeAnd o (λ layer. entry.row < length layer)
+      by None row = absurd row
+      by (Some layer) row = row.0
+
+  pub over-below : (entry : PlaceEntry) → IsEntryIn stack name own entry → (old so_far new : List DirPlace) → new ≡ so_far ++ place_below own entry name ∷ [] → (All (IsPlaceOver stack) old → All (IsPlaceOver stack) so_far) → All (IsPlaceOver stack) old → All (IsPlaceOver stack) new
+  over-below entry is old so_far new pushes over all =
+      subst (λ (ps : List DirPlace). All (IsPlaceOver stack) ps) (sym pushes) (All-push (IsPlaceOver stack) so_far (place_below own entry name) (over all) (over-there entry is))
+
+  pub below-step : (entry : PlaceEntry) → IsEntryIn stack name own entry → is_directory entry.inode.now ≡ true
+      → (old so_far new : List DirPlace) (rest more : List Reached) → new ≡ so_far ++ place_below own entry name ∷ []
+      → below_entry entry.mark.now name (reached (drop (own.layer + 1) stack.layers) (own.layer + 1)) (λ other. reached_below stack.layers other (left (k + 1))) ≡ rest
+      → places_in stack so_far ++ reached_below stack.layers name (left k) ≡ places_in stack old ++ more
+      → places_in stack new ++ rest ≡ places_in stack old ++ more
+  below-step entry is holds old so_far new rest more pushes onward same =
+      pushed stack old so_far new (place_below own entry name) rest more pushes
+      ((λ j. places_in stack so_far ++ entered-there entry is j ∷ sym onward j)
+      ∙ (ap (λ (ps : List Reached). places_in stack so_far ++ ps) (sym (below-directory stack.layers name (places_in stack places) k (place_in stack own) at entry.inode.now entry.mark.now is.inode holds (sym is.mark)))
+      ∙ same))
+
+-- the layer of a place is one of the stack
+pub layer-inside : (stack : StackView) (place : DirPlace) → IsPlaceOver stack place → place.layer < length stack.layers
+layer-inside stack place over = by (slice_get stack.layers place.layer) refl over
+  where
+    by : (o : Option Entries) → slice_get stack.layers place.layer ≡ o → IsSomeAnd o (λ layer. place.row < length layer) → place.layer < length stack.layers
+    by None e over = absurd over
+    by (Some layer) e over = slice_get_within stack.layers place.layer layer e
+
+pub over-at : (stack : StackView) (places : List DirPlace) (k : ℕ) (own : DirPlace) → All (IsPlaceOver stack) places → k < length places → own ≡ get_or places k own → IsPlaceOver stack own
+over-at stack places k own all inside at = subst (IsPlaceOver stack) (sym at) (all k own inside)
+
+-- a view has a place exactly where a directory is shown
+pub no-places : (stack : StackView) (places : List DirPlace) (more : List Reached) → places_in stack places ≡ more → length places ≡ 0 → is_reached more ≡ false
+no-places stack [] more same none = ap is_reached (sym same)
+no-places stack (place ∷ places) more same none = absurd (omega (arith, none))
+
+pub some-places : (stack : StackView) (places : List DirPlace) (more : List Reached) → places_in stack places ≡ more → 0 < length places → is_reached more ≡ true
+some-places stack [] more same some = absurd (omega (arith, some))
+some-places stack (place ∷ places) more same some = ap is_reached (sym same)

@@ -1,0 +1,136 @@
+-- The steps of passes over layers and over the places of a view.
+use Rattle.std.proofs.Common.{◌≡◌, ℕ, zero, suc, ◌+◌, Bool, true, false, cond, Option, Some, None, is_some, List, [], ◌∷◌, ◌++◌, drop, map, refl, sym, ap, ◌∙◌, add-one, arith}
+use Rattle.std.specs.Prelude.{◌||◌, ◌&&◌, not, filter, slice_get}
+use Rattle.std.proofs.lemmas.List.{map-append}
+use Rattle.std.proofs.lemmas.List.Elements.{filter-append}
+use Rattle.ovl_names.specs.Names.{PathName}
+use Rattle.ovl_names.specs.Paths.{PathNames, child_path}
+use Rattle.ovl_inode.specs.declared.inodes.Inode.{Inode}
+use Rattle.ovl_inode.specs.declared.marks.Mark.{Mark}
+use Rattle.ovl_inode.specs.declared.marks.Mark.TheVariants.{Whiteout, DirOpaque, DirMoved, DirBad, DirPlain, Meta, MetaBad, Leaf}
+use Rattle.ovl_inode.specs.Marks.{mark_of, is_directory, is_whiteout, is_metacopy_mark, is_data, is_regular, has_metacopy}
+use Rattle.ovl_manifest.specs.Layers.{Entries, entry_at, is_directory_at}
+use Rattle.ovl_lookup.specs.Walk.{walk}
+use Rattle.ovl_lookup.specs.Trace.{things_found}
+use Rattle.ovl_lookup.specs.Views.{Reached, reached, entry_in, entered, below_entry, reached_below, found_below}
+use Rattle.ovl_lookup.specs.Merged.{data_of, is_nothing}
+use Rattle.ovl_lookup.specs.Passes.{data_below}
+use Rattle.ovl_lookup.specs.ViewPasses.{names_in, put_top, put_tops, tops_along, look_from_top, looks_from_tops}
+use Rattle.ovl_lookup.proofs.WalkLaws.{directory_found}
+use Rattle.ovl_lookup.proofs.ViewLemmas.{is_directory_mark, file-marked, reached_below_by, found_below_by}
+use Rattle.ovl_lookup.proofs.FoundLemmas.{bare_file, data_of-metacopy, data_of-bad}
+
+-- what a list has from a place on
+drop-next : {X : Type 0} (xs : List X) (i : ℕ) (x : X) → slice_get xs i ≡ Some x → drop i xs ≡ x ∷ drop (suc i) xs
+drop-next [] i x here = let bad : None ≡ Some x = here in cc
+drop-next (first ∷ xs) zero x here = let same : first ≡ x = cc in ap (λ y. y ∷ xs) same
+drop-next (first ∷ xs) (suc i) x here = drop-next xs i x here
+
+pub drop-here : {X : Type 0} (xs : List X) (i : ℕ) (x : X) → slice_get xs i ≡ Some x → drop i xs ≡ x ∷ drop (i + 1) xs
+drop-here xs i x here = rw add-one (drop-next xs i x here)
+
+-- ---- the layers from `i` on, of which the first is `layer`
+module _ (layers : List Entries) (i : ℕ) (layer : Entries) (here : slice_get layers i ≡ Some layer) (path : PathNames) where
+  first-reached : (d : Bool) (e : Bool) (closed : Bool) (next : PathNames) → is_directory_at layer path ≡ d → (is_some (entry_at layer path) || (walk layer path).closed) ≡ e → closed ≡ (walk layer path).closed → next ≡ (walk layer path).next → reached (drop i layers) i path ≡ cond d (record { layer = i; path = path; next = next; closed = closed } ∷ cond closed [] (reached (drop (i + 1) layers) (i + 1) next)) (cond e [] (reached (drop (i + 1) layers) (i + 1) next))
+  first-reached d e closed next is_d is_e is_closed is_next =
+      ap (λ (ls : List Entries). reached ls i path) (drop-here layers i layer here)
+      ∙ ((λ j. cond (is_d j) (record { layer = i; path = path; next = sym is_next j; closed = sym is_closed j } ∷ cond (sym is_closed j) [] (reached (drop (i + 1) layers) (suc i) (sym is_next j))) (cond (is_e j) [] (reached (drop (i + 1) layers) (suc i) (sym is_next j))))
+      ∙ rw add-one refl)
+
+  -- it has a directory there
+  pub arrives-directory : (next : PathNames) (closed : Bool) → is_directory_at layer path ≡ true → next ≡ (walk layer path).next → closed ≡ (walk layer path).closed → reached (drop i layers) i path ≡ record { layer = i; path = path; next = next; closed = closed } ∷ cond closed [] (reached (drop (i + 1) layers) (i + 1) next)
+  arrives-directory next closed holds is_next is_closed = first-reached true (is_some (entry_at layer path) || (walk layer path).closed) closed next holds refl is_closed is_next
+
+  -- nothing is there, and the walk goes on
+  pub arrives-past : (next : PathNames) → entry_at layer path ≡ None → (walk layer path).closed ≡ false → next ≡ (walk layer path).next → reached (drop i layers) i path ≡ reached (drop (i + 1) layers) (i + 1) next
+  arrives-past next none opens is_next = first-reached false false false next (ap directory_found none) (λ j. is_some (none j) || opens j) (sym opens) is_next
+
+  -- a file or a whiteout is there, or the walk is closed
+  pub arrives-end : is_directory_at layer path ≡ false → (is_some (entry_at layer path) || (walk layer path).closed) ≡ true → reached (drop i layers) i path ≡ []
+  arrives-end none over = first-reached false true (walk layer path).closed (walk layer path).next none over refl refl
+
+-- ---- the places from `k` on, of which the first is `place`
+module _ (all : List Entries) (name : PathName) (places : List Reached) (k : ℕ) (place : Reached) (here : slice_get places k ≡ Some place) where
+  -- what stands at the name in it, by its layer
+  pub entry-in : (layer : Entries) → slice_get all place.layer ≡ Some layer → entry_in all name place ≡ entry_at layer (child_path place.path name)
+  entry-in layer at = ap (λ (o : Option Entries). elim o as (λ _. Option Inode) [ Some own ↦ entry_at own (child_path place.path name) | None ↦ None ]) at
+
+  below-by : (found : Option Inode) → entry_in all name place ≡ found → reached_below all name (drop k places) ≡ reached_below_by all name place (drop (k + 1) places) found
+  below-by found e = ap (reached_below all name) (drop-here places k place here) ∙ ap (reached_below_by all name place (drop (k + 1) places)) e
+
+  pub below-none : entry_in all name place ≡ None → reached_below all name (drop k places) ≡ reached_below all name (drop (k + 1) places)
+  below-none e = below-by None e
+
+  pub below-file : (inode : Inode) → entry_in all name place ≡ Some inode → is_directory inode ≡ false → reached_below all name (drop k places) ≡ []
+  below-file inode e file =
+      below-by (Some inode) e
+      ∙ ap (λ b. cond b (entered name (mark_of inode) place ∷ below_entry (mark_of inode) name (reached (drop (suc place.layer) all) (suc place.layer)) (λ other. reached_below all other (drop (k + 1) places))) []) file
+
+  pub below-directory : (inode : Inode) (mark : Mark) → entry_in all name place ≡ Some inode → is_directory inode ≡ true → mark_of inode ≡ mark → reached_below all name (drop k places) ≡ entered name mark place ∷ below_entry mark name (reached (drop (place.layer + 1) all) (place.layer + 1)) (λ other. reached_below all other (drop (k + 1) places))
+  below-directory inode mark e holds m =
+      let next : suc place.layer ≡ place.layer + 1 = omega arith in
+      below-by (Some inode) e
+      ∙ ((λ j. cond (holds j) (entered name (m j) place ∷ below_entry (m j) name (reached (drop (suc place.layer) all) (suc place.layer)) (λ other. reached_below all other (drop (k + 1) places))) [])
+      ∙ ap (λ n. entered name mark place ∷ below_entry mark name (reached (drop n all) n) (λ other. reached_below all other (drop (k + 1) places))) next)
+
+  found-by : (found : Option Inode) → entry_in all name place ≡ found → found_below all name (drop k places) ≡ found_below_by all name place (drop (k + 1) places) found
+  found-by found e = ap (found_below all name) (drop-here places k place here) ∙ ap (found_below_by all name place (drop (k + 1) places)) e
+
+  pub found-none : entry_in all name place ≡ None → found_below all name (drop k places) ≡ found_below all name (drop (k + 1) places)
+  found-none e = found-by None e
+
+  pub found-whiteout : (inode : Inode) → entry_in all name place ≡ Some inode → is_whiteout inode ≡ true → found_below all name (drop k places) ≡ []
+  found-whiteout inode e w =
+      found-by (Some inode) e
+      ∙ ap (λ b. cond b [] (inode ∷ below_entry (mark_of inode) name (things_found (drop (suc place.layer) all)) (λ other. found_below all other (drop (k + 1) places)))) w
+
+  pub found-entry : (inode : Inode) (mark : Mark) → entry_in all name place ≡ Some inode → is_whiteout inode ≡ false → mark_of inode ≡ mark → found_below all name (drop k places) ≡ inode ∷ below_entry mark name (things_found (drop (place.layer + 1) all)) (λ other. found_below all other (drop (k + 1) places))
+  found-entry inode mark e w m =
+      let next : suc place.layer ≡ place.layer + 1 = omega arith in
+      found-by (Some inode) e
+      ∙ ((λ j. cond (w j) [] (inode ∷ below_entry (m j) name (things_found (drop (suc place.layer) all)) (λ other. found_below all other (drop (k + 1) places))))
+      ∙ ap (λ n. inode ∷ below_entry mark name (things_found (drop n all)) (λ other. found_below all other (drop (k + 1) places))) next)
+
+  -- the data there, by the mark: what goes on below a metacopy file, or the inode where it has its contents itself
+  pub data-entry : (inode : Inode) (mark : Mark) → entry_in all name place ≡ Some inode → is_whiteout inode ≡ false → mark_of inode ≡ mark → data_below (found_below all name (drop k places)) ≡ cond (is_metacopy_mark mark) (data_below (below_entry mark name (things_found (drop (place.layer + 1) all)) (λ other. found_below all other (drop (k + 1) places)))) (cond (is_data inode) (Some inode) None)
+  data-entry inode mark e w m =
+      ap data_below (found-entry inode mark e w m)
+      ∙ ap (λ (own : Mark). cond (is_metacopy_mark own) (data_below (below_entry mark name (things_found (drop (place.layer + 1) all)) (λ other. found_below all other (drop (k + 1) places)))) (cond (is_data inode) (Some inode) None)) m
+
+-- ---- the data of a file without contents, by its mark
+module _ (name : PathName) (from_root : PathNames → List Inode) (beside : PathName → List Inode) where
+  nothing-below : (mark : Mark) → is_metacopy_mark mark ≡ false → is_directory_mark mark ≡ false → below_entry mark name from_root beside ≡ []
+  nothing-below Whiteout meta directory = refl
+  nothing-below MetaBad meta directory = refl
+  nothing-below Leaf meta directory = refl
+  nothing-below (Meta redirect) meta directory = let bad : true ≡ false = meta in cc
+  nothing-below DirOpaque meta directory = let bad : true ≡ false = directory in cc
+  nothing-below (DirMoved redirect) meta directory = let bad : true ≡ false = directory in cc
+  nothing-below DirBad meta directory = let bad : true ≡ false = directory in cc
+  nothing-below DirPlain meta directory = let bad : true ≡ false = directory in cc
+
+  pub data_of-lacking : (inode : Inode) (mark : Mark) → (is_regular inode && has_metacopy inode) ≡ true → is_whiteout inode ≡ false → mark_of inode ≡ mark → data_of (inode ∷ below_entry mark name from_root beside) ≡ data_below (below_entry mark name from_root beside)
+  data_of-lacking inode mark lacks w m = by (is_metacopy_mark (mark_of inode)) refl
+    where
+      below : List Inode
+      below = below_entry mark name from_root beside
+
+      by : (b : Bool) → is_metacopy_mark (mark_of inode) ≡ b → data_of (inode ∷ below) ≡ data_below below
+      by true meta = data_of-metacopy inode below meta (bare_file inode lacks).0 (bare_file inode lacks).1
+      by false meta =
+          data_of-bad inode below meta (bare_file inode lacks).0 (bare_file inode lacks).1
+          ∙ sym (ap data_below (nothing-below mark (ap is_metacopy_mark (sym m) ∙ meta) (ap is_directory_mark (sym m) ∙ file-marked inode w (bare_file inode lacks).0)))
+
+-- ---- the names of the places, each put with its first one
+module _ (layers : List Entries) (tops : List (PathName × ℕ)) where
+  pub tops-next : (places : List Reached) (k : ℕ) (place : Reached) → slice_get places k ≡ Some place → tops_along layers tops k (drop k places) ≡ tops_along layers (put_tops tops k (names_in layers place)) (k + 1) (drop (k + 1) places)
+  tops-next places k place here = ap (tops_along layers tops k) (drop-here places k place here) ∙ rw add-one refl
+
+  pub put-next : (names : List PathName) (k j : ℕ) (name : PathName) → slice_get names j ≡ Some name → put_tops tops k (drop j names) ≡ put_tops (put_top tops k name) k (drop (j + 1) names)
+  put-next names k j name here = ap (put_tops tops k) (drop-here names j name here)
+
+-- the looks at one more name
+pub looks-next : (layers : List Entries) (places : List Reached) (tops : List (PathName × ℕ)) (top : PathName × ℕ) → looks_from_tops layers places (tops ++ top ∷ []) ≡ looks_from_tops layers places tops ++ cond (not (is_nothing (look_from_top layers places top).1)) (look_from_top layers places top ∷ []) []
+looks-next layers places tops top =
+    ap (filter (λ e. not (is_nothing e.1))) (map-append (look_from_top layers places) tops (top ∷ []))
+    ∙ filter-append (λ e. not (is_nothing e.1)) (map (look_from_top layers places) tops) (look_from_top layers places top ∷ [])

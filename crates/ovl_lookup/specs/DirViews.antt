@@ -1,0 +1,79 @@
+-- Views of directories over a stack, as the program keeps them.
+use Rattle.std.specs.Prelude.{◌≡◌, ℕ, ◌<◌, ◌≤◌, ◌++◌, true, Option, Some, None, List, [], drop, length, map, slice_get, IsSomeAnd}
+use Rattle.std.specs.List.{All}
+use Rattle.ovl_names.specs.Names.{PathName}
+use Rattle.ovl_names.specs.Paths.{PathNames, child_path}
+use Rattle.ovl_inode.specs.declared.marks.Mark.{Mark}
+use Rattle.ovl_inode.specs.declared.marks.Mark.TheVariants.{DirMoved, DirPlain, Meta}
+use Rattle.ovl_inode.specs.declared.marks.Redirect.TheVariants.{To, Beside}
+use Rattle.ovl_inode.specs.Marks.{mark_of}
+use Rattle.ovl_manifest.specs.Sheets.{path_at}
+use Rattle.ovl_lookup.specs.declared.views.DirPlace.{DirPlace}
+use Rattle.ovl_lookup.specs.declared.views.PlaceEntry.{PlaceEntry}
+use Rattle.ovl_lookup.specs.declared.views.DirView.{DirView}
+use Rattle.ovl_lookup.specs.Stacks.{StackView, from_layer}
+use Rattle.ovl_lookup.specs.Passes.{entered_path, entered_closed}
+use Rattle.ovl_lookup.specs.Merged.{shows_directory}
+use Rattle.ovl_lookup.specs.Views.{Reached, reached, entry_in}
+
+-- a place in a stack: its row is one of its layer
+abbrev pub IsPlaceOver : StackView → DirPlace → Type 0
+IsPlaceOver stack place = IsSomeAnd (slice_get stack.layers place.layer) (λ layer. place.row < length layer)
+
+-- the path of a row of a layer of the stack
+abbrev pub path_in : StackView → ℕ → ℕ → PathNames
+path_in stack layer row = elim (slice_get stack.layers layer) [ Some entries ↦ path_at entries row | None ↦ [] ]
+
+-- the place as the laws of views have it
+abbrev pub place_in : StackView → DirPlace → Reached
+place_in stack place = record { layer = place.layer; path = path_in stack place.layer place.row; next = place.next; closed = place.closed }
+
+abbrev pub places_in : StackView → List DirPlace → List Reached
+places_in stack places = map (place_in stack) places
+
+-- a view was made over the stack
+pub record IsViewOver (stack : StackView) (view : DirView) : Type 0 where
+  pub within : view.from ≤ length stack.layers
+  pub over : All (IsPlaceOver stack) view.places.items
+  pub reached : places_in stack view.places.items ≡ reached (drop view.from stack.layers) view.from view.path
+
+-- the view of a path of the merged tree, at which a directory is shown
+pub record IsViewOf (stack : StackView) (from : ℕ) (path : PathNames) (view : DirView) : Type 0 where
+  pub over : IsViewOver stack view
+  pub starts : view.from ≡ from
+  pub stands : view.path ≡ path
+  pub shown : shows_directory (from_layer from stack) path ≡ true
+
+-- more places were added
+pub record AddsPlaces (stack : StackView) (old new : List DirPlace) (more : List Reached) : Type 0 where
+  pub places : places_in stack new ≡ places_in stack old ++ more
+  pub over : All (IsPlaceOver stack) old → All (IsPlaceOver stack) new
+
+-- what stands at a name in a place: the number of its row, its inode and its mark
+pub record IsEntryIn (stack : StackView) (name : PathName) (place : DirPlace) (entry : PlaceEntry) : Type 0 where
+  pub inode : entry_in stack.layers name (place_in stack place) ≡ Some entry.inode.now
+  pub mark : entry.mark.now ≡ mark_of entry.inode.now
+  pub row : IsSomeAnd (slice_get stack.layers place.layer)
+      (λ layer. (entry.row < length layer) × (path_at layer entry.row ≡ child_path (path_at layer place.row) name))
+
+-- the place of the directory that an entry of a place is
+abbrev pub place_below : DirPlace → PlaceEntry → PathName → DirPlace
+place_below place entry name = record {
+  layer = place.layer;
+  row = entry.row;
+  next = entered_path entry.mark.now place.next name;
+  closed = entered_closed entry.mark.now place.closed;
+}
+
+-- where the layers below go on below an entry of this mark: at a path from the root, or beside it by a name
+abbrev pub path_on : Mark → Option PathNames
+path_on (DirMoved (To origin)) = Some origin
+path_on (Meta (Some (To origin))) = Some origin
+path_on _ = None
+
+abbrev pub name_on : Mark → PathName → Option PathName
+name_on DirPlain name = Some name
+name_on (DirMoved (Beside own)) name = Some own
+name_on (Meta None) name = Some name
+name_on (Meta (Some (Beside own))) name = Some own
+name_on _ name = None

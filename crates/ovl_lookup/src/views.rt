@@ -1,0 +1,243 @@
+ghost use Rattle.std.specs.Prelude.{◌≡◌, ◌≤◌, ◌++◌, [], ◌∷◌, false, None, suc, drop, length, not, map, IfOk, OnOk, MatchOption};
+ghost use Rattle.std.specs.Option.{option_map};
+ghost use Rattle.std.specs.List.{All};
+ghost use Rattle.ovl_names.specs.Paths.{child_path};
+ghost use Rattle.ovl_lookup.specs.Stacks.{from_layer};
+ghost use Rattle.ovl_lookup.specs.Merged.{shows_directory};
+ghost use Rattle.ovl_lookup.specs.Views.{reached, entry_in, reached_below};
+ghost use Rattle.ovl_lookup.specs.DirViews.{path_on, name_on, IsViewOver, IsViewOf, IsPlaceOver, IsEntryIn, AddsPlaces, place_in, places_in, place_below};
+
+use crate::Stack;
+use crate::steps::{Arrival, Entered, arrive, enter};
+use ovl_inode::{Inode, Mark, Redirect, is_directory};
+use ovl_names::{Name, Path};
+use std::alloc::{AllocError, Global};
+
+/// A directory of the merged tree of the layers from one on: where each of them has it that its walks come to. What it
+/// is asked is of the stack that it was made over.
+#[derive(Drop)]
+pub struct DirView {
+    from: usize,
+    path: Path,
+    pub(crate) places: Vec<DirPlace>,
+}
+
+// A layer that has the directory: the number of its row there, the path by which the layer below knows it, and whether
+// the layers below are hidden there.
+#[derive(Drop)]
+pub(crate) struct DirPlace {
+    pub(crate) layer: usize,
+    pub(crate) row: u32,
+    next: Path,
+    closed: bool,
+}
+
+// What stands at a name in a place.
+#[derive(Drop)]
+pub(crate) struct PlaceEntry<'a> {
+    pub(crate) row: u32,
+    pub(crate) inode: &'a Inode,
+    pub(crate) mark: &'a Mark,
+}
+
+impl DirPlace {
+    // What stands at a name there, if something does.
+    pub(crate) fn entry<'a>(&self, stack: &'a Stack, name: &Name) -> Option<PlaceEntry<'a>>
+        requires { IsPlaceOver stack.now self.now }
+        ensures { MatchOption result
+            (entry_in stack.now.layers name.now (place_in stack.now self.now) ≡ None)
+            (λ entry. IsEntryIn stack.now name.now self.now entry) }
+    {
+        let sheet = stack.sheet(self.layer);
+        let Some(row) = sheet.child(self.row, name) else {
+            return None;
+        };
+        Some(PlaceEntry {
+            row,
+            inode: sheet.inode(row),
+            mark: sheet.mark(row),
+        })
+    }
+}
+
+impl DirView {
+    /// The view of a path of the merged tree of the layers with index `from` and up, and `None` where they show no
+    /// directory there; `from` is at most the number of layers. Each layer is walked at most once. Fails only for want
+    /// of memory.
+    pub fn of(
+        alloc: Global,
+        stack: &Stack,
+        from: usize,
+        path: &Path,
+    ) -> Result<Option<DirView>, AllocError>
+        requires { from ≤ length stack.now.layers }
+        ensures { IfOk result (λ found. MatchOption found
+            (shows_directory (from_layer from stack.now) path.now ≡ false)
+            (λ view. IsViewOf stack.now from path.now view)) }
+    {
+        let _ = &stack.layers;
+        let mut places = Vec::new(alloc);
+        push_reached(alloc, stack, from, path, &mut places)?;
+        if places.is_empty() {
+            return Ok(None);
+        }
+        let path = path.copy(alloc)?;
+        Ok(Some(DirView { from, path, places }))
+    }
+
+    /// The directory's path in the merged tree.
+    pub fn path(&self) -> &Path
+        ensures { result.now ≡ self.now.path }
+    {
+        &self.path
+    }
+
+    /// The view of the directory `name` in this one, and `None` where no directory is shown there. It goes on from the
+    /// rows of this one; a layer is walked from its root only below an absolute redirect. Fails only for want of memory.
+    pub fn child(
+        &self,
+        alloc: Global,
+        stack: &Stack,
+        name: &Name,
+    ) -> Result<Option<DirView>, AllocError>
+        requires { IsViewOver stack.now self.now }
+        ensures { IfOk result (λ found. MatchOption found
+            (shows_directory (from_layer self.now.from stack.now) (child_path self.now.path name.now) ≡ false)
+            (λ view. IsViewOf stack.now self.now.from (child_path self.now.path name.now) view)) }
+    {
+        let _ = &stack.layers;
+        let mut places = Vec::new(alloc);
+        push_below(alloc, stack, &self.places, name, &mut places)?;
+        if places.is_empty() {
+            return Ok(None);
+        }
+        let path = self.path.child(alloc, name)?;
+        Ok(Some(DirView {
+            from: self.from,
+            path,
+            places,
+        }))
+    }
+}
+
+// Adds the places of the view of a path over the layers from `from` on.
+fn push_reached(
+    alloc: Global,
+    stack: &Stack,
+    from: usize,
+    path: &Path,
+    places: &mut Vec<DirPlace>,
+) -> Result<(), AllocError>
+    requires { from ≤ length stack.now.layers }
+    ensures { OnOk result (AddsPlaces stack.now places.old.items places.new.items (reached (drop from stack.now.layers) from path.now)) }
+{
+    let mut place = path.copy(alloc)?;
+    for layer in from..stack.layers() {
+        match arrive(alloc, stack.sheet(layer), &place)? {
+            Arrival::Directory { row, next, closed } => {
+                place = next.copy(alloc)?;
+                places.push(DirPlace {
+                    layer,
+                    row,
+                    next,
+                    closed,
+                })?;
+                if closed {
+                    return Ok(());
+                }
+            }
+            Arrival::Past(next) => place = next,
+            Arrival::End => return Ok(()),
+        }
+    }
+    Ok(())
+}
+
+// Adds the places of the view with one more name, by those of the view.
+fn push_below(
+    alloc: Global,
+    stack: &Stack,
+    places: &[DirPlace],
+    name: &Name,
+    below: &mut Vec<DirPlace>,
+) -> Result<(), AllocError>
+    requires { All (IsPlaceOver stack.now) places.now }
+    ensures { OnOk result (AddsPlaces stack.now below.old.items below.new.items (reached_below stack.now.layers name.now (places_in stack.now places.now))) }
+{
+    let _ = &stack.layers;
+    let mut own = name;
+    for place in places {
+        let Some(entry) = place.entry(stack, own) else {
+            continue;
+        };
+        if !is_directory(entry.inode) {
+            return Ok(());
+        }
+        push_entered(alloc, place, &entry, own, below)?;
+        if let Some(origin) = goes_on_at(entry.mark) {
+            return push_reached(alloc, stack, place.layer + 1, origin, below);
+        }
+        let Some(other) = goes_on_by(entry.mark, own) else {
+            return Ok(());
+        };
+        own = other;
+    }
+    Ok(())
+}
+
+// Adds the place of the directory that this entry of a place is.
+fn push_entered(
+    alloc: Global,
+    place: &DirPlace,
+    entry: &PlaceEntry<'_>,
+    name: &Name,
+    below: &mut Vec<DirPlace>,
+) -> Result<(), AllocError>
+    ensures { OnOk result (below.new.items ≡ below.old.items ++ place_below place.now entry.now name.now ∷ []) }
+{
+    let next = place.next.copy(alloc)?;
+    let Entered { next, closed } = enter(alloc, entry.mark, name, place.closed, next)?;
+    below.push(DirPlace {
+        layer: place.layer,
+        row: entry.row,
+        next,
+        closed,
+    })?;
+    Ok(())
+}
+
+// The path from the root at which the layers below go on below an entry of this mark, where it has an absolute redirect.
+fn goes_on_at(mark: &Mark) -> Option<&Path>
+    ensures { option_map (λ path. path.now) result ≡ path_on mark.now }
+{
+    match mark {
+        Mark::DirMoved(Redirect::To(origin)) => Some(origin),
+        Mark::Meta(Some(Redirect::To(origin))) => Some(origin),
+        Mark::DirMoved(Redirect::Beside(_))
+        | Mark::Meta(Some(Redirect::Beside(_)) | None)
+        | Mark::Whiteout
+        | Mark::DirOpaque
+        | Mark::DirBad
+        | Mark::DirPlain
+        | Mark::MetaBad
+        | Mark::Leaf => None,
+    }
+}
+
+// The name by which they know it in the same directory, where it hides nothing.
+fn goes_on_by<'a>(mark: &'a Mark, name: &'a Name) -> Option<&'a Name>
+    ensures { option_map (λ own. own.now) result ≡ name_on mark.now name.now }
+{
+    match mark {
+        Mark::DirMoved(Redirect::Beside(own)) => Some(own),
+        Mark::Meta(Some(Redirect::Beside(own))) => Some(own),
+        Mark::DirPlain | Mark::Meta(None) => Some(name),
+        Mark::DirMoved(Redirect::To(_))
+        | Mark::Meta(Some(Redirect::To(_)))
+        | Mark::Whiteout
+        | Mark::DirOpaque
+        | Mark::DirBad
+        | Mark::MetaBad
+        | Mark::Leaf => None,
+    }
+}
