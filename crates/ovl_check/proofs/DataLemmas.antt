@@ -1,24 +1,15 @@
--- The size of a metacopy file's data, by what the layers below show.
+-- The size of the data below metacopy files, by what is shown.
 use Rattle.std.proofs.Common.{◌≡◌, ℕ, Bool, true, false, cond, Option, Some, None, List, [], ◌∷◌, refl, sym, ap, ◌∙◌}
 use Rattle.std.specs.Prelude.{◌&&◌, not}
 use Rattle.std.specs.Option.{option_map}
-use Rattle.ovl_names.specs.Paths.{PathNames}
 use Rattle.ovl_names.proofs.Ascending.{both}
 use Rattle.ovl_inode.specs.declared.inodes.Inode.{Inode}
 use Rattle.ovl_inode.specs.declared.inodes.Kind.{Kind}
 use Rattle.ovl_inode.specs.declared.inodes.Kind.TheVariants.{File}
-use Rattle.ovl_inode.specs.declared.marks.Mark.{Mark}
-use Rattle.ovl_inode.specs.declared.marks.Mark.TheVariants.{Meta}
 use Rattle.ovl_inode.specs.Kinds.{size_of}
-use Rattle.ovl_inode.specs.Marks.{mark_of, is_metacopy, is_metacopy_mark, is_regular, has_metacopy, is_data}
-use Rattle.ovl_manifest.specs.Layers.{Entries, entry_at}
-use Rattle.ovl_lookup.specs.declared.steps.Step.{Step}
-use Rattle.ovl_lookup.specs.Walk.{walk, mark_at}
-use Rattle.ovl_lookup.specs.Stacks.{StackView}
-use Rattle.ovl_lookup.specs.Trace.{things_found}
-use Rattle.ovl_lookup.specs.Merged.{look, shown_of, data_of}
+use Rattle.ovl_inode.specs.Marks.{is_metacopy, is_regular, has_metacopy, is_data}
+use Rattle.ovl_lookup.specs.Merged.{shown_of}
 use Rattle.ovl_lookup.specs.Passes.{data_below}
-use Rattle.ovl_lookup.specs.Sound.{is_meta, data_at}
 use Rattle.ovl_lookup.proofs.FoundLemmas.{metacopy-file, bare_file, data_of-metacopy, data_of-bad, data_below-metacopy, data_below-data, data_below-other, shown_of-full, shown_of-contents, shown_of-broken}
 use Rattle.ovl_check.specs.Checks.{size_shown}
 
@@ -49,7 +40,8 @@ below-data (inode ∷ found) contents is = by (below-data found contents) (is_me
     by later false true e is = ap is_data (sym (ap (λ (o : Option Inode). elim o as (λ _. Inode) [ Some i ↦ i | None ↦ contents ]) is)) ∙ e
     by later false false e is = let bad : None ≡ Some contents = is in cc
 
-shown-size : (found : List Inode) → size_shown (shown_of found) ≡ option_map size_of (data_below found)
+-- what is shown has the size of the data below
+pub shown-size : (found : List Inode) → size_shown (shown_of found) ≡ option_map size_of (data_below found)
 shown-size [] = refl
 shown-size (inode ∷ found) = by (is_regular inode && has_metacopy inode) refl
   where
@@ -88,22 +80,3 @@ shown-size (inode ∷ found) = by (is_regular inode && has_metacopy inode) refl
             ap size_shown (shown_of-broken inode found bare (data_of-bad inode found meta parts.0 parts.1))
             ∙ sym (ap (option_map size_of) (data_below-other inode found meta parts.1))
     by false plain = full (is_regular inode) (has_metacopy inode) refl refl plain
-
-same_mark : (mark : Mark) → is_meta (Some mark) ≡ is_metacopy_mark mark
-same_mark (Meta redirect) = refl
-same_mark _ = refl
-
-meta-inode : (layer : Entries) (path : PathNames) (inode : Inode) → entry_at layer path ≡ Some inode → is_meta (mark_at layer path) ≡ true → is_metacopy inode ≡ true
-meta-inode layer [] inode here is = let bad : false ≡ true = is in cc
-meta-inode layer (name ∷ names) inode here is =
-    sym (same_mark (mark_of inode))
-    ∙ (sym (ap (λ (o : Option Inode). is_meta (elim o as (λ _. Option Mark) [ Some i ↦ Some (mark_of i) | None ↦ None ])) here) ∙ is)
-
-pub data-size : (layer : Entries) (below : StackView) (path : PathNames) (inode : Inode) (step : Step) → step ≡ walk layer path → step.closed ≡ false → entry_at layer path ≡ Some inode → is_meta (mark_at layer path) ≡ true → size_shown (look below step.next) ≡ option_map size_of (data_at layer below path inode)
-data-size layer below path inode step is opened here meta =
-    let metacopy = meta-inode layer path inode here meta in
-    let parts = bare_file inode (metacopy-file inode metacopy).1 in
-    shown-size (things_found below.layers step.next)
-    ∙ (sym (ap (option_map size_of) (data_of-metacopy inode (things_found below.layers step.next) metacopy parts.0 parts.1))
-    ∙ (λ j. option_map size_of (data_of (inode ∷ cond (sym opened j) [] (things_found below.layers step.next))))
-    ∙ ap (λ (s : Step). option_map size_of (data_of (inode ∷ cond s.closed [] (things_found below.layers s.next)))) is)

@@ -1,5 +1,5 @@
 -- A layer of a stack: its entries one by one, and the directories in a directory.
-use Rattle.std.proofs.Common.{◌≡◌, ℕ, zero, suc, ◌≤◌, ◌⊎◌, inl, inr, Bool, true, false, cond, Option, Some, None, List, [], ◌∷◌, map, length, refl, sym, ap, ◌∙◌, subst}
+use Rattle.std.proofs.Common.{◌≡◌, ℕ, zero, suc, ◌≤◌, ◌<◌, arith, ◌⊎◌, inl, inr, Bool, true, false, cond, Option, Some, None, List, [], ◌∷◌, map, length, refl, sym, ap, ◌∙◌, subst}
 use Rattle.std.specs.Prelude.{filter, slice_get, unwrap_or, All}
 use Rattle.std.specs.List.{cons_option}
 use Rattle.std.specs.Ordering.{ordering_then}
@@ -22,6 +22,11 @@ pub layer_or_none : (layers : List Entries) → All IsLayer layers → (i : ℕ)
 layer_or_none [] each i = inl refl
 layer_or_none (layer ∷ layers) each zero = inr (all-first IsLayer layer layers each)
 layer_or_none (layer ∷ layers) each (suc i) = layer_or_none layers (all-rest IsLayer layer layers each) i
+
+pub layer_at-is : (layers : List Entries) → All IsLayer layers → (i : ℕ) → i < length layers → IsLayer (unwrap_or (slice_get layers i) [])
+layer_at-is [] each i inside = absurd (omega arith)
+layer_at-is (layer ∷ layers) each zero inside = all-first IsLayer layer layers each
+layer_at-is (layer ∷ layers) each (suc i) inside = layer_at-is layers (all-rest IsLayer layer layers each) i (omega arith)
 
 -- ---- the names in a directory
 

@@ -1,11 +1,16 @@
 mod Ascent
 mod Plain
 mod BlobLemmas
+mod BlobRanges
 mod DataLemmas
 mod FindLemmas
 mod LayerFacts
 mod OutLemmas
-mod CodeLemmas
+mod ListFacts
+mod MarkLemmas
+mod HeldLemmas
+mod GatherLemmas
+mod FactLemmas
 mod DoubleLemmas
 mod MemberLemmas
 mod FinishLemmas

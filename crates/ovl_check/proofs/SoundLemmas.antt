@@ -15,12 +15,9 @@ use Rattle.ovl_check.specs.Blobs.{BlobView}
 use Rattle.ovl_check.specs.Conditions.{holds}
 use Rattle.ovl_check.specs.Findings.{finding, findings_at, findings_in, findings_from}
 use Rattle.ovl_check.specs.Laws.{FindingsTellSoundness}
+use Rattle.ovl_check.proofs.ListFacts.{any-map}
 
 -- ---- tests of lists
-
-any-map : {X Y : Type 0} (f : X → Y) (p : Y → Bool) (xs : List X) → list_any p (map f xs) ≡ list_any (λ x. p (f x)) xs
-any-map f p [] = refl
-any-map f p (x ∷ xs) = ap (λ b. p (f x) || b) (any-map f p xs)
 
 kept : {X : Type 0} (p : X → Bool) (x : X) (xs : List X) (b : Bool) → list_any p (if b then x ∷ xs else xs) ≡ ((b && p x) || list_any p xs)
 kept p x xs true = refl

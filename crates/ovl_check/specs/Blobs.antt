@@ -1,7 +1,7 @@
 -- Blobs, those with wrong bytes, and the work of digesting them.
 use mathlib.Core.List.{is_set}
 use native.Mathlib.Nat.{ℕ_set}
-use Rattle.std.specs.Prelude.{ℕ, Bool, ◌&&◌, ◌==◌, not, List, [], ◌∷◌, if◌then◌else◌, take, map, filter}
+use Rattle.std.specs.Prelude.{◌≡◌, ℕ, Bool, true, All, ◌&&◌, ◌==◌, not, List, [], ◌∷◌, if◌then◌else◌, take, map, filter}
 use Rattle.std.specs.Ordering.{nat_cmp}
 use Rattle.std.specs.Cmp.Lexicographic.{slice_cmp}
 use Rattle.std.specs.declared.cmp.Ordering.{Ordering}
@@ -11,6 +11,7 @@ use Rattle.sha2.specs.Sha256.{sha256}
 use Rattle.ovl_names.specs.Names.{PathName, name_eq}
 use Rattle.ovl_names.specs.Order.{ascends}
 use Rattle.ovl_names.specs.Paths.{PathNames, is_root}
+use Rattle.ovl_inode.specs.Bytes.{is_digest}
 use Rattle.ovl_lookup.specs.Passes.{put_names}
 use Rattle.ovl_board.specs.declared.pieces.Piece.{Piece}
 use Rattle.ovl_check.specs.declared.blobs.Blob.{Blob}
@@ -36,6 +37,10 @@ blob_cmp one other = digest_cmp one.name other.name
 -- the names ascend strictly
 abbrev pub are_in_order : List BlobView → Bool
 are_in_order blobs = ascends blob_cmp blobs
+
+-- each name is a digest
+abbrev pub AreNamedByDigests : List Blob → Type 0
+AreNamedByDigests blobs = All (λ blob. is_digest blob.name ≡ true) blobs
 
 -- the bytes have another SHA-256 digest than the name; FIPS 180-4
 abbrev pub is_wrong : BlobView → Bool

@@ -5,4 +5,5 @@ pub mod Findings
 pub mod Laws
 pub mod Checks
 pub mod CheckViews
+pub mod Facts
 pub mod Walks

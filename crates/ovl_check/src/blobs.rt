@@ -1,10 +1,10 @@
-ghost use Rattle.std.specs.Prelude.{◌≡◌, IfOk, true, map};
+ghost use Rattle.std.specs.Prelude.{◌≡◌, IfOk, true, map, slice_index};
 ghost use Rattle.std.specs.List.{flat_map};
 ghost use Rattle.sha2.specs.Sha256.{sha256};
 ghost use Rattle.ovl_names.specs.Names.{name_eq};
 ghost use Rattle.ovl_board.specs.declared.pieces.Piece.{Piece};
 ghost use Rattle.ovl_board.specs.Parcels.{IsPlain, parcel_views};
-ghost use Rattle.ovl_check.specs.Blobs.{blob_view, blob_views, first_digits as the_digits, is_wrong as wrong_test, are_in_order, wrong_names, wrong_names_under as the_names_under, digits_of_names as the_digits_of_names, digits_piece, blob_kids, blob_out, blob_root};
+ghost use Rattle.ovl_check.specs.Blobs.{blob_view, blob_views, first_digits as the_digits, is_wrong as wrong_test, are_in_order, AreNamedByDigests, wrong_names, wrong_names_under as the_names_under, digits_of_names as the_digits_of_names, digits_piece, blob_kids, blob_out, blob_root};
 
 use ovl_board::{Parcel, Piece, Work};
 use ovl_inode::Digest;
@@ -44,15 +44,19 @@ pub fn blobs_in_order(blobs: &[Blob]) -> bool
 #[derive(Drop)]
 pub struct BlobWork<'a> {
     blobs: &'a [Blob],
+    // Whether their names ascend.
+    in_order: bool,
 }
 
 impl<'a> Model for BlobWork<'a> {
-    ghost use Rattle.std.specs.Prelude.{List};
-    ghost use Rattle.ovl_check.specs.Blobs.{BlobView, blob_views};
+    ghost use Rattle.std.specs.Prelude.{◌≡◌, List};
+    ghost use Rattle.ovl_check.specs.Blobs.{BlobView, blob_views, are_in_order, AreNamedByDigests};
 
     ghost Value = { List BlobView };
 
     ghost view = { λ a. blob_views a.blobs.now };
+
+    ghost invariant = { λ a. (a.in_order ≡ are_in_order (blob_views a.blobs.now)) × AreNamedByDigests a.blobs.now };
 }
 
 impl<'a> BlobWork<'a> {
@@ -60,7 +64,11 @@ impl<'a> BlobWork<'a> {
     pub fn new(blobs: &'a [Blob]) -> BlobWork<'a>
         ensures { result ≡ blob_views blobs.now }
     {
-        BlobWork { blobs }
+        keep_digests(blobs);
+        BlobWork {
+            blobs,
+            in_order: blobs_in_order(blobs),
+        }
     }
 
     // A kid for each two digits with which a name begins, in order.
@@ -75,6 +83,9 @@ impl<'a> BlobWork<'a> {
     fn wrong_names(&self, alloc: Global, digits: &Name) -> Result<Vec<Digest>, AllocError>
         ensures { IfOk result (λ names. names.items ≡ the_names_under digits.now self.now) }
     {
+        if self.in_order {
+            return wrong_names_under(alloc, blobs_under(self.blobs, digits), digits);
+        }
         wrong_names_under(alloc, self.blobs, digits)
     }
 }
@@ -184,6 +195,38 @@ fn wrong_names_under(
         }
     }
     Ok(names)
+}
+
+// Each of these has a digest for a name, since its type keeps that.
+fn keep_digests(blobs: &[Blob])
+    ensures { AreNamedByDigests blobs.now }
+{
+    for blob in blobs {
+        let _bytes = blob.name.as_bytes();
+    }
+}
+
+// The part of ascending blobs that has all whose names begin with these digits.
+fn blobs_under<'a>(blobs: &'a [Blob], digits: &Name) -> &'a [Blob]
+    requires in_order { are_in_order (blob_views blobs.now) ≡ true }
+    requires digests { AreNamedByDigests blobs.now }
+    ensures { the_names_under digits.now (blob_views result.now) ≡ the_names_under digits.now (blob_views blobs.now) }
+{
+    let mut byte = [0; 1];
+    if hex::decode_to_slice(digits.as_str(), &mut byte).is_err() {
+        return &blobs[..0];
+    }
+    let first = byte[0];
+    let start = blobs.partition_point(|blob| first_byte(blob) < first);
+    let later = &blobs[start..];
+    let end = later.partition_point(|blob| first_byte(blob) <= first);
+    &later[..end]
+}
+
+fn first_byte(blob: &Blob) -> u8
+    ensures { result ≡ slice_index blob.now.name 0 }
+{
+    blob.name.as_bytes()[0]
 }
 
 fn first_digits(name: &Digest) -> [u8; 2]

@@ -4,12 +4,14 @@
 mod blobs;
 mod checks;
 mod contents;
+mod directories;
+mod facts;
 mod findings;
 mod finish;
+mod gathering;
 pub mod laws;
-mod notes;
+mod marks;
 mod places;
-mod redirects;
 mod subjects;
 
 pub use blobs::{BLOB_SPACE, Blob, BlobWork, blobs_in_order, finish_blobs};

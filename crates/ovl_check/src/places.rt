@@ -1,12 +1,13 @@
 ghost use Rattle.std.specs.Prelude.{◌≡◌, ◌<◌, Some, IfOk, length};
 ghost use Rattle.std.specs.Option.{option_map};
-ghost use Rattle.ovl_names.specs.Paths.{parent_path};
+ghost use Rattle.ovl_names.specs.Paths.{child_path};
 ghost use Rattle.ovl_manifest.specs.Layers.{entry_at, names_below};
-ghost use Rattle.ovl_lookup.specs.Walk.{walk, mark_at as the_mark, open_natural_path};
+ghost use Rattle.ovl_lookup.specs.Walk.{walk, mark_at as the_mark};
 ghost use Rattle.ovl_lookup.specs.Merged.{look as the_look};
-ghost use Rattle.ovl_check.specs.Checks.{layer_at, layers_below};
+ghost use Rattle.ovl_check.specs.Checks.{layer_at, layers_below, size_shown};
+ghost use Rattle.ovl_check.specs.Facts.{data_size};
 
-use ovl_inode::{Inode, Mark, mark_of};
+use ovl_inode::{Inode, Kind, Mark, mark_of};
 use ovl_lookup::{Look, Stack, Step};
 use ovl_names::{Name, Path};
 use std::alloc::{AllocError, Global};
@@ -17,6 +18,21 @@ pub(crate) fn inode_at<'a>(stack: &'a Stack, i: usize, path: &Path) -> Option<&'
     ensures { option_map (λ inode. inode.now) result ≡ entry_at (layer_at stack.now i) path.now }
 {
     stack.own_at(i, path)
+}
+
+// The inode that layer `i` has under a name in a directory.
+pub(crate) fn child_inode<'a>(
+    alloc: Global,
+    stack: &'a Stack,
+    i: usize,
+    dir: &Path,
+    name: &Name,
+) -> Result<Option<&'a Inode>, AllocError>
+    requires { i < length stack.now.layers }
+    ensures { IfOk result (λ found. option_map (λ inode. inode.now) found ≡ entry_at (layer_at stack.now i) (child_path dir.now name.now)) }
+{
+    let path = dir.child(alloc, name)?;
+    Ok(inode_at(stack, i, &path))
 }
 
 // The names directly below a path in layer `i`.
@@ -45,19 +61,6 @@ pub(crate) fn step_of(
     stack.own_walk(alloc, i, path)
 }
 
-// The path at which the layers below layer `i` have an entry by its own name, where its directory doesn't hide them.
-pub(crate) fn natural_path(
-    alloc: Global,
-    stack: &Stack,
-    i: usize,
-    path: &Path,
-) -> Result<Option<Path>, AllocError>
-    requires { i < length stack.now.layers }
-    ensures { IfOk result (λ natural. natural ≡ open_natural_path (layer_at stack.now i) path.now) }
-{
-    stack.natural_path(alloc, i, path)
-}
-
 // What the layers below layer `i` show at a path.
 pub(crate) fn look_below(
     alloc: Global,
@@ -71,6 +74,63 @@ pub(crate) fn look_below(
     // A stack has at most 128 layers.
     let _layers = stack.layers();
     stack.look(alloc, i + 1, path)
+}
+
+// What they show under a name in the place of a directory.
+pub(crate) fn look_in(
+    alloc: Global,
+    stack: &Stack,
+    i: usize,
+    dir: &Path,
+    name: &Name,
+) -> Result<Look, AllocError>
+    requires { i < length stack.now.layers }
+    ensures { IfOk result (λ look. look ≡ the_look (layers_below stack.now i) (child_path dir.now name.now)) }
+{
+    let path = dir.child(alloc, name)?;
+    look_below(alloc, stack, i, &path)
+}
+
+// The size of the data that they have at a path, below metacopy files.
+pub(crate) fn data_size_below(
+    alloc: Global,
+    stack: &Stack,
+    i: usize,
+    path: &Path,
+) -> Result<Option<u64>, AllocError>
+    requires { i < length stack.now.layers }
+    ensures { IfOk result (λ size. size ≡ data_size (layers_below stack.now i) path.now) }
+{
+    let look = look_below(alloc, stack, i, path)?;
+    Ok(shown_size(&look))
+}
+
+// The same under a name in the place of a directory.
+pub(crate) fn data_size_in(
+    alloc: Global,
+    stack: &Stack,
+    i: usize,
+    dir: &Path,
+    name: &Name,
+) -> Result<Option<u64>, AllocError>
+    requires { i < length stack.now.layers }
+    ensures { IfOk result (λ size. size ≡ data_size (layers_below stack.now i) (child_path dir.now name.now)) }
+{
+    let path = dir.child(alloc, name)?;
+    data_size_below(alloc, stack, i, &path)
+}
+
+// The size of the file that is shown.
+fn shown_size(look: &Look) -> Option<u64>
+    ensures { result ≡ size_shown look.now }
+{
+    match look {
+        Look::Shown(inode) => match &inode.kind {
+            Kind::File { size, .. } => Some(*size),
+            _ => None,
+        },
+        _ => None,
+    }
 }
 
 // The mark of the entry that layer `i` has at a path.
@@ -89,16 +149,6 @@ pub(crate) fn mark_at(
     match inode_at(stack, i, path) {
         Some(inode) => Ok(Some(mark_of(alloc, inode)?)),
         None => Ok(None),
-    }
-}
-
-// The path of the directory that holds an entry; that of the root is the root.
-pub(crate) fn parent_of(alloc: Global, path: &Path) -> Result<Path, AllocError>
-    ensures { IfOk result (λ parent. parent ≡ parent_path path.now) }
-{
-    match path.parent(alloc)? {
-        Some(parent) => Ok(parent),
-        None => Ok(Path::root(alloc)),
     }
 }
 

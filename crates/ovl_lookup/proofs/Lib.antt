@@ -17,4 +17,5 @@ pub mod PlaceLemmas
 pub mod TopLemmas
 pub mod DirViewLemmas
 pub mod ViewSteps
+pub mod KidNames
 mod Rows

@@ -1,7 +1,7 @@
 -- The names in the directories of a view, each with the first place that has it, and what is shown there.
-use Rattle.std.proofs.Common.{◌≡◌, ℕ, zero, suc, length, arith, Bool, true, false, cond, Option, Some, None, is_some, List, [], ◌∷◌, ◌++◌, drop, map, refl, sym, ap, ◌∙◌, subst, append_assoc, length-append}
+use Rattle.std.proofs.Common.{◌≡◌, ℕ, zero, suc, ◌<◌, length, arith, Bool, true, false, cond, Option, Some, None, is_some, List, [], ◌∷◌, ◌++◌, drop, map, refl, sym, ap, ◌∙◌, subst, append_assoc, length-append}
 use Rattle.std.specs.Prelude.{◌||◌, ◌&&◌, not, filter, slice_get}
-use Rattle.std.specs.List.{AllByRecursion, list_any, flat_map}
+use Rattle.std.specs.List.{All, AllByRecursion, list_any, flat_map}
 use Rattle.std.specs.Map.{lookup}
 use Rattle.std.specs.BTreeMap.{insert_entry, is_at}
 use Rattle.std.specs.BTreeSet.{insert_key}
@@ -116,6 +116,7 @@ record AreTops (layers : List Entries) (places : List Reached) (names : List Pat
   pub in_order : ascends name_cmp (map (λ top. top.0) tops) ≡ true
   pub same : (name : PathName) → list_any (name_eq name) (map (λ top. top.0) tops) ≡ list_any (name_eq name) names
   pub each : AllByRecursion (λ top. found_below layers top.0 (drop top.1 places) ≡ found_below layers top.0 places) tops
+  pub inside : AllByRecursion (λ top. top.1 < length places) tops
 
 or_swap : (a b : Bool) → (a || b) ≡ (b || a)
 or_swap true b = sym (or-true b)
@@ -126,14 +127,15 @@ module _ (layers : List Entries) (places : List Reached) where
   any-last : (q name : PathName) (names : List PathName) → list_any (name_eq q) (names ++ name ∷ []) ≡ (name_eq q name || list_any (name_eq q) names)
   any-last q name names = list_any-append (name_eq q) names (name ∷ []) ∙ (ap (λ b. list_any (name_eq q) names || b) (or-false (name_eq q name)) ∙ or_swap (list_any (name_eq q) names) (name_eq q name))
 
-  put_top-is : (i : ℕ) (name : PathName) (names : List PathName) (tops : List (PathName × ℕ)) → AreTops layers places names tops → (list_any (name_eq name) names ≡ false → FoundFrom layers places (name, i)) → AreTops layers places (names ++ name ∷ []) (put_top tops i name)
-  put_top-is i name names tops are fresh = by (is_some (lookup (is_at (name_cmp name)) tops)) refl
+  put_top-is : (i : ℕ) → i < length places → (name : PathName) (names : List PathName) (tops : List (PathName × ℕ)) → AreTops layers places names tops → (list_any (name_eq name) names ≡ false → FoundFrom layers places (name, i)) → AreTops layers places (names ++ name ∷ []) (put_top tops i name)
+  put_top-is i inside name names tops are fresh = by (is_some (lookup (is_at (name_cmp name)) tops)) refl
     where
       by : (b : Bool) → is_some (lookup (is_at (name_cmp name)) tops) ≡ b → AreTops layers places (names ++ name ∷ []) (cond b tops (insert_entry name_cmp tops name i))
       by true e = record {
         in_order = are.in_order;
         same = λ q. are.same q ∙ (known q (name_eq q name) refl ∙ sym (any-last q name names));
         each = are.each;
+        inside = are.inside;
       }
         where
           known : (q : PathName) (b : Bool) → name_eq q name ≡ b → list_any (name_eq q) names ≡ (name_eq q name || list_any (name_eq q) names)
@@ -149,13 +151,14 @@ module _ (layers : List Entries) (places : List Reached) where
             ∙ (ap (λ b. name_eq q name || b) (are.same q)
             ∙ sym (any-last q name names)));
         each = each-insert (FoundFrom layers places) tops name i are.each (fresh (sym (are.same name) ∙ (sym (has-name tops name) ∙ e)));
+        inside = each-insert (λ top. top.1 < length places) tops name i are.inside inside;
       }
 
-  put_tops-is : (i : ℕ) (more names : List PathName) (tops : List (PathName × ℕ)) → AreTops layers places names tops → ((name : PathName) → list_any (name_eq name) names ≡ false → FoundFrom layers places (name, i)) → AreTops layers places (names ++ more) (put_tops tops i more)
-  put_tops-is i [] names tops are fresh = subst (λ (ns : List PathName). AreTops layers places ns tops) (sym (append-nil names)) are
-  put_tops-is i (name ∷ more) names tops are fresh =
+  put_tops-is : (i : ℕ) → i < length places → (more names : List PathName) (tops : List (PathName × ℕ)) → AreTops layers places names tops → ((name : PathName) → list_any (name_eq name) names ≡ false → FoundFrom layers places (name, i)) → AreTops layers places (names ++ more) (put_tops tops i more)
+  put_tops-is i inside [] names tops are fresh = subst (λ (ns : List PathName). AreTops layers places ns tops) (sym (append-nil names)) are
+  put_tops-is i inside (name ∷ more) names tops are fresh =
       subst (λ (ns : List PathName). AreTops layers places ns (put_tops (put_top tops i name) i more)) (append_assoc names (name ∷ []) more)
-      (put_tops-is i more (names ++ name ∷ []) (put_top tops i name) (put_top-is i name names tops are (fresh name))
+      (put_tops-is i inside more (names ++ name ∷ []) (put_top tops i name) (put_top-is i inside name names tops are (fresh name))
       (λ n absent. fresh n (neither (list_any (name_eq n) names) (list_any (name_eq n) (name ∷ [])) (sym (list_any-append (name_eq n) names (name ∷ [])) ∙ absent)).0))
 
   tops_along-are : (front rest : List Reached) (i : ℕ) (tops : List (PathName × ℕ)) → i ≡ length front → front ++ rest ≡ places → AreTops layers places (flat_map (names_in layers) front) tops → AreTops layers places (flat_map (names_in layers) places) (tops_along layers tops i rest)
@@ -164,8 +167,11 @@ module _ (layers : List Entries) (places : List Reached) where
       tops_along-are (front ++ place ∷ []) rest (suc i) (put_tops tops i (names_in layers place)) (omega (arith, at, length-append front (place ∷ []))) (append_assoc front (place ∷ []) rest ∙ whole)
       (subst (λ (ns : List PathName). AreTops layers places ns (put_tops tops i (names_in layers place)))
       (sym (flat_map-append (names_in layers) front (place ∷ []) ∙ ap (λ (ns : List PathName). flat_map (names_in layers) front ++ ns) (append-nil (names_in layers place))))
-      (put_tops-is i (names_in layers place) (flat_map (names_in layers) front) tops are fresh))
+      (put_tops-is i inside (names_in layers place) (flat_map (names_in layers) front) tops are fresh))
     where
+      inside : i < length places
+      inside = omega (arith, at, length-append front (place ∷ rest), ap length whole)
+
       left : drop i places ≡ place ∷ rest
       left = (λ j. drop (at j) (sym whole j)) ∙ drop-append_seam front (place ∷ rest)
 
@@ -173,7 +179,11 @@ module _ (layers : List Entries) (places : List Reached) where
       fresh name absent = ap (found_below layers name) left ∙ (sym (found-past layers name front (place ∷ rest) absent) ∙ ap (found_below layers name) whole)
 
   tops-are : AreTops layers places (flat_map (names_in layers) places) (tops_of layers places)
-  tops-are = tops_along-are [] places zero [] refl refl (record { in_order = refl; same = λ name. refl; each = tt })
+  tops-are = tops_along-are [] places zero [] refl refl (record { in_order = refl; same = λ name. refl; each = tt; inside = tt })
+
+  -- each number is that of a place
+  pub tops-inside : All (λ top. top.1 < length places) (tops_of layers places)
+  tops-inside = All-from_recursion (λ top. top.1 < length places) (tops_of layers places) tops-are.inside
 
 -- ---- what is shown at each name
 

@@ -1,25 +1,24 @@
 -- The steps of passes over layers and over the places of a view.
-use Rattle.std.proofs.Common.{◌≡◌, ℕ, zero, suc, ◌+◌, Bool, true, false, cond, Option, Some, None, is_some, List, [], ◌∷◌, ◌++◌, drop, map, refl, sym, ap, ◌∙◌, append_assoc, add-one, arith}
-use Rattle.std.specs.Prelude.{◌||◌, not, filter, slice_get}
+use Rattle.std.proofs.Common.{◌≡◌, ℕ, zero, suc, ◌+◌, Bool, true, false, cond, Option, Some, None, is_some, List, [], ◌∷◌, ◌++◌, drop, map, refl, sym, ap, ◌∙◌, add-one, arith}
+use Rattle.std.specs.Prelude.{◌||◌, ◌&&◌, not, filter, slice_get}
 use Rattle.std.proofs.lemmas.List.{map-append}
 use Rattle.std.proofs.lemmas.List.Elements.{filter-append}
-use Rattle.std.proofs.Math.Bool.{or-true}
 use Rattle.ovl_names.specs.Names.{PathName}
 use Rattle.ovl_names.specs.Paths.{PathNames, child_path}
 use Rattle.ovl_inode.specs.declared.inodes.Inode.{Inode}
 use Rattle.ovl_inode.specs.declared.marks.Mark.{Mark}
-use Rattle.ovl_inode.specs.Marks.{mark_of, is_directory, is_whiteout}
-use Rattle.ovl_manifest.specs.Layers.{Entries, IsLayer, entry_at, is_directory_at}
-use Rattle.ovl_lookup.specs.declared.steps.Step.{Step}
-use Rattle.ovl_lookup.specs.Walk.{walk, walk_beyond, turn, is_shut}
+use Rattle.ovl_inode.specs.declared.marks.Mark.TheVariants.{Whiteout, DirOpaque, DirMoved, DirBad, DirPlain, Meta, MetaBad, Leaf}
+use Rattle.ovl_inode.specs.Marks.{mark_of, is_directory, is_whiteout, is_metacopy_mark, is_data, is_regular, has_metacopy}
+use Rattle.ovl_manifest.specs.Layers.{Entries, entry_at, is_directory_at}
+use Rattle.ovl_lookup.specs.Walk.{walk}
 use Rattle.ovl_lookup.specs.Trace.{things_found}
 use Rattle.ovl_lookup.specs.Views.{Reached, reached, entry_in, entered, below_entry, reached_below, found_below}
-use Rattle.ovl_lookup.specs.Merged.{is_nothing}
+use Rattle.ovl_lookup.specs.Merged.{data_of, is_nothing}
+use Rattle.ovl_lookup.specs.Passes.{data_below}
 use Rattle.ovl_lookup.specs.ViewPasses.{names_in, put_top, put_tops, tops_along, look_from_top, looks_from_tops}
-use Rattle.ovl_lookup.proofs.WalkFacts.{walk-stop}
 use Rattle.ovl_lookup.proofs.WalkLaws.{directory_found}
-use Rattle.ovl_lookup.proofs.EntryLaws.{entry-above}
-use Rattle.ovl_lookup.proofs.ViewLemmas.{reached_below_by, found_below_by}
+use Rattle.ovl_lookup.proofs.ViewLemmas.{is_directory_mark, file-marked, reached_below_by, found_below_by}
+use Rattle.ovl_lookup.proofs.FoundLemmas.{bare_file, data_of-metacopy, data_of-bad}
 
 -- what a list has from a place on
 drop-next : {X : Type 0} (xs : List X) (i : ℕ) (x : X) → slice_get xs i ≡ Some x → drop i xs ≡ x ∷ drop (suc i) xs
@@ -49,43 +48,6 @@ module _ (layers : List Entries) (i : ℕ) (layer : Entries) (here : slice_get l
   -- a file or a whiteout is there, or the walk is closed
   pub arrives-end : is_directory_at layer path ≡ false → (is_some (entry_at layer path) || (walk layer path).closed) ≡ true → reached (drop i layers) i path ≡ []
   arrives-end none over = first-reached false true (walk layer path).closed (walk layer path).next none over refl refl
-
--- ---- a path that goes through the directory `directory`, and then on where there is none
-module _ (layer : Entries) (is : IsLayer layer) (directory : PathNames) (name : PathName) (rest : PathNames) (holds : is_directory_at layer directory ≡ true) (stops : is_directory_at layer (child_path directory name) ≡ false) where
-  -- no entry stands deeper
-  none-deeper : (other : PathName) (more : PathNames) → entry_at layer (directory ++ name ∷ other ∷ more) ≡ None
-  none-deeper other more = by (entry_at layer (directory ++ name ∷ other ∷ more)) refl
-    where
-      by : (entry : Option Inode) → entry_at layer (directory ++ name ∷ other ∷ more) ≡ entry → entry ≡ None
-      by None e = refl
-      by (Some inode) e =
-          let above = entry-above layer (child_path directory name) other more inode is (ap (entry_at layer) (append_assoc directory (name ∷ []) (other ∷ more)) ∙ e) in
-          let bad : true ≡ false = sym above ∙ stops in cc
-
-  pub none-past : entry_at layer (child_path directory name) ≡ None → entry_at layer (directory ++ name ∷ rest) ≡ None
-  none-past none = by rest refl
-    where
-      by : (tail : PathNames) → rest ≡ tail → entry_at layer (directory ++ name ∷ rest) ≡ None
-      by [] r = ap (λ (tail : PathNames). entry_at layer (directory ++ name ∷ tail)) r ∙ none
-      by (other ∷ more) r = ap (λ (tail : PathNames). entry_at layer (directory ++ name ∷ tail)) r ∙ none-deeper other more
-
-  -- an entry at the name, or a shut directory, ends the view
-  pub over-past : (is_some (entry_at layer (child_path directory name)) || is_shut layer directory) ≡ true → (is_some (entry_at layer (directory ++ name ∷ rest)) || (walk layer (directory ++ name ∷ rest)).closed) ≡ true
-  over-past over = by (entry_at layer (child_path directory name)) refl rest refl
-    where
-      path : PathNames
-      path = directory ++ name ∷ rest
-
-      closed-past : (walk layer path).closed ≡ true → (is_some (entry_at layer path) || (walk layer path).closed) ≡ true
-      closed-past closed = ap (λ b. is_some (entry_at layer path) || b) closed ∙ or-true (is_some (entry_at layer path))
-
-      walked : walk layer path ≡ walk_beyond (entry_at layer (child_path directory name)) (turn layer directory) (is_shut layer directory) name rest
-      walked = walk-stop layer directory name rest is holds stops
-
-      by : (entry : Option Inode) → entry_at layer (child_path directory name) ≡ entry → (tail : PathNames) → rest ≡ tail → (is_some (entry_at layer path) || (walk layer path).closed) ≡ true
-      by None e tail r = closed-past (ap (λ (s : Step). s.closed) (walked ∙ ap (λ (o : Option Inode). walk_beyond o (turn layer directory) (is_shut layer directory) name rest) e) ∙ (ap (λ (o : Option Inode). is_some o || is_shut layer directory) (sym e) ∙ over))
-      by (Some inode) e [] r = ap (λ (o : Option Inode). is_some o || (walk layer path).closed) (ap (λ (tail : PathNames). entry_at layer (directory ++ name ∷ tail)) r ∙ e)
-      by (Some inode) e (other ∷ more) r = closed-past (ap (λ (s : Step). s.closed) (walked ∙ (λ j. walk_beyond (e j) (turn layer directory) (is_shut layer directory) name (r j))))
 
 -- ---- the places from `k` on, of which the first is `place`
 module _ (all : List Entries) (name : PathName) (places : List Reached) (k : ℕ) (place : Reached) (here : slice_get places k ≡ Some place) where
@@ -128,6 +90,36 @@ module _ (all : List Entries) (name : PathName) (places : List Reached) (k : ℕ
       found-by (Some inode) e
       ∙ ((λ j. cond (w j) [] (inode ∷ below_entry (m j) name (things_found (drop (suc place.layer) all)) (λ other. found_below all other (drop (k + 1) places))))
       ∙ ap (λ n. inode ∷ below_entry mark name (things_found (drop n all)) (λ other. found_below all other (drop (k + 1) places))) next)
+
+  -- the data there, by the mark: what goes on below a metacopy file, or the inode where it has its contents itself
+  pub data-entry : (inode : Inode) (mark : Mark) → entry_in all name place ≡ Some inode → is_whiteout inode ≡ false → mark_of inode ≡ mark → data_below (found_below all name (drop k places)) ≡ cond (is_metacopy_mark mark) (data_below (below_entry mark name (things_found (drop (place.layer + 1) all)) (λ other. found_below all other (drop (k + 1) places)))) (cond (is_data inode) (Some inode) None)
+  data-entry inode mark e w m =
+      ap data_below (found-entry inode mark e w m)
+      ∙ ap (λ (own : Mark). cond (is_metacopy_mark own) (data_below (below_entry mark name (things_found (drop (place.layer + 1) all)) (λ other. found_below all other (drop (k + 1) places)))) (cond (is_data inode) (Some inode) None)) m
+
+-- ---- the data of a file without contents, by its mark
+module _ (name : PathName) (from_root : PathNames → List Inode) (beside : PathName → List Inode) where
+  nothing-below : (mark : Mark) → is_metacopy_mark mark ≡ false → is_directory_mark mark ≡ false → below_entry mark name from_root beside ≡ []
+  nothing-below Whiteout meta directory = refl
+  nothing-below MetaBad meta directory = refl
+  nothing-below Leaf meta directory = refl
+  nothing-below (Meta redirect) meta directory = let bad : true ≡ false = meta in cc
+  nothing-below DirOpaque meta directory = let bad : true ≡ false = directory in cc
+  nothing-below (DirMoved redirect) meta directory = let bad : true ≡ false = directory in cc
+  nothing-below DirBad meta directory = let bad : true ≡ false = directory in cc
+  nothing-below DirPlain meta directory = let bad : true ≡ false = directory in cc
+
+  pub data_of-lacking : (inode : Inode) (mark : Mark) → (is_regular inode && has_metacopy inode) ≡ true → is_whiteout inode ≡ false → mark_of inode ≡ mark → data_of (inode ∷ below_entry mark name from_root beside) ≡ data_below (below_entry mark name from_root beside)
+  data_of-lacking inode mark lacks w m = by (is_metacopy_mark (mark_of inode)) refl
+    where
+      below : List Inode
+      below = below_entry mark name from_root beside
+
+      by : (b : Bool) → is_metacopy_mark (mark_of inode) ≡ b → data_of (inode ∷ below) ≡ data_below below
+      by true meta = data_of-metacopy inode below meta (bare_file inode lacks).0 (bare_file inode lacks).1
+      by false meta =
+          data_of-bad inode below meta (bare_file inode lacks).0 (bare_file inode lacks).1
+          ∙ sym (ap data_below (nothing-below mark (ap is_metacopy_mark (sym m) ∙ meta) (ap is_directory_mark (sym m) ∙ file-marked inode w (bare_file inode lacks).0)))
 
 -- ---- the names of the places, each put with its first one
 module _ (layers : List Entries) (tops : List (PathName × ℕ)) where

@@ -1,19 +1,25 @@
-use Rattle.std.proofs.Common.{◌∙◌, ℕ, sym, ap}
-use Rattle.ovl_manifest.specs.Layers.{is_directory_at}
-use Rattle.ovl_lookup.specs.Walk.{walk, mark_at}
+use Rattle.std.proofs.Common.{◌∙◌, ◌++◌, sym, ap, Bool, false, Option, Some, None, List}
+use Rattle.std.specs.List.{flat_map}
+use Rattle.ovl_inode.specs.declared.inodes.Inode.{Inode}
+use Rattle.ovl_inode.specs.Marks.{is_directory}
 use Rattle.ovl_lookup.specs.Sound.{is_moved}
-use Rattle.ovl_check.specs.Checks.{layer_at}
+use Rattle.ovl_check.specs.declared.directories.Child.{Child}
+use Rattle.ovl_check.specs.Checks.{directory_piece}
 use Rattle.ovl_check.specs.CheckViews.{check_view}
-use Rattle.ovl_check.proofs.OutLemmas.{seen-same}
+use Rattle.ovl_check.specs.Facts.{child_seen, found_at_child}
+use Rattle.ovl_check.proofs.OutLemmas.{seen-same, found-all}
 use Rattle.ovl_check.proofs.checks.directory_out.Goals as goal
 
 pub returns : goal.returns
 returns c =
-    let stack = c.args.work.now.stack.now in
-    let dir = c.args.piece.now.dir in
-    seen-same (check_view c.args.work.now) c.args.piece.now _ c.in_ok-step.step _ _
-    (sym (ap (λ (n : ℕ). is_directory_at (layer_at stack n) dir) c.from-i.ensures) ∙ sym c.if-not-is_directory_at.ensures)
-    c.in_ok-findings.ensures
-    (c.in_ok-step.ensures ∙ ap (λ (n : ℕ). walk (layer_at stack n) dir) c.from-i.ensures)
+    let work = check_view c.args.work.now in
+    let directory = c.args.directory in
+    let gathered = c.requires.gathered in
+    seen-same work (directory_piece c.args.layer directory.path.now) _ directory.next directory.closed _ _
+    (ap (λ (o : Option Inode). elim o as (λ _. Bool) [ Some i ↦ is_directory i | None ↦ false ]) gathered.inode ∙ gathered.kind)
+    (found-all work c.args.layer directory gathered c.new-findings.result.items c.push_directory.new.findings.items _ c.new-findings.ensures.items c.in_ok-push_directory.ensures
+    (c.in_ok-push_files.ensures ∙ ap (λ (children : List Child). c.push_directory.new.findings.items ++ flat_map (λ child. found_at_child work c.args.layer directory.path.now (child_seen child)) children) c.deref.ensures.value))
+    gathered.next
+    gathered.closed
     c.place_of.ensures
-    (c.in_ok-moved.ensures ∙ ap (λ (n : ℕ). is_moved (mark_at (layer_at stack n) dir)) c.from-i.ensures)
+    (c.is_moved-moved.ensures ∙ ap is_moved (sym gathered.mark))

@@ -1,5 +1,4 @@
 use Rattle.ovl_lookup.proofs.ViewLemmas.{views-go_on}
-use Rattle.ovl_lookup.proofs.ViewSteps.{drop-here}
 use Rattle.ovl_lookup.proofs.laws.views_go_on.Goals as goal
 
 pub returns : goal.returns

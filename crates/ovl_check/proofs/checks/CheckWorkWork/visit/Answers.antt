@@ -1,14 +1,39 @@
-use Rattle.std.proofs.Common.{◌∙◌, ap, map, List, ℕ}
+use Rattle.std.proofs.Common.{◌≡◌, ◌∙◌, sym, ap, map, List, ℕ, false, arith}
 use Rattle.std.specs.Prelude.{filter}
+use Rattle.ovl_manifest.specs.Layers.{is_directory_at}
 use Rattle.ovl_names.specs.Names.{PathName}
 use Rattle.ovl_names.specs.Paths.{child_path}
-use Rattle.ovl_manifest.specs.Layers.{is_directory_at, names_below}
+use Rattle.ovl_inode.specs.Marks.{is_directory}
+use Rattle.ovl_board.specs.declared.pieces.Piece.{Piece}
+use Rattle.ovl_check.specs.declared.directories.Child.{Child}
 use Rattle.ovl_check.specs.Checks.{layer_at, directory_piece}
+use Rattle.ovl_check.specs.CheckViews.{check_view}
+use Rattle.ovl_check.specs.Facts.{child_seen, held_in}
+use Rattle.ovl_check.proofs.HeldLemmas.{kids-children}
+use Rattle.ovl_check.proofs.LayerFacts.{layer_at-is}
+use Rattle.ovl_check.proofs.OutLemmas.{no-kids}
 use Rattle.ovl_check.proofs.checks.CheckWorkWork.visit.Goals as goal
+
+pub returns-in_default-clause-kids : goal.returns-in_default-clause-kids
+returns-in_default-clause-kids c =
+    let stack = c.args.self.now.stack.now in
+    let dir = c.args.piece.now.dir in
+    let none : is_directory_at (layer_at stack c.from-i.result) dir ≡ false = rw c.in_default.is at c.in_ok-directory.ensures in
+    c.new-in_default.ensures.items
+    ∙ no-kids (check_view c.args.self.now) c.args.piece.now
+    (layer_at-is stack.layers c.layers.ensures.each c.args.piece.now.space (omega arith))
+    (sym (ap (λ (n : ℕ). is_directory_at (layer_at stack n) dir) c.from-i.ensures) ∙ none)
 
 pub returns-clause-kids : goal.returns-clause-kids
 returns-clause-kids c =
+    let stack = c.args.self.now.stack.now in
+    let space = c.args.piece.now.space in
+    let dir = c.args.piece.now.dir in
+    let directory = c.in-Some.directory in
+    let found = rw c.in-Some.is at c.in_ok-directory.ensures in
+    let same : map child_seen directory.children.items ≡ held_in (layer_at stack space) dir =
+    found.1.children ∙ (λ j. held_in (layer_at stack (c.from-i.ensures j)) (found.0 j)) in
+    let piece : PathName → Piece = λ name. directory_piece space (child_path dir name) in
     c.in_ok-kids.ensures
-    ∙ ap (λ (names : List PathName). map (λ name. directory_piece c.args.piece.now.space (child_path c.args.piece.now.dir name))
-    (filter (λ name. is_directory_at (layer_at c.args.self.now.stack.now c.args.piece.now.space) (child_path c.args.piece.now.dir name)) names))
-    (c.deref.ensures.value ∙ (c.in_ok-names.ensures ∙ ap (λ (n : ℕ). names_below (layer_at c.args.self.now.stack.now n) c.args.piece.now.dir) c.from-i.ensures))
+    ∙ (ap (λ (children : List Child). map (λ child. piece child.name) (filter (λ child. is_directory child.inode.now) children)) c.deref.ensures.value
+    ∙ kids-children (layer_at stack space) dir directory.children.items same piece)

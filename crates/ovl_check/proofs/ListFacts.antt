@@ -1,0 +1,42 @@
+-- Lists through a test and through a map, and their fronts and ends.
+use Rattle.std.proofs.Common.{◌≡◌, ℕ, zero, suc, ◌+◌, ◌≤◌, ◌<◌, Bool, true, false, cond, List, [], ◌∷◌, ◌++◌, length, get_or, take, drop, map, refl, sym, ap, ◌∙◌, arith, append_assoc}
+use Rattle.std.specs.Prelude.{◌||◌, filter}
+use Rattle.std.specs.List.{list_any, flat_map}
+use Rattle.std.proofs.lemmas.List.{take_more, flat_map_more}
+
+-- a list without what fails a test at its front, and at its end
+pub filter-after : {X : Type 0} (p : X → Bool) (xs : List X) (start : ℕ) → ((k : ℕ) (d : X) → k < start → k < length xs → p (get_or xs k d) ≡ false) → filter p (drop start xs) ≡ filter p xs
+filter-after p xs zero none = refl
+filter-after p [] (suc start) none = refl
+filter-after p (x ∷ xs) (suc start) none =
+    filter-after p xs start (λ k d early inside. none (suc k) d (omega arith) (omega arith))
+    ∙ sym (ap (λ b. cond b (x ∷ filter p xs) (filter p xs)) (none 0 x (omega arith) (omega arith)))
+
+pub filter-before : {X : Type 0} (p : X → Bool) (xs : List X) (end : ℕ) → ((k : ℕ) (d : X) → end ≤ k → k < length xs → p (get_or xs k d) ≡ false) → filter p (take end xs) ≡ filter p xs
+filter-before p [] zero none = refl
+filter-before p [] (suc end) none = refl
+filter-before p (x ∷ xs) zero none =
+    filter-before p xs zero (λ k d late inside. none (suc k) d (omega arith) (omega arith))
+    ∙ sym (ap (λ b. cond b (x ∷ filter p xs) (filter p xs)) (none 0 x (omega arith) (omega arith)))
+filter-before p (x ∷ xs) (suc end) none =
+    ap (λ rest. cond (p x) (x ∷ rest) rest) (filter-before p xs end (λ k d late inside. none (suc k) d (omega arith) (omega arith)))
+
+pub filter-map : {X Y : Type 0} (f : X → Y) (p : Y → Bool) (xs : List X) → filter p (map f xs) ≡ map f (filter (λ x. p (f x)) xs)
+filter-map f p [] = refl
+filter-map {X} {Y} f p (x ∷ xs) = by (p (f x)) (filter-map f p xs)
+  where
+    by : (b : Bool) → filter p (map f xs) ≡ map f (filter (λ x. p (f x)) xs) → cond b (f x ∷ filter p (map f xs)) (filter p (map f xs)) ≡ map f (cond b (x ∷ filter (λ x. p (f x)) xs) (filter (λ x. p (f x)) xs))
+    by true later = ap (λ rest. f x ∷ rest) later
+    by false later = later
+
+pub any-map : {X Y : Type 0} (f : X → Y) (p : Y → Bool) (xs : List X) → list_any p (map f xs) ≡ list_any (λ x. p (f x)) xs
+any-map f p [] = refl
+any-map f p (x ∷ xs) = ap (λ b. p (f x) || b) (any-map f p xs)
+
+-- the loop over what is found
+pub flat-more : {X Y : Type 0} (f : X → List Y) (xs : List X) (i : ℕ) (d : X) (start old new : List Y) → i < length xs → old ≡ start ++ flat_map f (take i xs) → new ≡ old ++ f (get_or xs i d) → new ≡ start ++ flat_map f (take (i + 1) xs)
+flat-more f xs i d start old new inside so_far added =
+    added
+    ∙ (ap (λ ys. ys ++ f (get_or xs i d)) so_far
+    ∙ (append_assoc start (flat_map f (take i xs)) (f (get_or xs i d))
+    ∙ ap (λ ys. start ++ ys) (flat_map_more f [] (take i xs) (get_or xs i d) ∙ ap (flat_map f) (sym (take_more xs i d inside)))))

@@ -1,0 +1,227 @@
+ghost use Rattle.std.specs.Prelude.{◌≡◌};
+ghost use Rattle.std.specs.List.{list_any};
+ghost use Rattle.ovl_check.specs.Codes.{all_codes};
+ghost use Rattle.ovl_check.specs.Facts.{tells as the_tells, is_lost as lost_test, is_of_wrong_kind as wrong_kind_test, is_open as open_test, lacks_data as no_data_test, has_data_of_other_size as data_size_test, is_missing as missing_test, is_of_other_length as length_test, is_wrong as wrong_test, is_orphan as orphan_test, is_in_opaque as in_opaque_test, is_unmarked as unmarked_test, impure_is_missing as the_impure};
+
+use crate::findings::Code;
+use crate::marks::{attribute_is, is_malformed, mark_is_ignored};
+use ovl_inode::{Inode, Kind, Mark, file_size, is_directory, overlay};
+
+/// All codes, in their order.
+pub(crate) const CODES: [Code; 15] = [
+    Code::RedirectForm,
+    Code::RedirectLost,
+    Code::RedirectKind,
+    Code::RedirectDouble,
+    Code::RedirectOpen,
+    Code::DataMissing,
+    Code::DataSize,
+    Code::BlobMissing,
+    Code::BlobSize,
+    Code::BlobDigest,
+    Code::OrphanWhiteout,
+    Code::WhiteoutInOpaque,
+    Code::WhiteoutUnmarked,
+    Code::ImpureMissing,
+    Code::MarkIgnored,
+];
+
+// What the layers below show at a place.
+#[derive(Clone, Copy, Debug)]
+pub(crate) enum Content {
+    Nothing,
+    Directory,
+    Other,
+}
+
+// The old place of a moved directory.
+#[derive(Clone, Copy, Debug)]
+pub(crate) enum OldPlace {
+    // The layers below are hidden there.
+    Hidden,
+    // What they show there, and whether the layer itself doesn't hide it.
+    Open { content: Content, is_seen: bool },
+}
+
+// What the conditions ask of an entry of its kind.
+#[derive(Clone, Copy, Debug)]
+pub(crate) enum KindFacts {
+    // A whiteout in an opaque directory.
+    WhiteoutInOpaque,
+    // Another whiteout: whether its directory is marked as holding whiteouts by attribute, and whether it hides
+    // something.
+    Whiteout { is_marked: bool, hides: bool },
+    // A moved directory.
+    Moved(OldPlace),
+    // A metacopy file, with the size of its data, where it has any.
+    Metacopy(Option<u64>),
+    // Everything else.
+    Other,
+}
+
+// The blob that an inode names.
+#[derive(Clone, Copy, Debug)]
+pub(crate) enum NamedBlob {
+    // It names none.
+    Unnamed,
+    // It isn't among the blobs.
+    Missing,
+    // Its length, and whether its bytes have another digest.
+    Found { length: u64, is_wrong: bool },
+}
+
+// What the conditions ask of one entry.
+#[derive(Drop)]
+pub(crate) struct Facts<'a> {
+    pub(crate) is_root: bool,
+    pub(crate) inode: &'a Inode,
+    pub(crate) mark: &'a Mark,
+    pub(crate) kind: KindFacts,
+    pub(crate) blob: NamedBlob,
+    // Whether it directly holds an entry with `origin`.
+    pub(crate) holds_origin: bool,
+}
+
+impl<'a> Facts<'a> {
+    // Whether the condition of a code other than redirect-double holds.
+    pub(crate) fn tells(&self, code: Code) -> bool
+        ensures { result ≡ the_tells self.now code }
+    {
+        match code {
+            Code::RedirectForm => is_malformed(self.mark),
+            Code::RedirectLost => is_lost(&self.kind),
+            Code::RedirectKind => is_of_wrong_kind(&self.kind),
+            Code::RedirectDouble => false,
+            Code::RedirectOpen => is_open(&self.kind),
+            Code::DataMissing => lacks_data(&self.kind),
+            Code::DataSize => has_data_of_other_size(&self.kind, file_size(self.inode)),
+            Code::BlobMissing => is_missing(&self.blob),
+            Code::BlobSize => is_of_other_length(&self.blob, file_size(self.inode)),
+            Code::BlobDigest => is_wrong(&self.blob),
+            Code::OrphanWhiteout => is_orphan(&self.kind),
+            Code::WhiteoutInOpaque => is_in_opaque(&self.kind),
+            Code::WhiteoutUnmarked => is_unmarked(&self.kind, self.inode),
+            Code::ImpureMissing => impure_is_missing(self.inode, self.holds_origin),
+            Code::MarkIgnored => mark_is_ignored(self.is_root, self.inode, self.mark),
+        }
+    }
+
+    // Whether the condition of any code does.
+    pub(crate) fn tells_any(&self) -> bool
+        ensures { result ≡ list_any (the_tells self.now) all_codes }
+    {
+        CODES.iter().any(|code| self.tells(*code))
+    }
+}
+
+// Whether it is a moved directory that is hidden, or whose old place shows nothing.
+fn is_lost(kind: &KindFacts) -> bool
+    ensures { result ≡ lost_test kind.now }
+{
+    matches!(
+        kind,
+        KindFacts::Moved(
+            OldPlace::Hidden
+                | OldPlace::Open {
+                    content: Content::Nothing,
+                    ..
+                }
+        )
+    )
+}
+
+// Whether it is a moved directory whose old place shows something else than a directory.
+fn is_of_wrong_kind(kind: &KindFacts) -> bool
+    ensures { result ≡ wrong_kind_test kind.now }
+{
+    matches!(
+        kind,
+        KindFacts::Moved(OldPlace::Open {
+            content: Content::Other,
+            ..
+        })
+    )
+}
+
+// Whether it is a moved directory whose old place the layer doesn't hide.
+fn is_open(kind: &KindFacts) -> bool
+    ensures { result ≡ open_test kind.now }
+{
+    matches!(kind, KindFacts::Moved(OldPlace::Open { is_seen: true, .. }))
+}
+
+// Whether it is a metacopy file without data.
+fn lacks_data(kind: &KindFacts) -> bool
+    ensures { result ≡ no_data_test kind.now }
+{
+    matches!(kind, KindFacts::Metacopy(None))
+}
+
+// Whether it is a metacopy file whose data has another size than this.
+fn has_data_of_other_size(kind: &KindFacts, size: u64) -> bool
+    ensures { result ≡ data_size_test kind.now size }
+{
+    match kind {
+        KindFacts::Metacopy(Some(own)) => *own != size,
+        _ => false,
+    }
+}
+
+// Whether the blob isn't there.
+fn is_missing(blob: &NamedBlob) -> bool
+    ensures { result ≡ missing_test blob.now }
+{
+    matches!(blob, NamedBlob::Missing)
+}
+
+// Whether it is there and has another length than this.
+fn is_of_other_length(blob: &NamedBlob, size: u64) -> bool
+    ensures { result ≡ length_test blob.now size }
+{
+    match blob {
+        NamedBlob::Found { length, .. } => *length != size,
+        _ => false,
+    }
+}
+
+// Whether it is there and its bytes have another digest.
+fn is_wrong(blob: &NamedBlob) -> bool
+    ensures { result ≡ wrong_test blob.now }
+{
+    matches!(blob, NamedBlob::Found { is_wrong: true, .. })
+}
+
+// Whether it is a whiteout outside an opaque directory that hides nothing.
+fn is_orphan(kind: &KindFacts) -> bool
+    ensures { result ≡ orphan_test kind.now }
+{
+    matches!(kind, KindFacts::Whiteout { hides: false, .. })
+}
+
+// Whether it is a whiteout in an opaque directory.
+fn is_in_opaque(kind: &KindFacts) -> bool
+    ensures { result ≡ in_opaque_test kind.now }
+{
+    matches!(kind, KindFacts::WhiteoutInOpaque)
+}
+
+// Whether it is a whiteout by attribute in a directory that is neither opaque nor marked as holding such.
+fn is_unmarked(kind: &KindFacts, inode: &Inode) -> bool
+    ensures { result ≡ unmarked_test kind.now inode.now }
+{
+    matches!(&inode.kind, Kind::File { .. })
+        && matches!(
+            kind,
+            KindFacts::Whiteout {
+                is_marked: false,
+                ..
+            }
+        )
+}
+
+// Whether it is a directory that holds an entry with `origin` and isn't marked as impure.
+fn impure_is_missing(inode: &Inode, holds_origin: bool) -> bool
+    ensures { result ≡ the_impure inode.now holds_origin }
+{
+    is_directory(inode) && !attribute_is(inode, overlay::IMPURE, b"y") && holds_origin
+}

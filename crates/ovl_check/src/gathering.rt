@@ -1,0 +1,194 @@
+ghost use Rattle.std.specs.Prelude.{◌≡◌, ◌<◌, true, false, Some, length, IfOk};
+ghost use Rattle.ovl_names.specs.Paths.{child_path};
+ghost use Rattle.ovl_inode.specs.Marks.{mark_of as the_mark, is_directory as the_directory};
+ghost use Rattle.ovl_inode.specs.declared.marks.Mark.TheVariants.{Meta};
+ghost use Rattle.ovl_manifest.specs.Layers.{entry_at};
+ghost use Rattle.ovl_lookup.specs.Walk.{walk_to_file};
+ghost use Rattle.ovl_lookup.specs.Sound.{is_seen_there};
+ghost use Rattle.ovl_lookup.specs.Merged.{look as the_look};
+ghost use Rattle.ovl_check.specs.Checks.{layer_at, layers_below};
+ghost use Rattle.ovl_check.specs.CheckViews.{check_view};
+ghost use Rattle.ovl_check.specs.Facts.{IsGathered, AreFacts, old_place as the_old_place, content_of as the_content, whiteout_in as the_whiteout, data_size as the_data_size, data_size_on, kind_at};
+
+use crate::contents::blob_named;
+use crate::directories::{Child, Directory, hold_origin};
+use crate::facts::{Content, Facts, KindFacts, OldPlace};
+use crate::marks::attribute_is;
+use crate::places::{data_size_below, data_size_in, look_below, look_in, mark_at, step_of};
+use crate::subjects::CheckWork;
+use ovl_inode::{Inode, Mark, Redirect, overlay};
+use ovl_lookup::{Look, Stack};
+use ovl_names::{Name, Path};
+use std::alloc::{AllocError, Global};
+
+// The facts of a directory of layer `i`.
+pub(crate) fn facts_of_directory<'a>(
+    alloc: Global,
+    work: &CheckWork<'_>,
+    i: usize,
+    directory: &'a Directory<'_>,
+) -> Result<Facts<'a>, AllocError>
+    requires inside { i < length work.now.stack.now.layers }
+    requires gathered { IsGathered (layer_at work.now.stack.now i) directory.now }
+    ensures { IfOk result (λ facts. (facts.inode.now ≡ directory.now.inode.now) × AreFacts (check_view work.now) i directory.now.path.now facts) }
+{
+    let kind = match &directory.mark {
+        Mark::DirMoved(_) => KindFacts::Moved(old_place(
+            alloc,
+            work.stack,
+            i,
+            &directory.next,
+            directory.closed,
+        )?),
+        _ => KindFacts::Other,
+    };
+    Ok(Facts {
+        is_root: directory.path.is_empty(),
+        inode: directory.inode,
+        mark: &directory.mark,
+        kind,
+        blob: blob_named(work.blobs, work.wrong, directory.inode),
+        holds_origin: hold_origin(&directory.children),
+    })
+}
+
+// The facts of an entry of this mark that lies in a directory of layer `i` and is none itself.
+pub(crate) fn facts_of_child<'a>(
+    alloc: Global,
+    work: &CheckWork<'_>,
+    i: usize,
+    directory: &Directory<'_>,
+    child: &'a Child<'_>,
+    mark: &'a Mark,
+) -> Result<Facts<'a>, AllocError>
+    requires inside { i < length work.now.stack.now.layers }
+    requires gathered { IsGathered (layer_at work.now.stack.now i) directory.now }
+    requires entry { entry_at (layer_at work.now.stack.now i) (child_path directory.now.path.now child.now.name) ≡ Some child.now.inode.now }
+    requires none { the_directory child.now.inode.now ≡ false }
+    requires marked { mark.now ≡ the_mark child.now.inode.now }
+    ensures { IfOk result (λ facts. (facts.inode.now ≡ child.now.inode.now) × AreFacts (check_view work.now) i (child_path directory.now.path.now child.now.name) facts) }
+{
+    let kind = match mark {
+        Mark::Whiteout => whiteout_in(alloc, work.stack, i, directory, &child.name)?,
+        Mark::Meta(redirect) => KindFacts::Metacopy(data_size(
+            alloc,
+            work.stack,
+            i,
+            directory,
+            &child.name,
+            redirect,
+            child.inode,
+        )?),
+        _ => KindFacts::Other,
+    };
+    Ok(Facts {
+        is_root: false,
+        inode: child.inode,
+        mark,
+        kind,
+        blob: blob_named(work.blobs, work.wrong, child.inode),
+        holds_origin: false,
+    })
+}
+
+// The old place of a moved directory of layer `i`, by where its walk goes on.
+fn old_place(
+    alloc: Global,
+    stack: &Stack,
+    i: usize,
+    next: &Path,
+    closed: bool,
+) -> Result<OldPlace, AllocError>
+    requires { i < length stack.now.layers }
+    ensures { IfOk result (λ place. place ≡ the_old_place (layer_at stack.now i) (layers_below stack.now i) next.now closed) }
+{
+    if closed {
+        return Ok(OldPlace::Hidden);
+    }
+    let content = content_of(&look_below(alloc, stack, i, next)?);
+    let is_seen = is_seen(alloc, stack, i, next)?;
+    Ok(OldPlace::Open { content, is_seen })
+}
+
+fn content_of(look: &Look) -> Content
+    ensures { result ≡ the_content look.now }
+{
+    if look.is_nothing() {
+        return Content::Nothing;
+    }
+    if look.is_shown_directory() {
+        return Content::Directory;
+    }
+    Content::Other
+}
+
+// Whether the layer doesn't hide a place from itself.
+fn is_seen(alloc: Global, stack: &Stack, i: usize, place: &Path) -> Result<bool, AllocError>
+    requires { i < length stack.now.layers }
+    ensures { IfOk result (λ answer. answer ≡ is_seen_there (layer_at stack.now i) place.now) }
+{
+    let step = step_of(alloc, stack, i, place)?;
+    if step.closed {
+        return Ok(false);
+    }
+    if step.next != *place {
+        return Ok(false);
+    }
+    if step.found.is_none() {
+        return Ok(true);
+    }
+    Ok(matches!(mark_at(alloc, stack, i, place)?, Some(Mark::DirPlain)))
+}
+
+// A whiteout in a directory of layer `i`.
+fn whiteout_in(
+    alloc: Global,
+    stack: &Stack,
+    i: usize,
+    directory: &Directory<'_>,
+    name: &Name,
+) -> Result<KindFacts, AllocError>
+    requires { i < length stack.now.layers }
+    ensures { IfOk result (λ kind. kind ≡ the_whiteout (layers_below stack.now i) directory.now name.now) }
+{
+    if matches!(&directory.mark, Mark::DirOpaque) {
+        return Ok(KindFacts::WhiteoutInOpaque);
+    }
+    let is_marked = attribute_is(directory.inode, overlay::OPAQUE, b"x");
+    if directory.closed {
+        return Ok(KindFacts::Whiteout {
+            is_marked,
+            hides: false,
+        });
+    }
+    let look = look_in(alloc, stack, i, &directory.next, name)?;
+    Ok(KindFacts::Whiteout {
+        is_marked,
+        hides: !look.is_nothing(),
+    })
+}
+
+// The size of the data of a metacopy file with this redirect in a directory of layer `i`, where it has any.
+fn data_size(
+    alloc: Global,
+    stack: &Stack,
+    i: usize,
+    directory: &Directory<'_>,
+    name: &Name,
+    redirect: &Option<Redirect>,
+    _inode: &Inode,
+) -> Result<Option<u64>, AllocError>
+    requires { i < length stack.now.layers }
+    ensures { IfOk result (λ size. size
+        ≡ data_size_on (layers_below stack.now i) (walk_to_file _inode.now (Meta redirect.now) directory.now.next directory.now.closed name.now)) }
+{
+    let own = match redirect {
+        Some(Redirect::To(origin)) => return data_size_below(alloc, stack, i, origin),
+        Some(Redirect::Beside(own)) => own,
+        None => name,
+    };
+    if directory.closed {
+        return Ok(None);
+    }
+    data_size_in(alloc, stack, i, &directory.next, own)
+}
