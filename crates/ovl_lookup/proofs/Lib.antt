@@ -8,4 +8,9 @@ pub mod ListLemmas
 pub mod LawLemmas
 pub mod Notation
 pub mod RowStacks
+pub mod WalkLaws
+pub mod LookLaws
+pub mod PathLemmas
+pub mod EntryLaws
+pub mod SoundLaws
 mod Rows

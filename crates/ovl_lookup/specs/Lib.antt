@@ -5,3 +5,6 @@ pub mod Merged
 pub mod Passes
 pub mod Sound
 pub mod Laws
+pub mod Words
+pub mod Equal
+pub mod EqualLaws

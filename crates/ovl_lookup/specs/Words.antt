@@ -1,0 +1,23 @@
+-- Words of the laws of walks.
+use Rattle.std.specs.Prelude.{◌≡◌, Bool, ◌∷◌, ◌++◌}
+use Rattle.std.specs.List.{starts_with}
+use Rattle.ovl_names.specs.Names.{name_eq}
+use Rattle.ovl_names.specs.Paths.{PathNames}
+use Rattle.ovl_manifest.specs.Layers.{Entries, entry_at}
+use Rattle.ovl_lookup.specs.Walk.{mark_at}
+use Rattle.ovl_lookup.specs.Stacks.{StackView}
+
+-- a layer over the layers of a stack
+abbrev pub over : Entries → StackView → StackView
+over top below = record below { layers = top ∷ below.layers }
+
+-- the other path is this one, or lies under it
+abbrev pub is_at_or_under : PathNames → PathNames → Bool
+is_at_or_under path other = starts_with name_eq other path
+
+-- two layers have the same mark, or the same entry, at each prefix of a path
+abbrev pub SameMarks : Entries → Entries → PathNames → Type 0
+SameMarks one other path = (front back : PathNames) → front ++ back ≡ path → mark_at one front ≡ mark_at other front
+
+abbrev pub SameEntries : Entries → Entries → PathNames → Type 0
+SameEntries one other path = (front back : PathNames) → front ++ back ≡ path → entry_at one front ≡ entry_at other front
