@@ -1,0 +1,5 @@
+pub mod VacuumLemmas
+pub mod KeptLemmas
+pub mod SoundLemmas
+pub mod FoldLemmas
+mod Rows

@@ -1,0 +1,3 @@
+pub mod Vacuum
+pub mod Laws
+pub mod Passes
