@@ -6,3 +6,5 @@ pub mod Marks
 pub mod Sound
 pub mod Inodes
 pub mod Kinds
+pub mod Equal
+pub mod EqualLaws

@@ -7,6 +7,9 @@ ghost use Rattle.ovl_names.specs.Names.{name_eq, name_cmp};
 ghost use Rattle.std.specs.Option.{option_map};
 ghost use Rattle.ovl_inode.specs.declared.attributes.AttrFault.TheVariants.{Memory};
 ghost use Rattle.ovl_inode.specs.Bytes.{are_bytes};
+ghost use Rattle.std.specs.Str.{bytes_eq};
+ghost use Rattle.ovl_inode.specs.Equal.{attributes_eq};
+ghost use Rattle.ovl_inode.specs.EqualLaws.{attributes_eq_equiv};
 ghost use Rattle.ovl_inode.specs.Attributes.{attribute, with_attribute, attribute_fault, attribute_refusal, all_before, is_attribute_name, are_attributes, visible_attributes, is_overlay_name as overlay_name_test};
 
 use crate::overlay;
@@ -170,6 +173,20 @@ impl Bytes {
     }
 }
 
+impl PartialEq for Bytes {
+    ghost eq = { bytes_eq };
+
+    ghost laws = { partial_equiv_from_equiv nat_list_eq_equiv };
+
+    fn eq(&self, other: &Bytes) -> bool {
+        self.bytes == other.bytes
+    }
+}
+
+impl Eq for Bytes {
+    ghost laws = { nat_list_eq_equiv };
+}
+
 /// Extended attributes: a value of bytes for each name, in the byte order of the names.
 #[derive(Debug, Drop)]
 pub struct Attrs {
@@ -258,6 +275,20 @@ impl Attrs {
         }
         Ok(Attrs { pairs })
     }
+}
+
+impl PartialEq for Attrs {
+    ghost eq = { attributes_eq };
+
+    ghost laws = { partial_equiv_from_equiv attributes_eq_equiv };
+
+    fn eq(&self, other: &Attrs) -> bool {
+        self.pairs == other.pairs
+    }
+}
+
+impl Eq for Attrs {
+    ghost laws = { attributes_eq_equiv };
 }
 
 impl Attrs {

@@ -1,7 +1,12 @@
 ghost use Rattle.std.specs.Prelude.{◌≡◌, IfOk, string_bytes};
+ghost use Rattle.std.specs.Cmp.{partial_equiv_from_equiv};
+ghost use Rattle.std.specs.Cmp.Lexicographic.{nat_list_eq_equiv};
+ghost use Rattle.std.specs.Str.{bytes_eq};
 ghost use Rattle.ovl_inode.specs.Sound.{is_sound_inode, is_sound_kind, has_sound_blob, is_target};
 ghost use Rattle.ovl_inode.specs.Kinds.{kind_word, size_of, blob_of as the_blob};
 ghost use Rattle.ovl_inode.specs.Inodes.{visible as visible_inode};
+ghost use Rattle.ovl_inode.specs.Equal.{kind_eq, inode_eq};
+ghost use Rattle.ovl_inode.specs.EqualLaws.{kind_eq_equiv, inode_eq_equiv};
 
 use crate::{Attrs, Digest, overlay};
 use std::alloc::{AllocError, Global};
@@ -53,6 +58,20 @@ impl Target {
             text: String::from_str(alloc, self.text.as_str())?,
         })
     }
+}
+
+impl PartialEq for Target {
+    ghost eq = { bytes_eq };
+
+    ghost laws = { partial_equiv_from_equiv nat_list_eq_equiv };
+
+    fn eq(&self, other: &Target) -> bool {
+        self.text.as_bytes() == other.text.as_bytes()
+    }
+}
+
+impl Eq for Target {
+    ghost laws = { nat_list_eq_equiv };
 }
 
 impl From<String> for Target {
@@ -125,6 +144,46 @@ impl Kind {
     }
 }
 
+impl PartialEq for Kind {
+    ghost eq = { kind_eq };
+
+    ghost laws = { partial_equiv_from_equiv kind_eq_equiv };
+
+    fn eq(&self, other: &Kind) -> bool {
+        match (self, other) {
+            (Kind::Dir, Kind::Dir) | (Kind::Fifo, Kind::Fifo) | (Kind::Socket, Kind::Socket) =>
+                true,
+            (
+                Kind::File { size, blob },
+                Kind::File {
+                    size: other_size,
+                    blob: other_blob,
+                },
+            ) => size == other_size && blob == other_blob,
+            (Kind::Symlink { target }, Kind::Symlink { target: other }) => target == other,
+            (
+                Kind::Char { major, minor },
+                Kind::Char {
+                    major: other_major,
+                    minor: other_minor,
+                },
+            ) => major == other_major && minor == other_minor,
+            (
+                Kind::Block { major, minor },
+                Kind::Block {
+                    major: other_major,
+                    minor: other_minor,
+                },
+            ) => major == other_major && minor == other_minor,
+            _ => false,
+        }
+    }
+}
+
+impl Eq for Kind {
+    ghost laws = { kind_eq_equiv };
+}
+
 /// The inode of an entry: its kind, permission bits, owner, modification time in seconds and extended attributes.
 #[derive(Debug, Drop)]
 pub struct Inode {
@@ -156,6 +215,25 @@ impl Inode {
             attrs: self.attrs.copy(alloc)?,
         })
     }
+}
+
+impl PartialEq for Inode {
+    ghost eq = { inode_eq };
+
+    ghost laws = { partial_equiv_from_equiv inode_eq_equiv };
+
+    fn eq(&self, other: &Inode) -> bool {
+        self.kind == other.kind
+            && self.mode == other.mode
+            && self.uid == other.uid
+            && self.gid == other.gid
+            && self.mtime == other.mtime
+            && self.attrs == other.attrs
+    }
+}
+
+impl Eq for Inode {
+    ghost laws = { inode_eq_equiv };
 }
 
 /// The size of a regular file in bytes, and 0 for every other kind.

@@ -10,7 +10,9 @@ pub mod Notation
 pub mod RowStacks
 pub mod WalkLaws
 pub mod LookLaws
+pub mod PathLemmas
 pub mod EntryLaws
+pub mod SoundLaws
 pub mod ChildLaws
 pub mod ViewLemmas
 pub mod PlaceLemmas

@@ -9,3 +9,5 @@ pub mod Views
 pub mod ViewPasses
 pub mod DirViews
 pub mod Laws
+pub mod Equal
+pub mod EqualLaws

@@ -1,9 +1,12 @@
 ghost use Rattle.std.specs.Prelude.{◌≡◌, ◌≤◌, ◌∷◌, ◌&&◌, true, length, drop, IfOk};
+ghost use Rattle.std.specs.Cmp.{partial_equiv_from_equiv};
 ghost use Rattle.ovl_inode.specs.Marks.{is_metacopy as the_metacopy, is_regular, has_metacopy};
 ghost use Rattle.ovl_lookup.specs.Stacks.{from_layer};
 ghost use Rattle.ovl_lookup.specs.Trace.{things_found};
 ghost use Rattle.ovl_lookup.specs.Merged.{look as the_look, shown_of, data_of as the_data, is_nothing as nothing_test, is_shown_directory as directory_test, without_blob as kind_without_blob};
 ghost use Rattle.ovl_lookup.specs.Passes.{found_on, data_below};
+ghost use Rattle.ovl_lookup.specs.Equal.{look_eq};
+ghost use Rattle.ovl_lookup.specs.EqualLaws.{look_eq_equiv};
 
 use crate::{Stack, Step};
 use ovl_inode::{Inode, Kind, Mark, is_data, is_directory, mark_of, overlay, visible};
@@ -19,6 +22,25 @@ pub enum Look {
     Shown(Inode),
     /// A metacopy file whose data is missing: its inode with its own size, and no blob.
     Broken(Inode),
+}
+
+impl PartialEq for Look {
+    ghost eq = { look_eq };
+
+    ghost laws = { partial_equiv_from_equiv look_eq_equiv };
+
+    fn eq(&self, other: &Look) -> bool {
+        match (self, other) {
+            (Look::Nothing, Look::Nothing) => true,
+            (Look::Shown(one), Look::Shown(other)) => one == other,
+            (Look::Broken(one), Look::Broken(other)) => one == other,
+            _ => false,
+        }
+    }
+}
+
+impl Eq for Look {
+    ghost laws = { look_eq_equiv };
 }
 
 impl Look {

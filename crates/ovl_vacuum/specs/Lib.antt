@@ -1,0 +1,4 @@
+pub mod Vacuum
+pub mod Laws
+pub mod Directories
+pub mod Passes
