@@ -58,7 +58,7 @@ impl DirView {
         let mut looks = Vec::new(alloc);
         let tops = self.tops(alloc, stack)?;
         for (name, top) in tops {
-            let look = look_in(alloc, stack, &self.places[top..], &name)?;
+            let look = look_in(alloc, stack, self.places_from(top), &name)?;
             if !look.is_nothing() {
                 looks.push((name, look))?;
             }
@@ -75,11 +75,19 @@ impl DirView {
         let mut names = Vec::new(alloc);
         let tops = self.tops(alloc, stack)?;
         for (name, top) in tops {
-            if shows_in(stack, &self.places[top..], &name) {
+            if shows_in(stack, self.places_from(top), &name) {
                 names.push(name)?;
             }
         }
         Ok(names)
+    }
+
+    // The places from one on.
+    fn places_from(&self, number: usize) -> &[DirPlace]
+        requires { number < length self.now.places.items }
+        ensures { result.now ≡ drop number self.now.places.items }
+    {
+        &self.places[number..]
     }
 
     // The names in the directories of all layers in order, each with the number of the first place that has it.
@@ -108,7 +116,8 @@ impl DirPlace {
         ensures { OnOk result (tops.new.entries ≡ put_tops tops.old.entries number (names_in stack.now.layers (place_in stack.now self.now))) }
     {
         let sheet = stack.sheet(self.layer);
-        for kid in sheet.kids(self.row) {
+        let kids = sheet.kids(self.row);
+        for kid in kids {
             if let Some(name) = name_at(sheet, *kid) {
                 put_name(alloc, name, number, tops)?;
             }
