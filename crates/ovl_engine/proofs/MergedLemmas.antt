@@ -56,7 +56,7 @@ sorted_once (p ∷ ps) (q ∷ qs) up rise same =
 
 -- ---- paths as pieces
 
-abbrev at : PathNames → Piece
+abbrev pub at : PathNames → Piece
 at path = record { space = 0; dir = path }
 
 abbrev piece_of : PathNames × Look → Piece
@@ -97,14 +97,14 @@ sorted_pieces (x ∷ xs) up k p z h =
 -- ---- the merged tree as paths
 
 module _ (stack : StackView) where
-  abbrev with_look : PathNames → PathNames × Look
+  abbrev pub with_look : PathNames → PathNames × Look
   with_look path = (path, look stack path)
 
   abbrev paths_in : PathNames → List PathNames
   paths_in dir = map (child_path dir) (kids_along stack dir)
 
   -- a path, and at most `depth - 1` names under it
-  abbrev paths_from : ℕ → PathNames → List PathNames
+  abbrev pub paths_from : ℕ → PathNames → List PathNames
   paths_from zero path = []
   paths_from (suc depth) path = path ∷ flat_map (λ name. paths_from depth (child_path path name)) (kids_along stack path)
 
@@ -144,7 +144,7 @@ module _ (stack : StackView) where
       (λ j. directory_placed p.dir (kids_along stack p.dir) j ++ pieces_placed pieces j)
       ∙ sym (map-append with_look (paths_in p.dir) (paths_of pieces))
 
-  abbrev own : Piece → ParcelView (List NamedLook)
+  abbrev pub own : Piece → ParcelView (List NamedLook)
   own = own_view (show_kids stack) (show_out stack)
 
   views_placed : (views : List (ParcelView (List NamedLook))) (pieces : List Piece) → views ≡ map own pieces → flat_map (λ (v : ParcelView (List NamedLook)). looks_placed_in v.piece.dir v.seen) views ≡ map with_look (paths_of pieces)
@@ -164,7 +164,7 @@ module _ (stack : StackView) where
   count-cons : (q : Piece) (path : PathNames) (paths : List PathNames) → count q (path ∷ paths) ≡ mark q (at path) + count q paths
   count-cons q path paths = times-cons q (at path) (map at paths)
 
-  abbrev below : ℕ → PathNames → List PathNames
+  abbrev pub below : ℕ → PathNames → List PathNames
   below depth path = flat_map (λ name. paths_from depth (child_path path name)) (kids_along stack path)
 
   abbrev walked : ℕ → List Piece → List PathNames
@@ -245,18 +245,18 @@ module _ (stack : StackView) where
     abbrev whole_depth : ℕ
     whole_depth = 64 * length stack.layers
 
-    abbrev tree : Looks
+    abbrev pub tree : Looks
     tree = looks_placed [] (looks_from (64 * length stack.layers + 1) stack [])
 
-    tree_paths : tree ≡ map with_look ([] ∷ below whole_depth [])
+    pub tree_paths : tree ≡ map with_look ([] ∷ below whole_depth [])
     tree_paths =
         let next : 64 * length stack.layers + 1 ≡ suc (64 * length stack.layers) = omega arith in
         placed_is (64 * length stack.layers + 1) [] ∙ ap (λ (n : ℕ). map with_look (paths_from n [])) next
 
-    tree_merged : IsMerged stack tree
+    pub tree_merged : IsMerged stack tree
     tree_merged = is-merged stack each (shows-root stack each some) tree refl
 
-    views_are : (views : List (ParcelView (List NamedLook))) → IsShowWalk stack views → views ≡ map own (preorder (show_kids stack) whole_depth show_root)
+    pub views_are : (views : List (ParcelView (List NamedLook))) → IsShowWalk stack views → views ≡ map own (preorder (show_kids stack) whole_depth show_root)
     views_are views plain =
         let nodes : List (ParcelView (List NamedLook)) = map own (preorder (show_kids stack) whole_depth show_root) in
         let less : whole_depth ≡ whole_depth - 0 = omega arith in

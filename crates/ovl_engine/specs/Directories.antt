@@ -10,6 +10,7 @@ use Rattle.ovl_lookup.specs.Stacks.{StackView}
 use Rattle.ovl_lookup.specs.Merged.{look, AreKids, is_shown_directory}
 use Rattle.ovl_lookup.specs.Passes.{kids_along}
 use Rattle.ovl_board.specs.declared.pieces.Piece.{Piece}
+use Rattle.ovl_board.specs.declared.works.Parcel.{Parcel}
 use Rattle.ovl_board.specs.Parcels.{ParcelView, IsPlain}
 
 -- an entry of a directory: its name, and what is shown there
@@ -44,6 +45,10 @@ show_out stack piece = looks_in stack piece.dir
 -- the most names of a path in the merged tree
 abbrev pub show_depth : StackView → ℕ
 show_depth stack = depth_limit * length stack.layers
+
+-- a parcel of the merged tree
+abbrev pub ShowParcel : Type 0
+ShowParcel = Parcel (Vec NamedLook Global)
 
 -- the root of the merged tree
 abbrev pub show_root : Piece

@@ -51,19 +51,26 @@ attribute_word attr = codes " " ++ escaped attr.0 ++ codes "=" ++ encode_lower a
 abbrev pub spaced : List ℕ → List ℕ
 spaced word = word ++ codes " "
 
--- `KIND MODE UID GID MTIME SIZE WHAT PATH`, and then ` NAME=HEX` for each attribute
-abbrev pub inode_line : Bool → PathNames → Inode → List ℕ
-inode_line broken path inode =
+-- `KIND MODE UID GID MTIME SIZE WHAT PATH`, and then ` NAME=HEX` for each attribute, by the text of the path
+abbrev pub line_of : Bool → List ℕ → Inode → List ℕ
+line_of broken path inode =
     spaced (kind_word inode.kind) ++ spaced (octal inode.mode)
     ++ spaced (decimal inode.uid) ++ spaced (decimal inode.gid) ++ spaced (signed_decimal inode.mtime)
     ++ spaced (size_word inode.kind) ++ spaced (what_word broken inode.kind)
-    ++ shown_path path ++ flat_map attribute_word inode.attrs ++ codes "\n"
+    ++ path ++ flat_map attribute_word inode.attrs ++ codes "\n"
+
+abbrev pub inode_line : Bool → PathNames → Inode → List ℕ
+inode_line broken path inode = line_of broken (shown_path path) inode
+
+-- the line of what is shown, by the text of its path
+abbrev pub look_line : List ℕ → Look → List ℕ
+look_line path Nothing = []
+look_line path (Shown inode) = line_of false path inode
+look_line path (Broken inode) = line_of true path inode
 
 -- the line of what is shown at a path of the merged tree
 abbrev pub show_line : PathNames × Look → List ℕ
-show_line (path, Nothing) = []
-show_line (path, Shown inode) = inode_line false path inode
-show_line (path, Broken inode) = inode_line true path inode
+show_line entry = look_line (shown_path entry.0) entry.1
 
 -- the lines, and then `entries N`
 abbrev pub show_report : List (PathNames × Look) → List ℕ

@@ -10,10 +10,10 @@ ghost use Rattle.ovl_engine.specs.Outcomes.{IsOutcome, IsRun};
 use crate::checks::findings_of;
 use crate::faults::EngineFault;
 use crate::fsck_reports::{fsck_report_of, is_clean};
-use crate::reports::report_of;
+use crate::listings::report_of_walk;
 use crate::requests::{Answer, Command};
 use crate::stacks::read_stack;
-use crate::works::{ShowWork, finish_show};
+use crate::works::ShowWork;
 use ovl_board::{Piece, WORKER_LIMIT};
 use ovl_check::{Blob, blobs_in_order};
 use ovl_lookup::{LAYER_LIMIT, Stack};
@@ -107,9 +107,8 @@ fn show<G: Gate + Sync, R: Threads + Wait + Sync>(
         dir: Path::root(alloc),
     };
     let (parcels, _) = run(rt, alloc, &work, root, workers, gate)?;
-    let looks = finish_show(alloc, &work, parcels)?;
     Ok(Answer {
-        report: report_of(alloc, &looks)?,
+        report: report_of_walk(alloc, &work, &parcels)?,
         layers: Vec::new(alloc),
         clean: true,
     })

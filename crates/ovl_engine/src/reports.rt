@@ -23,10 +23,17 @@ pub fn report_of(alloc: Global, looks: &[(Path, Look)]) -> Result<Vec<u8>, Alloc
             Look::Nothing => {}
         }
     }
-    report.push_str("entries ")?;
-    push_number(&mut report, looks.len() as u64)?;
-    report.push_str("\n")?;
+    push_count(&mut report, looks.len() as u64)?;
     Ok(report.into_bytes())
+}
+
+// Appends the last line, by the number of paths.
+pub(crate) fn push_count(report: &mut String, entries: u64) -> Result<(), AllocError>
+    ensures { OnOk result (string_bytes report.new ≡ string_bytes report.old ++ codes "entries " ++ decimal entries ++ codes "\n") }
+{
+    report.push_str("entries ")?;
+    push_number(report, entries)?;
+    report.push_str("\n")
 }
 
 // Appends the line of a path with an inode, `broken` where that is a metacopy file without its data.
@@ -47,7 +54,7 @@ fn push_line(
 }
 
 // The kind, the mode, the owner, the group and the time, with a space after each.
-fn push_status(report: &mut String, inode: &Inode) -> Result<(), AllocError>
+pub(crate) fn push_status(report: &mut String, inode: &Inode) -> Result<(), AllocError>
     ensures { OnOk result (string_bytes report.new ≡ string_bytes report.old
         ++ (spaced (kind_word inode.now.kind) ++ spaced (octal inode.now.mode)
         ++ spaced (decimal inode.now.uid) ++ spaced (decimal inode.now.gid) ++ spaced (signed_decimal inode.now.mtime))) }
@@ -90,7 +97,7 @@ pub(crate) fn push_number(report: &mut String, number: u64) -> Result<(), AllocE
 }
 
 // The size and what else the kind has, with a space after each.
-fn push_contents(
+pub(crate) fn push_contents(
     alloc: Global,
     report: &mut String,
     kind: &Kind,
@@ -170,14 +177,18 @@ pub(crate) fn push_path(alloc: Global, report: &mut String, path: &Path) -> Resu
 }
 
 // A name of a path, and `/` before it.
-fn push_name(alloc: Global, report: &mut String, name: &str) -> Result<(), AllocError>
+pub(crate) fn push_name(alloc: Global, report: &mut String, name: &str) -> Result<(), AllocError>
     ensures { OnOk result (string_bytes report.new ≡ string_bytes report.old ++ (codes "/" ++ escaped_text name.now)) }
 {
     report.push_str("/")?;
     push_escaped(alloc, report, name)
 }
 
-fn push_attributes(alloc: Global, report: &mut String, attrs: &Attrs) -> Result<(), AllocError>
+pub(crate) fn push_attributes(
+    alloc: Global,
+    report: &mut String,
+    attrs: &Attrs,
+) -> Result<(), AllocError>
     ensures { OnOk result (string_bytes report.new ≡ string_bytes report.old ++ flat_map attribute_word attrs.now) }
 {
     for (name, value) in attrs.pairs() {

@@ -1,5 +1,6 @@
-ghost use Rattle.std.specs.Prelude.{◌≡◌, ◌++◌, ◌∷◌, [], IfOk, OnOk, IsPermutation, IsSorted, map};
+ghost use Rattle.std.specs.Prelude.{◌≡◌, ◌<◌, ◌++◌, ◌∷◌, [], IfOk, OnOk, All, IsPermutation, IsSorted, length, map};
 ghost use Rattle.std.specs.List.{flat_map};
+ghost use Rattle.ovl_manifest.specs.Layers.{IsLayer};
 ghost use Rattle.ovl_lookup.specs.Merged.{look as the_look, IsMerged, look_cmp};
 ghost use Rattle.ovl_board.specs.Parcels.{parcel_views};
 ghost use Rattle.ovl_engine.specs.Directories.{HasAllNames, IsShowWalk, named_look, directories_in as the_directories_in, looks_placed_in};
@@ -34,6 +35,16 @@ impl<'a> ShowWork<'a> {
     {
         let _layers = stack.layers();
         ShowWork { stack }
+    }
+
+    // What is shown at `/`, of a stack of 1 to 128 layers.
+    pub(crate) fn root_look(&self, alloc: Global) -> Result<Look, AllocError>
+        ensures value { IfOk result (λ look. look ≡ the_look self.now []) }
+        ensures some { 0 < length self.now.layers }
+        ensures each { All IsLayer self.now.layers }
+    {
+        let _layers = self.stack.layers();
+        self.stack.look(alloc, 0, &Path::root(alloc))
     }
 }
 
