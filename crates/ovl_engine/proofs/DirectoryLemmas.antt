@@ -16,6 +16,7 @@ use Rattle.ovl_lookup.specs.declared.looks.Look.TheVariants.{Nothing, Shown, Bro
 use Rattle.ovl_lookup.specs.Stacks.{StackView}
 use Rattle.ovl_lookup.specs.Merged.{AreKids, look, shows, shows_directory, is_nothing, is_shown_directory}
 use Rattle.ovl_lookup.specs.Passes.{kids_along}
+use Rattle.ovl_lookup.specs.ViewPasses.{AreLooks}
 use Rattle.ovl_lookup.proofs.KidLemmas.{kids-ascend, kids-same, are-kids}
 use Rattle.ovl_lookup.proofs.ListLemmas.{shows-limited}
 use Rattle.ovl_lookup.proofs.LawLemmas.{ShowsParents-holds}
@@ -110,8 +111,18 @@ ascending_same (one ∷ ones) (other ∷ others) up down same =
     λ j. first j ∷ rest j
 
 -- the names of a directory are the only ones that the merged tree has in it
-pub kids_unique : (stack : StackView) → All IsLayer stack.layers → (path : PathNames) (names : List PathName) → AreKids stack path names → names ≡ kids_along stack path
+kids_unique : (stack : StackView) → All IsLayer stack.layers → (path : PathNames) (names : List PathName) → AreKids stack path names → names ≡ kids_along stack path
 kids_unique stack each path names are = ascending_same names (kids_along stack path) are.in_order (kids-ascend stack path) (λ name. are.same name ∙ sym (kids-same stack each path name))
+
+-- and what is shown there is all that it shows
+named_with : (stack : StackView) (dir : PathNames) (looks : List NamedLook) → All (λ (e : NamedLook). e.1 ≡ look stack (child_path dir e.0)) looks → looks ≡ map (named_look stack dir) (map (λ (e : NamedLook). e.0) looks)
+named_with stack dir [] each = refl
+named_with stack dir (e ∷ looks) each = λ j. (e.0, each.0 j) ∷ named_with stack dir looks each.1 j
+
+pub looks_unique : (stack : StackView) → All IsLayer stack.layers → (dir : PathNames) (looks : List NamedLook) → AreLooks stack dir looks → looks ≡ looks_in stack dir
+looks_unique stack each dir looks are =
+    named_with stack dir looks are.each
+    ∙ ap (map (named_look stack dir)) (kids_unique stack each dir (map (λ (e : NamedLook). e.0) looks) are.names)
 
 names_named : (stack : StackView) (dir : PathNames) (names : List PathName) → map (λ (entry : NamedLook). entry.0) (map (named_look stack dir) names) ≡ names
 names_named stack dir [] = refl

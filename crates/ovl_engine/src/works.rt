@@ -3,10 +3,10 @@ ghost use Rattle.std.specs.List.{flat_map};
 ghost use Rattle.ovl_manifest.specs.Layers.{IsLayer};
 ghost use Rattle.ovl_lookup.specs.Merged.{look as the_look, IsMerged, look_cmp};
 ghost use Rattle.ovl_board.specs.Parcels.{parcel_views};
-ghost use Rattle.ovl_engine.specs.Directories.{HasAllNames, IsShowWalk, named_look, directories_in as the_directories_in, looks_placed_in};
+ghost use Rattle.ovl_engine.specs.Directories.{HasAllNames, IsShowWalk, looks_in, directories_in as the_directories_in, looks_placed_in};
 
 use ovl_board::{Parcel, Piece, Work};
-use ovl_lookup::{Look, Stack};
+use ovl_lookup::{DirView, Look, Stack};
 use ovl_names::{DEPTH_LIMIT, Name, Path};
 use std::alloc::{AllocError, Global};
 use std::marker::Model;
@@ -71,9 +71,7 @@ impl<'a> Work for ShowWork<'a> {
         alloc: Global,
         piece: &Piece,
     ) -> Result<(Vec<Piece>, Vec<(Name, Look)>), AllocError> {
-        let _layers = self.stack.layers();
-        let names = self.stack.names(alloc, 0, &piece.dir)?;
-        let looks = looks_at(alloc, self.stack, &piece.dir, names)?;
+        let looks = looks_at(alloc, self.stack, &piece.dir)?;
         let kids = directories_in(alloc, piece, &looks)?;
         Ok((kids, looks))
     }
@@ -83,22 +81,15 @@ impl<'a> Work for ShowWork<'a> {
     }
 }
 
-// What the stack shows at each of these names in a directory.
-fn looks_at(
-    alloc: Global,
-    stack: &Stack,
-    dir: &Path,
-    names: Vec<Name>,
-) -> Result<Vec<(Name, Look)>, AllocError>
-    ensures { IfOk result (λ looks. looks.items ≡ map (named_look stack.now dir.now) names.items) }
+// What a directory of the merged tree shows: each name in it with what is shown there; none where no directory is shown.
+fn looks_at(alloc: Global, stack: &Stack, dir: &Path) -> Result<Vec<(Name, Look)>, AllocError>
+    ensures { IfOk result (λ looks. looks.items ≡ looks_in stack.now dir.now) }
 {
-    let mut looks = Vec::new(alloc);
-    for name in names {
-        let path = dir.child(alloc, &name)?;
-        let look = stack.look(alloc, 0, &path)?;
-        looks.push((name, look))?;
+    let _layers = stack.layers();
+    match DirView::of(alloc, stack, 0, dir)? {
+        Some(view) => view.looks(alloc, stack),
+        None => Ok(Vec::new(alloc)),
     }
-    Ok(looks)
 }
 
 // The entries of a piece's directory that are directories, as pieces.
