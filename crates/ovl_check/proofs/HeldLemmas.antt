@@ -1,15 +1,22 @@
 -- What a directory of a layer directly holds.
-use Rattle.std.proofs.Common.{◌≡◌, ℕ, ◌<◌, inl, inr, Bool, true, false, cond, Option, Some, None, List, [], ◌∷◌, ◌++◌, length, get_or, map, refl, sym, ap, ◌∙◌, subst}
+use Rattle.std.proofs.Common.{◌≡◌, ℕ, ◌+◌, ◌<◌, inl, inr, Bool, true, false, cond, Option, Some, None, List, [], ◌∷◌, ◌++◌, length, get_or, take, drop, map, refl, sym, ap, ◌∙◌, subst}
 use Rattle.std.specs.Prelude.{◌||◌, not, filter}
 use Rattle.std.specs.List.{list_any, flat_map}
+use Rattle.std.specs.Option.{option_map}
+use Rattle.std.proofs.lemmas.List.{take_more, take-append-drop}
 use Rattle.std.proofs.lemmas.List.Folds.{flat_map-map}
 use Rattle.std.proofs.lemmas.Simd.{map-map}
 use Rattle.ovl_names.specs.Names.{PathName}
 use Rattle.ovl_names.specs.Paths.{PathNames, child_path}
 use Rattle.ovl_inode.specs.declared.inodes.Inode.{Inode}
 use Rattle.ovl_inode.specs.Attributes.{origin_name}
-use Rattle.ovl_inode.specs.Marks.{is_directory, has_attribute}
+use Rattle.ovl_inode.specs.declared.marks.Mark.{Mark}
+use Rattle.ovl_inode.specs.Marks.{mark_of, is_directory, has_attribute}
 use Rattle.ovl_manifest.specs.Layers.{Entries, IsLayer, entry_at, is_directory_at, names_below, has_parent}
+use Rattle.ovl_manifest.specs.Sheets.{path_at, last_name}
+use Rattle.ovl_manifest.specs.LayerTrees.{entries_in, entries_under}
+use Rattle.ovl_manifest.proofs.NodeLemmas.{entries_under-nothing, entry_at-under}
+use Rattle.ovl_manifest.proofs.SheetLemmas.{last_name-child}
 use Rattle.ovl_lookup.proofs.WalkFacts.{length-child, parent_path-child}
 use Rattle.ovl_board.specs.declared.pieces.Piece.{Piece}
 use Rattle.ovl_board.proofs.Members.{In, In-map, In-flat_map-cases, get_or-In}
@@ -17,7 +24,7 @@ use Rattle.ovl_check.specs.declared.directories.Child.{Child}
 use Rattle.ovl_check.specs.declared.findings.Finding.{Finding}
 use Rattle.ovl_check.specs.Checks.{CheckView, layer_at, findings_alone, findings_at_path}
 use Rattle.ovl_check.specs.Conditions.{has_origin_at}
-use Rattle.ovl_check.specs.Facts.{held, held_in, child_seen, found_at_child}
+use Rattle.ovl_check.specs.Facts.{held, held_in, child_seen, seen_at, found_at_child}
 use Rattle.ovl_check.proofs.Ascent.{list_all-Every}
 use Rattle.ovl_check.proofs.ListFacts.{filter-map, any-map}
 use Rattle.ovl_check.proofs.LayerFacts.{below-In}
@@ -103,10 +110,42 @@ module _ (layer : Entries) (directory : PathNames) where
       by [] from = refl
       by (name ∷ names) from = absurd (never name (from name (inl refl)))
 
+-- ---- by the rows of a sheet
+
+pub held-numbers : (layer : Entries) (directory : PathNames) (kids : List ℕ) → map (path_at layer) kids ≡ map (child_path directory) (names_below layer directory) → flat_map (λ kid. seen_at layer (path_at layer kid)) kids ≡ held_in layer directory
+held-numbers layer directory kids same =
+    sym (flat_map-map (seen_at layer) (path_at layer) kids)
+    ∙ (ap (flat_map (seen_at layer)) same
+    ∙ (flat_map-map (seen_at layer) (child_path directory) (names_below layer directory)
+    ∙ (λ j. flat_map (λ name. elim (last_name-child directory name j) as (λ _. List (PathName × Inode)) [ Some own ↦ held own (entry_at layer (child_path directory name)) | None ↦ [] ]) (names_below layer directory))))
+
+-- the mark of a row
+pub marked-row : (layer : Entries) (path : PathNames) (inode : Inode) (mark : Mark) → entry_at layer path ≡ Some inode → option_map mark_of (entry_at layer path) ≡ Some mark → mark ≡ mark_of inode
+marked-row layer path inode mark here marked =
+    ap (λ (o : Option Mark). elim o as (λ _. Mark) [ Some m ↦ m | None ↦ mark ]) (sym marked ∙ ap (option_map mark_of) here)
+
+-- a path goes on by its next name
+pub next-path : (path names : PathNames) (i : ℕ) (name : PathName) → i < length names → name ≡ get_or names i name → path ≡ take i names → child_path path name ≡ take (i + 1) names
+next-path path names i name inside is here = (λ j. here j ++ is j ∷ []) ∙ sym (take_more names i name inside)
+
+-- a path that leaves the layer after some of its names
+pub left-after : (layer : Entries) (names : PathNames) (i : ℕ) → entries_under (take i names) layer ≡ [] → entry_at layer names ≡ None
+left-after layer names i none =
+    entry_at-under names layer
+    ∙ ap (λ (es : Entries). entry_at es [])
+    (ap (λ (p : PathNames). entries_under p layer) (sym (take-append-drop i names))
+    ∙ (under-append (take i names) (drop i names) layer
+    ∙ (ap (entries_under (drop i names)) none
+    ∙ entries_under-nothing (drop i names))))
+  where
+    under-append : (front rest : PathNames) (es : Entries) → entries_under (front ++ rest) es ≡ entries_under rest (entries_under front es)
+    under-append [] rest es = refl
+    under-append (name ∷ front) rest es = under-append front rest (entries_in name es)
+
 -- ---- by the children that were gathered
 
 module _ (layer : Entries) (directory : PathNames) (children : List Child) (same : map child_seen children ≡ held_in layer directory) where
-  pub child-there : (k : ℕ) (d : Child) → k < length children → entry_at layer (child_path directory (get_or children k d).name) ≡ Some (get_or children k d).inode.now
+  pub child-there : (k : ℕ) (d : Child) → k < length children → entry_at layer (child_path directory (get_or children k d).name.now) ≡ Some (get_or children k d).inode.now
   child-there k d inside =
       there-held layer directory (child_seen (get_or children k d)) (names_below layer directory)
       (subst (In (child_seen (get_or children k d))) same (In-map child_seen (get_or children k d) children (get_or-In children k d inside)))
@@ -118,7 +157,7 @@ module _ (layer : Entries) (directory : PathNames) (children : List Child) (same
       ∙ (ap (list_any (λ e. test e.1)) same
       ∙ any-held layer directory test (names_below layer directory))
 
-  pub kids-children : (piece : PathName → Piece) → map (λ child. piece child.name) (filter (λ child. is_directory child.inode.now) children) ≡ map piece (filter (λ name. is_directory_at layer (child_path directory name)) (names_below layer directory))
+  pub kids-children : (piece : PathName → Piece) → map (λ child. piece child.name.now) (filter (λ child. is_directory child.inode.now) children) ≡ map piece (filter (λ name. is_directory_at layer (child_path directory name)) (names_below layer directory))
   kids-children piece =
       let first : PathName × Inode → Piece = λ e. piece e.0 in
       let test : PathName × Inode → Bool = λ e. is_directory e.1 in

@@ -1,6 +1,6 @@
 -- What the conditions ask of one entry of a layer, over the blobs and the stack of the layers below it, and the
 -- condition of each code by that.
-use Rattle.std.specs.Prelude.{◌≡◌, ℕ, Bool, true, false, ◌&&◌, ◌||◌, ◌==◌, not, Option, Some, None, List, [], ◌∷◌, if◌then◌else◌, length, map, codes}
+use Rattle.std.specs.Prelude.{◌≡◌, ℕ, Bool, true, false, ◌&&◌, ◌||◌, ◌==◌, not, Option, Some, None, List, [], ◌∷◌, if◌then◌else◌, length, map, All, codes}
 use Rattle.std.specs.List.{list_any, flat_map}
 use Rattle.std.specs.Option.{option_map}
 use Rattle.ovl_names.specs.Names.{PathName}
@@ -10,8 +10,9 @@ use Rattle.ovl_inode.specs.declared.marks.Mark.{Mark}
 use Rattle.ovl_inode.specs.declared.marks.Mark.TheVariants.{Whiteout as WhiteoutMark, DirMoved, Meta}
 use Rattle.ovl_inode.specs.Attributes.{opaque_name, redirect_name, impure_name}
 use Rattle.ovl_inode.specs.Kinds.{size_of, blob_of}
-use Rattle.ovl_inode.specs.Marks.{has_attribute, attribute_is, is_directory, is_regular, is_whiteout}
+use Rattle.ovl_inode.specs.Marks.{mark_of, has_attribute, attribute_is, is_directory, is_regular, is_whiteout}
 use Rattle.ovl_manifest.specs.Layers.{Entries, IsLayer, entry_at, names_below}
+use Rattle.ovl_manifest.specs.Sheets.{last_name}
 use Rattle.ovl_lookup.specs.declared.looks.Look.{Look}
 use Rattle.ovl_lookup.specs.declared.steps.Step.{Step}
 use Rattle.ovl_lookup.specs.Walk.{mark_at, walk, natural_path}
@@ -50,7 +51,15 @@ abbrev pub held_in : Entries → PathNames → List (PathName × Inode)
 held_in layer directory = flat_map (λ name. held name (entry_at layer (child_path directory name))) (names_below layer directory)
 
 abbrev pub child_seen : Child → PathName × Inode
-child_seen child = (child.name, child.inode.now)
+child_seen child = (child.name.now, child.inode.now)
+
+-- what stands at a path, under its last name
+abbrev pub seen_at : Entries → PathNames → List (PathName × Inode)
+seen_at layer path = elim (last_name path) [ Some name ↦ held name (entry_at layer path) | None ↦ [] ]
+
+-- its mark is that of its inode
+abbrev pub IsMarked : Child → Type 0
+IsMarked child = child.mark.now ≡ mark_of child.inode.now
 
 -- what was gathered of a directory is what the layer has there
 pub record IsGathered (layer : Entries) (directory : Directory) : Type 0 where
@@ -61,6 +70,7 @@ pub record IsGathered (layer : Entries) (directory : Directory) : Type 0 where
   pub next : directory.next ≡ (walk layer directory.path.now).next
   pub closed : directory.closed ≡ (walk layer directory.path.now).closed
   pub children : map child_seen directory.children.items ≡ held_in layer directory.path.now
+  pub marks : All IsMarked directory.children.items
 
 -- ---- the facts of an entry of a layer, by its mark
 

@@ -1,6 +1,5 @@
 ghost use Rattle.std.specs.Prelude.{◌≡◌, IfOk, true, map, slice_index};
 ghost use Rattle.std.specs.List.{flat_map};
-ghost use Rattle.sha2.specs.Sha256.{sha256};
 ghost use Rattle.ovl_names.specs.Names.{name_eq};
 ghost use Rattle.ovl_board.specs.declared.pieces.Piece.{Piece};
 ghost use Rattle.ovl_board.specs.Parcels.{IsPlain, parcel_views};

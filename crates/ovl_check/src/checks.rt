@@ -1,4 +1,4 @@
-ghost use Rattle.std.specs.Prelude.{◌≡◌, ◌<◌, ◌++◌, ◌∷◌, [], if◌then◌else◌, true, Some, None, IfOk, OnOk, length, map, filter};
+ghost use Rattle.std.specs.Prelude.{◌≡◌, ◌<◌, ◌++◌, ◌∷◌, [], if◌then◌else◌, true, Some, None, All, IfOk, OnOk, length, map, filter};
 ghost use Rattle.std.specs.List.{flat_map};
 ghost use Rattle.ovl_names.specs.Paths.{child_path};
 ghost use Rattle.ovl_manifest.specs.Layers.{entry_at};
@@ -7,7 +7,7 @@ ghost use Rattle.ovl_check.specs.Findings.{finding};
 ghost use Rattle.ovl_check.specs.Blobs.{blob_views, are_in_order, wrong_names};
 ghost use Rattle.ovl_check.specs.Checks.{check_seen, no_seen, layer_at, directory_piece, findings_at_path, check_out};
 ghost use Rattle.ovl_check.specs.CheckViews.{check_view};
-ghost use Rattle.ovl_check.specs.Facts.{IsGathered, child_seen, held_in, found_at_child, tells};
+ghost use Rattle.ovl_check.specs.Facts.{IsGathered, IsMarked, child_seen, held_in, found_at_child, tells};
 
 use crate::blobs::Blob;
 use crate::directories::{Child, Directory, directory_at, kids_of};
@@ -17,7 +17,7 @@ use crate::gathering::{facts_of_child, facts_of_directory};
 use crate::marks::is_moved;
 use crate::subjects::{CheckOut, CheckWork};
 use ovl_board::{Piece, Work};
-use ovl_inode::{Digest, is_directory, mark_of};
+use ovl_inode::{Digest, is_directory};
 use ovl_lookup::Stack;
 use ovl_names::{DEPTH_LIMIT, Path};
 use std::alloc::{AllocError, Global};
@@ -156,6 +156,7 @@ fn push_files(
     requires inside { layer < length work.now.stack.now.layers }
     requires gathered { IsGathered (layer_at work.now.stack.now layer) directory.now }
     requires children { map child_seen children.now ≡ held_in (layer_at work.now.stack.now layer) directory.now.path.now }
+    requires marks { All IsMarked children.now }
     ensures { OnOk result (findings.new.items ≡ findings.old.items
         ++ flat_map (λ child. found_at_child (check_view work.now) layer directory.now.path.now (child_seen child)) children.now) }
 {
@@ -176,19 +177,19 @@ fn push_file(
 ) -> Result<(), AllocError>
     requires inside { layer < length work.now.stack.now.layers }
     requires gathered { IsGathered (layer_at work.now.stack.now layer) directory.now }
-    requires entry { entry_at (layer_at work.now.stack.now layer) (child_path directory.now.path.now child.now.name) ≡ Some child.now.inode.now }
+    requires entry { entry_at (layer_at work.now.stack.now layer) (child_path directory.now.path.now child.now.name.now) ≡ Some child.now.inode.now }
+    requires marked { IsMarked child.now }
     ensures { OnOk result (findings.new.items ≡ findings.old.items
         ++ found_at_child (check_view work.now) layer directory.now.path.now (child_seen child.now)) }
 {
     if is_directory(child.inode) {
         return Ok(());
     }
-    let mark = mark_of(alloc, child.inode)?;
-    let facts = facts_of_child(alloc, work, usize::from(layer), directory, child, &mark)?;
+    let facts = facts_of_child(alloc, work, usize::from(layer), directory, child)?;
     if !facts.tells_any() {
         return Ok(());
     }
-    let path = directory.path.child(alloc, &child.name)?;
+    let path = directory.path.child(alloc, child.name)?;
     push_codes(alloc, layer, &path, &facts, findings)
 }
 

@@ -1,25 +1,29 @@
-ghost use Rattle.std.specs.Prelude.{◌≡◌, ◌<◌, false, length, map, filter, IfOk, MatchOption};
+ghost use Rattle.std.specs.Prelude.{◌≡◌, ◌<◌, ◌++◌, false, None, All, length, map, filter, IfOk, OnOk, MatchOption};
 ghost use Rattle.std.specs.List.{list_any};
+ghost use Rattle.std.specs.Option.{option_map};
 ghost use Rattle.ovl_names.specs.Paths.{child_path};
 ghost use Rattle.ovl_inode.specs.Attributes.{origin_name};
 ghost use Rattle.ovl_inode.specs.Marks.{has_attribute as attribute_test, is_directory as the_directory};
-ghost use Rattle.ovl_manifest.specs.Layers.{is_directory_at};
+ghost use Rattle.ovl_manifest.specs.Layers.{entry_at, is_directory_at};
+ghost use Rattle.ovl_manifest.specs.Sheets.{path_at, last_name};
 ghost use Rattle.ovl_check.specs.Checks.{layer_at, directory_piece};
-ghost use Rattle.ovl_check.specs.Facts.{IsGathered, child_seen, held_in};
+ghost use Rattle.ovl_check.specs.Facts.{IsGathered, IsMarked, child_seen, seen_at, held_in};
 
 use crate::marks::has_attribute;
-use crate::places::{child_inode, inode_at, mark_of_entry, names_in, step_of};
+use crate::places::{mark_of_entry, step_of};
 use ovl_board::Piece;
 use ovl_inode::{Inode, Mark, is_directory, overlay};
 use ovl_lookup::Stack;
+use ovl_manifest::{Sheet, SheetRow};
 use ovl_names::{Name, Path};
 use std::alloc::{AllocError, Global};
 
 // An entry directly in a directory of a layer.
 #[derive(Drop)]
 pub(crate) struct Child<'a> {
-    pub(crate) name: Name,
+    pub(crate) name: &'a Name,
     pub(crate) inode: &'a Inode,
+    pub(crate) mark: &'a Mark,
 }
 
 // A directory of a layer, gathered once for all that is in it.
@@ -48,15 +52,17 @@ pub(crate) fn directory_at<'a>(
 {
     // Each of them is a layer.
     let _layers = stack.layers();
-    let Some(inode) = inode_at(stack, i, path) else {
+    let sheet = stack.sheet(i);
+    let Some(row) = row_at(sheet, path) else {
         return Ok(None);
     };
+    let inode = sheet.inode(row);
     if !is_directory(inode) {
         return Ok(None);
     }
     let mark = mark_of_entry(alloc, stack, i, path, inode)?;
     let step = step_of(alloc, stack, i, path)?;
-    let children = children_in(alloc, stack, i, path)?;
+    let children = children_in(alloc, sheet, row)?;
     Ok(Some(Directory {
         path,
         inode,
@@ -67,24 +73,69 @@ pub(crate) fn directory_at<'a>(
     }))
 }
 
-// What layer `i` has directly below a path.
-fn children_in<'a>(
-    alloc: Global,
-    stack: &'a Stack,
-    i: usize,
-    path: &Path,
-) -> Result<Vec<Child<'a>>, AllocError>
-    requires { i < length stack.now.layers }
-    ensures { IfOk result (λ children. map child_seen children.items ≡ held_in (layer_at stack.now i) path.now) }
+// The number of the row of a path, and `None` where there is no entry.
+fn row_at(sheet: &Sheet, path: &Path) -> Option<u32>
+    ensures { MatchOption result
+        (entry_at sheet.now path.now ≡ None)
+        (λ row. (row < length sheet.now) × (path_at sheet.now row ≡ path.now)) }
 {
-    let names = names_in(alloc, stack, i, path)?;
-    let mut children = Vec::with_capacity(alloc, names.len())?;
-    for name in names {
-        if let Some(inode) = child_inode(alloc, stack, i, path, &name)? {
-            children.push(Child { name, inode })?;
-        }
+    let mut row = sheet.root_number();
+    for name in path.names() {
+        let Some(child) = sheet.child(row, name) else {
+            return None;
+        };
+        row = child;
+    }
+    Some(row)
+}
+
+// What a layer has directly below the row of a number, in one pass over the rows.
+fn children_in(alloc: Global, sheet: &Sheet, row: u32) -> Result<Vec<Child<'_>>, AllocError>
+    requires { row < length sheet.now }
+    ensures seen { IfOk result (λ children. map child_seen children.items ≡ held_in sheet.now (path_at sheet.now row)) }
+    ensures marks { IfOk result (λ children. All IsMarked children.items) }
+{
+    let kids = sheet.kids(row);
+    let mut children = Vec::with_capacity(alloc, kids.len())?;
+    for kid in kids {
+        push_child(sheet, *kid, &mut children)?;
     }
     Ok(children)
+}
+
+// Adds the entry of a row; the root has no name.
+fn push_child<'a>(
+    sheet: &'a Sheet,
+    number: u32,
+    children: &mut Vec<Child<'a>>,
+) -> Result<(), AllocError>
+    requires { number < length sheet.now }
+    ensures seen { OnOk result (map child_seen children.new.items ≡ map child_seen children.old.items ++ seen_at sheet.now (path_at sheet.now number)) }
+    ensures marks { OnOk result (All IsMarked children.old.items → All IsMarked children.new.items) }
+{
+    let Some(name) = name_at(sheet, number) else {
+        return Ok(());
+    };
+    let inode = sheet.inode(number);
+    let mark = sheet.mark(number);
+    children.push(Child { name, inode, mark })?;
+    Ok(())
+}
+
+// The last name of the path of a row; the root has none.
+fn name_at(sheet: &Sheet, number: u32) -> Option<&Name>
+    requires { number < length sheet.now }
+    ensures { option_map (λ name. name.now) result ≡ last_name (path_at sheet.now number) }
+{
+    match sheet.row(number) {
+        Some(
+            SheetRow {
+                name: Some(name),
+                ..
+            },
+        ) => Some(name),
+        _ => None,
+    }
 }
 
 // Whether one of these has `origin`.
@@ -104,7 +155,7 @@ pub(crate) fn kids_of(
     children: &[Child<'_>],
 ) -> Result<Vec<Piece>, AllocError>
     ensures { IfOk result (λ kids. kids.items
-        ≡ map (λ child. directory_piece space (child_path dir.now child.name))
+        ≡ map (λ child. directory_piece space (child_path dir.now child.name.now))
         (filter (λ child. the_directory child.inode.now) children.now)) }
 {
     let mut kids = Vec::new(alloc);
@@ -112,7 +163,7 @@ pub(crate) fn kids_of(
         if is_directory(child.inode) {
             kids.push(Piece {
                 space,
-                dir: dir.child(alloc, &child.name)?,
+                dir: dir.child(alloc, child.name)?,
             })?;
         }
     }

@@ -1,14 +1,13 @@
 ghost use Rattle.std.specs.Prelude.{◌≡◌, ◌<◌, true, false, Some, length, IfOk};
 ghost use Rattle.ovl_names.specs.Paths.{child_path};
-ghost use Rattle.ovl_inode.specs.Marks.{mark_of as the_mark, is_directory as the_directory};
+ghost use Rattle.ovl_inode.specs.Marks.{is_directory as the_directory};
 ghost use Rattle.ovl_inode.specs.declared.marks.Mark.TheVariants.{Meta};
 ghost use Rattle.ovl_manifest.specs.Layers.{entry_at};
 ghost use Rattle.ovl_lookup.specs.Walk.{walk_to_file};
 ghost use Rattle.ovl_lookup.specs.Sound.{is_seen_there};
-ghost use Rattle.ovl_lookup.specs.Merged.{look as the_look};
 ghost use Rattle.ovl_check.specs.Checks.{layer_at, layers_below};
 ghost use Rattle.ovl_check.specs.CheckViews.{check_view};
-ghost use Rattle.ovl_check.specs.Facts.{IsGathered, AreFacts, old_place as the_old_place, content_of as the_content, whiteout_in as the_whiteout, data_size as the_data_size, data_size_on, kind_at};
+ghost use Rattle.ovl_check.specs.Facts.{IsGathered, IsMarked, AreFacts, old_place as the_old_place, content_of as the_content, whiteout_in as the_whiteout, data_size_on};
 
 use crate::contents::blob_named;
 use crate::directories::{Child, Directory, hold_origin};
@@ -52,30 +51,29 @@ pub(crate) fn facts_of_directory<'a>(
     })
 }
 
-// The facts of an entry of this mark that lies in a directory of layer `i` and is none itself.
+// The facts of an entry that lies in a directory of layer `i` and is none itself.
 pub(crate) fn facts_of_child<'a>(
     alloc: Global,
     work: &CheckWork<'_>,
     i: usize,
     directory: &Directory<'_>,
     child: &'a Child<'_>,
-    mark: &'a Mark,
 ) -> Result<Facts<'a>, AllocError>
     requires inside { i < length work.now.stack.now.layers }
     requires gathered { IsGathered (layer_at work.now.stack.now i) directory.now }
-    requires entry { entry_at (layer_at work.now.stack.now i) (child_path directory.now.path.now child.now.name) ≡ Some child.now.inode.now }
+    requires entry { entry_at (layer_at work.now.stack.now i) (child_path directory.now.path.now child.now.name.now) ≡ Some child.now.inode.now }
     requires none { the_directory child.now.inode.now ≡ false }
-    requires marked { mark.now ≡ the_mark child.now.inode.now }
-    ensures { IfOk result (λ facts. (facts.inode.now ≡ child.now.inode.now) × AreFacts (check_view work.now) i (child_path directory.now.path.now child.now.name) facts) }
+    requires marked { IsMarked child.now }
+    ensures { IfOk result (λ facts. (facts.inode.now ≡ child.now.inode.now) × AreFacts (check_view work.now) i (child_path directory.now.path.now child.now.name.now) facts) }
 {
-    let kind = match mark {
-        Mark::Whiteout => whiteout_in(alloc, work.stack, i, directory, &child.name)?,
+    let kind = match child.mark {
+        Mark::Whiteout => whiteout_in(alloc, work.stack, i, directory, child.name)?,
         Mark::Meta(redirect) => KindFacts::Metacopy(data_size(
             alloc,
             work.stack,
             i,
             directory,
-            &child.name,
+            child.name,
             redirect,
             child.inode,
         )?),
@@ -84,7 +82,7 @@ pub(crate) fn facts_of_child<'a>(
     Ok(Facts {
         is_root: false,
         inode: child.inode,
-        mark,
+        mark: child.mark,
         kind,
         blob: blob_named(work.blobs, work.wrong, child.inode),
         holds_origin: false,

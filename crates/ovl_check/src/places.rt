@@ -1,7 +1,7 @@
 ghost use Rattle.std.specs.Prelude.{◌≡◌, ◌<◌, Some, IfOk, length};
 ghost use Rattle.std.specs.Option.{option_map};
 ghost use Rattle.ovl_names.specs.Paths.{child_path};
-ghost use Rattle.ovl_manifest.specs.Layers.{entry_at, names_below};
+ghost use Rattle.ovl_manifest.specs.Layers.{entry_at};
 ghost use Rattle.ovl_lookup.specs.Walk.{walk, mark_at as the_mark};
 ghost use Rattle.ovl_lookup.specs.Merged.{look as the_look};
 ghost use Rattle.ovl_check.specs.Checks.{layer_at, layers_below, size_shown};
@@ -13,39 +13,11 @@ use ovl_names::{Name, Path};
 use std::alloc::{AllocError, Global};
 
 // The inode that layer `i` has at a path.
-pub(crate) fn inode_at<'a>(stack: &'a Stack, i: usize, path: &Path) -> Option<&'a Inode>
+fn inode_at<'a>(stack: &'a Stack, i: usize, path: &Path) -> Option<&'a Inode>
     requires { i < length stack.now.layers }
     ensures { option_map (λ inode. inode.now) result ≡ entry_at (layer_at stack.now i) path.now }
 {
     stack.own_at(i, path)
-}
-
-// The inode that layer `i` has under a name in a directory.
-pub(crate) fn child_inode<'a>(
-    alloc: Global,
-    stack: &'a Stack,
-    i: usize,
-    dir: &Path,
-    name: &Name,
-) -> Result<Option<&'a Inode>, AllocError>
-    requires { i < length stack.now.layers }
-    ensures { IfOk result (λ found. option_map (λ inode. inode.now) found ≡ entry_at (layer_at stack.now i) (child_path dir.now name.now)) }
-{
-    let path = dir.child(alloc, name)?;
-    Ok(inode_at(stack, i, &path))
-}
-
-// The names directly below a path in layer `i`.
-pub(crate) fn names_in(
-    alloc: Global,
-    stack: &Stack,
-    i: usize,
-    path: &Path,
-) -> Result<Vec<Name>, AllocError>
-    requires { i < length stack.now.layers }
-    ensures { IfOk result (λ names. names.items ≡ names_below (layer_at stack.now i) path.now) }
-{
-    stack.own_names(alloc, i, path)
 }
 
 // The walk of a path in layer `i`.

@@ -12,7 +12,7 @@ use Rattle.ovl_check.proofs.checks.push_file.Goals as goal
 pub returns-then-not-tells_any : goal.returns-then-not-tells_any
 returns-then-not-tells_any c =
     let directory = c.args.directory.now.path.now in
-    let name = c.args.child.now.name in
+    let name = c.args.child.now.name.now in
     let facts = c.in_ok-facts.facts in
     sym (append-nil c.args.findings.now.items)
     ∙ ap (λ (more : List Finding). c.args.findings.now.items ++ more)
@@ -23,7 +23,7 @@ returns-then-not-tells_any c =
 pub returns : goal.returns
 returns c =
     let directory = c.args.directory.now.path.now in
-    let name = c.args.child.now.name in
+    let name = c.args.child.now.name.now in
     let facts = c.in_ok-facts.facts in
     subst (λ (more : List Finding). OnOk c.push_codes.result (c.push_codes.new.findings.items ≡ c.args.findings.now.items ++ more))
     (ap (λ path. map (finding c.args.layer path) (filter (tells facts) all_codes)) c.in_ok-path.ensures

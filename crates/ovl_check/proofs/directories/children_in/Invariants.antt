@@ -1,12 +1,11 @@
-use Rattle.std.proofs.Common.{◌≡◌, map}
+use Rattle.std.proofs.Common.{◌≡◌, map, take, All}
 use Rattle.std.specs.List.{flat_map}
-use Rattle.ovl_names.specs.Paths.{child_path}
-use Rattle.ovl_manifest.specs.Layers.{entry_at}
-use Rattle.ovl_check.specs.Checks.{layer_at}
-use Rattle.ovl_check.specs.Facts.{child_seen, held}
+use Rattle.ovl_manifest.specs.Sheets.{path_at}
+use Rattle.ovl_check.specs.Facts.{child_seen, seen_at, IsMarked}
 use Rattle.ovl_check.proofs.directories.children_in.Given as goal
 
-abbrev pub invariant-loop-name : goal.invariant-loop-name
-invariant-loop-name l =
-    map child_seen l.children.items
-    ≡ flat_map (λ name. held name (entry_at (layer_at l.stack l.i) (child_path l.path name))) l.yielded
+abbrev pub invariant-loop-kid : goal.invariant-loop-kid
+invariant-loop-kid l = record {
+  seen : map child_seen l.children.items ≡ flat_map (λ kid. seen_at l.fn.sheet (path_at l.fn.sheet kid)) (take l.kid-index l.kids);
+  marks : All IsMarked l.children.items;
+}

@@ -8,5 +8,5 @@ use Rattle.ovl_check.proofs.directories.kids_of.Given as goal
 abbrev pub invariant-loop-child : goal.invariant-loop-child
 invariant-loop-child l =
     l.kids.items
-    ≡ map (λ child. directory_piece l.space (child_path l.dir child.name))
+    ≡ map (λ child. directory_piece l.space (child_path l.dir child.name.now))
     (filter (λ child. is_directory child.inode.now) (take l.child-index l.children))

@@ -21,7 +21,7 @@ returns c =
     let layer = layer_at stack c.args.i in
     let directory = c.args.directory.now in
     let gathered = c.requires.gathered in
-    let name = c.args.child.now.name in
+    let name = c.args.child.now.name.now in
     let inode = c.args.child.now.inode.now in
     let below = layers_below stack c.args.i in
     let path = child_path directory.path.now name in
@@ -32,10 +32,10 @@ returns c =
         mark = mark-child layer directory.path.now name inode c.requires.entry ∙ ap (λ m. Some m) (sym c.requires.marked);
         whiteout = whiteout-marked inode ∙ ap is_whiteout_mark (sym c.requires.marked);
         root = sym (length-child directory.path.now name);
-        kind = elim c.match-mark.branch [
-          | in-Whiteout+in_ok-kind-in-Whiteout w ↦ w.kind-is ∙ (w.in_ok-kind-in-Whiteout.ensures ∙ child-whiteout layer below directory gathered name inode c.requires.entry c.requires.none c.args.mark.now w.in-Whiteout.is)
-          | in-Meta+in_ok-data_size-in-Meta w ↦ w.kind-is ∙ (ap (λ size. Metacopy size) w.in_ok-data_size-in-Meta.ensures ∙ child-metacopy layer below directory gathered name inode c.requires.entry c.requires.none c.args.mark.now w.in-Meta.redirect c.requires.marked w.in-Meta.is)
-          | in_default w ↦ w.kind-is ∙ child-other layer below directory gathered name inode c.requires.entry c.requires.none c.args.mark.now c.requires.marked w.in_default.not-Whiteout w.in_default.not-Meta
+        kind = elim c.match-child.branch [
+          | in-Whiteout+in_ok-kind-in-Whiteout w ↦ w.kind-is ∙ (w.in_ok-kind-in-Whiteout.ensures ∙ child-whiteout layer below directory gathered name inode c.requires.entry c.requires.none c.args.child.now.mark.now w.in-Whiteout.is)
+          | in-Meta+in_ok-data_size-in-Meta w ↦ w.kind-is ∙ (ap (λ size. Metacopy size) w.in_ok-data_size-in-Meta.ensures ∙ child-metacopy layer below directory gathered name inode c.requires.entry c.requires.none c.args.child.now.mark.now w.in-Meta.redirect c.requires.marked w.in-Meta.is)
+          | in_default w ↦ w.kind-is ∙ child-other layer below directory gathered name inode c.requires.entry c.requires.none c.args.child.now.mark.now c.requires.marked w.in_default.not-Whiteout w.in_default.not-Meta
         ];
         blob = c.blob_named.ensures;
         origin = sym (ap (list_any (λ other. has_origin_at layer (child_path path other))) (names_below-none layer path gathered.layered none));

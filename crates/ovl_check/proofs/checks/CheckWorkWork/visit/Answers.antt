@@ -35,5 +35,5 @@ returns-clause-kids c =
     found.1.children ∙ (λ j. held_in (layer_at stack (c.from-i.ensures j)) (found.0 j)) in
     let piece : PathName → Piece = λ name. directory_piece space (child_path dir name) in
     c.in_ok-kids.ensures
-    ∙ (ap (λ (children : List Child). map (λ child. piece child.name) (filter (λ child. is_directory child.inode.now) children)) c.deref.ensures.value
+    ∙ (ap (λ (children : List Child). map (λ child. piece child.name.now) (filter (λ child. is_directory child.inode.now) children)) c.deref.ensures.value
     ∙ kids-children (layer_at stack space) dir directory.children.items same piece)
