@@ -5,7 +5,8 @@ use Rattle.ovl_engine.specs.Directories.{IsShowWalk}
 use Rattle.ovl_names.specs.Escapes.{escaped}
 use Rattle.ovl_engine.specs.Reports.{look_line}
 use Rattle.ovl_engine.specs.Outcomes.{IsShowReport}
-use Rattle.ovl_engine.proofs.ListingSteps.{IsListing, views_of, next_left, has-first, has-next, listing-first, listing-exhausted, listing-told, listing-entered, listing-last, listed_some}
+use Rattle.ovl_engine.proofs.ListingLemmas.{views_of, has-first, has-next}
+use Rattle.ovl_engine.proofs.ListingSteps.{view, IsListing, next_left, listing-first, listing-exhausted, listing-told, listing-entered, listing-last, listed_some}
 use Rattle.ovl_engine.proofs.listings.report_of_walk.Goals as goal
 
 pub loop-directory-init : goal.loop-directory-init
@@ -28,7 +29,7 @@ loop-directory-preserved-in_default-get c =
     let l = c.loop-directory in
     let o = c.in-Some.directory in
     let past : length o.parcel.now.out.items ≤ o.told = subst (λ entries. length entries ≤ o.told) c.deref.ensures.value c.in_default-get.ensures.lookup.3 in
-    listing-exhausted stack (string_bytes l.report) l.entries c.pop.new.self.items o l.rest.now
+    listing-exhausted stack c.in_ok-report.ensures.each (string_bytes l.report) l.entries c.pop.new.self.items o l.rest.now
     (subst (λ opens. IsListing stack (string_bytes l.report) l.entries opens l.rest.now) c.in-Some.ensures.items l.invariant) (drop_all o.told o.parcel.now.out.items past)
 
 pub loop-directory-preserved : goal.loop-directory-preserved
@@ -49,7 +50,7 @@ loop-directory-preserved c =
     subst (λ n. IsListing stack longer n c.push-else-is_shown_directory.new.self.items l.rest.now) (sym c.in_ok-entries.ensures)
     (subst (λ opens. IsListing stack longer (l.entries + 1) opens l.rest.now) (sym c.in_ok-push-2.ensures.items)
     (listing-told stack c.in_ok-report.ensures.each report l.entries c.pop.new.self.items o l.rest.now h entry (drop (o.told + 1) out) some
-    longer more (record o { told = o.told + 1 }) refl refl refl (sym c.if-is_shown_directory.ensures)))
+    longer more (record o { told = o.told + 1 }) refl refl (sym c.if-is_shown_directory.ensures)))
 
 pub loop-directory-preserved-then-is_shown_directory : goal.loop-directory-preserved-then-is_shown_directory
 loop-directory-preserved-then-is_shown_directory c =
@@ -70,7 +71,7 @@ loop-directory-preserved-then-is_shown_directory c =
     (c.in-Some-get.ensures.lookup.1 ∙ ap (λ entries. get_or entries o.told entry) c.deref.ensures.value) in
     let o' = record o { told = o.told + 1 } in
     let is = sym c.if-is_shown_directory.ensures in
-    let next = has-next stack each report l.entries kept o l.rest.now h entry (drop (o.told + 1) out) some longer more o' refl refl refl is in
+    let next = has-next stack each view kept o entry (drop (o.told + 1) out) h.told l.rest.now h.is_told some is in
     let opened = c.in_ok-rest-2.ensures.next next.0 next.1.0 next.1.1 in
     let o'' = opened.1.0 in
     let text : string_bytes o''.text ≡ string_bytes o.text ++ (codes "/" ++ escaped entry.0) =
@@ -78,7 +79,7 @@ loop-directory-preserved-then-is_shown_directory c =
     subst (λ n. IsListing stack longer n c.enter-then-is_shown_directory.new.opened.items c.in_ok-rest-2.rest.now) (sym c.in_ok-entries.ensures)
     (subst (IsListing stack longer (l.entries + 1) c.enter-then-is_shown_directory.new.opened.items) (sym opened.0)
     (subst (λ opens. IsListing stack longer (l.entries + 1) opens next.1.0) (sym (opened.1.1.0 ∙ ap (λ opens. opens ++ o'' ∷ []) c.in_ok-push.ensures.items))
-    (listing-entered stack each report l.entries kept o l.rest.now h entry (drop (o.told + 1) out) some longer more o' refl refl refl is
+    (listing-entered stack each report l.entries kept o l.rest.now h entry (drop (o.told + 1) out) some longer more o' refl refl is
     next.0 next.1.0 next.1.1 o'' opened.1.1.1 opened.1.1.2 text)))
 
 pub loop-directory-smaller-then-is_shown_directory : goal.loop-directory-smaller-then-is_shown_directory
