@@ -1,11 +1,10 @@
 -- From the parcels to the layer that is left.
-use Rattle.std.proofs.Common.{◌≡◌, ℕ, ◌+◌, ◌≤◌, ◌<◌, Bool, true, false, Option, Some, None, List, [], ◌∷◌, ◌++◌, length, map, get_or, take, drop, refl, sym, ap, subst, ◌∙◌, arith}
+use Rattle.std.proofs.Common.{◌≡◌, ℕ, ◌+◌, ◌<◌, Bool, true, false, Option, Some, None, List, [], ◌∷◌, ◌++◌, length, map, get_or, take, drop, refl, sym, ap, subst, ◌∙◌, arith}
 use Rattle.std.specs.Prelude.{Vec, Ok, All}
 use Rattle.std.specs.Global.{Global}
-use Rattle.std.specs.List.{flat_map, list_all}
+use Rattle.std.specs.List.{list_all}
 use Rattle.std.specs.Ordering.{is_lt}
 use Rattle.std.proofs.lemmas.List.{append-nil, take-append-drop, drop-map, drop_more}
-use Rattle.std.proofs.lemmas.List.Concat.{flat_map-append}
 use Rattle.ovl_names.specs.Order.{ascends}
 use Rattle.ovl_names.specs.Paths.{PathNames, path_eq, depth_limit}
 use Rattle.ovl_names.proofs.Ascending.{both}
@@ -20,7 +19,7 @@ use Rattle.ovl_board.specs.Parcels.{parcel_view, parcel_views}
 use Rattle.ovl_board.proofs.Members.{In, Every, Every-All, In-right}
 use Rattle.ovl_vacuum.specs.Vacuum.{is_idle, vacuumed_layer, removed_paths}
 use Rattle.ovl_vacuum.specs.Directories.{IdleName, names_seen, top_layer, lower_layers, is_idle_at, vacuum_root, IsVacuumWalk}
-use Rattle.ovl_vacuum.specs.Passes.{View, IdlePath, idle_path, IsDirectoryView, begins_at, views_under, paths_under, WalksUnder, left_after_pass, gone_after_pass, entry_of, entries_at}
+use Rattle.ovl_vacuum.specs.Passes.{View, IdlePath, idle_path, IsDirectoryView, begins_at, views_under, paths_under, WalksUnder, left_after_pass, gone_after_pass, entries_at}
 use Rattle.ovl_vacuum.proofs.VacuumLemmas.{entry-left}
 use Rattle.ovl_vacuum.proofs.KeptLemmas.{IsLayer-vacuumed}
 use Rattle.ovl_vacuum.proofs.VisitLemmas.{top-layer}
@@ -47,11 +46,6 @@ drop-directories stack views place each view h = Every-All (IsDirectoryView stac
     (subst (In view) (take-append-drop place views) (In-right view (take place views) (drop place views) h))
 
 -- ---- the entries of a layer at these paths
-
-pub entries-more : (layer : Entries) (paths : List PathNames) (path : PathNames) (entries : Entries) → entries ≡ entries_at layer paths → entries ++ entry_of layer path ≡ entries_at layer (paths ++ path ∷ [])
-entries-more layer paths path entries are =
-    ap (λ (es : Entries). es ++ entry_of layer path) are
-    ∙ sym (flat_map-append (entry_of layer) paths (path ∷ []) ∙ ap (λ (rest : Entries). entries_at layer paths ++ rest) (append-nil (entry_of layer path)))
 
 -- those of some of the layer's entries are these
 pub entries-back : (layer some : Entries) → ascends entry_cmp some ≡ true → ((path : PathNames) (inode : Inode) → entry_at some path ≡ Some inode → entry_at layer path ≡ Some inode) → entries_at layer (map (λ (entry : Entry). entry.0) some) ≡ some

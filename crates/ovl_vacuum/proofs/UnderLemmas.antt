@@ -1,21 +1,19 @@
 -- The parcels of a directory and of what lies under it, name by name, and the paths that they tell.
-use Rattle.std.proofs.Common.{◌≡◌, ℕ, zero, suc, ◌+◌, ◌-◌, ◌≤◌, ◌<◌, inl, inr, Bool, true, false, cond, Option, Some, None, List, [], ◌∷◌, ◌++◌, length, map, get_or, take, drop, refl, sym, ap, ◌∙◌, subst, append_assoc, arith, length-append, add-one}
+use Rattle.std.proofs.Common.{◌≡◌, ℕ, zero, suc, ◌+◌, ◌-◌, ◌≤◌, ◌<◌, inl, Bool, true, false, cond, List, [], ◌∷◌, ◌++◌, length, map, get_or, take, drop, refl, sym, ap, ◌∙◌, append_assoc, arith, length-append}
 use Rattle.std.specs.Prelude.{filter, All}
 use Rattle.std.specs.List.{flat_map}
 use Rattle.std.specs.Cmp.Lexicographic.{pointwise_decides, bytes_decides}
-use Rattle.std.proofs.lemmas.List.{append-nil, map-append, length-map, get_or-map, drop-map, drop_more, take_more}
+use Rattle.std.proofs.lemmas.List.{append-nil, map-append, length-map, get_or-map, drop_more, take_more}
 use Rattle.std.proofs.lemmas.List.Concat.{flat_map-append}
 use Rattle.ovl_names.specs.Names.{PathName}
-use Rattle.ovl_names.specs.Paths.{PathNames, child_path, path_eq, depth_limit}
-use Rattle.ovl_inode.specs.declared.inodes.Inode.{Inode}
-use Rattle.ovl_manifest.specs.Layers.{Entries, entry_at, is_directory_at, names_below, IsLayer}
+use Rattle.ovl_names.specs.Paths.{PathNames, child_path, depth_limit}
+use Rattle.ovl_manifest.specs.Layers.{is_directory_at, names_below, IsLayer}
 use Rattle.ovl_lookup.specs.Stacks.{StackView}
 use Rattle.ovl_lookup.proofs.ChildLemmas.{entry-limited}
 use Rattle.ovl_lookup.proofs.EntryLaws.{entry-parent}
 use Rattle.ovl_board.specs.declared.pieces.Piece.{Piece}
-use Rattle.ovl_board.specs.Pieces.{HasLawfulKids}
 use Rattle.ovl_board.specs.Walks.{Reached, start, next, ToKid, preorder}
-use Rattle.ovl_board.specs.Parcels.{ParcelView, IsPlain, own_view, pieces_of}
+use Rattle.ovl_board.specs.Parcels.{own_view, pieces_of}
 use Rattle.ovl_board.proofs.Members.{In, Every, All-Every, Every-All, In-map, In-Contains}
 use Rattle.std.proofs.Math.ListN.{drop_of_length-le}
 use Rattle.ovl_lookup.proofs.WalkFacts.{take_past}

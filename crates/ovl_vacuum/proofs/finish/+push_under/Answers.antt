@@ -1,4 +1,4 @@
-use Rattle.std.proofs.Common.{◌≡◌, ◌∙◌, ℕ, ◌<◌, ◌≤◌, ◌+◌, List, [], ◌∷◌, ◌++◌, length, get_or, drop, refl, sym, ap, subst, arith}
+use Rattle.std.proofs.Common.{◌≡◌, ◌∙◌, ℕ, ◌<◌, ◌+◌, List, [], ◌∷◌, ◌++◌, length, get_or, drop, sym, ap, subst, arith}
 use Rattle.std.specs.Prelude.{Vec}
 use Rattle.std.specs.Global.{Global}
 use Rattle.ovl_names.specs.Paths.{PathNames, child_path}
@@ -14,10 +14,12 @@ use Rattle.ovl_vacuum.proofs.finish.+push_under.Goals.{then-is_directory+in_ok-n
 pub loop-name-init : goal.loop-name-init
 loop-name-init t c =
     let parcels : List (Parcel (Vec IdleName Global)) = c.args.parcels.now in
-    let views : List View = parcel_views names_seen parcels in
-    (omega arith, omega (arith, c.requires.inside),
-    walk-starts c.args.work.now c.requires.layer (drop c.args.place views) (parcel_view names_seen c.index-parcels-place.result) (drop (c.args.place + 1) views)
-    (first-view parcels c.args.place c.index-parcels-place.result c.requires.inside c.index-parcels-place.is) c.args.paths.now.items)
+    let views : List View = parcel_views names_seen parcels in (
+      omega arith,
+      omega (arith, c.requires.inside),
+      walk-starts c.args.work.now c.requires.layer (drop c.args.place views) (parcel_view names_seen c.index-parcels-place.result) (drop (c.args.place + 1) views)
+          (first-view parcels c.args.place c.index-parcels-place.result c.requires.inside c.index-parcels-place.is) c.args.paths.now.items,
+    )
 
 pub loop-name-preserved : goal.loop-name-preserved
 loop-name-preserved t c =

@@ -1,4 +1,4 @@
-use Rattle.std.proofs.Common.{◌≡◌, ℕ, ◌<◌, length, map, sym, ap, subst}
+use Rattle.std.proofs.Common.{◌≡◌, ℕ, ◌<◌, length, map, sym, subst}
 use Rattle.std.specs.Prelude.{All}
 use Rattle.ovl_manifest.specs.Layers.{IsLayer, Entry}
 use Rattle.ovl_lookup.specs.Stacks.{StackView}

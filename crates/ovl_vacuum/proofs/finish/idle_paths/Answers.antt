@@ -1,10 +1,10 @@
-use Rattle.std.proofs.Common.{◌≡◌, ◌∙◌, ℕ, ◌<◌, List, [], ◌∷◌, ◌++◌, false, length, map, sym, ap, subst, arith}
+use Rattle.std.proofs.Common.{◌∙◌, ℕ, ◌<◌, List, [], ◌∷◌, ◌++◌, false, length, subst, arith}
 use Rattle.std.specs.Prelude.{All, drop}
 use Rattle.std.proofs.lemmas.List.{length-map}
 use Rattle.ovl_manifest.specs.Layers.{IsLayer}
 use Rattle.ovl_lookup.specs.Stacks.{StackView}
 use Rattle.ovl_board.specs.Parcels.{parcel_view, parcel_views}
-use Rattle.ovl_vacuum.specs.Directories.{top_layer, names_seen}
+use Rattle.ovl_vacuum.specs.Directories.{names_seen}
 use Rattle.ovl_vacuum.specs.Passes.{IdlePath, WalksUnder}
 use Rattle.ovl_vacuum.proofs.VisitLemmas.{top-layer}
 use Rattle.ovl_vacuum.proofs.UnderLemmas.{walk-directories}
