@@ -12,3 +12,5 @@ mod manifest;
 mod marks;
 #[cfg(test)]
 mod names;
+#[cfg(test)]
+mod views;

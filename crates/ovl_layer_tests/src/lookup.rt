@@ -7,20 +7,20 @@ use ovl_names::{Name, Path};
 use std::alloc::{AllocError, Global};
 use std::test::Fail;
 
-const DIR: &str = "\"kind\":\"dir\",\"mode\":493";
+pub(crate) const DIR: &str = "\"kind\":\"dir\",\"mode\":493";
 
-const FILE: &str =
+pub(crate) const FILE: &str =
     "\"kind\":\"file\",\"mode\":420,\"size\":1,\"blob\":\"ca978112ca1bbdcafac231b39a23dc4da786eff8147c4e72b9807785afee48bb\"";
 
 const METACOPY: &str = "\"kind\":\"file\",\"mode\":420,\"size\":1";
 
-const WHITEOUT: &str = "\"kind\":\"char\",\"mode\":0,\"major\":0,\"minor\":0";
+pub(crate) const WHITEOUT: &str = "\"kind\":\"char\",\"mode\":0,\"major\":0,\"minor\":0";
 
 const IS_OPAQUE: &str = "\"trusted.overlay.opaque\":\"79\"";
 
-const TO_X: &str = "\"trusted.overlay.redirect\":\"2f78\"";
+pub(crate) const TO_X: &str = "\"trusted.overlay.redirect\":\"2f78\"";
 
-const BESIDE_R: &str = "\"trusted.overlay.redirect\":\"72\"";
+pub(crate) const BESIDE_R: &str = "\"trusted.overlay.redirect\":\"72\"";
 
 // The text `a/b`, which is no redirect.
 const MALFORMED: &str = "\"trusted.overlay.redirect\":\"612f62\"";
@@ -37,7 +37,7 @@ const METACOPY_MALFORMED: &str =
     "\"trusted.overlay.metacopy\":\"\",\"trusted.overlay.redirect\":\"612f62\"";
 
 // A layer of a root and these entries: the path, what its kind states, and the attributes of each.
-fn layer_of(alloc: Global, entries: &[(&str, &str, &str)]) -> Result<Layer, Fail> {
+pub(crate) fn layer_of(alloc: Global, entries: &[(&str, &str, &str)]) -> Result<Layer, Fail> {
     let mut text = String::from_str(alloc, "{\"overlay-layer\":1,\"entries\":[")?;
     push_entry(alloc, &mut text, ("/", DIR, ""))?;
     for entry in entries {
@@ -71,7 +71,7 @@ const OPAQUE_OVER_MOVED: [(&str, &str, &str); 3] = [
 ];
 
 // An absolute redirect in an opaque directory, over what it hides and what it comes from.
-fn moved_in_opaque(alloc: Global) -> Result<Stack, Fail> {
+pub(crate) fn moved_in_opaque(alloc: Global) -> Result<Stack, Fail> {
     let upper = layer_of(alloc, &OPAQUE_OVER_MOVED)?;
     let lower = layer_of(
         alloc,
@@ -278,7 +278,7 @@ fn a_metacopy_file_is_shown_with_its_data_or_broken(rt: HostRuntime) -> Result<(
 }
 
 // The names in one text, with a space after each.
-fn joined(alloc: Global, names: &[Name]) -> Result<String, Fail> {
+pub(crate) fn joined(alloc: Global, names: &[Name]) -> Result<String, Fail> {
     let mut text = String::new(alloc);
     for name in names {
         text.push_str(name.as_str())?;
