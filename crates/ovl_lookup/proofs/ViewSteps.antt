@@ -91,36 +91,6 @@ module _ (all : List Entries) (name : PathName) (places : List Reached) (k : ℕ
       ∙ ((λ j. cond (w j) [] (inode ∷ below_entry (m j) name (things_found (drop (suc place.layer) all)) (λ other. found_below all other (drop (k + 1) places))))
       ∙ ap (λ n. inode ∷ below_entry mark name (things_found (drop n all)) (λ other. found_below all other (drop (k + 1) places))) next)
 
-  -- the data there, by the mark: what goes on below a metacopy file, or the inode where it has its contents itself
-  pub data-entry : (inode : Inode) (mark : Mark) → entry_in all name place ≡ Some inode → is_whiteout inode ≡ false → mark_of inode ≡ mark → data_below (found_below all name (drop k places)) ≡ cond (is_metacopy_mark mark) (data_below (below_entry mark name (things_found (drop (place.layer + 1) all)) (λ other. found_below all other (drop (k + 1) places)))) (cond (is_data inode) (Some inode) None)
-  data-entry inode mark e w m =
-      ap data_below (found-entry inode mark e w m)
-      ∙ ap (λ (own : Mark). cond (is_metacopy_mark own) (data_below (below_entry mark name (things_found (drop (place.layer + 1) all)) (λ other. found_below all other (drop (k + 1) places)))) (cond (is_data inode) (Some inode) None)) m
-
--- ---- the data of a file without contents, by its mark
-module _ (name : PathName) (from_root : PathNames → List Inode) (beside : PathName → List Inode) where
-  nothing-below : (mark : Mark) → is_metacopy_mark mark ≡ false → is_directory_mark mark ≡ false → below_entry mark name from_root beside ≡ []
-  nothing-below Whiteout meta directory = refl
-  nothing-below MetaBad meta directory = refl
-  nothing-below Leaf meta directory = refl
-  nothing-below (Meta redirect) meta directory = let bad : true ≡ false = meta in cc
-  nothing-below DirOpaque meta directory = let bad : true ≡ false = directory in cc
-  nothing-below (DirMoved redirect) meta directory = let bad : true ≡ false = directory in cc
-  nothing-below DirBad meta directory = let bad : true ≡ false = directory in cc
-  nothing-below DirPlain meta directory = let bad : true ≡ false = directory in cc
-
-  pub data_of-lacking : (inode : Inode) (mark : Mark) → (is_regular inode && has_metacopy inode) ≡ true → is_whiteout inode ≡ false → mark_of inode ≡ mark → data_of (inode ∷ below_entry mark name from_root beside) ≡ data_below (below_entry mark name from_root beside)
-  data_of-lacking inode mark lacks w m = by (is_metacopy_mark (mark_of inode)) refl
-    where
-      below : List Inode
-      below = below_entry mark name from_root beside
-
-      by : (b : Bool) → is_metacopy_mark (mark_of inode) ≡ b → data_of (inode ∷ below) ≡ data_below below
-      by true meta = data_of-metacopy inode below meta (bare_file inode lacks).0 (bare_file inode lacks).1
-      by false meta =
-          data_of-bad inode below meta (bare_file inode lacks).0 (bare_file inode lacks).1
-          ∙ sym (ap data_below (nothing-below mark (ap is_metacopy_mark (sym m) ∙ meta) (ap is_directory_mark (sym m) ∙ file-marked inode w (bare_file inode lacks).0)))
-
 -- ---- the names of the places, each put with its first one
 module _ (layers : List Entries) (tops : List (PathName × ℕ)) where
   pub tops-next : (places : List Reached) (k : ℕ) (place : Reached) → slice_get places k ≡ Some place → tops_along layers tops k (drop k places) ≡ tops_along layers (put_tops tops k (names_in layers place)) (k + 1) (drop (k + 1) places)

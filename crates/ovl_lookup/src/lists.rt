@@ -17,7 +17,8 @@ impl Stack {
         ensures { IfOk result (λ names. AreKids (from_layer from self.now) path.now names.items) }
     {
         let _ = &self.layers;
-        match DirView::of(alloc, self, from, path)? {
+        let view = DirView::of(alloc, self, from, path)?;
+        match view {
             Some(view) => view.names(alloc, self),
             None => Ok(Vec::new(alloc)),
         }

@@ -26,22 +26,22 @@ pub shows_in-requires : goal.shows_in-requires
 shows_in-requires c =
     subst (λ (ps : List DirPlace). All (IsPlaceOver c.args.stack.now) ps) (sym c.places_from.ensures) (All-drop (IsPlaceOver c.args.stack.now) c.in-Some.top c.args.self.now.places.items c.requires.over)
 
-pub loop-name-preserved-in-Continue-branch-2 : goal.loop-name-preserved-in-Continue-branch-2
-loop-name-preserved-in-Continue-branch-2 c =
-    let stack : StackView = c.args.stack.now in
-    let places : List DirPlace = c.args.self.now.places.items in
-    let more = names-more stack places c.loop-name.yielded c.in-Some.name c.in-Some.top c.shows_in.result c.places_from.result.now c.places_from.ensures c.shows_in.ensures in
-    c.in_ok-push.ensures.items
-    ∙ (ap (λ (names : List PathName). names ++ c.in-Some.name ∷ []) c.loop-name.invariant
-    ∙ sym (more ∙ ap (λ (b : Bool). map (λ e. e.0) (looks_from_tops stack.layers (places_in stack places) c.loop-name.yielded) ++ cond b (c.in-Some.name ∷ []) []) c.if-shows_in.true))
-
 pub loop-name-preserved : goal.loop-name-preserved
 loop-name-preserved c =
     let stack : StackView = c.args.stack.now in
     let places : List DirPlace = c.args.self.now.places.items in
     let more = names-more stack places c.loop-name.yielded c.in-Some.name c.in-Some.top c.shows_in.result c.places_from.result.now c.places_from.ensures c.shows_in.ensures in
+    c.in_ok-push.ensures.items
+    ∙ (ap (λ (names : List PathName). names ++ c.in-Some.name ∷ []) c.loop-name.invariant
+    ∙ sym (more ∙ ap (λ (b : Bool). map (λ e. e.0) (looks_from_tops stack.layers (places_in stack places) c.loop-name.yielded) ++ cond b (c.in-Some.name ∷ []) []) c.if-not-shows_in.false))
+
+pub loop-name-preserved-then-not-shows_in : goal.loop-name-preserved-then-not-shows_in
+loop-name-preserved-then-not-shows_in c =
+    let stack : StackView = c.args.stack.now in
+    let places : List DirPlace = c.args.self.now.places.items in
+    let more = names-more stack places c.loop-name.yielded c.in-Some.name c.in-Some.top c.shows_in.result c.places_from.result.now c.places_from.ensures c.shows_in.ensures in
     c.loop-name.invariant
-    ∙ sym (more ∙ (ap (λ (b : Bool). map (λ e. e.0) (looks_from_tops stack.layers (places_in stack places) c.loop-name.yielded) ++ cond b (c.in-Some.name ∷ []) []) c.if-shows_in.false
+    ∙ sym (more ∙ (ap (λ (b : Bool). map (λ e. e.0) (looks_from_tops stack.layers (places_in stack places) c.loop-name.yielded) ++ cond b (c.in-Some.name ∷ []) []) c.if-not-shows_in.true
     ∙ append-nil (map (λ e. e.0) (looks_from_tops stack.layers (places_in stack places) c.loop-name.yielded))))
 
 pub returns : goal.returns
