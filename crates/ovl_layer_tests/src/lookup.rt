@@ -7,14 +7,14 @@ use ovl_names::{Name, Path};
 use std::alloc::Global;
 use std::test::Fail;
 
-const DIR: &str = "\"kind\":\"dir\",\"mode\":493";
+pub(crate) const DIR: &str = "\"kind\":\"dir\",\"mode\":493";
 
-const FILE: &str =
+pub(crate) const FILE: &str =
     "\"kind\":\"file\",\"mode\":420,\"size\":1,\"blob\":\"ca978112ca1bbdcafac231b39a23dc4da786eff8147c4e72b9807785afee48bb\"";
 
 const METACOPY: &str = "\"kind\":\"file\",\"mode\":420,\"size\":1";
 
-const WHITEOUT: &str = "\"kind\":\"char\",\"mode\":0,\"major\":0,\"minor\":0";
+pub(crate) const WHITEOUT: &str = "\"kind\":\"char\",\"mode\":0,\"major\":0,\"minor\":0";
 
 const IS_OPAQUE: &str = "\"trusted.overlay.opaque\":\"79\"";
 
@@ -37,7 +37,7 @@ const METACOPY_MALFORMED: &str =
     "\"trusted.overlay.metacopy\":\"\",\"trusted.overlay.redirect\":\"612f62\"";
 
 // A layer of a root and these entries: the path, what its kind states, and the attributes of each.
-fn layer_of(alloc: Global, entries: &[(&str, &str, &str)]) -> Result<Layer, Fail> {
+pub(crate) fn layer_of(alloc: Global, entries: &[(&str, &str, &str)]) -> Result<Layer, Fail> {
     let mut text = String::from_str(alloc, "{\"overlay-layer\":1,\"entries\":[")?;
     push_entry(alloc, &mut text, ("/", DIR, ""))?;
     for entry in entries {
