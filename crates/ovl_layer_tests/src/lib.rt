@@ -1,4 +1,4 @@
-//! Tests of the public calls of names, inodes, manifests and lookups.
+//! Tests of the public calls of names, inodes, manifests, lookups and vacuum.
 //! They stand apart from the crates that they test, since a crate with tests is proved twice.
 #![tactic(auto)]
 
@@ -12,5 +12,7 @@ mod manifest;
 mod marks;
 #[cfg(test)]
 mod names;
+#[cfg(test)]
+mod vacuum;
 #[cfg(test)]
 mod views;

@@ -12,7 +12,8 @@ use Rattle.ovl_lookup.specs.Merged.{look}
 use Rattle.ovl_lookup.specs.Equal.{look_eq}
 use Rattle.ovl_lookup.specs.Words.{over, is_at_or_under}
 
--- neither a whiteout nor a directory with a mark; overlayfs.rst, "whiteouts and opaque directories", "redirect_dir"
+-- neither a whiteout nor a directory with a mark; overlayfs.rst, "whiteouts and opaque directories" and
+-- "renaming directories"
 abbrev pub may_be_idle : Mark → Bool
 may_be_idle Whiteout = false
 may_be_idle DirOpaque = false
@@ -21,7 +22,7 @@ may_be_idle DirBad = false
 may_be_idle _ = true
 
 -- an entry that changes nothing: its directory is open, and the layers below show at its natural path
--- what all layers show at the entry; the root isn't one
+-- what all layers show at the entry; the root isn't one. What changes nothing is this profile's own
 abbrev pub is_idle : Entries → StackView → Entry → Bool
 is_idle top below entry =
     not (is_root entry.0)
