@@ -10,3 +10,4 @@ pub mod OwnLemmas
 pub mod TreeLemmas
 pub mod LawLemmas
 pub mod SubtreeLemmas
+pub mod DescentLemmas

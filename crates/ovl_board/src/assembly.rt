@@ -1,8 +1,8 @@
-ghost use Rattle.std.specs.Prelude.{◌≡◌, ◌≤◌, ◌∷◌, ◌++◌, OnOk, IfOk, MatchOption, MatchResult, All, AllPairs, Contains, IsSorted, IsPermutation};
+ghost use Rattle.std.specs.Prelude.{◌≡◌, ◌≤◌, [], ◌∷◌, ◌++◌, map, reverse, OnOk, IfOk, IsTrue, MatchOption, MatchResult, All, AllPairs, Contains, IsSorted, IsPermutation};
 ghost use Rattle.ovl_board.specs.declared.assembly.BoardFault.TheVariants.{Memory};
 ghost use Rattle.ovl_board.specs.Pieces.{IsBefore, piece_cmp};
 ghost use Rattle.ovl_board.specs.Parcels.{pieces_of};
-ghost use Rattle.ovl_board.specs.Balance.{AllLawful, kids_in, times};
+ghost use Rattle.ovl_board.specs.Balance.{AllLawful, IsBalanced, kids_in, times};
 ghost use Rattle.ovl_board.specs.Assembly.{IsBoardFault, IsInOrder, IsLeast, IsAbsent, AreExpected, IsListFault, bare};
 
 use crate::pieces::{Piece, copies};
@@ -37,7 +37,8 @@ impl From<AllocError> for BoardFault {
 
 /// The parcels in the order of their pieces, where each piece to which their kids lead from `root` has one
 /// parcel and no other piece has any; else the first fault in the order of [`BoardFault`].
-/// The kids of each parcel must be lawful, see [`crate::kids_lawful`]. It sorts, and copies each piece.
+/// The kids of each parcel must be lawful, see [`crate::kids_lawful`]. It sorts, and copies pieces only where there is
+/// a fault.
 pub fn assemble<T: Drop>(
     alloc: Global,
     root: &Piece,
@@ -49,10 +50,40 @@ pub fn assemble<T: Drop>(
         (λ fault. IsBoardFault root.now (bare parcels.items) fault) }
 {
     sort(&mut parcels)?;
+    if is_walk(alloc, root, &parcels)? {
+        return Ok(parcels);
+    }
+    // Other parcels have a fault.
     let pieces = parcel_pieces(alloc, &parcels)?;
     let expected = expected_pieces(alloc, root, &parcels)?;
     compare(alloc, &pieces, &expected)?;
     Ok(parcels)
+}
+
+// Whether the parcels go down the tree of kids, from the root: each of them has the piece that became open last, and
+// then its kids are open, the first of them last; and in the end no piece is open. In their order that is the walk.
+fn is_walk<T>(alloc: Global, root: &Piece, parcels: &[Parcel<T>]) -> Result<bool, AllocError>
+    ensures { IfOk result (λ walk. IsTrue walk → IsBalanced root.now (bare parcels.now) []) }
+{
+    let mut open = Vec::new(alloc);
+    open.push(root)?;
+    for parcel in parcels {
+        let Some(piece) = open.pop() else {
+            return Ok(false);
+        };
+        if *piece != parcel.piece {
+            return Ok(false);
+        }
+        push_reversed(&mut open, &parcel.kids)?;
+    }
+    Ok(open.is_empty())
+}
+
+// Appends the kids, the last one first.
+fn push_reversed<'a>(waiting: &mut Vec<&'a Piece>, kids: &'a [Piece]) -> Result<(), AllocError>
+    ensures { OnOk result (map (λ piece. piece.now) waiting.new.items ≡ map (λ piece. piece.now) waiting.old.items ++ reverse kids.now) }
+{
+    waiting.extend(kids.iter().rev())
 }
 
 fn sort<T>(parcels: &mut Vec<Parcel<T>>) -> Result<(), AllocError>

@@ -61,8 +61,8 @@ impl Worker {
     }
 }
 
-/// Serves pieces until all that are known are delivered, or a worker met a fault. A worker that finds no piece spins
-/// for a moment, then yields its processor, and tries again (`Backoff::snooze`); it doesn't sleep.
+/// Serves pieces until all that are known are delivered, or a worker met a fault, which it sees after each piece. Where
+/// it finds none, it spins for a moment, then yields its processor, and tries again (`Backoff::snooze`); it doesn't sleep.
 pub(crate) fn labor<W: Work, G: Gate, R: Wait>(
     rt: &R,
     alloc: Global,
@@ -80,10 +80,10 @@ pub(crate) fn labor<W: Work, G: Gate, R: Wait>(
     let mut haul = Haul::empty(alloc);
     let idle = Backoff::new();
     for _ in rt.forever() {
-        if tally.lock(rt).is_over() {
-            break;
-        }
         let Some(piece) = worker.find(thieves) else {
+            if tally.lock(rt).is_over() {
+                break;
+            }
             idle.snooze();
             continue;
         };
@@ -93,23 +93,25 @@ pub(crate) fn labor<W: Work, G: Gate, R: Wait>(
             tally.lock(rt).fail();
             break;
         }
-        if serve(
-            rt,
-            alloc,
-            work,
-            tally,
-            &mut worker.lane,
-            piece,
-            &mut haul.parcels,
-        )
-        .is_err()
-        {
-            haul.starved = true;
-            tally.lock(rt).fail();
-            break;
+        let Worker { lane, others: _ } = &mut worker;
+        match serve(rt, alloc, work, tally, lane, piece, &mut haul.parcels) {
+            Ok(Prospect::GoOn) => {}
+            Ok(Prospect::Stop) => break,
+            Err(AllocError) => {
+                haul.starved = true;
+                tally.lock(rt).fail();
+                break;
+            }
         }
     }
     (worker, haul)
+}
+
+// Whether a worker goes on, or another one met a fault.
+#[derive(Clone, Copy)]
+enum Prospect {
+    GoOn,
+    Stop,
 }
 
 // Visits a piece, keeps its parcel, has the tally note it, and only then pushes its kids. Fails for want of memory, or
@@ -122,7 +124,7 @@ fn serve<W: Work, R: Wait>(
     lane: &mut Lane,
     piece: Piece,
     parcels: &mut Vec<Parcel<W::Out>>,
-) -> Result<(), AllocError>
+) -> Result<Prospect, AllocError>
     requires { AreOwn (W.kids_of work.now) (W.out_of work.now) (parcel_views W.seen parcels.old.items) }
     ensures own { AreOwn (W.kids_of work.now) (W.out_of work.now) (parcel_views W.seen parcels.new.items) }
     ensures same { ends_of lane.new ≡ ends_of lane.old }
@@ -131,10 +133,21 @@ fn serve<W: Work, R: Wait>(
     let below = copies(alloc, &kids)?;
     let count = kids.len() as u64;
     parcels.push(Parcel { piece, kids, out })?;
-    if !tally.lock(rt).deliver(count) {
+    let prospect = note(rt, tally, count)?;
+    push_all(lane, below)?;
+    Ok(prospect)
+}
+
+// Has the tally note that a piece with so many kids was delivered. Fails where it is at its end.
+fn note<R: Wait>(rt: &R, tally: &Mutex<Tally>, kids: u64) -> Result<Prospect, AllocError> {
+    let mut tally = tally.lock(rt);
+    if !tally.deliver(kids) {
         return Err(AllocError);
     }
-    push_all(lane, below)
+    if tally.failed {
+        return Ok(Prospect::Stop);
+    }
+    Ok(Prospect::GoOn)
 }
 
 fn push_all(lane: &mut Lane, pieces: Vec<Piece>) -> Result<(), AllocError>

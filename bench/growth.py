@@ -1,0 +1,221 @@
+#!/usr/bin/env python3
+"""Measures how the program's cost grows with its input, on inputs that are dear for careless programs.
+
+Python 3.11, standard library; instructions are counted where valgrind is. Each
+case makes layers of several sizes in a temporary folder and has one command
+read them by one worker. It prints a Markdown table a case: wall time, peak
+memory and instructions at each size, and each of them for a byte of the input
+and the report together. The status is 1 where, from a size to the next, the
+instructions for a byte grow by more than a fifth for each doubling.
+
+    python3 bench/growth.py --program ./ovl_layers
+"""
+import argparse
+import hashlib
+import json
+import math
+import os
+import re
+import shutil
+import subprocess
+import sys
+import tempfile
+from dataclasses import dataclass
+from typing import Callable
+
+import run
+
+CONTENTS = b"x"
+BLOB = hashlib.sha256(CONTENTS).hexdigest()
+REDIRECT = "trusted.overlay.redirect"
+METACOPY = "trusted.overlay.metacopy"
+# Growth of the instructions for a byte, at each doubling, that isn't told.
+ALLOWED = 1.2
+
+
+# ---- layers: lists of entries, which are put into path order where they are written
+
+def entry(path, kind="dir", attrs=None, **more):
+    return {"path": path, "kind": kind, "mode": 0o755 if kind == "dir" else 0o644, "uid": 0, "gid": 0, "mtime": 0,
+            "xattrs": {name: value.encode().hex() for name, value in (attrs or {}).items()}, **more}
+
+
+def file(path):
+    return entry(path, "file", size=0)
+
+
+def files(directory, count, first=0):
+    return [file(f"{directory}/f{n:07d}") for n in range(first, first + count)]
+
+
+def chain(name, depth, attrs=None):
+    """Directories in each other, of which the deepest has these attributes."""
+    paths = [("/" + name) * n for n in range(1, depth + 1)]
+    return [entry(path) for path in paths[:-1]] + [entry(paths[-1], attrs=attrs)] if paths else []
+
+
+def write(folder, layers):
+    """Writes the layers, the topmost first, and gives the files' names. A layer may be a function that makes it."""
+    names = []
+    for n, layer in enumerate(layers):
+        entries = [entry("/")] + (layer() if callable(layer) else layer)
+        entries.sort(key=lambda it: it["path"].encode().split(b"/"))
+        names.append(os.path.join(folder, f"layer-{n:03d}.json"))
+        with open(names[-1], "w", encoding="utf-8") as out:
+            json.dump({"overlay-layer": 1, "entries": entries}, out, separators=(",", ":"))
+    return names
+
+
+# ---- the cases: what is made of a size
+
+def long_redirect(size):
+    return [[entry("/m", attrs={REDIRECT: "/a" * size})] + files("/m", size), []]
+
+
+def many_attributes(size):
+    return [[entry("/m", attrs={f"user.a{n}": "v" for n in range(size)})] + files("/m", size)]
+
+
+def chained_redirects(size):
+    below = [lambda: chain("x", 64, {REDIRECT: "/x"})] * (size - 1)
+    return [*below, lambda: chain("x", 64) + files("/x", 1)]
+
+
+def other_names(size):
+    return [lambda n=n: files("", 20_000, 20_000 * n) for n in range(size)]
+
+
+def empty_over_full(size):
+    return [*[[]] * (size - 1), lambda: files("", 20_000)]
+
+
+def under_a_chain(size):
+    return [chain("d", size) + files("/d" * size, 20_000)]
+
+
+def metacopy_files(size):
+    bare = lambda: [entry(f"/f{n:07d}", "file", {METACOPY: ""}, size=len(CONTENTS)) for n in range(3_000)]
+    full = lambda: [entry(f"/f{n:07d}", "file", size=len(CONTENTS), blob=BLOB) for n in range(3_000)]
+    return [*[bare] * (size - 1), full]
+
+
+def full_layer(size):
+    """Directories of at most 1,000 files."""
+    left, layer = size - 1, []
+    while left > 0:
+        directory = f"/d{left:07d}"
+        layer += [entry(directory)] + files(directory, min(1_000, left - 1))
+        left -= 1 + min(1_000, left - 1)
+    return [layer]
+
+
+def one_directory(size):
+    return [files("", size)]
+
+
+@dataclass(frozen=True)
+class Case:
+    """A command on layers of several sizes, and how often the instructions for a byte may grow at a doubling."""
+
+    name: str
+    command: str
+    make: Callable
+    sizes: tuple
+    allowed: float = ALLOWED
+
+
+CASES = [
+    Case("a directory with a redirect of N names, and N files in it", "show", long_redirect, (500, 1_000, 2_000, 4_000)),
+    Case("a directory with N attributes and N files", "show", many_attributes, (8_000, 16_000, 32_000)),
+    Case("N layers of 64 directories in each other, the deepest redirected to the first", "show", chained_redirects,
+         (4, 8, 16, 32, 64, 128)),
+    Case("N layers of 20,000 other names each", "show", other_names, (1, 3, 16, 64)),
+    Case("N - 1 layers of a root alone over one of 20,000 files", "show", empty_over_full, (1, 16, 64, 128)),
+    Case("20,000 files under N directories in each other", "show", under_a_chain, (0, 15, 30, 60)),
+    # Each file's data is sought in the layers below: at most layers times files.
+    Case("3,000 metacopy files through N layers", "fsck", metacopy_files, (16, 32, 64), 2.2),
+    Case("a layer of N entries", "show", full_layer, (131_072, 1_048_576)),
+    Case("a directory of N files", "show", one_directory, (50_000, 100_000, 200_000)),
+]
+
+
+@dataclass(frozen=True)
+class Cost:
+    size: int
+    bytes: int
+    seconds: float
+    peak: int
+    instructions: int | None
+
+
+def instructions(command):
+    """How many instructions a run takes, by valgrind."""
+    words = ["valgrind", "--tool=callgrind", "--callgrind-out-file=/dev/null", *command]
+    said = subprocess.run(words, stdin=subprocess.DEVNULL, stdout=subprocess.DEVNULL, stderr=subprocess.PIPE, check=False)
+    counted = re.search(rb"Collected : (\d+)", said.stderr)
+    return int(counted[1]) if counted else None
+
+
+def cost(program, case, size, longest):
+    with tempfile.TemporaryDirectory(prefix="ovl-growth-") as folder:
+        blobs = os.path.join(folder, "blobs")
+        os.mkdir(blobs)
+        with open(os.path.join(blobs, BLOB), "wb") as out:
+            out.write(CONTENTS)
+        layers, report = write(folder, case.make(size)), os.path.join(folder, "report")
+        command = [program, case.command, *(["--blobs", blobs] if case.command == "fsck" else []), "--workers", "1", *layers]
+        seconds, peak, status = run.one_run(command, os.devnull, report)
+        if status != 0:
+            sys.exit(f"growth.py: {case.name}: status {status} at {size}")
+        counted = None
+        if seconds <= longest and shutil.which("valgrind"):
+            counted = instructions(command)
+        return Cost(size, sum(map(os.path.getsize, [*layers, report])), seconds, peak, counted)
+
+
+def grown(before, after, allowed):
+    """Whether the instructions for a byte grew by more than is allowed at each doubling."""
+    if before is None or None in (before.instructions, after.instructions):
+        return False
+    doublings = max(1.0, math.log2(max(1, after.size) / max(1, before.size)))
+    return after.instructions / after.bytes > allowed ** doublings * before.instructions / before.bytes
+
+
+def line(it, mark):
+    counted = ("", "") if it.instructions is None else (f"{it.instructions:,}", f"{it.instructions / it.bytes:.0f}{mark}")
+    return run.row([f"{it.size:,}", f"{it.bytes:,}", f"{it.seconds:.2f}", f"{it.peak:,}", counted[0],
+                    f"{1e9 * it.seconds / it.bytes:.0f}", f"{it.peak / it.bytes:.1f}", counted[1]])
+
+
+def measure(program, case, sizes, longest):
+    """Prints the case's table. Gives whether nothing grew too fast."""
+    print(f"`{case.command}`: {case.name}:\n")
+    head = ["N", "Input and report, bytes", "Seconds", "Peak, bytes", "Instructions", "Nanoseconds a byte", "Peak a byte", "Instructions a byte"]
+    print(run.row(head))
+    print(run.row(["---:"] * len(head)))
+    before, good = None, True
+    for size in sizes:
+        it = cost(program, case, size, longest)
+        bad = grown(before, it, case.allowed)
+        print(line(it, " (too many)" if bad else ""), flush=True)
+        before, good = it, good and not bad
+    print()
+    return good
+
+
+def main():
+    words = argparse.ArgumentParser(description="Measures how the program's cost grows with its input.")
+    words.add_argument("--program", required=True, help="path of the program")
+    words.add_argument("--case", type=int, action="append", choices=range(1, len(CASES) + 1), help="only this case, counted from 1")
+    words.add_argument("--sizes", type=int, help="only so many of the smallest sizes of each case")
+    words.add_argument("--longest", type=float, default=5.0, help="count the instructions of runs of at most so many seconds (default 5)")
+    given = words.parse_args()
+    program = os.path.abspath(given.program)
+    print(f"Machine: {run.machine()}.\n")
+    chosen = [CASES[n - 1] for n in given.case] if given.case else CASES
+    good = [measure(program, it, it.sizes[:given.sizes], given.longest) for it in chosen]
+    sys.exit(0 if all(good) else 1)
+
+
+if __name__ == "__main__":
+    main()
