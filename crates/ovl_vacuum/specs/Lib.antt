@@ -1,3 +1,4 @@
 pub mod Vacuum
 pub mod Laws
+pub mod Directories
 pub mod Passes

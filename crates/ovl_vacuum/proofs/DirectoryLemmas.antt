@@ -1,0 +1,246 @@
+-- The directories of a layer as pieces: their kids are lawful, and all its paths are those under its root, in order.
+use Rattle.std.proofs.Common.{◌≡◌, ℕ, zero, suc, ◌≤◌, inl, inr, Bool, true, false, cond, Option, Some, None, List, [], ◌∷◌, ◌++◌, length, map, refl, sym, ap, ◌∙◌, subst, append_assoc, arith}
+use Rattle.std.specs.Prelude.{filter}
+use Rattle.std.specs.List.{cons_option, flat_map, list_all}
+use Rattle.std.specs.Ordering.{is_lt, ordering_then}
+use Rattle.std.specs.declared.cmp.Ordering.TheVariants.{Less}
+use Rattle.std.specs.Cmp.Lexicographic.{nat_list_cmp_total, pointwise_decides, bytes_decides}
+use Rattle.std.proofs.lemmas.List.{append-nil, map-append}
+use Rattle.std.proofs.lemmas.Cmp.{tied_itself, nat_cmp_total}
+use Rattle.ovl_names.specs.Names.{PathName, name_eq, name_cmp}
+use Rattle.ovl_names.specs.Order.{ascends}
+use Rattle.ovl_names.specs.Paths.{PathNames, child_path, path_eq, path_cmp, depth_limit}
+use Rattle.ovl_names.proofs.Ascending.{both, is_lt-Less}
+use Rattle.ovl_inode.specs.declared.inodes.Inode.{Inode}
+use Rattle.ovl_manifest.specs.Layers.{Entries, Entry, entry_at, entry_cmp, name_below, names_below, IsLayer}
+use Rattle.ovl_lookup.proofs.ChildLemmas.{entry-limited, name_below-child}
+use Rattle.ovl_lookup.proofs.PathLemmas.{filter-all}
+use Rattle.ovl_lookup.proofs.EntryLaws.{directory-entry, entry-above}
+use Rattle.ovl_board.specs.declared.pieces.Piece.{Piece}
+use Rattle.ovl_board.specs.Pieces.{IsBefore, IsOneBelow, HasLawfulKids}
+use Rattle.ovl_board.specs.Walks.{Reached, start, next, IsWalk, ToKid, preorder}
+use Rattle.ovl_board.proofs.Members.{In, Every, Rises, All-Every, Every-All, AllPairs-Rises, Rises-AllPairs, Contains-In, In-Contains, In-map, In-map-cases, In-filter-cases, Rises-filter, rising_same}
+use Rattle.ovl_board.proofs.PieceOrder.{siblings, fork_before, before_trans}
+use Rattle.ovl_board.proofs.CountLemmas.{less_differs, piece_eq}
+use Rattle.ovl_board.proofs.WalkLemmas.{IsWalk-preorder}
+use Rattle.ovl_vacuum.specs.Directories.{piece_in, vacuum_root}
+use Rattle.ovl_vacuum.specs.Passes.{paths_under}
+
+-- ---- the paths of a layer
+
+abbrev pub paths_of : Entries → List PathNames
+paths_of layer = map (λ (entry : Entry). entry.0) layer
+
+abbrev PathBefore : PathNames → PathNames → Type 0
+PathBefore one other = path_cmp one other ≡ Less
+
+pub path-entry : (layer : Entries) (path : PathNames) → In path (paths_of layer) → (inode : Inode) × (entry_at layer path ≡ Some inode)
+path-entry [] path h = absurd h
+path-entry (entry ∷ layer) path h = by (path-entry layer path) (path_eq path entry.0) refl h
+  where
+    by : (In path (paths_of layer) → (inode : Inode) × (entry_at layer path ≡ Some inode)) → (b : Bool) → path_eq path entry.0 ≡ b → In path (paths_of (entry ∷ layer)) → (inode : Inode) × (cond b (Some entry.1) (entry_at layer path) ≡ Some inode)
+    by later true e h = (entry.1, refl)
+    by later false e (inl same) = let bad : false ≡ true = sym e ∙ (pointwise_decides bytes_decides path entry.0).1 same in cc
+    by later false e (inr h) = later h
+
+pub entry-path : (layer : Entries) (path : PathNames) (inode : Inode) → entry_at layer path ≡ Some inode → In path (paths_of layer)
+entry-path [] path inode here = let bad : None ≡ Some inode = here in cc
+entry-path (entry ∷ layer) path inode here = by (entry-path layer path inode) (path_eq path entry.0) refl here
+  where
+    by : (entry_at layer path ≡ Some inode → In path (paths_of layer)) → (b : Bool) → path_eq path entry.0 ≡ b → cond b (Some entry.1) (entry_at layer path) ≡ Some inode → In path (paths_of (entry ∷ layer))
+    by later true e here = inl ((pointwise_decides bytes_decides path entry.0).0 e)
+    by later false e here = inr (later here)
+
+each-later : (entry : Entry) (layer : Entries) → list_all (λ later. is_lt (entry_cmp entry later)) layer ≡ true → Every (PathBefore entry.0) (paths_of layer)
+each-later entry [] all path h = absurd h
+each-later entry (other ∷ layer) all path h = by (each-later entry layer parts.1 path) h
+  where
+    parts : (is_lt (entry_cmp entry other) ≡ true) × (list_all (λ later. is_lt (entry_cmp entry later)) layer ≡ true)
+    parts = both {a = is_lt (entry_cmp entry other)} {b = list_all (λ later. is_lt (entry_cmp entry later)) layer} all
+
+    by : (In path (paths_of layer) → PathBefore entry.0 path) → In path (paths_of (other ∷ layer)) → PathBefore entry.0 path
+    by later (inl same) = ap (path_cmp entry.0) same ∙ is_lt-Less (entry_cmp entry other) parts.0
+    by later (inr h) = later h
+
+paths-rise : (layer : Entries) → ascends entry_cmp layer ≡ true → Rises PathBefore (paths_of layer)
+paths-rise [] up = tt
+paths-rise (entry ∷ layer) up =
+    let parts = both {a = list_all (λ later. is_lt (entry_cmp entry later)) layer} {b = ascends entry_cmp layer} up in
+    (each-later entry layer parts.0, paths-rise layer parts.1)
+
+-- ---- the names in a directory
+
+name-path : (directory path : PathNames) (name : PathName) → name_below directory path ≡ Some name → path ≡ child_path directory name
+name-path [] [] name is = let bad : None ≡ Some name = is in cc
+name-path [] (own ∷ []) name is = ap (λ (o : Option PathName). elim o as (λ _. PathNames) [ Some n ↦ n ∷ [] | None ↦ [] ]) is
+name-path [] (own ∷ other ∷ names) name is = let bad : None ≡ Some name = is in cc
+name-path (first ∷ directory) [] name is = let bad : None ≡ Some name = is in cc
+name-path (first ∷ directory) (own ∷ names) name is = by (name-path directory names name) (name_eq first own) refl is
+  where
+    by : (name_below directory names ≡ Some name → names ≡ child_path directory name) → (b : Bool) → name_eq first own ≡ b → cond b (name_below directory names) None ≡ Some name → own ∷ names ≡ child_path (first ∷ directory) name
+    by later true e is = (λ j. sym ((bytes_decides first own).0 e) j ∷ later is j)
+    by later false e is = let bad : None ≡ Some name = is in cc
+
+-- a name is one of them exactly where its path is one of the layer's
+pub name-In : (layer : Entries) (directory : PathNames) (name : PathName) → In name (names_below layer directory) → In (child_path directory name) (paths_of layer)
+name-In [] directory name h = absurd h
+name-In (entry ∷ layer) directory name h = by (name-In layer directory name) (name_below directory entry.0) refl h
+  where
+    by : (In name (names_below layer directory) → In (child_path directory name) (paths_of layer)) → (own : Option PathName) → name_below directory entry.0 ≡ own → In name (cons_option own (names_below layer directory)) → In (child_path directory name) (paths_of (entry ∷ layer))
+    by later None e h = inr (later h)
+    by later (Some own) e (inl same) = inl (ap (child_path directory) same ∙ sym (name-path directory entry.0 own e))
+    by later (Some own) e (inr h) = inr (later h)
+
+pub In-name : (layer : Entries) (directory : PathNames) (name : PathName) → In (child_path directory name) (paths_of layer) → In name (names_below layer directory)
+In-name [] directory name h = absurd h
+In-name (entry ∷ layer) directory name (inl same) =
+    subst (λ (own : Option PathName). In name (cons_option own (names_below layer directory))) (sym (ap (name_below directory) (sym same) ∙ name_below-child directory name)) (inl refl)
+In-name (entry ∷ layer) directory name (inr h) = by (name_below directory entry.0) (In-name layer directory name h)
+  where
+    by : (own : Option PathName) → In name (names_below layer directory) → In name (cons_option own (names_below layer directory))
+    by None later = later
+    by (Some own) later = inr later
+
+abbrev NameBefore : PathName → PathName → Type 0
+NameBefore one other = name_cmp one other ≡ Less
+
+names-rise : (layer : Entries) (directory : PathNames) → Rises PathBefore (paths_of layer) → Rises NameBefore (names_below layer directory)
+names-rise [] directory up = tt
+names-rise (entry ∷ layer) directory up = by (names-rise layer directory up.1) (name_below directory entry.0) refl
+  where
+    by : Rises NameBefore (names_below layer directory) → (own : Option PathName) → name_below directory entry.0 ≡ own → Rises NameBefore (cons_option own (names_below layer directory))
+    by rest None e = rest
+    by rest (Some name) e = (
+      (λ later h. siblings name_cmp nat_list_cmp_total directory name later
+          (ap (λ (p : PathNames). path_cmp p (child_path directory later)) (sym (name-path directory entry.0 name e)) ∙ up.0 (child_path directory later) (name-In layer directory later h))),
+      rest,
+    )
+
+-- ---- the pieces of those that pass a test are lawful kids
+
+kids-rise : (piece : Piece) (names : List PathName) → Rises NameBefore names → Rises IsBefore (map (piece_in piece) names)
+kids-rise piece [] up = tt
+kids-rise piece (name ∷ names) up = (
+  (λ kid h.
+      let other = In-map-cases (piece_in piece) kid names h in
+      subst (IsBefore (piece_in piece name)) (sym other.1.1)
+      (ap (λ o. ordering_then o (path_cmp (child_path piece.dir name) (child_path piece.dir other.0))) (tied_itself nat_cmp_total piece.space)
+      ∙ fork_before name_cmp nat_list_cmp_total piece.dir name other.0 [] [] (up.0 other.0 other.1.0))),
+  kids-rise piece names up.1,
+)
+
+module _ (layer : Entries) (test : PathNames → Bool) where
+  abbrev pub kids_that : Piece → List Piece
+  kids_that piece = map (piece_in piece) (filter (λ name. test (child_path piece.dir name)) (names_below layer piece.dir))
+
+  -- a kid is a path of the layer that passes
+  pub kid-path : (piece kid : Piece) → In kid (kids_that piece) → (name : PathName) × (In (child_path piece.dir name) (paths_of layer) × ((test (child_path piece.dir name) ≡ true) × (kid ≡ piece_in piece name)))
+  kid-path piece kid h =
+      let one = In-map-cases (piece_in piece) kid (filter (λ name. test (child_path piece.dir name)) (names_below layer piece.dir)) h in
+      let there = In-filter-cases (λ name. test (child_path piece.dir name)) one.0 (names_below layer piece.dir) one.1.0 in
+      (one.0, (name-In layer piece.dir one.0 there.0, (there.1, one.1.1)))
+
+  pub kids-lawful : IsLayer layer → HasLawfulKids kids_that depth_limit
+  kids-lawful is = record {
+    lawful = λ piece. record {
+      below = All-Every (IsOneBelow piece) (kids_that piece) (λ kid h.
+          let one = kid-path piece kid h in
+          subst (IsOneBelow piece) (sym one.1.1.1) (refl, (one.0, refl)));
+      ascend = AllPairs-Rises IsBefore (kids_that piece)
+          (kids-rise piece (filter (λ name. test (child_path piece.dir name)) (names_below layer piece.dir))
+          (Rises-filter NameBefore (λ name. test (child_path piece.dir name)) (names_below layer piece.dir)
+          (names-rise layer piece.dir (paths-rise layer is.in_order))));
+    };
+    shallow = λ piece. All-Every (λ kid. length kid.dir ≤ depth_limit) (kids_that piece) (λ kid h.
+        let one = kid-path piece kid h in
+        let entry = path-entry layer (child_path piece.dir one.0) one.1.0 in
+        subst (λ (p : Piece). length p.dir ≤ depth_limit) (sym one.1.1.1) (entry-limited layer (child_path piece.dir one.0) entry.0 is entry.1));
+  }
+
+-- ---- all paths are those under the root
+
+abbrev piece_of : PathNames → Piece
+piece_of path = record { space = 0; dir = path }
+
+abbrev every_path : PathNames → Bool
+every_path path = true
+
+list_all-true : {X : Type 0} (xs : List X) → list_all (λ x. true) xs ≡ true
+list_all-true [] = refl
+list_all-true (x ∷ xs) = list_all-true xs
+
+pieces-rise : (paths : List PathNames) → Rises PathBefore paths → Rises IsBefore (map piece_of paths)
+pieces-rise [] up = tt
+pieces-rise (path ∷ paths) up = (
+  (λ piece h.
+      let other = In-map-cases piece_of piece paths h in
+      subst (IsBefore (piece_of path)) (sym other.1.1) (up.0 other.0 other.1.0)),
+  pieces-rise paths up.1,
+)
+
+module _ (layer : Entries) where
+  abbrev kids_all : Piece → List Piece
+  kids_all = kids_that layer every_path
+
+  all-names : (piece : Piece) → kids_all piece ≡ map (piece_in piece) (names_below layer piece.dir)
+  all-names piece = ap (map (piece_in piece)) (filter-all (λ name. every_path (child_path piece.dir name)) (names_below layer piece.dir) (list_all-true (names_below layer piece.dir)))
+
+  -- the walk over all paths has those under a path, in order
+  walk-paths : (depth : ℕ) (piece : Piece) → map (λ (p : Piece). p.dir) (preorder kids_all depth piece) ≡ piece.dir ∷ paths_under depth layer piece.dir
+  walk-paths zero piece = refl
+  walk-paths (suc depth) piece =
+      ap (λ (kids : List Piece). piece.dir ∷ map (λ (p : Piece). p.dir) (flat_map (λ kid. preorder kids_all depth kid) kids)) (all-names piece)
+      ∙ ap (λ (rest : List PathNames). piece.dir ∷ rest) (each (names_below layer piece.dir) (λ name. walk-paths depth (piece_in piece name)))
+    where
+      each : (names : List PathName) → ((name : PathName) → map (λ (p : Piece). p.dir) (preorder kids_all depth (piece_in piece name)) ≡ child_path piece.dir name ∷ paths_under depth layer (child_path piece.dir name))
+          → map (λ (p : Piece). p.dir) (flat_map (λ kid. preorder kids_all depth kid) (map (piece_in piece) names)) ≡ flat_map (λ name. child_path piece.dir name ∷ paths_under depth layer (child_path piece.dir name)) names
+      each [] is = refl
+      each (name ∷ names) is =
+          map-append (λ (p : Piece). p.dir) (preorder kids_all depth (piece_in piece name)) (flat_map (λ kid. preorder kids_all depth kid) (map (piece_in piece) names))
+          ∙ (λ j. is name j ++ each names is j)
+
+  module _ (is : IsLayer layer) where
+    -- what is reached is a path of the layer
+    reached-path : (piece : Piece) → Reached (ToKid kids_all) vacuum_root piece → In piece (map piece_of (paths_of layer))
+    reached-path _ start = let root = directory-entry layer [] is.rooted in In-map piece_of [] (paths_of layer) (entry-path layer [] root.0 root.1)
+    reached-path _ (next {p = piece} {q = kid} reached step) =
+        let above = In-map-cases piece_of piece (paths_of layer) (reached-path piece reached) in
+        let one = kid-path layer every_path piece kid (In-Contains kid (kids_all piece) step) in
+        let same : kid ≡ piece_of (child_path piece.dir one.0) = one.1.1.1 ∙ piece_eq (piece_in piece one.0) (piece_of (child_path piece.dir one.0)) (ap (λ (p : Piece). p.space) above.1.1) refl in
+        subst (λ (p : Piece). In p (map piece_of (paths_of layer))) (sym same) (In-map piece_of (child_path piece.dir one.0) (paths_of layer) one.1.0)
+
+    step-to : (path : PathNames) (name : PathName) (inode : Inode) → entry_at layer (child_path path name) ≡ Some inode → ToKid kids_all (piece_of path) (piece_of (child_path path name))
+    step-to path name inode here =
+        Contains-In (piece_of (child_path path name)) (kids_all (piece_of path))
+        (subst (In (piece_of (child_path path name))) (sym (all-names (piece_of path)))
+        (In-map (piece_in (piece_of path)) name (names_below layer path) (In-name layer path name (entry-path layer (child_path path name) inode here))))
+
+    reach : (front rest : PathNames) (inode : Inode) → Reached (ToKid kids_all) vacuum_root (piece_of front) → entry_at layer (front ++ rest) ≡ Some inode → Reached (ToKid kids_all) vacuum_root (piece_of (front ++ rest))
+    reach front [] inode reached here = subst (λ (p : PathNames). Reached (ToKid kids_all) vacuum_root (piece_of p)) (sym (append-nil front)) reached
+    reach front (name ∷ []) inode reached here = next reached (step-to front name inode here)
+    reach front (name ∷ other ∷ rest) inode reached here =
+        let there : entry_at layer (child_path front name ++ other ∷ rest) ≡ Some inode = ap (entry_at layer) (append_assoc front (name ∷ []) (other ∷ rest)) ∙ here in
+        let above = directory-entry layer (child_path front name) (entry-above layer (child_path front name) other rest inode is there) in
+        subst (λ (p : PathNames). Reached (ToKid kids_all) vacuum_root (piece_of p)) (append_assoc front (name ∷ []) (other ∷ rest))
+        (reach (child_path front name) (other ∷ rest) inode (next reached (step-to front name above.0 above.1)) there)
+
+    path-reached : (piece : Piece) → In piece (map piece_of (paths_of layer)) → Reached (ToKid kids_all) vacuum_root piece
+    path-reached piece h =
+        let one = In-map-cases piece_of piece (paths_of layer) h in
+        let entry = path-entry layer one.0 one.1.0 in
+        subst (Reached (ToKid kids_all) vacuum_root) (sym one.1.1) (reach [] one.0 entry.0 start entry.1)
+
+    pub all-paths : [] ∷ paths_under depth_limit layer [] ≡ paths_of layer
+    all-paths =
+        let walked : List Piece = preorder kids_all depth_limit vacuum_root in
+        let walk : IsWalk (ToKid kids_all) vacuum_root walked = IsWalk-preorder kids_all depth_limit (kids-lawful layer every_path is) depth_limit vacuum_root (omega arith) in
+        let same : walked ≡ map piece_of (paths_of layer) = rising_same IsBefore (λ x lt. less_differs x x lt refl) before_trans walked (map piece_of (paths_of layer))
+        (Rises-AllPairs IsBefore walked walk.ascend)
+        (pieces-rise (paths_of layer) (paths-rise layer is.in_order))
+        (λ piece h. reached-path piece (Every-All (Reached (ToKid kids_all) vacuum_root) walked walk.reached piece h))
+        (λ piece h. In-Contains piece walked (walk.whole piece (path-reached piece h))) in
+        sym (walk-paths depth_limit vacuum_root) ∙ (ap (map (λ (p : Piece). p.dir)) same ∙ dirs (paths_of layer))
+      where
+        dirs : (paths : List PathNames) → map (λ (p : Piece). p.dir) (map piece_of paths) ≡ paths
+        dirs [] = refl
+        dirs (path ∷ paths) = ap (λ (rest : List PathNames). path ∷ rest) (dirs paths)

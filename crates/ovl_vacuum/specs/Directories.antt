@@ -1,0 +1,61 @@
+-- The directories of the topmost layer as work: a piece is a directory, its kids are the directories in it, and its
+-- output is each name in it with whether its entry is idle.
+use Rattle.std.specs.Prelude.{Bool, false, Some, None, List, [], map, filter, slice_get, unwrap_or, Vec}
+use Rattle.std.specs.Global.{Global}
+use Rattle.std.specs.Coded.{Coded-set, codes}
+use Rattle.ovl_names.specs.Names.{PathName}
+use Rattle.ovl_names.specs.Paths.{PathNames, child_path}
+use Rattle.ovl_manifest.specs.Layers.{Entries, entry_at, is_directory_at, names_below}
+use Rattle.ovl_lookup.specs.Stacks.{StackView, from_layer}
+use Rattle.ovl_board.specs.declared.pieces.Piece.{Piece}
+use Rattle.ovl_board.specs.Parcels.{ParcelView, IsPlain}
+use Rattle.ovl_vacuum.specs.Vacuum.{is_idle}
+
+-- the topmost layer of a stack, and the stack of those below it
+abbrev pub top_layer : StackView → Entries
+top_layer stack = unwrap_or (slice_get stack.layers 0) []
+
+abbrev pub lower_layers : StackView → StackView
+lower_layers stack = from_layer 1 stack
+
+-- the entry at a path of the topmost layer is idle
+abbrev pub is_idle_at : StackView → PathNames → Bool
+is_idle_at stack path =
+    elim (entry_at (top_layer stack) path) [ Some inode ↦ is_idle (top_layer stack) (lower_layers stack) (path, inode) | None ↦ false ]
+
+-- an entry of a directory: its name, and whether it is idle
+abbrev pub IdleName : Type 0
+IdleName = PathName × Bool
+
+abbrev pub idle_name : StackView → PathNames → PathName → IdleName
+idle_name stack directory name = (name, is_idle_at stack (child_path directory name))
+
+-- an entry of a piece's directory as a piece
+abbrev pub piece_in : Piece → PathName → Piece
+piece_in piece name = record { space = piece.space; dir = child_path piece.dir name }
+
+-- the kids of a directory are the directories in it, and its output is each name in it, in order,
+-- with whether its entry is idle
+abbrev pub vacuum_kids : StackView → Piece → List Piece
+vacuum_kids stack piece =
+    map (piece_in piece)
+    (filter (λ name. is_directory_at (top_layer stack) (child_path piece.dir name)) (names_below (top_layer stack) piece.dir))
+
+abbrev pub vacuum_out : StackView → Piece → List IdleName
+vacuum_out stack piece = map (idle_name stack piece.dir) (names_below (top_layer stack) piece.dir)
+
+-- the root of the topmost layer
+abbrev pub vacuum_root : Piece
+vacuum_root = record { space = 0; dir = [] }
+
+-- the parcels of the plain walk over the whole topmost layer
+abbrev pub IsVacuumWalk : StackView → List (ParcelView (List IdleName)) → Type 0
+IsVacuumWalk stack parcels = IsPlain (vacuum_kids stack) (vacuum_out stack) vacuum_root parcels
+
+-- what is seen of the names that a directory puts out
+abbrev pub names_seen : Vec IdleName Global → List IdleName
+names_seen names = names.items
+
+-- such lists are plain data
+pub names_set : IsSet (List IdleName)
+names_set = Coded-set (hlevel codes)
