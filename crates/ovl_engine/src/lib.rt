@@ -10,6 +10,8 @@ mod fsck_reports;
 mod reports;
 mod requests;
 mod stacks;
+mod vacuum_reports;
+mod vacuums;
 mod works;
 
 pub use blobs::named_blobs;
@@ -20,4 +22,5 @@ pub use fsck_reports::{fsck_report_of, is_clean};
 pub use ovl_check::{Blob, Code, Finding};
 pub use reports::report_of;
 pub use requests::{Answer, Command};
+pub use vacuum_reports::vacuum_report_of;
 pub use works::{ShowWork, finish_show};
