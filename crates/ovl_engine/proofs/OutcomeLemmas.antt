@@ -7,6 +7,9 @@ use Rattle.ovl_board.specs.declared.assembly.BoardFault.TheVariants.{Double, Str
 use Rattle.ovl_pool.specs.declared.runs.RunFault.{RunFault}
 use Rattle.ovl_pool.specs.declared.runs.RunFault.TheVariants.{Workers, Gate, Board, Memory}
 use Rattle.ovl_engine.specs.declared.requests.Command.{Command}
+use Rattle.ovl_engine.specs.declared.requests.Command.TheVariants.{Fsck, Vacuum}
+use Rattle.ovl_engine.specs.declared.faults.EngineFault.{EngineFault}
+use Rattle.ovl_engine.specs.declared.faults.EngineFault.TheVariants.{Workers as NoWorkers, Layers, Layer, BlobOrder, BlobSize, Faulty, Run, Memory as WantsMemory}
 use Rattle.ovl_engine.specs.Refusals.{failed_run}
 use Rattle.ovl_check.specs.Blobs.{BlobView}
 use Rattle.ovl_engine.specs.Outcomes.{MayRefuse, IsFaultOfRun, IsFailure}
@@ -25,6 +28,20 @@ module _ (command : Command) (layers : List Entries) (blobs : List BlobView) (ma
   failed Gate workers gate board = gate refl
   failed (Board fault) workers gate board = board_failed fault board
   failed Memory workers gate board = tt
+
+-- what keeps the check from being done keeps vacuum from it
+pub unchecked : (layers : List Entries) (blobs : List BlobView) (may_refuse : Piece → Type 0) (fault : EngineFault) → IsFailure Fsck layers blobs may_refuse fault → IsFailure Vacuum layers blobs may_refuse fault
+unchecked layers blobs may_refuse (Run Workers) is = is
+unchecked layers blobs may_refuse (Run Gate) is = inl is
+unchecked layers blobs may_refuse (Run (Board fault)) is = (is.0, inl is.1)
+unchecked layers blobs may_refuse (Run Memory) is = is
+unchecked layers blobs may_refuse WantsMemory is = tt
+unchecked layers blobs may_refuse NoWorkers is = is
+unchecked layers blobs may_refuse Layers is = is
+unchecked layers blobs may_refuse (Layer index fault) is = is
+unchecked layers blobs may_refuse BlobOrder is = is
+unchecked layers blobs may_refuse BlobSize is = is
+unchecked layers blobs may_refuse (Faulty report) is = absurd is
 
 -- a number within a limit isn't outside of it
 pub not_beyond : (limit n : ℕ) → 0 < n → n ≤ limit → (n < 1) ⊎ (limit < n) → ⊥

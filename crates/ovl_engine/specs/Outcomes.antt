@@ -1,8 +1,9 @@
 -- What a command answers.
-use Rattle.std.specs.Prelude.{◌≡◌, ◌≢◌, ◌⊎◌, ◌<◌, ⊤, ℕ, true, Some, None, Result, Ok, Err, List, [], length, Vec}
+use Rattle.std.specs.Prelude.{◌≡◌, ◌≢◌, ◌⊎◌, ◌<◌, ⊤, ℕ, true, false, Some, None, Result, Ok, Err, List, [], ◌∷◌, length, map, Vec}
 use Rattle.std.specs.Global.{Global}
 use Rattle.ovl_names.specs.Paths.{PathNames}
 use Rattle.ovl_manifest.specs.Layers.{Entries}
+use Rattle.ovl_manifest.specs.Text.{manifest_text}
 use Rattle.ovl_lookup.specs.declared.looks.Look.{Look}
 use Rattle.ovl_lookup.specs.Stacks.{StackView}
 use Rattle.ovl_lookup.specs.Merged.{IsMerged}
@@ -14,14 +15,17 @@ use Rattle.ovl_pool.specs.Runs.{MayBeRefused, IsFaultOfOwn}
 use Rattle.ovl_check.specs.Blobs.{BlobView, blob_kids, blob_out, blob_root}
 use Rattle.ovl_check.specs.Checks.{CheckView, check_kids, check_out, check_seen, directory_piece}
 use Rattle.ovl_check.specs.Findings.{findings}
+use Rattle.ovl_vacuum.specs.Vacuum.{vacuumed_layer, removed_paths}
+use Rattle.ovl_vacuum.specs.Directories.{top_layer, lower_layers, vacuum_kids, vacuum_out, vacuum_root, names_seen as idle_seen}
 use Rattle.ovl_engine.specs.Reports.{show_report}
 use Rattle.ovl_engine.specs.FsckReports.{fsck_report, is_clean}
+use Rattle.ovl_engine.specs.VacuumReports.{vacuum_report}
 use Rattle.ovl_engine.specs.Directories.{looks_seen, show_kids, show_out, show_root}
 use Rattle.ovl_engine.specs.declared.requests.Command.{Command}
-use Rattle.ovl_engine.specs.declared.requests.Command.TheVariants.{Show, Fsck}
+use Rattle.ovl_engine.specs.declared.requests.Command.TheVariants.{Show, Fsck, Vacuum}
 use Rattle.ovl_engine.specs.declared.requests.Answer.{Answer}
 use Rattle.ovl_engine.specs.declared.faults.EngineFault.{EngineFault}
-use Rattle.ovl_engine.specs.declared.faults.EngineFault.TheVariants.{Workers, Layers, Layer, BlobOrder, BlobSize, Run, Memory}
+use Rattle.ovl_engine.specs.declared.faults.EngineFault.TheVariants.{Workers, Layers, Layer, BlobOrder, BlobSize, Faulty, Run, Memory}
 use Rattle.ovl_engine.specs.Refusals.{stated_layers, first_refusal}
 
 -- what is seen of the names that blobs put out
@@ -38,6 +42,24 @@ pub record IsShowReport (layers : List Entries) (report : List ℕ) : Type 0 whe
   pub merged : IsMerged (stack_of layers) looks
   pub printed : report ≡ show_report looks
 
+-- the topmost of these layers without what changes nothing, and the paths of that
+abbrev pub left_by_vacuum : List Entries → Entries
+left_by_vacuum layers = vacuumed_layer (top_layer (stack_of layers)) (lower_layers (stack_of layers))
+
+abbrev pub removed_by_vacuum : List Entries → List PathNames
+removed_by_vacuum layers = removed_paths (top_layer (stack_of layers)) (lower_layers (stack_of layers))
+
+-- the manifests of an answer's new layers
+abbrev pub new_manifests : Answer → List (List ℕ)
+new_manifests answer = map (λ manifest. manifest.items) answer.layers.items
+
+-- the answer tells what went of a topmost layer and how much is left, and has that as its one new layer
+abbrev pub IsVacuumed : List PathNames → Entries → Answer → Type 0
+IsVacuumed removed left answer =
+    (answer.report.items ≡ vacuum_report removed (length left))
+    × (new_manifests answer ≡ manifest_text left ∷ [])
+    × (answer.clean ≡ true)
+
 -- the answer of a command over these layers and blobs
 abbrev pub IsAnswer : Command → List Entries → List BlobView → Answer → Type 0
 IsAnswer Show layers blobs answer = IsShowReport layers answer.report.items × (answer.layers.items ≡ []) × (answer.clean ≡ true)
@@ -45,6 +67,9 @@ IsAnswer Fsck layers blobs answer =
     (answer.report.items ≡ fsck_report (findings blobs (stack_of layers)))
     × (answer.layers.items ≡ [])
     × (answer.clean ≡ is_clean (findings blobs (stack_of layers)))
+IsAnswer Vacuum layers blobs answer =
+    (is_clean (findings blobs (stack_of layers)) ≡ true)
+    × IsVacuumed (removed_by_vacuum layers) (left_by_vacuum layers) answer
 
 -- what is checked: the stack of these layers, with these blobs
 abbrev pub check_of : List Entries → List BlobView → CheckView
@@ -58,13 +83,19 @@ abbrev pub MayRefuseLayer : List Entries → List BlobView → (Piece → Type 0
 MayRefuseLayer layers blobs may_refuse i =
     (i < length layers) × MayBeRefused (check_kids (check_of layers blobs)) may_refuse (directory_piece i [])
 
+-- the same of a directory that vacuum visits
+abbrev pub MayRefuseVacuum : List Entries → (Piece → Type 0) → Type 0
+MayRefuseVacuum layers may_refuse = MayBeRefused (vacuum_kids (stack_of layers)) may_refuse vacuum_root
+
 -- the gate may refuse a piece that is reached where the command is run over these layers and blobs
 abbrev pub MayRefuse : Command → List Entries → List BlobView → (Piece → Type 0) → Type 0
 MayRefuse Show layers blobs may_refuse = MayBeRefused (show_kids (stack_of layers)) may_refuse show_root
 MayRefuse Fsck layers blobs may_refuse = MayRefuseBlobs blobs may_refuse ⊎ ((i : ℕ) × MayRefuseLayer layers blobs may_refuse i)
+MayRefuse Vacuum layers blobs may_refuse =
+    (MayRefuseBlobs blobs may_refuse ⊎ ((i : ℕ) × MayRefuseLayer layers blobs may_refuse i)) ⊎ MayRefuseVacuum layers may_refuse
 
 -- a fault of a run's board is one that some parcels of its work's own have: over the merged tree of layers, over blobs,
--- and over layer `i`
+-- over layer `i`, and over what vacuum visits
 abbrev pub IsFaultOfShow : List Entries → RunFault → Type 0
 IsFaultOfShow layers = IsFaultOfOwn looks_seen (show_kids (stack_of layers)) (show_out (stack_of layers)) show_root
 
@@ -75,11 +106,16 @@ abbrev pub IsFaultOfLayer : List Entries → List BlobView → ℕ → RunFault 
 IsFaultOfLayer layers blobs i =
     IsFaultOfOwn check_seen (check_kids (check_of layers blobs)) (check_out (check_of layers blobs)) (directory_piece i [])
 
+abbrev pub IsFaultOfVacuum : List Entries → RunFault → Type 0
+IsFaultOfVacuum layers = IsFaultOfOwn idle_seen (vacuum_kids (stack_of layers)) (vacuum_out (stack_of layers)) vacuum_root
+
 -- the same where the command is run over these layers and blobs
 abbrev pub IsFaultOfRun : Command → List Entries → List BlobView → RunFault → Type 0
 IsFaultOfRun Show layers blobs fault = IsFaultOfShow layers fault
 IsFaultOfRun Fsck layers blobs fault =
     IsFaultOfBlobs blobs fault ⊎ ((i : ℕ) × ((i < length layers) × IsFaultOfLayer layers blobs i fault))
+IsFaultOfRun Vacuum layers blobs fault =
+    (IsFaultOfBlobs blobs fault ⊎ ((i : ℕ) × ((i < length layers) × IsFaultOfLayer layers blobs i fault))) ⊎ IsFaultOfVacuum layers fault
 
 -- a run over these layers and blobs fails by its gate or its board; want of memory is told apart
 abbrev pub IsFailedRun : Command → List Entries → List BlobView → (Piece → Type 0) → RunFault → Type 0
@@ -88,8 +124,16 @@ IsFailedRun command layers blobs may_refuse Gate = MayRefuse command layers blob
 IsFailedRun command layers blobs may_refuse (Board fault) = (fault ≢ BoardMemory) × IsFaultOfRun command layers blobs (Board fault)
 IsFailedRun command layers blobs may_refuse RunMemory = ⊥
 
+-- the command is refused for a fault of these layers and blobs, and this is the report that tells it
+abbrev pub IsFoundFaulty : Command → List Entries → List BlobView → List ℕ → Type 0
+IsFoundFaulty Show layers blobs report = ⊥
+IsFoundFaulty Fsck layers blobs report = ⊥
+IsFoundFaulty Vacuum layers blobs report =
+    (is_clean (findings blobs (stack_of layers)) ≡ false) × (report ≡ fsck_report (findings blobs (stack_of layers)))
+
 -- why work over these layers and blobs isn't done; want of memory may come at any time
 abbrev pub IsFailure : Command → List Entries → List BlobView → (Piece → Type 0) → EngineFault → Type 0
+IsFailure command layers blobs may_refuse (Faulty report) = IsFoundFaulty command layers blobs report.items
 IsFailure command layers blobs may_refuse (Run fault) = IsFailedRun command layers blobs may_refuse fault
 IsFailure command layers blobs may_refuse Memory = ⊤
 IsFailure command layers blobs may_refuse Workers = ⊥
@@ -116,6 +160,8 @@ IsRefused manifests blobs workers fault = first_refusal manifests blobs workers 
 abbrev pub IsOutcome : Command → List (List ℕ) → List BlobView → ℕ → (Piece → Type 0) → Result Answer EngineFault → Type 0
 IsOutcome command manifests blobs workers may_refuse (Ok answer) =
     IsAccepted manifests blobs workers × IsAnswer command (stated_layers manifests) blobs answer
+IsOutcome command manifests blobs workers may_refuse (Err (Faulty report)) =
+    IsAccepted manifests blobs workers × IsFoundFaulty command (stated_layers manifests) blobs report.items
 IsOutcome command manifests blobs workers may_refuse (Err (Run fault)) =
     IsAccepted manifests blobs workers × IsFailedRun command (stated_layers manifests) blobs may_refuse fault
 IsOutcome command manifests blobs workers may_refuse (Err Memory) = ⊤

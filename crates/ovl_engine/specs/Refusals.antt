@@ -12,7 +12,7 @@ use Rattle.ovl_pool.specs.declared.runs.RunFault.TheVariants.{Board, Memory as R
 use Rattle.ovl_lookup.specs.Stacks.{layer_limit}
 use Rattle.ovl_check.specs.Blobs.{BlobView, are_in_order}
 use Rattle.ovl_engine.specs.declared.faults.EngineFault.{EngineFault}
-use Rattle.ovl_engine.specs.declared.faults.EngineFault.TheVariants.{Workers, Layers, Layer, BlobOrder, BlobSize, Run, Memory}
+use Rattle.ovl_engine.specs.declared.faults.EngineFault.TheVariants.{Workers, Layers, Layer, BlobOrder, BlobSize, Faulty, Run, Memory}
 
 -- a number is none, or over a limit
 abbrev pub is_outside : ℕ → ℕ → Bool
@@ -83,4 +83,5 @@ IsUnread read Workers = ⊥
 IsUnread read Layers = ⊥
 IsUnread read BlobOrder = ⊥
 IsUnread read BlobSize = ⊥
+IsUnread read (Faulty report) = ⊥
 IsUnread read (Run fault) = ⊥

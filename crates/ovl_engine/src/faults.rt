@@ -11,7 +11,8 @@ use std::alloc::{AllocError, AllocFailed};
 use thiserror::Error;
 
 /// Why a command gives no answer. The first of `Workers`, `Layers`, `Layer`, `BlobOrder` and `BlobSize` that holds is
-/// given before any work is done. Layers are counted from 0, the topmost first.
+/// given before any work is done; `Faulty` comes where a command is refused for what [`Command::Fsck`](crate::Command::Fsck)
+/// tells. Layers are counted from 0, the topmost first.
 #[derive(Debug, PartialEq, Eq, Drop, Error)]
 pub enum EngineFault {
     /// There is no worker, or there are more than [`WORKER_LIMIT`].
@@ -29,6 +30,9 @@ pub enum EngineFault {
     /// The blobs have more than [`BLOB_LIMIT`] bytes in all.
     #[error("blobs over {max} bytes", max = BLOB_LIMIT)]
     BlobSize,
+    /// The layers or the blobs have faults, which this report of `fsck` tells.
+    #[error("the layers or the blobs have faults")]
+    Faulty(Vec<u8>),
     /// A run over the layers or the blobs gives no walk, for another reason than memory.
     #[error("{}", run_word(.0))]
     Run(RunFault),

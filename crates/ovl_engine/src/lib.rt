@@ -11,6 +11,8 @@ mod listings;
 mod reports;
 mod requests;
 mod stacks;
+mod vacuum_reports;
+mod vacuums;
 mod works;
 
 pub use blobs::named_blobs;
@@ -22,4 +24,5 @@ pub use listings::report_of_walk;
 pub use ovl_check::{Blob, Code, Finding};
 pub use reports::report_of;
 pub use requests::{Answer, Command};
+pub use vacuum_reports::vacuum_report_of;
 pub use works::{ShowWork, finish_show};

@@ -1,10 +1,12 @@
-/// What is done with a stack of layers. So far nothing that makes new layers.
+/// What is done with a stack of layers.
 #[derive(Clone, Copy, Debug, PartialEq, Eq)]
 pub enum Command {
     /// The report lists the merged tree. There is no new layer.
     Show,
     /// The report lists what is wrong with the layers and the blobs. There is no new layer.
     Fsck,
+    /// The new layer is the topmost without what changes nothing in the merged tree, and the report lists what went.
+    Vacuum,
 }
 
 /// What a command gives.

@@ -113,7 +113,7 @@ fn an_empty_directory_of_another_mode_stays(rt: HostRuntime) -> Result<(), Fail>
 fn a_layer_alone_loses_nothing(rt: HostRuntime) -> Result<(), Fail> {
     let mut layers = Vec::new(rt.alloc());
     layers.push(layer_of(rt.alloc(), &FILE_IN_DIR)?)?;
-    let stack = Stack::of(alloc, layers)?;
+    let stack = Stack::of(rt.alloc(), layers)?;
     assert_eq!(rt;
         vacuumed(rt.alloc(), &stack)?.as_str(),
         "/: d+; /d: k+; kept 3"
