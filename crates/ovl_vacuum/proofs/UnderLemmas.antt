@@ -3,7 +3,7 @@ use Rattle.std.proofs.Common.{◌≡◌, ℕ, zero, suc, ◌+◌, ◌-◌, ◌�
 use Rattle.std.specs.Prelude.{filter, All}
 use Rattle.std.specs.List.{flat_map}
 use Rattle.std.specs.Cmp.Lexicographic.{pointwise_decides, bytes_decides}
-use Rattle.std.proofs.lemmas.List.{append-nil, map-append, length-map, get_or-map, drop_more, take_more}
+use Rattle.std.proofs.lemmas.List.{append-nil, map-append, length-map, get_or-map, drop_more, take_more, take_all}
 use Rattle.std.proofs.lemmas.List.Concat.{flat_map-append}
 use Rattle.ovl_names.specs.Names.{PathName}
 use Rattle.ovl_names.specs.Paths.{PathNames, child_path, depth_limit}
@@ -16,7 +16,6 @@ use Rattle.ovl_board.specs.Walks.{Reached, start, next, ToKid, preorder}
 use Rattle.ovl_board.specs.Parcels.{own_view, pieces_of}
 use Rattle.ovl_board.proofs.Members.{In, Every, All-Every, Every-All, In-map, In-Contains}
 use Rattle.std.proofs.Math.ListN.{drop_of_length-le}
-use Rattle.ovl_lookup.proofs.WalkFacts.{take_past}
 use Rattle.ovl_board.proofs.WalkLemmas.{preorder_step, IsPlain-from_preorder}
 use Rattle.ovl_board.proofs.LawLemmas.{HasReachedPieces-holds}
 use Rattle.ovl_vacuum.specs.Directories.{IdleName, top_layer, is_idle_at, idle_name, piece_in, vacuum_kids, vacuum_out, vacuum_root, IsVacuumWalk}
@@ -126,7 +125,7 @@ module _ (stack : StackView) where
           let known = walked piece rest is_under in
           let count : length names ≤ i = omega (arith, end, ap (λ (v : View). length v.seen) (head piece rest is_under).0, length-map names (idle_name stack piece.dir)) in (
             known.0 ∙ ap (λ (more : List PathName). views_among piece more ++ rest) (drop_of_length-le names count),
-            known.1 ∙ ap (λ (paths : List PathNames). old ++ map (idle_path stack) paths) (ap (paths_among piece) (take_past names i count) ∙ sym (paths-first piece)),
+            known.1 ∙ ap (λ (paths : List PathNames). old ++ map (idle_path stack) paths) (ap (paths_among piece) (take_all i names count) ∙ sym (paths-first piece)),
           )
 
       -- the name at a place, of a directory that begins so
