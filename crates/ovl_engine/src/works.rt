@@ -86,10 +86,11 @@ fn looks_at(alloc: Global, stack: &Stack, dir: &Path) -> Result<Vec<(Name, Look)
     ensures { IfOk result (λ looks. looks.items ≡ looks_in stack.now dir.now) }
 {
     let _layers = stack.layers();
-    match DirView::of(alloc, stack, 0, dir)? {
-        Some(view) => view.looks(alloc, stack),
-        None => Ok(Vec::new(alloc)),
-    }
+    let Some(view) = DirView::of(alloc, stack, 0, dir)? else {
+        return Ok(Vec::new(alloc));
+    };
+    let looks = view.looks(alloc, stack)?;
+    Ok(looks)
 }
 
 // The entries of a piece's directory that are directories, as pieces.
