@@ -1,15 +1,12 @@
 -- The names of the rows directly below one.
-use Rattle.std.proofs.Common.{◌≡◌, ℕ, length, Option, Some, None, List, map, refl, sym, ap, ◌∙◌}
-use Rattle.std.proofs.lemmas.List.{length-map}
-use Rattle.std.specs.Prelude.{slice_get, IsSomeAnd}
+use Rattle.std.proofs.Common.{◌≡◌, ℕ, Option, Some, None, List, map, refl, sym, ap, ◌∙◌}
+use Rattle.std.specs.Prelude.{slice_get}
 use Rattle.std.specs.Option.{option_map}
 use Rattle.std.proofs.lemmas.Option.{slice_get-map}
 use Rattle.ovl_names.specs.Names.{PathName}
 use Rattle.ovl_names.specs.Paths.{PathNames, child_path}
-use Rattle.ovl_manifest.specs.declared.sheets.SheetRow.{SheetRow}
-use Rattle.ovl_manifest.specs.Layers.{Entry, Entries, names_below}
-use Rattle.ovl_manifest.specs.Sheets.{IsRowOf, last_name, path_of, path_at}
-use Rattle.ovl_manifest.proofs.SheetLemmas.{last_name-child}
+use Rattle.ovl_manifest.specs.Layers.{Entries, names_below}
+use Rattle.ovl_manifest.specs.Sheets.{path_at}
 
 module _ (layer : Entries) (directory : PathNames) (kids : List ℕ) (paths : map (path_at layer) kids ≡ map (child_path directory) (names_below layer directory)) where
   pub kid-path : (j kid : ℕ) → slice_get kids j ≡ Some kid → (name : PathName) × (slice_get (names_below layer directory) j ≡ Some name) × (path_at layer kid ≡ child_path directory name)

@@ -1,4 +1,4 @@
-use Rattle.std.proofs.Common.{◌≡◌, ◌∙◌, ◌++◌, ◌∷◌, [], ℕ, Bool, true, false, cond, List, length, drop, map, sym, ap, subst}
+use Rattle.std.proofs.Common.{◌≡◌, ◌∙◌, ◌++◌, ◌∷◌, [], Bool, true, false, cond, List, length, drop, sym, ap, subst}
 use Rattle.std.specs.Prelude.{not}
 use Rattle.std.specs.List.{All}
 use Rattle.std.proofs.lemmas.List.{append-nil, map-id}
@@ -9,12 +9,12 @@ use Rattle.ovl_manifest.specs.Layers.{IsLayer}
 use Rattle.ovl_lookup.specs.declared.looks.Look.{Look}
 use Rattle.ovl_lookup.specs.declared.views.DirPlace.{DirPlace}
 use Rattle.ovl_lookup.specs.Stacks.{StackView, from_layer}
-use Rattle.ovl_lookup.specs.Merged.{AreKids, is_nothing}
-use Rattle.ovl_lookup.specs.Views.{Reached, reached}
+use Rattle.ovl_lookup.specs.Merged.{is_nothing}
+use Rattle.ovl_lookup.specs.Views.{reached}
 use Rattle.ovl_lookup.specs.ViewPasses.{AreLooks, tops_of, looks_from_tops}
 use Rattle.ovl_lookup.specs.DirViews.{IsPlaceOver, places_in}
 use Rattle.ovl_lookup.proofs.TopLemmas.{views-look}
-use Rattle.ovl_lookup.proofs.ViewLookLemmas.{top-inside, looks-more, names-more}
+use Rattle.ovl_lookup.proofs.ViewLookLemmas.{top-inside, looks-more}
 use Rattle.ovl_lookup.proofs.views.DirView.looks.Goals as goal
 
 pub places_from-requires : goal.places_from-requires

@@ -1,20 +1,18 @@
-use Rattle.std.proofs.Common.{◌≡◌, ◌∙◌, ◌++◌, ◌∷◌, [], ℕ, Bool, true, false, cond, List, length, drop, map, sym, ap, subst}
-use Rattle.std.specs.Prelude.{not}
+use Rattle.std.proofs.Common.{◌≡◌, ◌∙◌, ◌++◌, ◌∷◌, [], Bool, cond, List, length, drop, map, sym, ap, subst}
 use Rattle.std.specs.List.{All}
 use Rattle.std.proofs.lemmas.List.{append-nil, map-id}
 use Rattle.std.proofs.lemmas.List.Elements.{All-drop}
 use Rattle.std.proofs.lemmas.Iterator.Consumers.{YieldsList-from_rest, YieldsList-turn, YieldsList-end}
 use Rattle.ovl_names.specs.Names.{PathName}
 use Rattle.ovl_manifest.specs.Layers.{IsLayer}
-use Rattle.ovl_lookup.specs.declared.looks.Look.{Look}
 use Rattle.ovl_lookup.specs.declared.views.DirPlace.{DirPlace}
 use Rattle.ovl_lookup.specs.Stacks.{StackView, from_layer}
-use Rattle.ovl_lookup.specs.Merged.{AreKids, is_nothing}
-use Rattle.ovl_lookup.specs.Views.{Reached, reached}
-use Rattle.ovl_lookup.specs.ViewPasses.{AreLooks, tops_of, looks_from_tops}
+use Rattle.ovl_lookup.specs.Merged.{AreKids}
+use Rattle.ovl_lookup.specs.Views.{reached}
+use Rattle.ovl_lookup.specs.ViewPasses.{tops_of, looks_from_tops}
 use Rattle.ovl_lookup.specs.DirViews.{IsPlaceOver, places_in}
 use Rattle.ovl_lookup.proofs.TopLemmas.{views-look}
-use Rattle.ovl_lookup.proofs.ViewLookLemmas.{top-inside, looks-more, names-more}
+use Rattle.ovl_lookup.proofs.ViewLookLemmas.{top-inside, names-more}
 use Rattle.ovl_lookup.proofs.views.DirView.names.Goals as goal
 
 pub places_from-requires : goal.places_from-requires
