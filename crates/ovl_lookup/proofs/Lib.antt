@@ -18,4 +18,5 @@ pub mod TopLemmas
 pub mod DirViewLemmas
 pub mod ViewSteps
 pub mod KidNames
+pub mod ViewLookLemmas
 mod Rows

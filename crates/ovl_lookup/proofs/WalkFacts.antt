@@ -161,5 +161,5 @@ walk-ends_whole layer names i found next closed past directory here turned shut 
     ∙ ap (walk layer) (take_all i names past))
 
 -- the rest of a list as a slice gives it
-pub take-rest : (names : PathNames) (i : ℕ) → take (length names - i) (drop i names) ≡ drop i names
-take-rest names i = ap (λ n. take n (drop i names)) (sym (length-drop i names)) ∙ take-length (drop i names)
+pub take-rest : {X : Type 0} (xs : List X) (i : ℕ) → take (length xs - i) (drop i xs) ≡ drop i xs
+take-rest xs i = ap (λ n. take n (drop i xs)) (sym (length-drop i xs)) ∙ take-length (drop i xs)

@@ -6,6 +6,7 @@ mod lists;
 mod looks;
 mod stacks;
 mod steps;
+mod view_looks;
 mod views;
 
 pub use looks::Look;

@@ -3,7 +3,7 @@ ghost use Rattle.ovl_inode.specs.Marks.{is_metacopy as the_metacopy, is_regular,
 ghost use Rattle.ovl_lookup.specs.Stacks.{from_layer};
 ghost use Rattle.ovl_lookup.specs.Trace.{things_found};
 ghost use Rattle.ovl_lookup.specs.Merged.{look as the_look, shown_of, data_of as the_data, is_nothing as nothing_test, is_shown_directory as directory_test, without_blob as kind_without_blob};
-ghost use Rattle.ovl_lookup.specs.Passes.{found_on, data_below};
+ghost use Rattle.ovl_lookup.specs.Passes.{found_on, shown_with, data_below};
 
 use crate::{Stack, Step};
 use ovl_inode::{Inode, Kind, Mark, is_data, is_directory, mark_of, overlay, visible};
@@ -78,14 +78,11 @@ impl Stack {
         requires { i ≤ length self.now.layers }
         ensures { IfOk result (λ look. look ≡ shown_of (inode.now ∷ found_on self.now i next closed)) }
     {
-        let shown = visible(alloc, inode)?;
         if !lacks_contents(inode) {
-            return Ok(Look::Shown(shown));
+            return Ok(Look::Shown(visible(alloc, inode)?));
         }
-        match self.data_of(alloc, inode, i, next, closed)? {
-            Some(contents) => Ok(Look::Shown(with_kind(shown, contents.kind.copy(alloc)?))),
-            None => Ok(Look::Broken(with_kind(shown, without_blob(alloc, &inode.kind)?))),
-        }
+        let contents = self.data_of(alloc, inode, i, next, closed)?;
+        metacopy_shown(alloc, inode, contents)
     }
 
     // The data of a metacopy file that is the first thing found, where the walks go on like that.
@@ -111,7 +108,12 @@ impl Stack {
     }
 
     // The data that the layers from `from` on have at a path, below metacopy files.
-    fn data(&self, alloc: Global, from: usize, path: Path) -> Result<Option<Inode>, AllocError>
+    pub(crate) fn data(
+        &self,
+        alloc: Global,
+        from: usize,
+        path: Path,
+    ) -> Result<Option<Inode>, AllocError>
         requires { from ≤ length self.now.layers }
         ensures { IfOk result (λ found. found ≡ data_below (things_found (drop from self.now.layers) path)) }
     {
@@ -139,6 +141,21 @@ impl Stack {
     }
 }
 
+// What is shown of a metacopy file, by its data.
+pub(crate) fn metacopy_shown(
+    alloc: Global,
+    inode: &Inode,
+    contents: Option<Inode>,
+) -> Result<Look, AllocError>
+    ensures { IfOk result (λ look. look ≡ shown_with inode.now contents) }
+{
+    let shown = visible(alloc, inode)?;
+    Ok(match contents {
+        Some(contents) => Look::Shown(with_kind(shown, contents.kind.copy(alloc)?)),
+        None => Look::Broken(with_kind(shown, without_blob(alloc, &inode.kind)?)),
+    })
+}
+
 fn with_kind(inode: Inode, kind: Kind) -> Inode
     ensures { result ≡ record inode { kind = kind } }
 {
@@ -148,7 +165,7 @@ fn with_kind(inode: Inode, kind: Kind) -> Inode
 }
 
 // Whether the inode is a regular file with `metacopy`.
-fn lacks_contents(inode: &Inode) -> bool
+pub(crate) fn lacks_contents(inode: &Inode) -> bool
     ensures { result ≡ (is_regular inode.now && has_metacopy inode.now) }
 {
     matches!(&inode.kind, Kind::File { .. }) && inode.attrs.get(overlay::METACOPY).is_some()

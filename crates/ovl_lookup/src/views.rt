@@ -207,7 +207,7 @@ fn push_entered(
 }
 
 // The path from the root at which the layers below go on below an entry of this mark, where it has an absolute redirect.
-fn goes_on_at(mark: &Mark) -> Option<&Path>
+pub(crate) fn goes_on_at(mark: &Mark) -> Option<&Path>
     ensures { option_map (λ path. path.now) result ≡ path_on mark.now }
 {
     match mark {
@@ -225,7 +225,7 @@ fn goes_on_at(mark: &Mark) -> Option<&Path>
 }
 
 // The name by which they know it in the same directory, where it hides nothing.
-fn goes_on_by<'a>(mark: &'a Mark, name: &'a Name) -> Option<&'a Name>
+pub(crate) fn goes_on_by<'a>(mark: &'a Mark, name: &'a Name) -> Option<&'a Name>
     ensures { option_map (λ own. own.now) result ≡ name_on mark.now name.now }
 {
     match mark {

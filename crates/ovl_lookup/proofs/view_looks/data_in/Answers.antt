@@ -1,0 +1,117 @@
+use Rattle.std.proofs.Common.{◌≡◌, ◌+◌, ◌<◌, ◌∙◌, Some, None, Option, List, [], ◌∷◌, IfOk, drop, length, sym, ap, subst, arith}
+use Rattle.ovl_names.specs.Names.{PathName}
+use Rattle.ovl_names.specs.Paths.{PathNames}
+use Rattle.ovl_inode.specs.declared.inodes.Inode.{Inode}
+use Rattle.ovl_inode.specs.declared.marks.Mark.{Mark}
+use Rattle.ovl_lookup.specs.declared.views.DirPlace.{DirPlace}
+use Rattle.ovl_lookup.specs.declared.looks.Look.{Look}
+use Rattle.ovl_lookup.specs.Stacks.{StackView}
+use Rattle.ovl_lookup.specs.Trace.{things_found}
+use Rattle.ovl_lookup.specs.Merged.{shown_of, is_nothing}
+use Rattle.ovl_lookup.specs.Passes.{data_below, shown_with}
+use Rattle.ovl_lookup.specs.Views.{Reached, below_entry, found_below}
+use Rattle.ovl_lookup.specs.DirViews.{place_in, places_in}
+use Rattle.ovl_lookup.proofs.ViewSteps.{found-none}
+use Rattle.ovl_lookup.proofs.DirViewLemmas.{place-at, over-at, layer-inside, on-path, on-name, on-none}
+use Rattle.ovl_lookup.proofs.ViewLookLemmas.{slice-places, none-left, whiteout-shows, full-shows, lacking-shows, entry-shows, whiteout-data, own-data, other-data, onward-data}
+use Rattle.ovl_lookup.proofs.view_looks.data_in.Goals as goal
+
+pub loop-place-preserved-in_default : goal.loop-place-preserved-in_default
+loop-place-preserved-in_default c =
+    let stack : StackView = c.args.stack.now in
+    let places : List DirPlace = c.args.places.now in
+    let k = c.loop-place.place-index in
+    let own : DirPlace = c.place-item.result in
+    let at = place-at stack places k own c.loop-place-test.true c.place-item.is in
+    ap data_below (sym (found-none stack.layers c.loop-place.own.now (places_in stack places) k (place_in stack own) at c.in_default.ensures)) ∙ c.loop-place.invariant
+
+pub returns-then-is_whiteout : goal.returns-then-is_whiteout
+returns-then-is_whiteout c =
+    let stack : StackView = c.args.stack.now in
+    let places : List DirPlace = c.args.places.now in
+    let k = c.loop-place.place-index in
+    let own : DirPlace = c.place-item.result in
+    let at = place-at stack places k own c.loop-place-test.true c.place-item.is in
+    let is = c.in-Some.ensures in
+    let inode : Inode = c.in-Some.entry.inode.now in
+    let mark : Mark = c.in-Some.entry.mark.now in
+    sym (sym c.loop-place.invariant ∙ whiteout-data stack.layers c.loop-place.own.now (places_in stack places) k (place_in stack own) at inode mark is.inode is.mark (sym c.is_whiteout.ensures ∙ c.if-is_whiteout.true))
+
+pub returns-then-is_data : goal.returns-then-is_data
+returns-then-is_data c =
+    let stack : StackView = c.args.stack.now in
+    let places : List DirPlace = c.args.places.now in
+    let k = c.loop-place.place-index in
+    let own : DirPlace = c.place-item.result in
+    let at = place-at stack places k own c.loop-place-test.true c.place-item.is in
+    let is = c.in-Some.ensures in
+    let inode : Inode = c.in-Some.entry.inode.now in
+    let mark : Mark = c.in-Some.entry.mark.now in
+    ap (λ (found : Inode). Some found) c.in_ok-copy.ensures
+    ∙ sym (sym c.loop-place.invariant ∙ own-data stack.layers c.loop-place.own.now (places_in stack places) k (place_in stack own) at inode mark is.inode is.mark (sym c.is_whiteout.ensures ∙ c.if-is_whiteout.false) (sym c.is_data.ensures ∙ c.if-is_data.true))
+
+pub returns-then-not-is_meta : goal.returns-then-not-is_meta
+returns-then-not-is_meta c =
+    let stack : StackView = c.args.stack.now in
+    let places : List DirPlace = c.args.places.now in
+    let k = c.loop-place.place-index in
+    let own : DirPlace = c.place-item.result in
+    let at = place-at stack places k own c.loop-place-test.true c.place-item.is in
+    let is = c.in-Some.ensures in
+    let inode : Inode = c.in-Some.entry.inode.now in
+    let mark : Mark = c.in-Some.entry.mark.now in
+    sym (sym c.loop-place.invariant ∙ other-data stack.layers c.loop-place.own.now (places_in stack places) k (place_in stack own) at inode mark is.inode is.mark (sym c.is_whiteout.ensures ∙ c.if-is_whiteout.false) (sym c.is_data.ensures ∙ c.if-is_data.false) (sym c.is_meta.ensures ∙ c.if-not-is_meta.true))
+
+pub overflow_add-place : goal.overflow_add-place
+overflow_add-place c =
+    let inside = layer-inside c.args.stack.now c.place-item.result (over-at c.args.stack.now c.args.places.now c.loop-place.place-index c.place-item.result c.requires c.loop-place-test.true c.place-item.is) in
+    omega (arith, inside, ap (λ (s : StackView). length s.layers) c.stack.view_is, c.stack.invariant.1)
+
+pub data-requires : goal.data-requires
+data-requires c =
+    let inside = layer-inside c.args.stack.now c.place-item.result (over-at c.args.stack.now c.args.places.now c.loop-place.place-index c.place-item.result c.requires c.loop-place-test.true c.place-item.is) in
+    omega (arith, inside)
+
+pub returns-in-Some-goes_on_at : goal.returns-in-Some-goes_on_at
+returns-in-Some-goes_on_at c =
+    let stack : StackView = c.args.stack.now in
+    let places : List DirPlace = c.args.places.now in
+    let k = c.loop-place.place-index in
+    let own : DirPlace = c.place-item.result in
+    let at = place-at stack places k own c.loop-place-test.true c.place-item.is in
+    let is = c.in-Some.ensures in
+    let inode : Inode = c.in-Some.entry.inode.now in
+    let mark : Mark = c.in-Some.entry.mark.now in
+    let origin : PathNames = c.in-Some-goes_on_at.origin.now in
+    let from_root = things_found (drop (own.layer + 1) stack.layers) in
+    let onward = onward-data stack.layers c.loop-place.own.now (places_in stack places) k (place_in stack own) at inode mark is.inode is.mark (sym c.is_whiteout.ensures ∙ c.if-is_whiteout.false) (sym c.is_meta.ensures ∙ c.if-not-is_meta.false) in
+    let same = ap (λ (p : PathNames). data_below (from_root p)) c.in_ok-copy-2.ensures
+    ∙ sym (sym c.loop-place.invariant ∙ (onward ∙ ap data_below (on-path c.loop-place.own.now from_root (λ other. found_below stack.layers other (drop (k + 1) (places_in stack places))) mark origin (sym c.in-Some-goes_on_at.ensures)))) in
+    subst (λ (wanted : Option Inode). IfOk c.data.result (λ found. found ≡ wanted)) same c.data.ensures
+
+pub returns-in_default-goes_on_by : goal.returns-in_default-goes_on_by
+returns-in_default-goes_on_by c =
+    let stack : StackView = c.args.stack.now in
+    let places : List DirPlace = c.args.places.now in
+    let k = c.loop-place.place-index in
+    let own : DirPlace = c.place-item.result in
+    let at = place-at stack places k own c.loop-place-test.true c.place-item.is in
+    let is = c.in-Some.ensures in
+    let inode : Inode = c.in-Some.entry.inode.now in
+    let mark : Mark = c.in-Some.entry.mark.now in
+    let onward = onward-data stack.layers c.loop-place.own.now (places_in stack places) k (place_in stack own) at inode mark is.inode is.mark (sym c.is_whiteout.ensures ∙ c.if-is_whiteout.false) (sym c.is_meta.ensures ∙ c.if-not-is_meta.false) in
+    sym (sym c.loop-place.invariant ∙ (onward ∙ ap data_below (on-none c.loop-place.own.now (things_found (drop (own.layer + 1) stack.layers)) (λ other. found_below stack.layers other (drop (k + 1) (places_in stack places))) mark (sym c.in_default-goes_on_at.ensures) (sym c.in_default-goes_on_by.ensures))))
+
+pub loop-place-preserved : goal.loop-place-preserved
+loop-place-preserved c =
+    let stack : StackView = c.args.stack.now in
+    let places : List DirPlace = c.args.places.now in
+    let k = c.loop-place.place-index in
+    let own : DirPlace = c.place-item.result in
+    let at = place-at stack places k own c.loop-place-test.true c.place-item.is in
+    let is = c.in-Some.ensures in
+    let inode : Inode = c.in-Some.entry.inode.now in
+    let mark : Mark = c.in-Some.entry.mark.now in
+    let other : PathName = c.in-Some-goes_on_by.other.now in
+    let onward = onward-data stack.layers c.loop-place.own.now (places_in stack places) k (place_in stack own) at inode mark is.inode is.mark (sym c.is_whiteout.ensures ∙ c.if-is_whiteout.false) (sym c.is_meta.ensures ∙ c.if-not-is_meta.false) in
+    sym (sym c.loop-place.invariant ∙ (onward ∙ ap data_below (on-name c.loop-place.own.now (things_found (drop (own.layer + 1) stack.layers)) (λ name. found_below stack.layers name (drop (k + 1) (places_in stack places))) mark other (sym c.in-Some-goes_on_by.ensures))))

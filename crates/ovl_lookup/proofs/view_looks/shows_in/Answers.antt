@@ -1,0 +1,49 @@
+use Rattle.std.proofs.Common.{◌≡◌, ◌+◌, ◌<◌, ◌∙◌, Some, None, Option, List, [], ◌∷◌, IfOk, drop, length, sym, ap, subst, arith}
+use Rattle.ovl_names.specs.Names.{PathName}
+use Rattle.ovl_names.specs.Paths.{PathNames}
+use Rattle.ovl_inode.specs.declared.inodes.Inode.{Inode}
+use Rattle.ovl_inode.specs.declared.marks.Mark.{Mark}
+use Rattle.ovl_lookup.specs.declared.views.DirPlace.{DirPlace}
+use Rattle.ovl_lookup.specs.declared.looks.Look.{Look}
+use Rattle.ovl_lookup.specs.declared.looks.Look.TheVariants.{Nothing}
+use Rattle.ovl_lookup.specs.Stacks.{StackView}
+use Rattle.ovl_lookup.specs.Trace.{things_found}
+use Rattle.ovl_lookup.specs.Merged.{shown_of, is_nothing}
+use Rattle.ovl_lookup.specs.Passes.{data_below, shown_with}
+use Rattle.ovl_lookup.specs.Views.{Reached, below_entry, found_below}
+use Rattle.ovl_lookup.specs.DirViews.{place_in, places_in}
+use Rattle.ovl_lookup.proofs.ViewSteps.{found-none}
+use Rattle.ovl_lookup.proofs.DirViewLemmas.{place-at, over-at, layer-inside, on-path, on-name, on-none}
+use Rattle.ovl_lookup.proofs.ViewLookLemmas.{slice-places, none-left, whiteout-shows, full-shows, lacking-shows, entry-shows, whiteout-data, own-data, other-data, onward-data}
+use Rattle.std.proofs.Common.{Bool, true, false}
+use Rattle.std.specs.Prelude.{not}
+use Rattle.ovl_inode.specs.Marks.{is_whiteout}
+use Rattle.ovl_lookup.proofs.view_looks.shows_in.Goals as goal
+
+pub loop-place-preserved : goal.loop-place-preserved
+loop-place-preserved c =
+    let stack : StackView = c.args.stack.now in
+    let places : List DirPlace = c.args.places.now in
+    let k = c.loop-place.place-index in
+    let own : DirPlace = c.place-item.result in
+    let at = place-at stack places k own c.loop-place-test.true c.place-item.is in
+    sym (found-none stack.layers c.args.name.now (places_in stack places) k (place_in stack own) at c.in_default.ensures) ∙ c.loop-place.invariant
+
+-- whether something is shown, by whether the first entry is a whiteout
+by : (left : List Inode) (white b : Bool) → white ≡ b → (white ≡ true → shown_of left ≡ Nothing) → (white ≡ false → not (is_nothing (shown_of left)) ≡ true) → not b ≡ not (is_nothing (shown_of left))
+by left white true e hidden shows = sym (ap (λ (look : Look). not (is_nothing look)) (hidden e))
+by left white false e hidden shows = sym (shows e)
+
+pub returns-in-Some : goal.returns-in-Some
+returns-in-Some c =
+    let stack : StackView = c.args.stack.now in
+    let places : List DirPlace = c.args.places.now in
+    let k = c.loop-place.place-index in
+    let own : DirPlace = c.place-item.result in
+    let at = place-at stack places k own c.loop-place-test.true c.place-item.is in
+    let is = c.in-Some.ensures in
+    let inode : Inode = c.in-Some.entry.inode.now in
+    let mark : Mark = c.in-Some.entry.mark.now in
+    let left : List Inode = found_below stack.layers c.args.name.now (drop k (places_in stack places)) in
+    by left (is_whiteout inode) c.is_whiteout.result (sym c.is_whiteout.ensures) (whiteout-shows stack.layers c.args.name.now (places_in stack places) k (place_in stack own) at inode mark is.inode is.mark) (entry-shows stack.layers c.args.name.now (places_in stack places) k (place_in stack own) at inode mark is.inode is.mark)
+    ∙ ap (λ (found : List Inode). not (is_nothing (shown_of found))) c.loop-place.invariant

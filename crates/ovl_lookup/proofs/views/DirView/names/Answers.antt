@@ -1,0 +1,57 @@
+use Rattle.std.proofs.Common.{◌≡◌, ◌∙◌, ◌++◌, ◌∷◌, [], ℕ, Bool, true, false, cond, List, length, drop, map, sym, ap, subst}
+use Rattle.std.specs.Prelude.{not}
+use Rattle.std.specs.List.{All}
+use Rattle.std.proofs.lemmas.List.{append-nil, map-id}
+use Rattle.std.proofs.lemmas.List.Elements.{All-drop}
+use Rattle.std.proofs.lemmas.Iterator.Consumers.{YieldsList-from_rest, YieldsList-turn, YieldsList-end}
+use Rattle.ovl_names.specs.Names.{PathName}
+use Rattle.ovl_manifest.specs.Layers.{IsLayer}
+use Rattle.ovl_lookup.specs.declared.looks.Look.{Look}
+use Rattle.ovl_lookup.specs.declared.views.DirPlace.{DirPlace}
+use Rattle.ovl_lookup.specs.Stacks.{StackView, from_layer}
+use Rattle.ovl_lookup.specs.Merged.{AreKids, is_nothing}
+use Rattle.ovl_lookup.specs.Views.{Reached, reached}
+use Rattle.ovl_lookup.specs.ViewPasses.{AreLooks, tops_of, looks_from_tops}
+use Rattle.ovl_lookup.specs.DirViews.{IsPlaceOver, places_in}
+use Rattle.ovl_lookup.proofs.TopLemmas.{views-look}
+use Rattle.ovl_lookup.proofs.ViewLookLemmas.{top-inside, looks-more, names-more}
+use Rattle.ovl_lookup.proofs.views.DirView.names.Goals as goal
+
+pub places_from-requires : goal.places_from-requires
+places_from-requires c =
+    let turn = YieldsList-turn (YieldsList-from_rest c.in_ok-tops.tops.entries c.into_iter-name-iterator.ensures.into_iter_gives.0) c.loop-name.yielded _ c.loop-name.yielded_by _ _ (c.in-Some.name, c.in-Some.top) c.in-Some.is c.next.ensures.steps in
+    top-inside c.args.stack.now c.args.self.now.places.items c.in_ok-tops.tops.entries (length c.loop-name.yielded) (c.in-Some.name, c.in-Some.top) c.in_ok-tops.ensures turn.0 turn.1
+
+pub shows_in-requires : goal.shows_in-requires
+shows_in-requires c =
+    subst (λ (ps : List DirPlace). All (IsPlaceOver c.args.stack.now) ps) (sym c.places_from.ensures) (All-drop (IsPlaceOver c.args.stack.now) c.in-Some.top c.args.self.now.places.items c.requires.over)
+
+pub loop-name-preserved-in-Continue-branch-2 : goal.loop-name-preserved-in-Continue-branch-2
+loop-name-preserved-in-Continue-branch-2 c =
+    let stack : StackView = c.args.stack.now in
+    let places : List DirPlace = c.args.self.now.places.items in
+    let more = names-more stack places c.loop-name.yielded c.in-Some.name c.in-Some.top c.shows_in.result c.places_from.result.now c.places_from.ensures c.shows_in.ensures in
+    c.in_ok-push.ensures.items
+    ∙ (ap (λ (names : List PathName). names ++ c.in-Some.name ∷ []) c.loop-name.invariant
+    ∙ sym (more ∙ ap (λ (b : Bool). map (λ e. e.0) (looks_from_tops stack.layers (places_in stack places) c.loop-name.yielded) ++ cond b (c.in-Some.name ∷ []) []) c.if-shows_in.true))
+
+pub loop-name-preserved : goal.loop-name-preserved
+loop-name-preserved c =
+    let stack : StackView = c.args.stack.now in
+    let places : List DirPlace = c.args.self.now.places.items in
+    let more = names-more stack places c.loop-name.yielded c.in-Some.name c.in-Some.top c.shows_in.result c.places_from.result.now c.places_from.ensures c.shows_in.ensures in
+    c.loop-name.invariant
+    ∙ sym (more ∙ (ap (λ (b : Bool). map (λ e. e.0) (looks_from_tops stack.layers (places_in stack places) c.loop-name.yielded) ++ cond b (c.in-Some.name ∷ []) []) c.if-shows_in.false
+    ∙ append-nil (map (λ e. e.0) (looks_from_tops stack.layers (places_in stack places) c.loop-name.yielded))))
+
+pub returns : goal.returns
+returns c =
+    let stack : StackView = c.args.stack.now in
+    let places : List DirPlace = c.args.self.now.places.items in
+    let each : All IsLayer stack.layers = subst (λ (s : StackView). All IsLayer s.layers) c.stack.view_is c.stack.invariant.2 in
+    let ends = YieldsList-end (YieldsList-from_rest c.in_ok-tops.tops.entries c.into_iter-name-iterator.ensures.into_iter_gives.0) c.loop-name.yielded _ c.loop-name.yielded_by _ _ c.in-None.is c.next.ensures.steps in
+    let all : c.loop-name.yielded ≡ tops_of stack.layers (reached (drop c.args.self.now.from stack.layers) c.args.self.now.from c.args.self.now.path) =
+    sym (map-id c.loop-name.yielded) ∙ (ends.0 ∙ (c.in_ok-tops.ensures ∙ ap (tops_of stack.layers) c.requires.reached)) in
+    subst (λ (names : List PathName). AreKids (from_layer c.args.self.now.from stack) c.args.self.now.path names)
+    (sym (c.loop-name.invariant ∙ (λ j. map (λ e. e.0) (looks_from_tops stack.layers (c.requires.reached j) (all j)))))
+    (views-look stack each c.args.self.now.from c.args.self.now.path).names

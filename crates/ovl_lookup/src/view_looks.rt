@@ -1,0 +1,240 @@
+ghost use Rattle.std.specs.Prelude.{◌≡◌, ◌<◌, drop, length, map, not, IfOk, OnOk};
+ghost use Rattle.std.specs.Option.{option_map};
+ghost use Rattle.std.specs.List.{All};
+ghost use Rattle.ovl_names.specs.Paths.{child_path};
+ghost use Rattle.ovl_inode.specs.Marks.{is_metacopy_mark};
+ghost use Rattle.ovl_manifest.specs.Sheets.{path_at, last_name};
+ghost use Rattle.ovl_lookup.specs.Stacks.{from_layer};
+ghost use Rattle.ovl_lookup.specs.Trace.{things_found};
+ghost use Rattle.ovl_lookup.specs.Merged.{AreKids, look as the_look, shown_of, is_nothing as nothing_test};
+ghost use Rattle.ovl_lookup.specs.Passes.{data_below};
+ghost use Rattle.ovl_lookup.specs.Views.{found_below};
+ghost use Rattle.ovl_lookup.specs.ViewPasses.{AreLooks, names_in, put_top, put_tops, tops_of};
+ghost use Rattle.ovl_lookup.specs.DirViews.{IsViewOver, IsPlaceOver, place_in, places_in};
+
+use crate::looks::{lacks_contents, metacopy_shown};
+use crate::views::{DirPlace, goes_on_at, goes_on_by};
+use crate::{DirView, Look, Stack};
+use ovl_inode::{Inode, Mark, is_data, is_whiteout, visible};
+use ovl_manifest::{Sheet, SheetRow};
+use ovl_names::Name;
+use std::alloc::{AllocError, Global};
+use std::collections::BTreeMap;
+
+impl DirView {
+    /// What is shown at a name in this directory. The name is sought in the directory of each layer; a layer is walked
+    /// from its root only below an absolute redirect. Fails only for want of memory.
+    pub fn look(&self, alloc: Global, stack: &Stack, name: &Name) -> Result<Look, AllocError>
+        requires { IsViewOver stack.now self.now }
+        ensures { IfOk result (λ look. look ≡ the_look (from_layer self.now.from stack.now) (child_path self.now.path name.now)) }
+    {
+        let _ = &stack.layers;
+        look_in(alloc, stack, &self.places, name)
+    }
+
+    /// The data that there is at a name in this directory below metacopy files. Fails only for want of memory.
+    /// overlayfs.rst: "Metadata only copy up".
+    pub fn data(
+        &self,
+        alloc: Global,
+        stack: &Stack,
+        name: &Name,
+    ) -> Result<Option<Inode>, AllocError>
+        requires { IsViewOver stack.now self.now }
+        ensures { IfOk result (λ found. found
+            ≡ data_below (things_found (drop self.now.from stack.now.layers) (child_path self.now.path name.now))) }
+    {
+        let _ = &stack.layers;
+        data_in(alloc, stack, &self.places, name)
+    }
+
+    /// The names in this directory at which something is shown, in order, each with what is shown there, in one pass
+    /// over the directories of all layers. Fails only for want of memory.
+    pub fn looks(&self, alloc: Global, stack: &Stack) -> Result<Vec<(Name, Look)>, AllocError>
+        requires { IsViewOver stack.now self.now }
+        ensures { IfOk result (λ looks. AreLooks (from_layer self.now.from stack.now) self.now.path looks.items) }
+    {
+        let _ = &stack.layers;
+        let mut looks = Vec::new(alloc);
+        let tops = self.tops(alloc, stack)?;
+        for (name, top) in tops {
+            let look = look_in(alloc, stack, self.places_from(top), &name)?;
+            if !look.is_nothing() {
+                looks.push((name, look))?;
+            }
+        }
+        Ok(looks)
+    }
+
+    /// The names in this directory at which something is shown, in order. Fails only for want of memory.
+    pub fn names(&self, alloc: Global, stack: &Stack) -> Result<Vec<Name>, AllocError>
+        requires { IsViewOver stack.now self.now }
+        ensures { IfOk result (λ names. AreKids (from_layer self.now.from stack.now) self.now.path names.items) }
+    {
+        let _ = &stack.layers;
+        let mut names = Vec::new(alloc);
+        let tops = self.tops(alloc, stack)?;
+        for (name, top) in tops {
+            if shows_in(stack, self.places_from(top), &name) {
+                names.push(name)?;
+            }
+        }
+        Ok(names)
+    }
+
+    // The places from one on.
+    fn places_from(&self, number: usize) -> &[DirPlace]
+        requires { number < length self.now.places.items }
+        ensures { result.now ≡ drop number self.now.places.items }
+    {
+        &self.places[number..]
+    }
+
+    // The names in the directories of all layers in order, each with the number of the first place that has it.
+    fn tops(&self, alloc: Global, stack: &Stack) -> Result<BTreeMap<Name, usize>, AllocError>
+        requires { All (IsPlaceOver stack.now) self.now.places.items }
+        ensures { IfOk result (λ tops. tops.entries ≡ tops_of stack.now.layers (places_in stack.now self.now.places.items)) }
+    {
+        let mut tops = BTreeMap::new(alloc);
+        for i in 0..self.places.len() {
+            self.places[i].put_names(alloc, stack, i, &mut tops)?;
+        }
+        Ok(tops)
+    }
+}
+
+impl DirPlace {
+    // Puts the number at each name in this place's directory that has none yet.
+    fn put_names(
+        &self,
+        alloc: Global,
+        stack: &Stack,
+        number: usize,
+        tops: &mut BTreeMap<Name, usize>,
+    ) -> Result<(), AllocError>
+        requires { IsPlaceOver stack.now self.now }
+        ensures { OnOk result (tops.new.entries ≡ put_tops tops.old.entries number (names_in stack.now.layers (place_in stack.now self.now))) }
+    {
+        let sheet = stack.sheet(self.layer);
+        let kids = sheet.kids(self.row);
+        for kid in kids {
+            if let Some(name) = name_at(sheet, *kid) {
+                put_name(alloc, name, number, tops)?;
+            }
+        }
+        Ok(())
+    }
+}
+
+// The last name of the path of a row; the root has none.
+fn name_at(sheet: &Sheet, number: u32) -> Option<&Name>
+    requires { number < length sheet.now }
+    ensures { option_map (λ name. name.now) result ≡ last_name (path_at sheet.now number) }
+{
+    match sheet.row(number) {
+        Some(
+            SheetRow {
+                name: Some(name),
+                ..
+            },
+        ) => Some(name),
+        _ => None,
+    }
+}
+
+// Puts a number at a name that has none yet.
+fn put_name(
+    alloc: Global,
+    name: &Name,
+    number: usize,
+    tops: &mut BTreeMap<Name, usize>,
+) -> Result<(), AllocError>
+    ensures { OnOk result (tops.new.entries ≡ put_top tops.old.entries number name.now) }
+{
+    if !tops.contains_key(name) {
+        tops.insert(name.copy(alloc)?, number)?;
+    }
+    Ok(())
+}
+
+// Whether something is shown at a name, by these places: where the first entry is no whiteout.
+fn shows_in(stack: &Stack, places: &[DirPlace], name: &Name) -> bool
+    requires { All (IsPlaceOver stack.now) places.now }
+    ensures { result ≡ not (nothing_test (shown_of (found_below stack.now.layers name.now (places_in stack.now places.now)))) }
+{
+    for place in places {
+        if let Some(entry) = place.entry(stack, name) {
+            return !is_whiteout(entry.inode);
+        }
+    }
+    false
+}
+
+// What is shown at a name, by these places.
+fn look_in(
+    alloc: Global,
+    stack: &Stack,
+    places: &[DirPlace],
+    name: &Name,
+) -> Result<Look, AllocError>
+    requires { All (IsPlaceOver stack.now) places.now }
+    ensures { IfOk result (λ look. look ≡ shown_of (found_below stack.now.layers name.now (places_in stack.now places.now))) }
+{
+    for i in 0..places.len() {
+        let Some(entry) = places[i].entry(stack, name) else {
+            continue;
+        };
+        if is_whiteout(entry.inode) {
+            return Ok(Look::Nothing);
+        }
+        if !lacks_contents(entry.inode) {
+            return Ok(Look::Shown(visible(alloc, entry.inode)?));
+        }
+        let contents = data_in(alloc, stack, &places[i..], name)?;
+        return metacopy_shown(alloc, entry.inode, contents);
+    }
+    Ok(Look::Nothing)
+}
+
+// The data at a name below metacopy files, by these places.
+fn data_in(
+    alloc: Global,
+    stack: &Stack,
+    places: &[DirPlace],
+    name: &Name,
+) -> Result<Option<Inode>, AllocError>
+    requires { All (IsPlaceOver stack.now) places.now }
+    ensures { IfOk result (λ found. found ≡ data_below (found_below stack.now.layers name.now (places_in stack.now places.now))) }
+{
+    let _ = &stack.layers;
+    let mut own = name;
+    for place in places {
+        let Some(entry) = place.entry(stack, own) else {
+            continue;
+        };
+        if is_whiteout(entry.inode) {
+            return Ok(None);
+        }
+        if is_data(entry.inode) {
+            return Ok(Some(entry.inode.copy(alloc)?));
+        }
+        if !is_meta(entry.mark) {
+            return Ok(None);
+        }
+        if let Some(origin) = goes_on_at(entry.mark) {
+            return stack.data(alloc, place.layer + 1, origin.copy(alloc)?);
+        }
+        let Some(other) = goes_on_by(entry.mark, own) else {
+            return Ok(None);
+        };
+        own = other;
+    }
+    Ok(None)
+}
+
+// Whether this is the mark of a metacopy file whose redirect is absent or well formed.
+fn is_meta(mark: &Mark) -> bool
+    ensures { result ≡ is_metacopy_mark mark.now }
+{
+    matches!(mark, Mark::Meta(_))
+}
