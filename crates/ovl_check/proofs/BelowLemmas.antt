@@ -1,19 +1,15 @@
 -- What the layers below show where they show no directory.
-use Rattle.std.proofs.Common.{◌≡◌, ℕ, ◌+◌, ◌∙◌, Bool, true, false, Option, None, List, [], ◌∷◌, refl, sym, ap, All}
+use Rattle.std.proofs.Common.{◌≡◌, ℕ, ◌+◌, ◌∙◌, Bool, true, false, None, refl, sym, ap, All}
 use Rattle.std.specs.Prelude.{not}
-use Rattle.std.specs.Option.{option_map}
 use Rattle.std.proofs.lemmas.List.Elements.{All-drop}
 use Rattle.ovl_names.specs.Names.{PathName}
 use Rattle.ovl_names.specs.Paths.{PathNames, child_path}
-use Rattle.ovl_inode.specs.declared.inodes.Inode.{Inode}
-use Rattle.ovl_inode.specs.Kinds.{size_of}
 use Rattle.ovl_manifest.specs.Layers.{IsLayer}
 use Rattle.ovl_lookup.specs.declared.looks.Look.{Look}
 use Rattle.ovl_lookup.specs.declared.looks.Look.TheVariants.{Nothing, Shown, Broken}
 use Rattle.ovl_lookup.specs.Stacks.{StackView}
 use Rattle.ovl_lookup.specs.Trace.{things_found}
-use Rattle.ovl_lookup.specs.Merged.{look, shown_of, is_nothing, shows, shows_directory}
-use Rattle.ovl_lookup.specs.Passes.{data_below}
+use Rattle.ovl_lookup.specs.Merged.{look, is_nothing, shows_directory}
 use Rattle.ovl_lookup.proofs.LawLemmas.{ShowsParents-holds}
 use Rattle.ovl_check.specs.Checks.{layers_below, size_shown}
 use Rattle.ovl_check.specs.Facts.{data_size}

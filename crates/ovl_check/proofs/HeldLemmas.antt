@@ -14,7 +14,7 @@ use Rattle.ovl_inode.specs.Attributes.{origin_name}
 use Rattle.ovl_inode.specs.declared.marks.Mark.{Mark}
 use Rattle.ovl_inode.specs.Marks.{mark_of, is_directory, has_attribute}
 use Rattle.ovl_manifest.specs.Layers.{Entries, IsLayer, entry_at, is_directory_at, names_below, has_parent}
-use Rattle.ovl_manifest.specs.Sheets.{path_at, last_name}
+use Rattle.ovl_manifest.specs.Sheets.{path_at}
 use Rattle.ovl_manifest.specs.LayerTrees.{entries_in, entries_under}
 use Rattle.ovl_manifest.proofs.NodeLemmas.{entries_under-nothing, entry_at-under}
 use Rattle.ovl_manifest.proofs.SheetLemmas.{last_name-child}
