@@ -1,9 +1,10 @@
 -- What a directory of a layer directly holds.
-use Rattle.std.proofs.Common.{◌≡◌, ℕ, ◌+◌, ◌<◌, inl, inr, Bool, true, false, cond, Option, Some, None, List, [], ◌∷◌, ◌++◌, length, get_or, take, drop, map, refl, sym, ap, ◌∙◌, subst}
+use Rattle.std.proofs.Common.{◌≡◌, ℕ, zero, suc, arith, ◌+◌, ◌<◌, inl, inr, Bool, true, false, cond, Option, Some, None, List, [], ◌∷◌, ◌++◌, length, get_or, take, drop, map, refl, sym, ap, ◌∙◌, subst}
 use Rattle.std.specs.Prelude.{◌||◌, not, filter}
 use Rattle.std.specs.List.{list_any, flat_map}
 use Rattle.std.specs.Option.{option_map}
 use Rattle.std.proofs.lemmas.List.{take_more, take-append-drop}
+use Rattle.std.proofs.Math.Bool.{or-true}
 use Rattle.std.proofs.lemmas.List.Folds.{flat_map-map}
 use Rattle.std.proofs.lemmas.Simd.{map-map}
 use Rattle.ovl_names.specs.Names.{PathName}
@@ -13,7 +14,7 @@ use Rattle.ovl_inode.specs.Attributes.{origin_name}
 use Rattle.ovl_inode.specs.declared.marks.Mark.{Mark}
 use Rattle.ovl_inode.specs.Marks.{mark_of, is_directory, has_attribute}
 use Rattle.ovl_manifest.specs.Layers.{Entries, IsLayer, entry_at, is_directory_at, names_below, has_parent}
-use Rattle.ovl_manifest.specs.Sheets.{path_at, last_name}
+use Rattle.ovl_manifest.specs.Sheets.{path_at}
 use Rattle.ovl_manifest.specs.LayerTrees.{entries_in, entries_under}
 use Rattle.ovl_manifest.proofs.NodeLemmas.{entries_under-nothing, entry_at-under}
 use Rattle.ovl_manifest.proofs.SheetLemmas.{last_name-child}
@@ -172,3 +173,9 @@ module _ (layer : Entries) (directory : PathNames) (children : List Child) (same
       ∙ (ap (flat_map (found_at_child work i directory)) same
       ∙ (files-held layer directory (λ e. findings_alone work i (child_path directory e.0, e.1)) (names_below layer directory)
       ∙ ap (λ (l : Entries). flat_map (λ name. elim (entry_at l (child_path directory name)) as (λ _. List Finding) [ Some inode ↦ findings_alone work i (child_path directory name, inode) | None ↦ [] ]) (filter (λ name. not (is_directory_at l (child_path directory name))) (names_below l directory))) is))
+
+-- an element that passes a test
+pub any-at : {X : Type 0} (test : X → Bool) (xs : List X) (k : ℕ) (d : X) → k < length xs → test (get_or xs k d) ≡ true → list_any test xs ≡ true
+any-at test [] k d inside passes = absurd (omega arith)
+any-at test (x ∷ xs) zero d inside passes = ap (λ b. b || list_any test xs) passes
+any-at test (x ∷ xs) (suc k) d inside passes = ap (λ b. test x || b) (any-at test xs k d (omega arith) passes) ∙ or-true (test x)

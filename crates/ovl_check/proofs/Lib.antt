@@ -9,6 +9,7 @@ mod OutLemmas
 mod ListFacts
 mod MarkLemmas
 mod HeldLemmas
+mod BelowLemmas
 mod GatherLemmas
 mod FactLemmas
 mod DoubleLemmas

@@ -1,6 +1,6 @@
 -- What the conditions ask of one entry of a layer, over the blobs and the stack of the layers below it, and the
 -- condition of each code by that.
-use Rattle.std.specs.Prelude.{◌≡◌, ℕ, Bool, true, false, ◌&&◌, ◌||◌, ◌==◌, not, Option, Some, None, List, [], ◌∷◌, if◌then◌else◌, length, map, All, codes}
+use Rattle.std.specs.Prelude.{◌≡◌, ℕ, ◌+◌, MatchOption, Bool, true, false, ◌&&◌, ◌||◌, ◌==◌, not, Option, Some, None, List, [], ◌∷◌, if◌then◌else◌, length, map, All, codes}
 use Rattle.std.specs.List.{list_any, flat_map}
 use Rattle.std.specs.Option.{option_map}
 use Rattle.ovl_names.specs.Names.{PathName}
@@ -18,7 +18,9 @@ use Rattle.ovl_lookup.specs.declared.steps.Step.{Step}
 use Rattle.ovl_lookup.specs.Walk.{mark_at, walk, natural_path}
 use Rattle.ovl_lookup.specs.Stacks.{StackView}
 use Rattle.ovl_lookup.specs.Trace.{things_found}
-use Rattle.ovl_lookup.specs.Merged.{look, is_nothing, is_shown_directory}
+use Rattle.ovl_lookup.specs.Merged.{look, is_nothing, is_shown_directory, shows_directory}
+use Rattle.ovl_lookup.specs.declared.views.DirView.{DirView}
+use Rattle.ovl_lookup.specs.DirViews.{IsViewOf}
 use Rattle.ovl_lookup.specs.Passes.{data_below}
 use Rattle.ovl_lookup.specs.Sound.{is_malformed, is_seen_there, data_at}
 use Rattle.ovl_check.specs.declared.findings.Code.{Code}
@@ -71,6 +73,23 @@ pub record IsGathered (layer : Entries) (directory : Directory) : Type 0 where
   pub closed : directory.closed ≡ (walk layer directory.path.now).closed
   pub children : map child_seen directory.children.items ≡ held_in layer directory.path.now
   pub marks : All IsMarked directory.children.items
+
+-- an entry of this mark asks what the layers below have at its name
+abbrev pub asks : Mark → Bool
+asks WhiteoutMark = true
+asks (Meta redirect) = true
+asks _ = false
+
+-- the view of the layers below layer `i` at a path, and none where they show no directory there
+abbrev pub IsBelow : StackView → ℕ → PathNames → Option DirView → Type 0
+IsBelow stack i next below =
+    MatchOption below (shows_directory (layers_below stack i) next ≡ false) (λ view. IsViewOf stack (i + 1) next view)
+
+-- a directory has that view where its walk goes on, if that is open and something in it asks
+abbrev pub IsBelowOf : StackView → ℕ → Directory → Type 0
+IsBelowOf stack i directory =
+    directory.closed ≡ false → list_any (λ child. asks child.mark.now) directory.children.items ≡ true
+    → IsBelow stack i directory.next directory.below
 
 -- ---- the facts of an entry of a layer, by its mark
 

@@ -1,4 +1,4 @@
-ghost use Rattle.std.specs.Prelude.{◌≡◌, ◌<◌, ◌++◌, ◌∷◌, [], if◌then◌else◌, true, Some, None, All, IfOk, OnOk, length, map, filter};
+ghost use Rattle.std.specs.Prelude.{◌≡◌, ◌<◌, ◌++◌, ◌∷◌, [], if◌then◌else◌, true, false, Some, None, IfOk, OnOk, length, map, filter};
 ghost use Rattle.std.specs.List.{flat_map};
 ghost use Rattle.ovl_names.specs.Paths.{child_path};
 ghost use Rattle.ovl_manifest.specs.Layers.{entry_at};
@@ -7,7 +7,7 @@ ghost use Rattle.ovl_check.specs.Findings.{finding};
 ghost use Rattle.ovl_check.specs.Blobs.{blob_views, are_in_order, wrong_names};
 ghost use Rattle.ovl_check.specs.Checks.{check_seen, no_seen, layer_at, directory_piece, findings_at_path, check_out};
 ghost use Rattle.ovl_check.specs.CheckViews.{check_view};
-ghost use Rattle.ovl_check.specs.Facts.{IsGathered, IsMarked, child_seen, held_in, found_at_child, tells};
+ghost use Rattle.ovl_check.specs.Facts.{IsGathered, IsBelow, IsBelowOf, IsMarked, asks, child_seen, found_at_child, tells};
 
 use crate::blobs::Blob;
 use crate::directories::{Child, Directory, directory_at, kids_of};
@@ -87,6 +87,7 @@ fn directory_out(
 ) -> Result<CheckOut, AllocError>
     requires inside { layer < length work.now.stack.now.layers }
     requires gathered { IsGathered (layer_at work.now.stack.now layer) directory }
+    requires below { IsBelowOf work.now.stack.now layer directory }
     ensures { IfOk result (λ out. check_seen out ≡ check_out (check_view work.now) (directory_piece layer directory.entry.path.now)) }
 {
     let mut findings = Vec::new(alloc);
@@ -155,8 +156,8 @@ fn push_files(
 ) -> Result<(), AllocError>
     requires inside { layer < length work.now.stack.now.layers }
     requires gathered { IsGathered (layer_at work.now.stack.now layer) directory.now }
-    requires children { map child_seen children.now ≡ held_in (layer_at work.now.stack.now layer) directory.now.path.now }
-    requires marks { All IsMarked children.now }
+    requires below { IsBelowOf work.now.stack.now layer directory.now }
+    requires children { children.now ≡ directory.now.children.items }
     ensures { OnOk result (findings.new.items ≡ findings.old.items
         ++ flat_map (λ child. found_at_child (check_view work.now) layer directory.now.path.now (child_seen child)) children.now) }
 {
@@ -179,6 +180,7 @@ fn push_file(
     requires gathered { IsGathered (layer_at work.now.stack.now layer) directory.now }
     requires entry { entry_at (layer_at work.now.stack.now layer) (child_path directory.now.path.now child.now.name.now) ≡ Some child.now.inode.now }
     requires marked { IsMarked child.now }
+    requires below { directory.now.closed ≡ false → asks child.now.mark.now ≡ true → IsBelow work.now.stack.now layer directory.now.next directory.now.below }
     ensures { OnOk result (findings.new.items ≡ findings.old.items
         ++ found_at_child (check_view work.now) layer directory.now.path.now (child_seen child.now)) }
 {

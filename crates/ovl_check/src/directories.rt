@@ -7,13 +7,14 @@ ghost use Rattle.ovl_inode.specs.Marks.{has_attribute as attribute_test, is_dire
 ghost use Rattle.ovl_manifest.specs.Layers.{entry_at, is_directory_at};
 ghost use Rattle.ovl_manifest.specs.Sheets.{path_at, last_name};
 ghost use Rattle.ovl_check.specs.Checks.{layer_at, directory_piece};
-ghost use Rattle.ovl_check.specs.Facts.{IsGathered, IsMarked, child_seen, seen_at, held_in};
+ghost use Rattle.ovl_check.specs.Facts.{IsGathered, IsBelowOf, IsMarked, child_seen, seen_at, held_in};
 
+use crate::below::below_children;
 use crate::marks::has_attribute;
 use crate::places::{mark_of_entry, step_of};
 use ovl_board::Piece;
 use ovl_inode::{Inode, Mark, is_directory, overlay};
-use ovl_lookup::Stack;
+use ovl_lookup::{DirView, Stack};
 use ovl_manifest::{Sheet, SheetRow};
 use ovl_names::{Name, Path};
 use std::alloc::{AllocError, Global};
@@ -36,6 +37,8 @@ pub(crate) struct Directory<'a> {
     pub(crate) next: Path,
     pub(crate) closed: bool,
     pub(crate) children: Vec<Child<'a>>,
+    // The view of the layers below there, where they aren't hidden and an entry asks them.
+    pub(crate) below: Option<DirView>,
 }
 
 // The directory that layer `i` has at a path, and `None` where it has none.
@@ -48,7 +51,7 @@ pub(crate) fn directory_at<'a>(
     requires { i < length stack.now.layers }
     ensures { IfOk result (λ found. MatchOption found
         (is_directory_at (layer_at stack.now i) path.now ≡ false)
-        (λ directory. (directory.path.now ≡ path.now) × IsGathered (layer_at stack.now i) directory)) }
+        (λ directory. (directory.path.now ≡ path.now) × IsGathered (layer_at stack.now i) directory × IsBelowOf stack.now i directory)) }
 {
     // Each of them is a layer.
     let _layers = stack.layers();
@@ -63,6 +66,7 @@ pub(crate) fn directory_at<'a>(
     let mark = mark_of_entry(alloc, stack, i, path, inode)?;
     let step = step_of(alloc, stack, i, path)?;
     let children = children_in(alloc, sheet, row)?;
+    let below = below_children(alloc, stack, i, &step.next, step.closed, &children)?;
     Ok(Some(Directory {
         path,
         inode,
@@ -70,6 +74,7 @@ pub(crate) fn directory_at<'a>(
         next: step.next,
         closed: step.closed,
         children,
+        below,
     }))
 }
 

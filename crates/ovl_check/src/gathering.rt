@@ -7,13 +7,14 @@ ghost use Rattle.ovl_lookup.specs.Walk.{walk_to_file};
 ghost use Rattle.ovl_lookup.specs.Sound.{is_seen_there};
 ghost use Rattle.ovl_check.specs.Checks.{layer_at, layers_below};
 ghost use Rattle.ovl_check.specs.CheckViews.{check_view};
-ghost use Rattle.ovl_check.specs.Facts.{IsGathered, IsMarked, AreFacts, old_place as the_old_place, content_of as the_content, whiteout_in as the_whiteout, data_size_on};
+ghost use Rattle.ovl_check.specs.Facts.{IsGathered, IsBelow, IsMarked, AreFacts, asks, old_place as the_old_place, content_of as the_content, whiteout_in as the_whiteout, data_size_on};
 
+use crate::below::{data_size_in, look_in};
 use crate::contents::blob_named;
 use crate::directories::{Child, Directory, hold_origin};
 use crate::facts::{Content, Facts, KindFacts, OldPlace};
 use crate::marks::attribute_is;
-use crate::places::{data_size_below, data_size_in, look_below, look_in, mark_at, step_of};
+use crate::places::{data_size_below, look_below, mark_at, step_of};
 use crate::subjects::CheckWork;
 use ovl_inode::{Inode, Mark, Redirect, overlay};
 use ovl_lookup::{Look, Stack};
@@ -64,6 +65,7 @@ pub(crate) fn facts_of_child<'a>(
     requires entry { entry_at (layer_at work.now.stack.now i) (child_path directory.now.path.now child.now.name.now) ≡ Some child.now.inode.now }
     requires none { the_directory child.now.inode.now ≡ false }
     requires marked { IsMarked child.now }
+    requires below { directory.now.closed ≡ false → asks child.now.mark.now ≡ true → IsBelow work.now.stack.now i directory.now.next directory.now.below }
     ensures { IfOk result (λ facts. (facts.inode.now ≡ child.now.inode.now) × AreFacts (check_view work.now) i (child_path directory.now.path.now child.now.name.now) facts) }
 {
     let kind = match child.mark {
@@ -146,7 +148,8 @@ fn whiteout_in(
     directory: &Directory<'_>,
     name: &Name,
 ) -> Result<KindFacts, AllocError>
-    requires { i < length stack.now.layers }
+    requires inside { i < length stack.now.layers }
+    requires below { directory.now.closed ≡ false → IsBelow stack.now i directory.now.next directory.now.below }
     ensures { IfOk result (λ kind. kind ≡ the_whiteout (layers_below stack.now i) directory.now name.now) }
 {
     if matches!(&directory.mark, Mark::DirOpaque) {
@@ -159,7 +162,7 @@ fn whiteout_in(
             hides: false,
         });
     }
-    let look = look_in(alloc, stack, i, &directory.next, name)?;
+    let look = look_in(alloc, stack, i, directory, name)?;
     Ok(KindFacts::Whiteout {
         is_marked,
         hides: !look.is_nothing(),
@@ -176,7 +179,8 @@ fn data_size(
     redirect: &Option<Redirect>,
     _inode: &Inode,
 ) -> Result<Option<u64>, AllocError>
-    requires { i < length stack.now.layers }
+    requires inside { i < length stack.now.layers }
+    requires below { directory.now.closed ≡ false → IsBelow stack.now i directory.now.next directory.now.below }
     ensures { IfOk result (λ size. size
         ≡ data_size_on (layers_below stack.now i) (walk_to_file _inode.now (Meta redirect.now) directory.now.next directory.now.closed name.now)) }
 {
@@ -188,5 +192,5 @@ fn data_size(
     if directory.closed {
         return Ok(None);
     }
-    data_size_in(alloc, stack, i, &directory.next, own)
+    data_size_in(alloc, stack, i, directory, own)
 }

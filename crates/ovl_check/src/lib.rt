@@ -1,6 +1,7 @@
 //! What is wrong with a stack of layers and its blobs, as work in pieces.
 #![tactic(auto)]
 
+mod below;
 mod blobs;
 mod checks;
 mod contents;

@@ -1,6 +1,5 @@
 ghost use Rattle.std.specs.Prelude.{◌≡◌, ◌<◌, Some, IfOk, length};
 ghost use Rattle.std.specs.Option.{option_map};
-ghost use Rattle.ovl_names.specs.Paths.{child_path};
 ghost use Rattle.ovl_manifest.specs.Layers.{entry_at};
 ghost use Rattle.ovl_lookup.specs.Walk.{walk, mark_at as the_mark};
 ghost use Rattle.ovl_lookup.specs.Merged.{look as the_look};
@@ -9,7 +8,7 @@ ghost use Rattle.ovl_check.specs.Facts.{data_size};
 
 use ovl_inode::{Inode, Kind, Mark, mark_of};
 use ovl_lookup::{Look, Stack, Step};
-use ovl_names::{Name, Path};
+use ovl_names::Path;
 use std::alloc::{AllocError, Global};
 
 // The inode that layer `i` has at a path.
@@ -33,7 +32,7 @@ pub(crate) fn step_of(
     stack.own_walk(alloc, i, path)
 }
 
-// What the layers below layer `i` show at a path.
+// What the layers below layer `i` show at a path, by walks from their roots.
 pub(crate) fn look_below(
     alloc: Global,
     stack: &Stack,
@@ -48,21 +47,6 @@ pub(crate) fn look_below(
     stack.look(alloc, i + 1, path)
 }
 
-// What they show under a name in the place of a directory.
-pub(crate) fn look_in(
-    alloc: Global,
-    stack: &Stack,
-    i: usize,
-    dir: &Path,
-    name: &Name,
-) -> Result<Look, AllocError>
-    requires { i < length stack.now.layers }
-    ensures { IfOk result (λ look. look ≡ the_look (layers_below stack.now i) (child_path dir.now name.now)) }
-{
-    let path = dir.child(alloc, name)?;
-    look_below(alloc, stack, i, &path)
-}
-
 // The size of the data that they have at a path, below metacopy files.
 pub(crate) fn data_size_below(
     alloc: Global,
@@ -75,21 +59,6 @@ pub(crate) fn data_size_below(
 {
     let look = look_below(alloc, stack, i, path)?;
     Ok(shown_size(&look))
-}
-
-// The same under a name in the place of a directory.
-pub(crate) fn data_size_in(
-    alloc: Global,
-    stack: &Stack,
-    i: usize,
-    dir: &Path,
-    name: &Name,
-) -> Result<Option<u64>, AllocError>
-    requires { i < length stack.now.layers }
-    ensures { IfOk result (λ size. size ≡ data_size (layers_below stack.now i) (child_path dir.now name.now)) }
-{
-    let path = dir.child(alloc, name)?;
-    data_size_below(alloc, stack, i, &path)
 }
 
 // The size of the file that is shown.

@@ -1,4 +1,4 @@
-use Rattle.std.proofs.Common.{◌≡◌, ◌∙◌, ◌++◌, [], ap, map, List, ℕ, take_all, arith}
+use Rattle.std.proofs.Common.{◌∙◌, [], ap, map, List, ℕ, take_all, arith}
 use Rattle.std.specs.List.{flat_map}
 use Rattle.ovl_names.specs.Names.{PathName}
 use Rattle.ovl_inode.specs.declared.inodes.Inode.{Inode}

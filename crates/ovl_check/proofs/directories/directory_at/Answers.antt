@@ -1,11 +1,11 @@
-use Rattle.std.proofs.Common.{◌≡◌, ◌∙◌, List, [], Option, Some, refl, sym, ap}
+use Rattle.std.proofs.Common.{◌≡◌, ◌∙◌, [], Option, refl, sym, ap}
 use Rattle.std.specs.Prelude.{unwrap_or}
-use Rattle.ovl_names.specs.Paths.{PathNames}
+use Rattle.std.specs.List.{list_any}
 use Rattle.ovl_manifest.specs.Layers.{Entries, entry_at}
 use Rattle.ovl_manifest.specs.Sheets.{path_at}
 use Rattle.ovl_lookup.specs.declared.steps.Step.{Step}
 use Rattle.ovl_check.specs.Checks.{layer_at}
-use Rattle.ovl_check.specs.Facts.{held_in}
+use Rattle.ovl_check.specs.Facts.{held_in, asks}
 use Rattle.ovl_check.proofs.LayerFacts.{layer_at-is}
 use Rattle.ovl_check.proofs.directories.directory_at.Goals as goal
 
@@ -24,4 +24,5 @@ returns c =
         children = c.in_ok-children.ensures.seen ∙ (λ j. held_in (same j) (here j));
         marks = c.in_ok-children.ensures.marks;
       },
+      (λ opened asked. c.in_ok-below.ensures opened (ap (list_any (λ child. asks child.mark.now)) c.deref.ensures.value ∙ asked)),
     )

@@ -1,4 +1,4 @@
-use Rattle.std.proofs.Common.{◌≡◌, ◌∙◌, ◌+◌, sym, ap, take_all}
+use Rattle.std.proofs.Common.{◌∙◌, ◌+◌, sym, ap, take_all}
 use Rattle.ovl_names.specs.Paths.{PathNames}
 use Rattle.ovl_manifest.specs.Layers.{entry_at}
 use Rattle.ovl_manifest.specs.LayerTrees.{entries_under}

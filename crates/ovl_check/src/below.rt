@@ -1,0 +1,91 @@
+ghost use Rattle.std.specs.Prelude.{◌≡◌, ◌<◌, true, false, length, IfOk};
+ghost use Rattle.std.specs.List.{list_any};
+ghost use Rattle.ovl_names.specs.Paths.{child_path};
+ghost use Rattle.ovl_lookup.specs.Merged.{look as the_look};
+ghost use Rattle.ovl_check.specs.Checks.{layers_below};
+ghost use Rattle.ovl_check.specs.Facts.{IsBelow, asks as asks_test, data_size};
+
+use crate::directories::{Child, Directory};
+use ovl_inode::{Mark, file_size};
+use ovl_lookup::{DirView, Look, Stack};
+use ovl_names::{Name, Path};
+use std::alloc::{AllocError, Global};
+
+// The view of the layers below layer `i` where the walk of a directory with these entries goes on, made only where that
+// is open and an entry asks.
+pub(crate) fn below_children(
+    alloc: Global,
+    stack: &Stack,
+    i: usize,
+    next: &Path,
+    closed: bool,
+    children: &[Child<'_>],
+) -> Result<Option<DirView>, AllocError>
+    requires { i < length stack.now.layers }
+    ensures { IfOk result (λ below. closed ≡ false → list_any (λ child. asks_test child.mark.now) children.now ≡ true
+        → IsBelow stack.now i next.now below) }
+{
+    if closed {
+        return Ok(None);
+    }
+    if !any_asks(children) {
+        return Ok(None);
+    }
+    // A stack has at most 128 layers.
+    let _layers = stack.layers();
+    DirView::of(alloc, stack, i + 1, next)
+}
+
+fn any_asks(children: &[Child<'_>]) -> bool
+    ensures { result ≡ list_any (λ child. asks_test child.mark.now) children.now }
+{
+    children.iter().any(|child| asks(child.mark))
+}
+
+// Whether an entry of this mark asks what the layers below have at its name.
+fn asks(mark: &Mark) -> bool
+    ensures { result ≡ asks_test mark.now }
+{
+    matches!(mark, Mark::Whiteout | Mark::Meta(_))
+}
+
+// What the layers below layer `i` show under a name in the place of a directory.
+pub(crate) fn look_in(
+    alloc: Global,
+    stack: &Stack,
+    _i: usize,
+    directory: &Directory<'_>,
+    name: &Name,
+) -> Result<Look, AllocError>
+    requires { IsBelow stack.now _i directory.now.next directory.now.below }
+    ensures { IfOk result (λ look. look ≡ the_look (layers_below stack.now _i) (child_path directory.now.next name.now)) }
+{
+    // Each of them is a layer.
+    let _layers = stack.layers();
+    match &directory.below {
+        Some(view) => view.look(alloc, stack, name),
+        None => Ok(Look::Nothing),
+    }
+}
+
+// The size of the data that they have there, below metacopy files.
+pub(crate) fn data_size_in(
+    alloc: Global,
+    stack: &Stack,
+    _i: usize,
+    directory: &Directory<'_>,
+    name: &Name,
+) -> Result<Option<u64>, AllocError>
+    requires { IsBelow stack.now _i directory.now.next directory.now.below }
+    ensures { IfOk result (λ size. size ≡ data_size (layers_below stack.now _i) (child_path directory.now.next name.now)) }
+{
+    // Each of them is a layer.
+    let _layers = stack.layers();
+    let Some(view) = &directory.below else {
+        return Ok(None);
+    };
+    match view.data(alloc, stack, name)? {
+        Some(inode) => Ok(Some(file_size(&inode))),
+        None => Ok(None),
+    }
+}
