@@ -1,6 +1,6 @@
 -- The merged tree told in path order, from the parcels of its walk: the directories that are open lie below one another,
 -- and each has entries that are still to be told.
-use Rattle.std.proofs.Common.{◌≡◌, ℕ, zero, suc, ◌+◌, ◌-◌, ◌*◌, ◌<◌, ◌≤◌, inl, inr, Bool, true, false, cond, List, [], ◌∷◌, ◌++◌, length, map, refl, sym, ap, ◌∙◌, subst, arith, append-nil, append_assoc, length-append}
+use Rattle.std.proofs.Common.{◌≡◌, ℕ, zero, suc, ◌-◌, ◌*◌, ◌<◌, ◌≤◌, inl, inr, true, false, cond, List, [], ◌∷◌, ◌++◌, length, map, refl, sym, ap, ◌∙◌, subst, arith, append-nil, append_assoc, length-append}
 use Rattle.std.specs.Prelude.{filter}
 use Rattle.std.specs.List.{flat_map, All}
 use Rattle.std.proofs.lemmas.Bool.{cases_lt}
@@ -10,7 +10,7 @@ use Rattle.ovl_names.specs.Names.{PathName}
 use Rattle.ovl_names.specs.Paths.{PathNames, child_path}
 use Rattle.ovl_manifest.specs.Layers.{IsLayer}
 use Rattle.ovl_lookup.specs.Stacks.{StackView}
-use Rattle.ovl_lookup.specs.Merged.{IsMerged, look, shows_directory, is_shown_directory}
+use Rattle.ovl_lookup.specs.Merged.{IsMerged, look, is_shown_directory}
 use Rattle.ovl_lookup.specs.Passes.{kids_along}
 use Rattle.ovl_board.specs.declared.pieces.Piece.{Piece}
 use Rattle.ovl_board.specs.Walks.{preorder}
@@ -18,7 +18,7 @@ use Rattle.ovl_board.specs.Parcels.{ParcelView, parcel_view, parcel_views}
 use Rattle.ovl_board.proofs.Members.{In, Every, In-left, In-right, In-cases, In-map-cases}
 use Rattle.ovl_engine.specs.Directories.{NamedLook, ShowParcel, named_look, looks_in, piece_in, directories_in, show_kids, show_root, IsShowWalk}
 use Rattle.ovl_engine.proofs.DirectoryLemmas.{none_deepest, none_elsewhere}
-use Rattle.ovl_engine.proofs.MergedLemmas.{at, with_look, paths_from, below, own, tree, tree_paths, tree_merged, views_are}
+use Rattle.ovl_engine.proofs.MergedLemmas.{at, with_look, paths_from, below, own, tree_paths, tree_merged, views_are}
 
 -- ---- lists in a stack, the last one first
 

@@ -58,10 +58,6 @@ show_root = record { space = 0; dir = [] }
 abbrev pub IsShowWalk : StackView → List (ParcelView (List NamedLook)) → Type 0
 IsShowWalk stack parcels = IsPlain (show_kids stack) (show_out stack) show_root parcels
 
--- the entries of a directory with their paths
-abbrev pub looks_placed_in : PathNames → List NamedLook → List (PathNames × Look)
-looks_placed_in dir looks = map (λ entry. (child_path dir entry.0, entry.1)) looks
-
 -- what is seen of the entries that a directory puts out
 abbrev pub looks_seen : Vec NamedLook Global → List NamedLook
 looks_seen looks = looks.items

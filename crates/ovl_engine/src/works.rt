@@ -1,15 +1,17 @@
-ghost use Rattle.std.specs.Prelude.{◌≡◌, ◌<◌, ◌++◌, ◌∷◌, [], IfOk, OnOk, All, IsPermutation, IsSorted, length, map};
-ghost use Rattle.std.specs.List.{flat_map};
+ghost use Rattle.std.specs.Prelude.{◌≡◌, ◌+◌, ◌<◌, ◌≤◌, ◌++◌, ◌∷◌, [], List, IfOk, OnOk, All, length, map};
+ghost use Rattle.std.specs.Vec.Iter.{into_iter_items};
 ghost use Rattle.ovl_manifest.specs.Layers.{IsLayer};
-ghost use Rattle.ovl_lookup.specs.Merged.{look as the_look, IsMerged, look_cmp};
+ghost use Rattle.ovl_lookup.specs.Merged.{look as the_look, IsMerged};
 ghost use Rattle.ovl_board.specs.Parcels.{parcel_views};
-ghost use Rattle.ovl_engine.specs.Directories.{HasAllNames, IsShowWalk, looks_in, directories_in as the_directories_in, looks_placed_in};
+ghost use Rattle.ovl_engine.specs.declared.works.OpenDirectory.{OpenDirectory};
+ghost use Rattle.ovl_engine.specs.Directories.{HasAllNames, ShowParcel, IsShowWalk, looks_in, directories_in as the_directories_in};
 
 use ovl_board::{Parcel, Piece, Work};
 use ovl_lookup::{DirView, Look, Stack};
 use ovl_names::{DEPTH_LIMIT, Name, Path};
 use std::alloc::{AllocError, Global};
 use std::marker::Model;
+use std::vec::IntoIter;
 
 /// The merged tree of a stack as work, whose pieces are its directories, from `/` of space 0. The output of a
 /// directory is each name in it, in order, with what is shown there; its kids are those that are directories. A kid
@@ -123,50 +125,60 @@ pub fn finish_show(
     requires { IsShowWalk work.now (parcel_views (λ looks. looks.items) parcels.items) }
     ensures { IfOk result (λ looks. IsMerged work.now looks.items) }
 {
-    let _layers = work.stack.layers();
-    let mut looks = all_looks(alloc, work.stack, parcels)?;
-    sort(&mut looks)?;
+    let mut looks = looks_at_root(alloc, work)?;
+    let mut rest = parcels.into_iter();
+    let mut open = Vec::new(alloc);
+    open_next(&mut open, &mut rest)?;
+    while let Some(mut directory) = open.pop() {
+        let Some((name, look)) = directory.entries.next() else {
+            continue;
+        };
+        let path = directory.path.child(alloc, &name)?;
+        let is_directory = look.is_shown_directory();
+        looks.push((path, look))?;
+        open.push(directory)?;
+        if is_directory {
+            open_next(&mut open, &mut rest)?;
+        }
+    }
     Ok(looks)
 }
 
-// What the root shows, and then what the parcels have put out.
-fn all_looks(
-    alloc: Global,
-    stack: &Stack,
-    parcels: Vec<Parcel<Vec<(Name, Look)>>>,
-) -> Result<Vec<(Path, Look)>, AllocError>
-    ensures { IfOk result (λ looks. looks.items ≡ ([], the_look stack.now [])
-        ∷ flat_map (λ parcel. looks_placed_in parcel.piece.dir parcel.out.items) parcels.items) }
+// What is shown at `/`, as a list.
+fn looks_at_root(alloc: Global, work: &ShowWork<'_>) -> Result<Vec<(Path, Look)>, AllocError>
+    ensures root { IfOk result (λ looks. looks.items ≡ ([], the_look work.now []) ∷ []) }
+    ensures some { 0 < length work.now.layers }
+    ensures each { All IsLayer work.now.layers }
 {
     let mut looks = Vec::new(alloc);
-    let root = Path::root(alloc);
-    let look = stack.look(alloc, 0, &root)?;
-    looks.push((root, look))?;
-    for parcel in parcels {
-        let Parcel { piece, out, .. } = parcel;
-        push_placed(alloc, &piece.dir, out, &mut looks)?;
-    }
+    let look = work.root_look(alloc)?;
+    looks.push((Path::root(alloc), look))?;
     Ok(looks)
 }
 
-// Appends the entries of a directory, with their paths.
-fn push_placed(
-    alloc: Global,
-    dir: &Path,
-    found: Vec<(Name, Look)>,
-    looks: &mut Vec<(Path, Look)>,
-) -> Result<(), AllocError>
-    ensures { OnOk result (looks.new.items ≡ looks.old.items ++ looks_placed_in dir.now found.items) }
-{
-    for (name, look) in found {
-        looks.push((dir.child(alloc, &name)?, look))?;
-    }
-    Ok(())
+// A directory whose entries are being listed: its path, and the entries that are left.
+#[derive(Drop)]
+struct OpenDirectory {
+    path: Path,
+    entries: IntoIter<(Name, Look)>,
 }
 
-fn sort(looks: &mut Vec<(Path, Look)>) -> Result<(), AllocError>
-    ensures same { IsPermutation looks.old.items looks.new.items }
-    ensures sorted { OnOk result (IsSorted look_cmp looks.new.items) }
+// Opens the directory of the next parcel.
+fn open_next(
+    opened: &mut Vec<OpenDirectory>,
+    parcels: &mut IntoIter<Parcel<Vec<(Name, Look)>>>,
+) -> Result<(), AllocError>
+    ensures next { OnOk result ((parcel : ShowParcel) (others : List ShowParcel) → into_iter_items parcels.old ≡ parcel ∷ others
+        → (into_iter_items parcels.new ≡ others) × ((last : OpenDirectory) × ((opened.new.items ≡ opened.old.items ++ last ∷ [])
+        × (last.path ≡ parcel.piece.dir) × (into_iter_items last.entries ≡ parcel.out.items)))) }
+    ensures few { OnOk result (length opened.new.items ≤ length opened.old.items + 1) }
 {
-    looks.sort_by(|one, other| one.0.cmp(&other.0))
+    let Some(Parcel { piece, out, .. }) = parcels.next() else {
+        return Ok(());
+    };
+    opened.push(OpenDirectory {
+        path: piece.dir,
+        entries: out.into_iter(),
+    })?;
+    Ok(())
 }

@@ -4,7 +4,7 @@ ghost use Rattle.ovl_engine.specs.Directories.{show_root};
 
 use crate::command_samples::{contents_of, manifest_of};
 use ovl_board::{Core, CoreFault, Event, Parcel, Piece, plain_walk};
-use ovl_engine::{EmitFault, ShowWork, emit, finish_show, named_blobs, report_of};
+use ovl_engine::{EmitFault, ShowWork, emit, finish_show, named_blobs, report_of, report_of_walk};
 use ovl_inode::{Attrs, Digest, Inode, Kind, Target};
 use ovl_lookup::{Look, Stack};
 use ovl_manifest::{Layer, read_layer};
@@ -210,18 +210,29 @@ fn walked(alloc: Global, stack: &Stack) -> Result<Vec<(Path, Look)>, Fail>
     Ok(finish_show(alloc, &work, parcels)?)
 }
 
-#[test]
-fn the_walk_over_a_stack_gives_its_merged_tree(rt: HostRuntime) -> Result<(), Fail> {
-    let looks = walked(rt.alloc(), &moved_in_opaque(rt.alloc())?)?;
-    assert_eq!(rt;
-        text_of(rt.alloc(), &looks)?.as_str(),
-        "dir 0755 0 0 0 - - /\n\
+// The report of the stack of `moved_in_opaque`.
+const MOVED_IN_REPORT: &str = "dir 0755 0 0 0 - - /\n\
         dir 0755 0 0 0 - - /n\n\
         dir 0755 0 0 0 - - /n/d\n\
         file 0644 0 0 0 1 ca978112ca1bbdcafac231b39a23dc4da786eff8147c4e72b9807785afee48bb /n/d/k\n\
         file 0644 0 0 0 1 ca978112ca1bbdcafac231b39a23dc4da786eff8147c4e72b9807785afee48bb /n-a\n\
-        entries 5\n"
-    );
+        entries 5\n";
+
+#[test]
+fn the_walk_over_a_stack_gives_its_merged_tree(rt: HostRuntime) -> Result<(), Fail> {
+    let looks = walked(rt.alloc(), &moved_in_opaque(rt.alloc())?)?;
+    assert_eq!(rt; text_of(rt.alloc(), &looks)?.as_str(), MOVED_IN_REPORT);
+    Ok(())
+}
+
+#[test]
+fn the_walk_over_a_stack_gives_its_report(rt: HostRuntime) -> Result<(), Fail> {
+    let alloc = rt.alloc();
+    let stack = moved_in_opaque(alloc)?;
+    let work = ShowWork::new(&stack);
+    let parcels = plain_walk(alloc, &work, root_piece(alloc))?;
+    let report = String::from_utf8(report_of_walk(alloc, &work, &parcels)?)?;
+    assert_eq!(rt; report.as_str(), MOVED_IN_REPORT);
     Ok(())
 }
 

@@ -1,5 +1,4 @@
 use Rattle.std.proofs.Common.{◌≡◌, ◌∷◌, refl, sym, ◌∙◌}
-use Rattle.ovl_engine.specs.Directories.{ShowParcel}
 use Rattle.ovl_engine.proofs.listings.enter.Goals as goal
 
 pub returns-clause-next : goal.returns-clause-next
