@@ -6,6 +6,7 @@ use Rattle.std.specs.Ordering.{is_lt, ordering_reverse}
 use Rattle.std.specs.declared.cmp.Ordering.TheVariants.{Less, Equal, Greater}
 use Rattle.std.specs.Cmp.Lexicographic.{nat_list_cmp_total, bytes_decides}
 use Rattle.std.proofs.lemmas.Cmp.{tied_itself, nat_cmp_total}
+use Rattle.std.proofs.lemmas.List.Elements.{All-head, All-tail}
 use Rattle.ovl_names.specs.Names.{PathName, name_eq, name_cmp}
 use Rattle.ovl_names.specs.Paths.{PathNames, child_path}
 use Rattle.ovl_names.specs.Order.{ascends}
@@ -117,7 +118,11 @@ kids_unique stack each path names are = ascending_same names (kids_along stack p
 -- and what is shown there is all that it shows
 named_with : (stack : StackView) (dir : PathNames) (looks : List NamedLook) → All (λ (e : NamedLook). e.1 ≡ look stack (child_path dir e.0)) looks → looks ≡ map (named_look stack dir) (map (λ (e : NamedLook). e.0) looks)
 named_with stack dir [] each = refl
-named_with stack dir (e ∷ looks) each = λ j. (e.0, each.0 j) ∷ named_with stack dir looks each.1 j
+named_with stack dir (e ∷ looks) each =
+    let P : NamedLook → Type 0 = λ e. e.1 ≡ look stack (child_path dir e.0) in
+    let head = All-head P e looks each in
+    let tail = named_with stack dir looks (All-tail P e looks each) in
+    λ j. (e.0, head j) ∷ tail j
 
 pub looks_unique : (stack : StackView) → All IsLayer stack.layers → (dir : PathNames) (looks : List NamedLook) → AreLooks stack dir looks → looks ≡ looks_in stack dir
 looks_unique stack each dir looks are =
