@@ -1,6 +1,7 @@
 -- Worked reports of `vacuum`, computed.
 use Rattle.std.specs.Prelude.{◌≡◌, [], ◌∷◌, codes, refl}
 use Rattle.std.specs.Fmt.{digits}
+use Rattle.hex.specs.Hex.{encode_with}
 use Rattle.ovl_engine.specs.VacuumReports.{vacuum_report}
 
 nothing_removed : vacuum_report [] 1 ≡ codes "removed 0 kept 1\n"
@@ -12,5 +13,5 @@ unfolding digits
 directory_and_file_removed = refl
 
 file_removed : vacuum_report ((codes "d" ∷ codes "a b" ∷ []) ∷ []) 12 ≡ codes "removed /d/a\\x20b\nremoved 1 kept 12\n"
-unfolding digits
+unfolding digits encode_with
 file_removed = refl

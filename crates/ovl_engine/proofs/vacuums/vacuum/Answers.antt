@@ -22,7 +22,8 @@ returns-in_err-done-clause-outcome g c =
 pub returns-clause-keeps : goal.returns-clause-keeps
 returns-clause-keeps g c =
     let all : List Finding = findings (blob_views c.args.blobs.now) c.args.stack.now in
-    let told : c.is_clean.result ≡ is_clean all = c.is_clean.ensures ∙ ap is_clean (c.deref.ensures.value ∙ c.in_ok-found.ensures) in
+    let same : c.deref.result.now ≡ all = c.deref.ensures.value ∙ c.in_ok-found.ensures in
+    let told : c.is_clean.result ≡ is_clean all = c.is_clean.ensures ∙ ap is_clean {y = all} same in
     let clean : is_clean all ≡ true = sym told ∙ c.if-not-is_clean.false in
     vacuum-keeps c.findings_tell_soundness.ensures (blob_views c.args.blobs.now) c.args.stack.now.layers
     (subst (λ (n : ℕ). 0 < n) c.layers-layers.ensures.value c.layers-layers.ensures.some) c.layers-layers.ensures.each clean
