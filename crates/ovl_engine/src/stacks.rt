@@ -3,7 +3,7 @@ ghost use Rattle.ovl_lookup.specs.Stacks.{layer_limit};
 ghost use Rattle.ovl_engine.specs.Refusals.{layers_from, IsUnread};
 
 use crate::faults::EngineFault;
-use ovl_lookup::Stack;
+use ovl_lookup::{Stack, StackFault};
 use ovl_manifest::{Layer, read_layer};
 use std::alloc::Global;
 
@@ -15,10 +15,11 @@ pub(crate) fn read_stack(alloc: Global, manifests: &[Vec<u8>]) -> Result<Stack, 
         (λ fault. IsUnread (layers_from 0 (map (λ manifest. manifest.items) manifests.now)) fault) }
 {
     let layers = read_layers(alloc, manifests)?;
-    match Stack::of(layers) {
+    match Stack::of(alloc, layers) {
         Ok(stack) => Ok(stack),
         // There are as many layers as manifests.
-        Err(_) => Err(EngineFault::Layers),
+        Err(StackFault::Layers) => Err(EngineFault::Layers),
+        Err(StackFault::Memory) => Err(EngineFault::Memory),
     }
 }
 

@@ -72,7 +72,7 @@ pub(crate) fn stack_of(alloc: Global, upper: &str, lower: &str) -> Result<Stack,
     let mut layers = Vec::new(alloc);
     layers.push(layer_of(alloc, upper)?)?;
     layers.push(layer_of(alloc, lower)?)?;
-    Ok(Stack::of(layers)?)
+    Ok(Stack::of(alloc, layers)?)
 }
 
 // The plain walks of the first `count` layers, each from its root.

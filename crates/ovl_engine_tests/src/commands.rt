@@ -287,7 +287,7 @@ fn two_workers_of_a_command_meet_and_one_is_refused(rt: HostRuntime) -> Result<(
 fn stack_with(alloc: Global, directories: &str) -> Result<Stack, Fail> {
     let mut layers = Vec::new(alloc);
     layers.push(read_layer(alloc, &manifest_of(alloc, directories)?)?)?;
-    Ok(Stack::of(layers)?)
+    Ok(Stack::of(alloc, layers)?)
 }
 
 fn root_piece(alloc: Global) -> Piece {

@@ -173,14 +173,14 @@ fn layer_of(alloc: Global, entries: &str) -> Result<Layer, Fail> {
 fn two_directories(alloc: Global) -> Result<Stack, Fail> {
     let mut layers = Vec::new(alloc);
     layers.push(layer_of(alloc, "dir /a, dir /b")?)?;
-    Ok(Stack::of(layers)?)
+    Ok(Stack::of(alloc, layers)?)
 }
 
 fn stack_of(alloc: Global, upper: &str, lower: &str) -> Result<Stack, Fail> {
     let mut layers = Vec::new(alloc);
     layers.push(layer_of(alloc, upper)?)?;
     layers.push(layer_of(alloc, lower)?)?;
-    Ok(Stack::of(layers)?)
+    Ok(Stack::of(alloc, layers)?)
 }
 
 // An absolute redirect in an opaque directory, over what it hides and what it comes from.

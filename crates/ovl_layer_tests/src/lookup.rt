@@ -1,8 +1,8 @@
 ghost use Rattle.std.specs.Prelude.{◌≤◌, length};
 
 use ovl_inode::Kind;
-use ovl_lookup::{Look, Stack, StackFault, Step, walk};
-use ovl_manifest::{Layer, read_layer};
+use ovl_lookup::{DirView, Look, Stack, StackFault, Step, walk};
+use ovl_manifest::{Layer, Sheet, read_layer};
 use ovl_names::{Name, Path};
 use std::alloc::Global;
 use std::test::Fail;
@@ -57,6 +57,14 @@ fn push_entry(alloc: Global, text: &mut String, entry: (&str, &str, &str)) -> Re
     Ok(())
 }
 
+// The sheet of a layer.
+fn sheet_of(alloc: Global, layer: Layer) -> Result<Sheet, Fail> {
+    match Sheet::of(alloc, layer) {
+        Ok(sheet) => Ok(sheet),
+        Err(_) => Err(Fail::from("out of memory")),
+    }
+}
+
 const OPAQUE_OVER_MOVED: [(&str, &str, &str); 3] = [
     ("/n", DIR, IS_OPAQUE),
     ("/n/d", DIR, TO_X),
@@ -78,7 +86,7 @@ fn moved_in_opaque(alloc: Global) -> Result<Stack, Fail> {
     let mut layers = Vec::new(alloc);
     layers.push(upper)?;
     layers.push(lower)?;
-    Ok(Stack::of(layers)?)
+    Ok(Stack::of(alloc, layers)?)
 }
 
 #[test]
@@ -93,7 +101,7 @@ fn a_stack_has_1_to_128_layers(rt: HostRuntime) -> Result<(), Fail> {
         for _ in 0..count {
             layers.push(layer_of(rt.alloc(), &[])?)?;
         }
-        assert_eq!(rt; Stack::of(layers).err(), fault, "at {count}");
+        assert_eq!(rt; Stack::of(rt.alloc(), layers).err(), fault, "at {count}");
     }
     assert_eq!(rt; moved_in_opaque(rt.alloc())?.layers(), 2);
     Ok(())
@@ -120,7 +128,7 @@ fn step_line(alloc: Global, step: &Step) -> Result<String, Fail> {
 
 #[test]
 fn walks_end_where_the_layer_does(rt: HostRuntime) -> Result<(), Fail> {
-    let upper = layer_of(rt.alloc(), &OPAQUE_OVER_MOVED)?;
+    let upper = sheet_of(rt.alloc(), layer_of(rt.alloc(), &OPAQUE_OVER_MOVED)?)?;
     let stack = moved_in_opaque(rt.alloc())?;
     for (path, line) in [
         ("/n/d/k", "nothing /x/k open"),
@@ -154,7 +162,7 @@ fn redirects(alloc: Global) -> Result<Layer, Fail> {
 
 #[test]
 fn walks_follow_the_redirects_that_are_well_formed(rt: HostRuntime) -> Result<(), Fail> {
-    let layer = redirects(rt.alloc())?;
+    let layer = sheet_of(rt.alloc(), redirects(rt.alloc())?)?;
     for (path, line) in [
         ("/a", "found /x open"),
         ("/b", "found /r open"),
@@ -231,7 +239,7 @@ fn metacopies_over(alloc: Global, lowest: &str) -> Result<Stack, Fail> {
     layers.push(upper)?;
     layers.push(middle)?;
     layers.push(lower)?;
-    Ok(Stack::of(layers)?)
+    Ok(Stack::of(alloc, layers)?)
 }
 
 #[test]
@@ -290,6 +298,28 @@ fn directories_have_the_names_that_are_shown(rt: HostRuntime) -> Result<(), Fail
     assert!(rt; stack.own_at(1, &path).is_some());
     let missing = Path::parse(rt.alloc(), "/q")?;
     assert!(rt; stack.own_at(0, &missing).is_none());
+    Ok(())
+}
+
+#[test]
+fn a_view_answers_for_its_directory(rt: HostRuntime) -> Result<(), Fail> {
+    let stack = moved_in_opaque(rt.alloc())?;
+    let path = Path::parse(rt.alloc(), "/n")?;
+    let Some(view) = DirView::of(rt.alloc(), &stack, 0, &path)? else {
+        return Err(Fail::from("no view"));
+    };
+    let names = view.names(rt.alloc(), &stack)?;
+    assert_eq!(rt; joined(rt.alloc(), &names)?.as_str(), "d ");
+    let moved = Name::of(rt.alloc(), "d")?;
+    assert!(rt; view.look(rt.alloc(), &stack, &moved)?.is_shown_directory());
+    let Some(below) = view.child(rt.alloc(), &stack, &moved)? else {
+        return Err(Fail::from("no view below"));
+    };
+    assert_eq!(rt; below.path().shown(rt.alloc())?.as_str(), "/n/d");
+    let looks = below.looks(rt.alloc(), &stack)?;
+    assert_eq!(rt; looks.len(), 1);
+    let file = Name::of(rt.alloc(), "k")?;
+    assert!(rt; below.data(rt.alloc(), &stack, &file)?.is_some());
     Ok(())
 }
 

@@ -1,15 +1,12 @@
 -- The names of the rows directly below one.
-use Rattle.std.proofs.Common.{◌≡◌, ℕ, length, Option, Some, None, List, map, refl, sym, ap, ◌∙◌}
-use Rattle.std.proofs.lemmas.List.{length-map}
-use Rattle.std.specs.Prelude.{slice_get, IsSomeAnd}
+use Rattle.std.proofs.Common.{◌≡◌, ℕ, Option, Some, None, List, map, refl, sym, ap, ◌∙◌}
+use Rattle.std.specs.Prelude.{slice_get}
 use Rattle.std.specs.Option.{option_map}
 use Rattle.std.proofs.lemmas.Option.{slice_get-map}
 use Rattle.ovl_names.specs.Names.{PathName}
 use Rattle.ovl_names.specs.Paths.{PathNames, child_path}
-use Rattle.ovl_manifest.specs.declared.sheets.SheetRow.{SheetRow}
-use Rattle.ovl_manifest.specs.Layers.{Entry, Entries, names_below}
-use Rattle.ovl_manifest.specs.Sheets.{IsRowOf, last_name, path_of, path_at}
-use Rattle.ovl_manifest.proofs.SheetLemmas.{last_name-child}
+use Rattle.ovl_manifest.specs.Layers.{Entries, names_below}
+use Rattle.ovl_manifest.specs.Sheets.{path_at}
 
 module _ (layer : Entries) (directory : PathNames) (kids : List ℕ) (paths : map (path_at layer) kids ≡ map (child_path directory) (names_below layer directory)) where
   pub kid-path : (j kid : ℕ) → slice_get kids j ≡ Some kid → (name : PathName) × (slice_get (names_below layer directory) j ≡ Some name) × (path_at layer kid ≡ child_path directory name)
@@ -26,21 +23,3 @@ module _ (layer : Entries) (directory : PathNames) (kids : List ℕ) (paths : ma
       by (Some name) e =
           let one : Some (path_at layer kid) ≡ Some (child_path directory name) = same ∙ ap (option_map (child_path directory)) e in
           (name, e, cc)
-
-  -- the row of each has the name at its place
-  pub kid-name : (j kid : ℕ) (row : SheetRow) → slice_get kids j ≡ Some kid → IsRowOf layer kid row → slice_get (names_below layer directory) j ≡ row.name
-  kid-name j kid row here is =
-      let own = kid-path j kid here in
-      own.1 ∙ sym (by (slice_get layer kid) refl is.name ∙ (ap last_name own.2 ∙ last_name-child directory own.0))
-    where
-      by : (found : Option Entry) → slice_get layer kid ≡ found → IsSomeAnd found (λ entry. row.name ≡ last_name entry.0) → row.name ≡ last_name (path_at layer kid)
-      by None e never = absurd never
-      by (Some entry) e named = named ∙ ap (λ o. last_name (path_of o)) (sym e)
-
-  -- and has one
-  pub kid-named : (j kid : ℕ) (row : SheetRow) → slice_get kids j ≡ Some kid → IsRowOf layer kid row → (name : PathName) × (row.name ≡ Some name)
-  kid-named j kid row here is = let own = kid-path j kid here in (own.0, sym (kid-name j kid row here is) ∙ own.1)
-
-  -- there are as many
-  pub kids-names : length kids ≡ length (names_below layer directory)
-  kids-names = sym (length-map kids (path_at layer)) ∙ (ap length paths ∙ length-map (names_below layer directory) (child_path directory))

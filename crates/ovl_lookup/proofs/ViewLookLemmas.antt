@@ -23,10 +23,10 @@ use Rattle.ovl_lookup.specs.Passes.{data_below, shown_with}
 use Rattle.ovl_lookup.specs.Views.{Reached, entry_in, below_entry, found_below}
 use Rattle.ovl_lookup.specs.ViewPasses.{names_in, put_top, put_tops, tops_of, look_from_top, looks_from_tops}
 use Rattle.ovl_lookup.specs.DirViews.{place_in, places_in}
-use Rattle.ovl_lookup.proofs.FoundLemmas.{drop_past, bare_file, data_of-metacopy, data_of-bad, data_below-metacopy, data_below-data, data_below-other, data-plain, shown_of-full}
+use Rattle.ovl_lookup.proofs.FoundLemmas.{drop_past, bare_file, data_of-metacopy, data_of-bad, data_below-metacopy, data_below-data, data_below-other, shown_of-full}
 use Rattle.ovl_lookup.proofs.ChildLemmas.{any_found, shown-any}
 use Rattle.ovl_lookup.proofs.WalkFacts.{take-rest}
-use Rattle.ovl_lookup.proofs.ViewSteps.{found-none, found-whiteout, found-entry, put-next, looks-next}
+use Rattle.ovl_lookup.proofs.ViewSteps.{found-whiteout, found-entry, put-next, looks-next}
 use Rattle.ovl_lookup.proofs.TopLemmas.{tops-inside}
 use Rattle.ovl_lookup.proofs.KidNames.{kid-path}
 
@@ -140,16 +140,16 @@ top-inside stack places entries k top is inside at =
     let less : top.1 < length (places_in stack places) = subst (λ (e : PathName × ℕ). e.1 < length (places_in stack places)) (sym at) (all k top inside) in
     omega (arith, less, length-map places (λ own. place_in stack own))
 
-pub looks-more : (stack : StackView) (places : List DirPlace) (tops : List (PathName × ℕ)) (name : PathName) (top : ℕ) (look : Look) (left : List DirPlace) → left ≡ drop top places → look ≡ shown_of (found_below stack.layers name (places_in stack left))
+pub looks-more : (stack : StackView) (places : List DirPlace) (tops : List (PathName × ℕ)) (name : PathName) (top : ℕ) (look : Look) (behind : List DirPlace) → behind ≡ drop top places → look ≡ shown_of (found_below stack.layers name (places_in stack behind))
     → looks_from_tops stack.layers (places_in stack places) (tops ++ (name, top) ∷ []) ≡ looks_from_tops stack.layers (places_in stack places) tops ++ cond (not (is_nothing look)) ((name, look) ∷ []) []
-looks-more stack places tops name top look left rest is =
+looks-more stack places tops name top look behind rest is =
     let same : shown_of (found_below stack.layers name (drop top (places_in stack places))) ≡ look =
     ap (λ (ps : List Reached). shown_of (found_below stack.layers name ps)) (drop-map (λ own. place_in stack own) top places ∙ ap (places_in stack) (sym rest)) ∙ sym is in
     looks-next stack.layers (places_in stack places) tops (name, top)
     ∙ ap (λ (l : Look). looks_from_tops stack.layers (places_in stack places) tops ++ cond (not (is_nothing l)) ((name, l) ∷ []) []) same
 
-pub names-more : (stack : StackView) (places : List DirPlace) (tops : List (PathName × ℕ)) (name : PathName) (top : ℕ) (shown : Bool) (left : List DirPlace) → left ≡ drop top places → shown ≡ not (is_nothing (shown_of (found_below stack.layers name (places_in stack left))))
+pub names-more : (stack : StackView) (places : List DirPlace) (tops : List (PathName × ℕ)) (name : PathName) (top : ℕ) (shown : Bool) (behind : List DirPlace) → behind ≡ drop top places → shown ≡ not (is_nothing (shown_of (found_below stack.layers name (places_in stack behind))))
     → map (λ e. e.0) (looks_from_tops stack.layers (places_in stack places) (tops ++ (name, top) ∷ [])) ≡ map (λ e. e.0) (looks_from_tops stack.layers (places_in stack places) tops) ++ cond shown (name ∷ []) []
-names-more stack places tops name top shown left rest is =
+names-more stack places tops name top shown behind rest is =
     names-next stack.layers (places_in stack places) tops (name, top) shown
     (is ∙ ap (λ (ps : List Reached). not (is_nothing (shown_of (found_below stack.layers name ps)))) (ap (places_in stack) rest ∙ sym (drop-map (λ own. place_in stack own) top places)))

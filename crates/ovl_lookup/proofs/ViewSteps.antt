@@ -1,24 +1,21 @@
 -- The steps of passes over layers and over the places of a view.
 use Rattle.std.proofs.Common.{◌≡◌, ℕ, zero, suc, ◌+◌, Bool, true, false, cond, Option, Some, None, is_some, List, [], ◌∷◌, ◌++◌, drop, map, refl, sym, ap, ◌∙◌, add-one, arith}
-use Rattle.std.specs.Prelude.{◌||◌, ◌&&◌, not, filter, slice_get}
+use Rattle.std.specs.Prelude.{◌||◌, not, filter, slice_get}
 use Rattle.std.proofs.lemmas.List.{map-append}
 use Rattle.std.proofs.lemmas.List.Elements.{filter-append}
 use Rattle.ovl_names.specs.Names.{PathName}
 use Rattle.ovl_names.specs.Paths.{PathNames, child_path}
 use Rattle.ovl_inode.specs.declared.inodes.Inode.{Inode}
 use Rattle.ovl_inode.specs.declared.marks.Mark.{Mark}
-use Rattle.ovl_inode.specs.declared.marks.Mark.TheVariants.{Whiteout, DirOpaque, DirMoved, DirBad, DirPlain, Meta, MetaBad, Leaf}
-use Rattle.ovl_inode.specs.Marks.{mark_of, is_directory, is_whiteout, is_metacopy_mark, is_data, is_regular, has_metacopy}
+use Rattle.ovl_inode.specs.Marks.{mark_of, is_directory, is_whiteout}
 use Rattle.ovl_manifest.specs.Layers.{Entries, entry_at, is_directory_at}
 use Rattle.ovl_lookup.specs.Walk.{walk}
 use Rattle.ovl_lookup.specs.Trace.{things_found}
 use Rattle.ovl_lookup.specs.Views.{Reached, reached, entry_in, entered, below_entry, reached_below, found_below}
-use Rattle.ovl_lookup.specs.Merged.{data_of, is_nothing}
-use Rattle.ovl_lookup.specs.Passes.{data_below}
+use Rattle.ovl_lookup.specs.Merged.{is_nothing}
 use Rattle.ovl_lookup.specs.ViewPasses.{names_in, put_top, put_tops, tops_along, look_from_top, looks_from_tops}
 use Rattle.ovl_lookup.proofs.WalkLaws.{directory_found}
-use Rattle.ovl_lookup.proofs.ViewLemmas.{is_directory_mark, file-marked, reached_below_by, found_below_by}
-use Rattle.ovl_lookup.proofs.FoundLemmas.{bare_file, data_of-metacopy, data_of-bad}
+use Rattle.ovl_lookup.proofs.ViewLemmas.{reached_below_by, found_below_by}
 
 -- what a list has from a place on
 drop-next : {X : Type 0} (xs : List X) (i : ℕ) (x : X) → slice_get xs i ≡ Some x → drop i xs ≡ x ∷ drop (suc i) xs
@@ -90,36 +87,6 @@ module _ (all : List Entries) (name : PathName) (places : List Reached) (k : ℕ
       found-by (Some inode) e
       ∙ ((λ j. cond (w j) [] (inode ∷ below_entry (m j) name (things_found (drop (suc place.layer) all)) (λ other. found_below all other (drop (k + 1) places))))
       ∙ ap (λ n. inode ∷ below_entry mark name (things_found (drop n all)) (λ other. found_below all other (drop (k + 1) places))) next)
-
-  -- the data there, by the mark: what goes on below a metacopy file, or the inode where it has its contents itself
-  pub data-entry : (inode : Inode) (mark : Mark) → entry_in all name place ≡ Some inode → is_whiteout inode ≡ false → mark_of inode ≡ mark → data_below (found_below all name (drop k places)) ≡ cond (is_metacopy_mark mark) (data_below (below_entry mark name (things_found (drop (place.layer + 1) all)) (λ other. found_below all other (drop (k + 1) places)))) (cond (is_data inode) (Some inode) None)
-  data-entry inode mark e w m =
-      ap data_below (found-entry inode mark e w m)
-      ∙ ap (λ (own : Mark). cond (is_metacopy_mark own) (data_below (below_entry mark name (things_found (drop (place.layer + 1) all)) (λ other. found_below all other (drop (k + 1) places)))) (cond (is_data inode) (Some inode) None)) m
-
--- ---- the data of a file without contents, by its mark
-module _ (name : PathName) (from_root : PathNames → List Inode) (beside : PathName → List Inode) where
-  nothing-below : (mark : Mark) → is_metacopy_mark mark ≡ false → is_directory_mark mark ≡ false → below_entry mark name from_root beside ≡ []
-  nothing-below Whiteout meta directory = refl
-  nothing-below MetaBad meta directory = refl
-  nothing-below Leaf meta directory = refl
-  nothing-below (Meta redirect) meta directory = let bad : true ≡ false = meta in cc
-  nothing-below DirOpaque meta directory = let bad : true ≡ false = directory in cc
-  nothing-below (DirMoved redirect) meta directory = let bad : true ≡ false = directory in cc
-  nothing-below DirBad meta directory = let bad : true ≡ false = directory in cc
-  nothing-below DirPlain meta directory = let bad : true ≡ false = directory in cc
-
-  pub data_of-lacking : (inode : Inode) (mark : Mark) → (is_regular inode && has_metacopy inode) ≡ true → is_whiteout inode ≡ false → mark_of inode ≡ mark → data_of (inode ∷ below_entry mark name from_root beside) ≡ data_below (below_entry mark name from_root beside)
-  data_of-lacking inode mark lacks w m = by (is_metacopy_mark (mark_of inode)) refl
-    where
-      below : List Inode
-      below = below_entry mark name from_root beside
-
-      by : (b : Bool) → is_metacopy_mark (mark_of inode) ≡ b → data_of (inode ∷ below) ≡ data_below below
-      by true meta = data_of-metacopy inode below meta (bare_file inode lacks).0 (bare_file inode lacks).1
-      by false meta =
-          data_of-bad inode below meta (bare_file inode lacks).0 (bare_file inode lacks).1
-          ∙ sym (ap data_below (nothing-below mark (ap is_metacopy_mark (sym m) ∙ meta) (ap is_directory_mark (sym m) ∙ file-marked inode w (bare_file inode lacks).0)))
 
 -- ---- the names of the places, each put with its first one
 module _ (layers : List Entries) (tops : List (PathName × ℕ)) where

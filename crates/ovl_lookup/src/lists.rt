@@ -1,9 +1,9 @@
-ghost use Rattle.std.specs.Prelude.{◌≡◌, ◌≤◌, ◌++◌, [], length, drop, IfOk, OnOk};
+ghost use Rattle.std.specs.Prelude.{◌≡◌, ◌≤◌, ◌++◌, [], length, IfOk, OnOk};
 ghost use Rattle.ovl_lookup.specs.Stacks.{from_layer};
 ghost use Rattle.ovl_lookup.specs.Merged.{AreKids, IsMerged};
 ghost use Rattle.ovl_lookup.specs.Passes.{own_names_along, put_names, kids_along, looks_from, looks_placed};
 
-use crate::{Look, Stack, Step};
+use crate::{DirView, Look, Stack, Step};
 use ovl_names::{DEPTH_LIMIT, Name, Path};
 use std::alloc::{AllocError, Global};
 use std::collections::BTreeSet;
@@ -17,8 +17,11 @@ impl Stack {
         ensures { IfOk result (λ names. AreKids (from_layer from self.now) path.now names.items) }
     {
         let _ = &self.layers;
-        let names = self.kids(alloc, from, path)?;
-        Ok(names)
+        let view = DirView::of(alloc, self, from, path)?;
+        match view {
+            Some(view) => view.names(alloc, self),
+            None => Ok(Vec::new(alloc)),
+        }
     }
 
     /// The whole merged tree in path order: each path at which something is shown once, with what is shown there.
@@ -48,7 +51,7 @@ impl Stack {
         }
         let look = self.look(alloc, 0, path)?;
         looks.push((path.copy(alloc)?, look))?;
-        let names = self.kids(alloc, 0, path)?;
+        let names = self.kids(alloc, path)?;
         for name in &names {
             let child = path.child(alloc, name)?;
             self.push_looks(alloc, &child, depth - 1, looks)?;
@@ -57,15 +60,14 @@ impl Stack {
     }
 
     // The layers' own names below a path, along its walks, below which something is shown.
-    fn kids(&self, alloc: Global, from: usize, path: &Path) -> Result<Vec<Name>, AllocError>
-        requires { from ≤ length self.now.layers }
-        ensures { IfOk result (λ names. names.items ≡ kids_along (from_layer from self.now) path.now) }
+    fn kids(&self, alloc: Global, path: &Path) -> Result<Vec<Name>, AllocError>
+        ensures { IfOk result (λ names. names.items ≡ kids_along self.now path.now) }
     {
         let mut names = Vec::new(alloc);
-        let found = self.own_names_along(alloc, from, path)?;
+        let found = self.own_names_along(alloc, path)?;
         for name in found {
             let child = path.child(alloc, &name)?;
-            let look = self.look(alloc, from, &child)?;
+            let look = self.look(alloc, 0, &child)?;
             if !look.is_nothing() {
                 names.push(name)?;
             }
@@ -74,18 +76,12 @@ impl Stack {
     }
 
     // The layers' own names below a path, along its walks.
-    fn own_names_along(
-        &self,
-        alloc: Global,
-        from: usize,
-        path: &Path,
-    ) -> Result<BTreeSet<Name>, AllocError>
-        requires { from ≤ length self.now.layers }
-        ensures { IfOk result (λ found. found.keys ≡ put_names [] (own_names_along (drop from self.now.layers) path.now)) }
+    fn own_names_along(&self, alloc: Global, path: &Path) -> Result<BTreeSet<Name>, AllocError>
+        ensures { IfOk result (λ found. found.keys ≡ put_names [] (own_names_along self.now.layers path.now)) }
     {
         let mut found = BTreeSet::new(alloc);
         let mut next = path.copy(alloc)?;
-        for i in from..self.layers() {
+        for i in 0..self.layers() {
             let own = self.own_names(alloc, i, &next)?;
             put_all(&mut found, own)?;
             let step = self.own_walk(alloc, i, &next)?;

@@ -59,9 +59,10 @@ impl DirView {
         let tops = self.tops(alloc, stack)?;
         for (name, top) in tops {
             let look = look_in(alloc, stack, self.places_from(top), &name)?;
-            if !look.is_nothing() {
-                looks.push((name, look))?;
+            if look.is_nothing() {
+                continue;
             }
+            looks.push((name, look))?;
         }
         Ok(looks)
     }
@@ -75,9 +76,10 @@ impl DirView {
         let mut names = Vec::new(alloc);
         let tops = self.tops(alloc, stack)?;
         for (name, top) in tops {
-            if shows_in(stack, self.places_from(top), &name) {
-                names.push(name)?;
+            if !shows_in(stack, self.places_from(top), &name) {
+                continue;
             }
+            names.push(name)?;
         }
         Ok(names)
     }

@@ -1,11 +1,8 @@
-use Rattle.std.proofs.Common.{◌≡◌, ◌+◌, ◌<◌, ◌≤◌, ◌∙◌, ◌++◌, Bool, true, Some, None, Option, [], is_some, length, take, drop, get_or, sym, ap, subst, refl, arith}
-use Rattle.std.specs.Prelude.{◌||◌}
-use Rattle.std.proofs.Math.Bool.{or-true}
+use Rattle.std.proofs.Common.{◌≡◌, ◌<◌, ◌∙◌, ◌++◌, true, Some, None, [], length, take, drop, get_or, sym, ap, refl, arith}
 use Rattle.std.proofs.lemmas.Bool.Decides.{nat_tests}
 use Rattle.std.proofs.lemmas.List.{take_all}
 use Rattle.ovl_names.specs.Names.{PathName}
 use Rattle.ovl_names.specs.Paths.{PathNames, child_path}
-use Rattle.ovl_inode.specs.declared.inodes.Inode.{Inode}
 use Rattle.ovl_manifest.specs.Layers.{Entries, entry_at, is_directory_at}
 use Rattle.ovl_manifest.specs.Sheets.{path_at}
 use Rattle.ovl_manifest.proofs.NodeLemmas.{entry_at-under}

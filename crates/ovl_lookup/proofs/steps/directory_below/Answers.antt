@@ -1,4 +1,4 @@
-use Rattle.std.proofs.Common.{◌≡◌, [], Option, Some, None, Bool, false, sym, ap, ◌∙◌}
+use Rattle.std.proofs.Common.{[], Option, Some, None, Bool, false, ap, ◌∙◌}
 use Rattle.ovl_names.specs.Paths.{PathNames, child_path}
 use Rattle.ovl_inode.specs.declared.inodes.Inode.{Inode}
 use Rattle.ovl_inode.specs.Marks.{is_directory}

@@ -1,20 +1,16 @@
-use Rattle.std.proofs.Common.{◌≡◌, ◌+◌, ◌<◌, ◌∙◌, Some, None, Option, List, [], ◌∷◌, IfOk, drop, length, sym, ap, subst, arith}
-use Rattle.ovl_names.specs.Names.{PathName}
-use Rattle.ovl_names.specs.Paths.{PathNames}
+use Rattle.std.proofs.Common.{◌≡◌, ◌∙◌, List, drop, sym, ap}
 use Rattle.ovl_inode.specs.declared.inodes.Inode.{Inode}
 use Rattle.ovl_inode.specs.declared.marks.Mark.{Mark}
 use Rattle.ovl_lookup.specs.declared.views.DirPlace.{DirPlace}
 use Rattle.ovl_lookup.specs.declared.looks.Look.{Look}
 use Rattle.ovl_lookup.specs.declared.looks.Look.TheVariants.{Nothing}
 use Rattle.ovl_lookup.specs.Stacks.{StackView}
-use Rattle.ovl_lookup.specs.Trace.{things_found}
 use Rattle.ovl_lookup.specs.Merged.{shown_of, is_nothing}
-use Rattle.ovl_lookup.specs.Passes.{data_below, shown_with}
-use Rattle.ovl_lookup.specs.Views.{Reached, below_entry, found_below}
+use Rattle.ovl_lookup.specs.Views.{found_below}
 use Rattle.ovl_lookup.specs.DirViews.{place_in, places_in}
 use Rattle.ovl_lookup.proofs.ViewSteps.{found-none}
-use Rattle.ovl_lookup.proofs.DirViewLemmas.{place-at, over-at, layer-inside, on-path, on-name, on-none}
-use Rattle.ovl_lookup.proofs.ViewLookLemmas.{slice-places, none-left, whiteout-shows, full-shows, lacking-shows, entry-shows, whiteout-data, own-data, other-data, onward-data}
+use Rattle.ovl_lookup.proofs.DirViewLemmas.{place-at}
+use Rattle.ovl_lookup.proofs.ViewLookLemmas.{whiteout-shows, entry-shows}
 use Rattle.std.proofs.Common.{Bool, true, false}
 use Rattle.std.specs.Prelude.{not}
 use Rattle.ovl_inode.specs.Marks.{is_whiteout}

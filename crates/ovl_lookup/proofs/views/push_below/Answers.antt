@@ -1,17 +1,12 @@
-use Rattle.std.proofs.Common.{◌≡◌, ◌+◌, ◌<◌, ◌∙◌, ◌++◌, true, false, List, [], ◌∷◌, drop, length, sym, ap, subst, arith}
-use Rattle.std.specs.List.{All}
+use Rattle.std.proofs.Common.{◌+◌, ◌∙◌, ◌++◌, List, [], drop, length, sym, ap, arith}
 use Rattle.std.proofs.lemmas.List.{append-nil}
-use Rattle.std.proofs.lemmas.List.Elements.{All-push}
 use Rattle.ovl_names.specs.Paths.{PathNames}
 use Rattle.ovl_names.specs.Names.{PathName}
-use Rattle.ovl_lookup.specs.declared.steps.Entered.{Entered}
 use Rattle.ovl_lookup.specs.declared.views.DirPlace.{DirPlace}
-use Rattle.ovl_lookup.specs.declared.views.PlaceEntry.{PlaceEntry}
 use Rattle.ovl_lookup.specs.Stacks.{StackView}
-use Rattle.ovl_lookup.specs.Passes.{entered_path}
 use Rattle.std.proofs.lemmas.Result.{on_ok_weaker}
-use Rattle.ovl_lookup.specs.Views.{Reached, reached, reached_below, below_entry}
-use Rattle.ovl_lookup.specs.DirViews.{IsPlaceOver, place_in, places_in}
+use Rattle.ovl_lookup.specs.Views.{Reached, reached, reached_below}
+use Rattle.ovl_lookup.specs.DirViews.{place_in, places_in}
 use Rattle.ovl_lookup.proofs.ViewSteps.{below-none, below-file}
 use Rattle.ovl_lookup.proofs.DirViewLemmas.{place-at, over-at, layer-inside, below-step, over-below, on-path, on-name, on-none}
 use Rattle.ovl_lookup.proofs.views.push_below.Goals as goal

@@ -1,7 +1,6 @@
-use Rattle.std.proofs.Common.{◌≡◌, ◌∙◌, ◌+◌, ℕ, Option, Some, None, List, drop, get_or, sym, ap}
+use Rattle.std.proofs.Common.{◌≡◌, ◌∙◌, ◌+◌, ℕ, Some, None, List, drop, sym, ap}
 use Rattle.std.specs.Prelude.{unwrap_or}
 use Rattle.ovl_names.specs.Names.{PathName}
-use Rattle.ovl_manifest.specs.Layers.{Entries}
 use Rattle.ovl_lookup.specs.Stacks.{StackView}
 use Rattle.ovl_lookup.specs.ViewPasses.{names_in, put_top, put_tops}
 use Rattle.ovl_lookup.specs.DirViews.{place_in}

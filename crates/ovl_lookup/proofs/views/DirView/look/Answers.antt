@@ -1,12 +1,10 @@
-use Rattle.std.proofs.Common.{◌≡◌, ◌∙◌, Option, List, IfOk, drop, sym, ap, subst}
+use Rattle.std.proofs.Common.{◌≡◌, ◌∙◌, List, IfOk, sym, ap, subst}
 use Rattle.std.specs.List.{All}
 use Rattle.ovl_inode.specs.declared.inodes.Inode.{Inode}
 use Rattle.ovl_manifest.specs.Layers.{IsLayer}
-use Rattle.ovl_lookup.specs.declared.looks.Look.{Look}
 use Rattle.ovl_lookup.specs.Stacks.{StackView}
 use Rattle.ovl_lookup.specs.Merged.{shown_of}
-use Rattle.ovl_lookup.specs.Passes.{data_below}
-use Rattle.ovl_lookup.specs.Views.{Reached, found_below}
+use Rattle.ovl_lookup.specs.Views.{found_below}
 use Rattle.ovl_lookup.specs.DirViews.{places_in}
 use Rattle.ovl_lookup.proofs.ViewLemmas.{views-find}
 use Rattle.ovl_lookup.proofs.views.DirView.look.Goals as goal

@@ -1,4 +1,4 @@
-use Rattle.std.proofs.Common.{◌≡◌, ◌∙◌, ◌++◌, ◌∷◌, [], ℕ, Bool, true, false, cond, List, length, drop, map, sym, ap, subst}
+use Rattle.std.proofs.Common.{◌≡◌, ◌∙◌, ◌++◌, ◌∷◌, [], Bool, true, false, cond, List, length, drop, sym, ap, subst}
 use Rattle.std.specs.Prelude.{not}
 use Rattle.std.specs.List.{All}
 use Rattle.std.proofs.lemmas.List.{append-nil, map-id}
@@ -9,12 +9,12 @@ use Rattle.ovl_manifest.specs.Layers.{IsLayer}
 use Rattle.ovl_lookup.specs.declared.looks.Look.{Look}
 use Rattle.ovl_lookup.specs.declared.views.DirPlace.{DirPlace}
 use Rattle.ovl_lookup.specs.Stacks.{StackView, from_layer}
-use Rattle.ovl_lookup.specs.Merged.{AreKids, is_nothing}
-use Rattle.ovl_lookup.specs.Views.{Reached, reached}
+use Rattle.ovl_lookup.specs.Merged.{is_nothing}
+use Rattle.ovl_lookup.specs.Views.{reached}
 use Rattle.ovl_lookup.specs.ViewPasses.{AreLooks, tops_of, looks_from_tops}
 use Rattle.ovl_lookup.specs.DirViews.{IsPlaceOver, places_in}
 use Rattle.ovl_lookup.proofs.TopLemmas.{views-look}
-use Rattle.ovl_lookup.proofs.ViewLookLemmas.{top-inside, looks-more, names-more}
+use Rattle.ovl_lookup.proofs.ViewLookLemmas.{top-inside, looks-more}
 use Rattle.ovl_lookup.proofs.views.DirView.looks.Goals as goal
 
 pub places_from-requires : goal.places_from-requires
@@ -26,22 +26,22 @@ pub look_in-requires : goal.look_in-requires
 look_in-requires c =
     subst (λ (ps : List DirPlace). All (IsPlaceOver c.args.stack.now) ps) (sym c.places_from.ensures) (All-drop (IsPlaceOver c.args.stack.now) c.in-Some.top c.args.self.now.places.items c.requires.over)
 
-pub loop-name-preserved-in-Continue-branch-3 : goal.loop-name-preserved-in-Continue-branch-3
-loop-name-preserved-in-Continue-branch-3 c =
-    let stack : StackView = c.args.stack.now in
-    let places : List DirPlace = c.args.self.now.places.items in
-    let more = looks-more stack places c.loop-name.yielded c.in-Some.name c.in-Some.top c.in_ok-look.look c.places_from.result.now c.places_from.ensures c.in_ok-look.ensures in
-    let shown : is_nothing c.in_ok-look.look ≡ false = sym c.is_nothing.ensures ∙ c.if-not-is_nothing.true in
-    c.in_ok-push.ensures.items
-    ∙ (ap (λ (looks : List (PathName × Look)). looks ++ (c.in-Some.name, c.in_ok-look.look) ∷ []) c.loop-name.invariant
-    ∙ sym (more ∙ ap (λ (b : Bool). looks_from_tops stack.layers (places_in stack places) c.loop-name.yielded ++ cond (not b) ((c.in-Some.name, c.in_ok-look.look) ∷ []) []) shown))
-
 pub loop-name-preserved : goal.loop-name-preserved
 loop-name-preserved c =
     let stack : StackView = c.args.stack.now in
     let places : List DirPlace = c.args.self.now.places.items in
     let more = looks-more stack places c.loop-name.yielded c.in-Some.name c.in-Some.top c.in_ok-look.look c.places_from.result.now c.places_from.ensures c.in_ok-look.ensures in
-    let hidden : is_nothing c.in_ok-look.look ≡ true = sym c.is_nothing.ensures ∙ c.if-not-is_nothing.false in
+    let shown : is_nothing c.in_ok-look.look ≡ false = sym c.is_nothing.ensures ∙ c.if-is_nothing.false in
+    c.in_ok-push.ensures.items
+    ∙ (ap (λ (looks : List (PathName × Look)). looks ++ (c.in-Some.name, c.in_ok-look.look) ∷ []) c.loop-name.invariant
+    ∙ sym (more ∙ ap (λ (b : Bool). looks_from_tops stack.layers (places_in stack places) c.loop-name.yielded ++ cond (not b) ((c.in-Some.name, c.in_ok-look.look) ∷ []) []) shown))
+
+pub loop-name-preserved-then-is_nothing : goal.loop-name-preserved-then-is_nothing
+loop-name-preserved-then-is_nothing c =
+    let stack : StackView = c.args.stack.now in
+    let places : List DirPlace = c.args.self.now.places.items in
+    let more = looks-more stack places c.loop-name.yielded c.in-Some.name c.in-Some.top c.in_ok-look.look c.places_from.result.now c.places_from.ensures c.in_ok-look.ensures in
+    let hidden : is_nothing c.in_ok-look.look ≡ true = sym c.is_nothing.ensures ∙ c.if-is_nothing.true in
     c.loop-name.invariant
     ∙ sym (more ∙ (ap (λ (b : Bool). looks_from_tops stack.layers (places_in stack places) c.loop-name.yielded ++ cond (not b) ((c.in-Some.name, c.in_ok-look.look) ∷ []) []) hidden
     ∙ append-nil (looks_from_tops stack.layers (places_in stack places) c.loop-name.yielded)))

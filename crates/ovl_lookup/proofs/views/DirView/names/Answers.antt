@@ -1,20 +1,18 @@
-use Rattle.std.proofs.Common.{◌≡◌, ◌∙◌, ◌++◌, ◌∷◌, [], ℕ, Bool, true, false, cond, List, length, drop, map, sym, ap, subst}
-use Rattle.std.specs.Prelude.{not}
+use Rattle.std.proofs.Common.{◌≡◌, ◌∙◌, ◌++◌, ◌∷◌, [], Bool, cond, List, length, drop, map, sym, ap, subst}
 use Rattle.std.specs.List.{All}
 use Rattle.std.proofs.lemmas.List.{append-nil, map-id}
 use Rattle.std.proofs.lemmas.List.Elements.{All-drop}
 use Rattle.std.proofs.lemmas.Iterator.Consumers.{YieldsList-from_rest, YieldsList-turn, YieldsList-end}
 use Rattle.ovl_names.specs.Names.{PathName}
 use Rattle.ovl_manifest.specs.Layers.{IsLayer}
-use Rattle.ovl_lookup.specs.declared.looks.Look.{Look}
 use Rattle.ovl_lookup.specs.declared.views.DirPlace.{DirPlace}
 use Rattle.ovl_lookup.specs.Stacks.{StackView, from_layer}
-use Rattle.ovl_lookup.specs.Merged.{AreKids, is_nothing}
-use Rattle.ovl_lookup.specs.Views.{Reached, reached}
-use Rattle.ovl_lookup.specs.ViewPasses.{AreLooks, tops_of, looks_from_tops}
+use Rattle.ovl_lookup.specs.Merged.{AreKids}
+use Rattle.ovl_lookup.specs.Views.{reached}
+use Rattle.ovl_lookup.specs.ViewPasses.{tops_of, looks_from_tops}
 use Rattle.ovl_lookup.specs.DirViews.{IsPlaceOver, places_in}
 use Rattle.ovl_lookup.proofs.TopLemmas.{views-look}
-use Rattle.ovl_lookup.proofs.ViewLookLemmas.{top-inside, looks-more, names-more}
+use Rattle.ovl_lookup.proofs.ViewLookLemmas.{top-inside, names-more}
 use Rattle.ovl_lookup.proofs.views.DirView.names.Goals as goal
 
 pub places_from-requires : goal.places_from-requires
@@ -26,22 +24,22 @@ pub shows_in-requires : goal.shows_in-requires
 shows_in-requires c =
     subst (λ (ps : List DirPlace). All (IsPlaceOver c.args.stack.now) ps) (sym c.places_from.ensures) (All-drop (IsPlaceOver c.args.stack.now) c.in-Some.top c.args.self.now.places.items c.requires.over)
 
-pub loop-name-preserved-in-Continue-branch-2 : goal.loop-name-preserved-in-Continue-branch-2
-loop-name-preserved-in-Continue-branch-2 c =
-    let stack : StackView = c.args.stack.now in
-    let places : List DirPlace = c.args.self.now.places.items in
-    let more = names-more stack places c.loop-name.yielded c.in-Some.name c.in-Some.top c.shows_in.result c.places_from.result.now c.places_from.ensures c.shows_in.ensures in
-    c.in_ok-push.ensures.items
-    ∙ (ap (λ (names : List PathName). names ++ c.in-Some.name ∷ []) c.loop-name.invariant
-    ∙ sym (more ∙ ap (λ (b : Bool). map (λ e. e.0) (looks_from_tops stack.layers (places_in stack places) c.loop-name.yielded) ++ cond b (c.in-Some.name ∷ []) []) c.if-shows_in.true))
-
 pub loop-name-preserved : goal.loop-name-preserved
 loop-name-preserved c =
     let stack : StackView = c.args.stack.now in
     let places : List DirPlace = c.args.self.now.places.items in
     let more = names-more stack places c.loop-name.yielded c.in-Some.name c.in-Some.top c.shows_in.result c.places_from.result.now c.places_from.ensures c.shows_in.ensures in
+    c.in_ok-push.ensures.items
+    ∙ (ap (λ (names : List PathName). names ++ c.in-Some.name ∷ []) c.loop-name.invariant
+    ∙ sym (more ∙ ap (λ (b : Bool). map (λ e. e.0) (looks_from_tops stack.layers (places_in stack places) c.loop-name.yielded) ++ cond b (c.in-Some.name ∷ []) []) c.if-not-shows_in.false))
+
+pub loop-name-preserved-then-not-shows_in : goal.loop-name-preserved-then-not-shows_in
+loop-name-preserved-then-not-shows_in c =
+    let stack : StackView = c.args.stack.now in
+    let places : List DirPlace = c.args.self.now.places.items in
+    let more = names-more stack places c.loop-name.yielded c.in-Some.name c.in-Some.top c.shows_in.result c.places_from.result.now c.places_from.ensures c.shows_in.ensures in
     c.loop-name.invariant
-    ∙ sym (more ∙ (ap (λ (b : Bool). map (λ e. e.0) (looks_from_tops stack.layers (places_in stack places) c.loop-name.yielded) ++ cond b (c.in-Some.name ∷ []) []) c.if-shows_in.false
+    ∙ sym (more ∙ (ap (λ (b : Bool). map (λ e. e.0) (looks_from_tops stack.layers (places_in stack places) c.loop-name.yielded) ++ cond b (c.in-Some.name ∷ []) []) c.if-not-shows_in.true
     ∙ append-nil (map (λ e. e.0) (looks_from_tops stack.layers (places_in stack places) c.loop-name.yielded))))
 
 pub returns : goal.returns

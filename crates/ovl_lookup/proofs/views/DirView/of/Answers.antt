@@ -1,4 +1,4 @@
-use Rattle.std.proofs.Common.{◌≡◌, ◌<◌, ◌≤◌, ◌∙◌, ◌++◌, List, [], drop, length, refl, sym, ap, subst, arith}
+use Rattle.std.proofs.Common.{◌≡◌, ◌<◌, ◌∙◌, ◌++◌, List, drop, length, refl, sym, ap, subst, arith}
 use Rattle.std.specs.List.{All}
 use Rattle.std.proofs.lemmas.Bool.Decides.{nat_tests}
 use Rattle.std.proofs.lemmas.List.Elements.{All-nil}
@@ -6,9 +6,9 @@ use Rattle.ovl_names.specs.Paths.{PathNames}
 use Rattle.ovl_manifest.specs.Layers.{IsLayer}
 use Rattle.ovl_lookup.specs.declared.views.DirPlace.{DirPlace}
 use Rattle.ovl_lookup.specs.Stacks.{StackView}
-use Rattle.ovl_lookup.specs.Views.{Reached, reached, reached_below}
+use Rattle.ovl_lookup.specs.Views.{reached}
 use Rattle.ovl_lookup.specs.DirViews.{IsPlaceOver, places_in}
-use Rattle.ovl_lookup.proofs.ViewLemmas.{views-show, views-go_on}
+use Rattle.ovl_lookup.proofs.ViewLemmas.{views-show}
 use Rattle.ovl_lookup.proofs.DirViewLemmas.{some-places, no-places}
 use Rattle.ovl_lookup.proofs.views.DirView.of.Goals as goal
 
