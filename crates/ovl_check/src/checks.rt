@@ -92,14 +92,7 @@ fn directory_out(
 {
     let mut findings = Vec::new(alloc);
     push_directory(alloc, work, layer, &directory, &mut findings)?;
-    push_files(
-        alloc,
-        work,
-        layer,
-        &directory,
-        &directory.children,
-        &mut findings,
-    )?;
+    push_files(alloc, work, layer, &directory, &mut findings)?;
     let moved = is_moved(&directory.mark);
     let Directory { next, closed, .. } = directory;
     Ok(CheckOut {
@@ -151,17 +144,15 @@ fn push_files(
     work: &CheckWork<'_>,
     layer: u16,
     directory: &Directory<'_>,
-    children: &[Child<'_>],
     findings: &mut Vec<Finding>,
 ) -> Result<(), AllocError>
     requires inside { layer < length work.now.stack.now.layers }
     requires gathered { IsGathered (layer_at work.now.stack.now layer) directory.now }
     requires below { IsBelowOf work.now.stack.now layer directory.now }
-    requires children { children.now ≡ directory.now.children.items }
     ensures { OnOk result (findings.new.items ≡ findings.old.items
-        ++ flat_map (λ child. found_at_child (check_view work.now) layer directory.now.path.now (child_seen child)) children.now) }
+        ++ flat_map (λ child. found_at_child (check_view work.now) layer directory.now.path.now (child_seen child)) directory.now.children.items) }
 {
-    for child in children {
+    for child in &directory.children {
         push_file(alloc, work, layer, directory, child, findings)?;
     }
     Ok(())

@@ -18,7 +18,7 @@ returns c =
     seen-same work (directory_piece c.args.layer directory.path.now) _ directory.next directory.closed _ _
     (ap (λ (o : Option Inode). elim o as (λ _. Bool) [ Some i ↦ is_directory i | None ↦ false ]) gathered.inode ∙ gathered.kind)
     (found-all work c.args.layer directory gathered c.new-findings.result.items c.push_directory.new.findings.items _ c.new-findings.ensures.items c.in_ok-push_directory.ensures
-    (c.in_ok-push_files.ensures ∙ ap (λ (children : List Child). c.push_directory.new.findings.items ++ flat_map (λ child. found_at_child work c.args.layer directory.path.now (child_seen child)) children) c.deref.ensures.value))
+    c.in_ok-push_files.ensures)
     gathered.next
     gathered.closed
     c.place_of.ensures

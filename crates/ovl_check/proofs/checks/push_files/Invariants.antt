@@ -8,4 +8,4 @@ abbrev pub invariant-loop-child : goal.invariant-loop-child
 invariant-loop-child l =
     l.findings.items
     ≡ l.initial.findings.items
-    ++ flat_map (λ child. found_at_child (check_view l.fn.work) l.fn.layer l.fn.directory.path.now (child_seen child)) (take l.child-index l.children)
+    ++ flat_map (λ child. found_at_child (check_view l.fn.work) l.fn.layer l.fn.directory.path.now (child_seen child)) (take l.child-index l.fn.directory.children.items)
