@@ -13,4 +13,7 @@ pub mod LookLaws
 pub mod PathLemmas
 pub mod EntryLaws
 pub mod SoundLaws
+pub mod AttributeLaws
+pub mod ShownLaws
+pub mod StatedLaws
 mod Rows
