@@ -40,7 +40,7 @@ use Rattle.ovl_lookup.proofs.ShownLaws.{by_reading, IsVisible, visible-twice, at
 use Rattle.ovl_lookup.proofs.SoundLaws.{Faultless, sound-first, sound-rest, sound-whole}
 use Rattle.ovl_lookup.proofs.WalkLaws.{directory_found, mark-child, by_child, same-mark, same-turn, same-walk, Beyond, walk-end, walk-past, BeyondFrom, end-from, is_shut-at}
 use Rattle.ovl_deref.specs.Deref.{any_prefix, is_in_moved, inode_shown, unfolded, full_attributes, filled, dereferenced_inode, IsDereferenced}
-use Rattle.ovl_deref.specs.DerefLaws.{DerefKeepsTree, DerefKeepsSoundness}
+use Rattle.ovl_deref.specs.Laws.{DerefKeepsTree, DerefKeepsSoundness}
 
 -- ---- a test at some prefix
 

@@ -36,7 +36,7 @@ use Rattle.ovl_lookup.proofs.ShownLaws.{shown-visible, attribute-hidden, is_brok
 use Rattle.ovl_lookup.proofs.StatedLaws.{shown-sound, shown-unescaped, shown-named, sound-with, sound-kind, sound-attributes, unescaped-filter}
 use Rattle.ovl_lookup.proofs.WalkLaws.{directory_found, mark-child}
 use Rattle.ovl_deref.specs.Deref.{any_prefix, is_in_moved, inode_shown, unfolded, full_attributes, filled, dereferenced_inode, dereferenced_at, IsDereferenced}
-use Rattle.ovl_deref.specs.DerefLaws.{DerefGivesLayer}
+use Rattle.ovl_deref.specs.Laws.{DerefGivesLayer}
 use Rattle.ovl_deref.proofs.DerefLemmas.{any_prefix-child, moved-directory, full-attribute}
 
 -- ---- attributes of an unfolded directory
