@@ -102,27 +102,19 @@ shows-some Nothing inode e = let bad : None ≡ Some inode = e in cc
 shows-some (Shown other) inode e = refl
 shows-some (Broken other) inode e = refl
 
-module _ (top : Entries) (below : StackView) (is : IsLayer top) (each : All IsLayer below.layers) (sound : IsSoundStack (over top below)) where
+module _ (top : Entries) (below : StackView) (is : IsLayer top) (each : All IsLayer below.layers) where
   each_over : All IsLayer (over top below).layers
   each_over = all-over top below is each
 
-  shown_there : (path : PathNames) (inode : Inode) → inode_shown (look (over top below) path) ≡ Some inode → look (over top below) path ≡ Shown inode
-  shown_there path inode some = by (look (over top below) path) refl (never-broken (over top below) each_over sound path) some
-    where
-      by : (shown : Look) → look (over top below) path ≡ shown → is_broken shown ≡ false → inode_shown shown ≡ Some inode → look (over top below) path ≡ Shown inode
-      by Nothing e b s = let bad : None ≡ Some inode = s in cc
-      by (Shown other) e b s = let same : other ≡ inode = cc in e ∙ ap (λ (i : Inode). Shown i) same
-      by (Broken other) e b s = let bad : true ≡ false = b in cc
-
   -- outside of a moved directory, by the entry there
-  outside : (path : PathNames) → is_in_moved top path ≡ false → dereferenced_at top below path ≡ option_map (dereferenced_inode top below path) (entry_at top path)
+  pub outside : (path : PathNames) → is_in_moved top path ≡ false → dereferenced_at top below path ≡ option_map (dereferenced_inode top below path) (entry_at top path)
   outside path e = ap (λ b. cond b (inode_shown (look (over top below) path)) (option_map (dereferenced_inode top below path) (entry_at top path))) e
 
-  within : (path : PathNames) → is_in_moved top path ≡ true → dereferenced_at top below path ≡ inode_shown (look (over top below) path)
+  pub within : (path : PathNames) → is_in_moved top path ≡ true → dereferenced_at top below path ≡ inode_shown (look (over top below) path)
   within path e = ap (λ b. cond b (inode_shown (look (over top below) path)) (option_map (dereferenced_inode top below path) (entry_at top path))) e
 
   -- a moved entry is a directory
-  moved_entry : (path : PathNames) → is_moved (mark_at top path) ≡ true → (inode : Inode) × (entry_at top path ≡ Some inode) × (is_directory inode ≡ true)
+  pub moved_entry : (path : PathNames) → is_moved (mark_at top path) ≡ true → (inode : Inode) × (entry_at top path ≡ Some inode) × (is_directory inode ≡ true)
   moved_entry path moved = by (last-name path)
     where
       by : (path ≡ []) ⊎ ((directory : PathNames) × (name : PathName) × (path ≡ child_path directory name)) → (inode : Inode) × (entry_at top path ≡ Some inode) × (is_directory inode ≡ true)
@@ -136,7 +128,7 @@ module _ (top : Entries) (below : StackView) (is : IsLayer top) (each : All IsLa
               (inode, f, moved-directory inode (ap is_moved (sym (mark-child top directory name (Some inode) (ap (entry_at top) (sym e) ∙ f))) ∙ (ap (λ (p : PathNames). is_moved (mark_at top p)) (sym e) ∙ moved)))
 
   -- a directory of the top layer stays one
-  directory_stays : (path : PathNames) → at_moved top path ≡ false → is_directory_at top path ≡ true → directory_found (dereferenced_at top below path) ≡ true
+  pub directory_stays : (path : PathNames) → at_moved top path ≡ false → is_directory_at top path ≡ true → directory_found (dereferenced_at top below path) ≡ true
   directory_stays path free holds =
       let parts = neither (is_in_moved top path) (is_moved (mark_at top path)) (sym (at_moved-parts top path) ∙ free) in
       let found = directory-entry top path holds in
@@ -148,7 +140,7 @@ module _ (top : Entries) (below : StackView) (is : IsLayer top) (each : All IsLa
       by inode false m d = ap (λ c. is_directory (cond c (filled inode (look (over top below) path)) inode)) m ∙ d
       by inode true m d = let bad : false ≡ true = sym (metacopy-file inode m).0 ∙ d in cc
 
-  parent-kept : (path : PathNames) (name : PathName) (inode : Inode) → dereferenced_at top below (child_path path name) ≡ Some inode → directory_found (dereferenced_at top below path) ≡ true
+  pub parent-kept : (path : PathNames) (name : PathName) (inode : Inode) → dereferenced_at top below (child_path path name) ≡ Some inode → directory_found (dereferenced_at top below path) ≡ true
   parent-kept path name inode here = by (at_moved top path) refl
     where
       by : (b : Bool) → at_moved top path ≡ b → directory_found (dereferenced_at top below path) ≡ true
@@ -172,108 +164,117 @@ module _ (top : Entries) (below : StackView) (is : IsLayer top) (each : All IsLa
               let bad : None ≡ Some inode = sym (outside (child_path path name) (in_moved-child top path name ∙ m) ∙ ap (option_map (dereferenced_inode top below (child_path path name))) f) ∙ here in cc
           split (Some i) f = directory_stays path m (entry-parent top path name i is f)
 
-  -- what it has can be stated
-  record Stated (path : PathNames) (inode : Inode) : Type 0 where
-    pub named : has_names path ≡ true
-    pub well : is_sound_inode inode ≡ true
-    pub bare : has_escaped_name inode.attrs ≡ false
+  module _ (sound : IsSoundStack (over top below)) where
+    shown_there : (path : PathNames) (inode : Inode) → inode_shown (look (over top below) path) ≡ Some inode → look (over top below) path ≡ Shown inode
+    shown_there path inode some = by (look (over top below) path) refl (never-broken (over top below) each_over sound path) some
+      where
+        by : (shown : Look) → look (over top below) path ≡ shown → is_broken shown ≡ false → inode_shown shown ≡ Some inode → look (over top below) path ≡ Shown inode
+        by Nothing e b s = let bad : None ≡ Some inode = s in cc
+        by (Shown other) e b s = let same : other ≡ inode = cc in e ∙ ap (λ (i : Inode). Shown i) same
+        by (Broken other) e b s = let bad : true ≡ false = b in cc
 
-  unfolded_well : (inode : Inode) → is_directory inode ≡ true → is_sound_inode inode ≡ true → is_sound_inode (unfolded inode) ≡ true
-  unfolded_well inode directory well =
-      sound-with inode inode.kind (with_attribute (visible_attributes inode.attrs) opaque_name (codes "y")) well
-      (directory-kind inode.kind (is_some (attribute (with_attribute (visible_attributes inode.attrs) opaque_name (codes "y")) metacopy_name)) directory)
-      (are_attributes-with (visible_attributes inode.attrs) opaque_name (codes "y") (are_attributes-visible inode.attrs (sound-attributes inode well)) opaque_named refl)
+    -- what it has can be stated
+    record Stated (path : PathNames) (inode : Inode) : Type 0 where
+      pub named : has_names path ≡ true
+      pub well : is_sound_inode inode ≡ true
+      pub bare : has_escaped_name inode.attrs ≡ false
 
-  full_well : (inode : Inode) (kind : Kind) → is_sound_inode inode ≡ true → is_sound_kind kind false ≡ true → is_sound_inode (record inode { kind = kind; attrs = full_attributes inode.attrs }) ≡ true
-  full_well inode kind well kinds =
-      let parts = both {a = list_all is_attribute inode.attrs} {b = ascends attribute_cmp inode.attrs} (sound-attributes inode well) in
-      sound-with inode kind (full_attributes inode.attrs) well
-      (ap (λ o. is_sound_kind kind (is_some o)) (full-attribute inode.attrs metacopy_name false refl) ∙ kinds)
-      (λ j. list_all-filter is_attribute (λ attr. not (name_eq attr.0 metacopy_name || name_eq attr.0 redirect_name)) inode.attrs parts.0 j
-      && ascends-filter attribute_cmp (λ attr. not (name_eq attr.0 metacopy_name || name_eq attr.0 redirect_name)) inode.attrs parts.1 j)
+    unfolded_well : (inode : Inode) → is_directory inode ≡ true → is_sound_inode inode ≡ true → is_sound_inode (unfolded inode) ≡ true
+    unfolded_well inode directory well =
+        sound-with inode inode.kind (with_attribute (visible_attributes inode.attrs) opaque_name (codes "y")) well
+        (directory-kind inode.kind (is_some (attribute (with_attribute (visible_attributes inode.attrs) opaque_name (codes "y")) metacopy_name)) directory)
+        (are_attributes-with (visible_attributes inode.attrs) opaque_name (codes "y") (are_attributes-visible inode.attrs (sound-attributes inode well)) opaque_named refl)
 
-  shown_kind : (path : PathNames) (inode : Inode) → look (over top below) path ≡ Shown inode → is_sound_kind inode.kind false ≡ true
-  shown_kind path inode shown =
-      let v = shown-visible (over top below) each_over path inode shown in
-      ap (λ o. is_sound_kind inode.kind (is_some o)) (sym (ap (λ a. attribute a metacopy_name) (sym v.bare) ∙ attribute-hidden inode.attrs metacopy_name refl))
-      ∙ sound-kind inode (shown-sound (over top below) each_over path inode shown)
+    full_well : (inode : Inode) (kind : Kind) → is_sound_inode inode ≡ true → is_sound_kind kind false ≡ true → is_sound_inode (record inode { kind = kind; attrs = full_attributes inode.attrs }) ≡ true
+    full_well inode kind well kinds =
+        let parts = both {a = list_all is_attribute inode.attrs} {b = ascends attribute_cmp inode.attrs} (sound-attributes inode well) in
+        sound-with inode kind (full_attributes inode.attrs) well
+        (ap (λ o. is_sound_kind kind (is_some o)) (full-attribute inode.attrs metacopy_name false refl) ∙ kinds)
+        (λ j. list_all-filter is_attribute (λ attr. not (name_eq attr.0 metacopy_name || name_eq attr.0 redirect_name)) inode.attrs parts.0 j
+        && ascends-filter attribute_cmp (λ attr. not (name_eq attr.0 metacopy_name || name_eq attr.0 redirect_name)) inode.attrs parts.1 j)
 
-  inode_stated : (path : PathNames) (inode : Inode) → entry_at top path ≡ Some inode → is_sound_inode (dereferenced_inode top below path inode) ≡ true
-  inode_stated path inode here = by (is_moved (mark_at top path)) refl (is_metacopy inode) (look (over top below) path) refl
-    where
-      well : is_sound_inode inode ≡ true
-      well = lookup-all (λ (entry : Entry). is_sound_inode entry.1) path top inode is.sound here
+    shown_kind : (path : PathNames) (inode : Inode) → look (over top below) path ≡ Shown inode → is_sound_kind inode.kind false ≡ true
+    shown_kind path inode shown =
+        let v = shown-visible (over top below) each_over path inode shown in
+        ap (λ o. is_sound_kind inode.kind (is_some o)) (sym (ap (λ a. attribute a metacopy_name) (sym v.bare) ∙ attribute-hidden inode.attrs metacopy_name refl))
+        ∙ sound-kind inode (shown-sound (over top below) each_over path inode shown)
 
-      by : (m : Bool) → is_moved (mark_at top path) ≡ m → (c : Bool) (shown : Look) → look (over top below) path ≡ shown → is_sound_inode (cond m (unfolded inode) (cond c (filled inode shown) inode)) ≡ true
-      by true m c shown s =
-          let found = moved_entry path m in
-          let one : Some found.0 ≡ Some inode = sym found.1 ∙ here in
-          let same : found.0 ≡ inode = cc in
-          unfolded_well inode (ap is_directory (sym same) ∙ found.2) well
-      by false m false shown s = well
-      by false m true (Shown i) s = full_well inode i.kind well (shown_kind path i s)
-      by false m true Nothing s = well
-      by false m true (Broken i) s = well
+    inode_stated : (path : PathNames) (inode : Inode) → entry_at top path ≡ Some inode → is_sound_inode (dereferenced_inode top below path inode) ≡ true
+    inode_stated path inode here = by (is_moved (mark_at top path)) refl (is_metacopy inode) (look (over top below) path) refl
+      where
+        well : is_sound_inode inode ≡ true
+        well = lookup-all (λ (entry : Entry). is_sound_inode entry.1) path top inode is.sound here
 
-  inode_bare : (path : PathNames) (inode : Inode) → entry_at top path ≡ Some inode → has_escaped_name (dereferenced_inode top below path inode).attrs ≡ false
-  inode_bare path inode here = by (is_moved (mark_at top path)) (is_metacopy inode) (look (over top below) path)
-    where
-      bare : has_escaped_name inode.attrs ≡ false
-      bare = not_true (has_escaped_name inode.attrs) (lookup-all (λ (entry : Entry). not (has_escaped_name entry.1.attrs)) path top inode is.unescaped here)
+        by : (m : Bool) → is_moved (mark_at top path) ≡ m → (c : Bool) (shown : Look) → look (over top below) path ≡ shown → is_sound_inode (cond m (unfolded inode) (cond c (filled inode shown) inode)) ≡ true
+        by true m c shown s =
+            let found = moved_entry path m in
+            let one : Some found.0 ≡ Some inode = sym found.1 ∙ here in
+            let same : found.0 ≡ inode = cc in
+            unfolded_well inode (ap is_directory (sym same) ∙ found.2) well
+        by false m false shown s = well
+        by false m true (Shown i) s = full_well inode i.kind well (shown_kind path i s)
+        by false m true Nothing s = well
+        by false m true (Broken i) s = well
 
-      by : (m c : Bool) (shown : Look) → has_escaped_name (cond m (unfolded inode) (cond c (filled inode shown) inode)).attrs ≡ false
-      by true c shown = unescaped-with (visible_attributes inode.attrs) opaque_name (codes "y") refl (unescaped-filter (λ attr. not (is_overlay_name attr.0)) inode.attrs bare)
-      by false false shown = bare
-      by false true (Shown i) = unescaped-filter (λ attr. not (name_eq attr.0 metacopy_name || name_eq attr.0 redirect_name)) inode.attrs bare
-      by false true Nothing = bare
-      by false true (Broken i) = bare
+    inode_bare : (path : PathNames) (inode : Inode) → entry_at top path ≡ Some inode → has_escaped_name (dereferenced_inode top below path inode).attrs ≡ false
+    inode_bare path inode here = by (is_moved (mark_at top path)) (is_metacopy inode) (look (over top below) path)
+      where
+        bare : has_escaped_name inode.attrs ≡ false
+        bare = not_true (has_escaped_name inode.attrs) (lookup-all (λ (entry : Entry). not (has_escaped_name entry.1.attrs)) path top inode is.unescaped here)
 
-  stated : (path : PathNames) (inode : Inode) → dereferenced_at top below path ≡ Some inode → Stated path inode
-  stated path inode here = by (is_in_moved top path) refl
-    where
-      by : (b : Bool) → is_in_moved top path ≡ b → Stated path inode
-      by true m =
-          let some : inode_shown (look (over top below) path) ≡ Some inode = sym (within path m) ∙ here in
-          let shown = shown_there path inode some in
-          record {
-            named = shown-named (over top below) each_over path (shows-some (look (over top below) path) inode some);
-            well = shown-sound (over top below) each_over path inode shown;
-            bare = shown-unescaped (over top below) each_over path inode shown;
-          }
-      by false m = split (entry_at top path) refl
-        where
-          split : (found : Option Inode) → entry_at top path ≡ found → Stated path inode
-          split None f = let bad : None ≡ Some inode = sym (outside path m ∙ ap (option_map (dereferenced_inode top below path)) f) ∙ here in cc
-          split (Some i) f =
-              let one : Some (dereferenced_inode top below path i) ≡ Some inode = sym (outside path m ∙ ap (option_map (dereferenced_inode top below path)) f) ∙ here in
-              let same : dereferenced_inode top below path i ≡ inode = cc in
-              record {
-                named = lookup-all (λ (entry : Entry). has_names entry.0) path top i is.named f;
-                well = ap is_sound_inode (sym same) ∙ inode_stated path i f;
-                bare = ap (λ (n : Inode). has_escaped_name n.attrs) (sym same) ∙ inode_bare path i f;
-              }
+        by : (m c : Bool) (shown : Look) → has_escaped_name (cond m (unfolded inode) (cond c (filled inode shown) inode)).attrs ≡ false
+        by true c shown = unescaped-with (visible_attributes inode.attrs) opaque_name (codes "y") refl (unescaped-filter (λ attr. not (is_overlay_name attr.0)) inode.attrs bare)
+        by false false shown = bare
+        by false true (Shown i) = unescaped-filter (λ attr. not (name_eq attr.0 metacopy_name || name_eq attr.0 redirect_name)) inode.attrs bare
+        by false true Nothing = bare
+        by false true (Broken i) = bare
 
-  pub layer-but_limits : (entries : Entries) → ascends entry_cmp entries ≡ true → IsDereferenced entries top below → list_all (λ entry. is_within_limits entry.0) entries ≡ true → nat_le (length entries) entry_limit ≡ true → IsLayer entries
-  layer-but_limits entries up made limited counted = record {
-    in_order = up;
-    rooted = ap directory_found (made []) ∙ directory_stays [] refl is.rooted;
-    closed = all-entries (λ entry. has_parent entries entry.0) entries up parents;
-    named = all-entries (λ entry. has_names entry.0) entries up (λ path inode here. (stated path inode (sym (made path) ∙ here)).named);
-    sound = all-entries (λ entry. is_sound_inode entry.1) entries up (λ path inode here. (stated path inode (sym (made path) ∙ here)).well);
-    unescaped = all-entries (λ entry. not (has_escaped_name entry.1.attrs)) entries up (λ path inode here. ap not (stated path inode (sym (made path) ∙ here)).bare);
-    limited = limited;
-    counted = counted;
-  }
-    where
-      parents : (path : PathNames) (inode : Inode) → entry_at entries path ≡ Some inode → has_parent entries path ≡ true
-      parents path inode here = by (last-name path)
-        where
-          by : (path ≡ []) ⊎ ((directory : PathNames) × (name : PathName) × (path ≡ child_path directory name)) → has_parent entries path ≡ true
-          by (inl e) = ap (has_parent entries) e
-          by (inr (directory, name, e)) =
-              ap (has_parent entries) e
-              ∙ directory-parent_of entries directory name
-              (ap directory_found (made directory) ∙ parent-kept directory name inode (sym (made (child_path directory name)) ∙ (ap (entry_at entries) (sym e) ∙ here)))
+    stated : (path : PathNames) (inode : Inode) → dereferenced_at top below path ≡ Some inode → Stated path inode
+    stated path inode here = by (is_in_moved top path) refl
+      where
+        by : (b : Bool) → is_in_moved top path ≡ b → Stated path inode
+        by true m =
+            let some : inode_shown (look (over top below) path) ≡ Some inode = sym (within path m) ∙ here in
+            let shown = shown_there path inode some in
+            record {
+              named = shown-named (over top below) each_over path (shows-some (look (over top below) path) inode some);
+              well = shown-sound (over top below) each_over path inode shown;
+              bare = shown-unescaped (over top below) each_over path inode shown;
+            }
+        by false m = split (entry_at top path) refl
+          where
+            split : (found : Option Inode) → entry_at top path ≡ found → Stated path inode
+            split None f = let bad : None ≡ Some inode = sym (outside path m ∙ ap (option_map (dereferenced_inode top below path)) f) ∙ here in cc
+            split (Some i) f =
+                let one : Some (dereferenced_inode top below path i) ≡ Some inode = sym (outside path m ∙ ap (option_map (dereferenced_inode top below path)) f) ∙ here in
+                let same : dereferenced_inode top below path i ≡ inode = cc in
+                record {
+                  named = lookup-all (λ (entry : Entry). has_names entry.0) path top i is.named f;
+                  well = ap is_sound_inode (sym same) ∙ inode_stated path i f;
+                  bare = ap (λ (n : Inode). has_escaped_name n.attrs) (sym same) ∙ inode_bare path i f;
+                }
+
+    pub layer-but_limits : (entries : Entries) → ascends entry_cmp entries ≡ true → IsDereferenced entries top below → list_all (λ entry. is_within_limits entry.0) entries ≡ true → nat_le (length entries) entry_limit ≡ true → IsLayer entries
+    layer-but_limits entries up made limited counted = record {
+      in_order = up;
+      rooted = ap directory_found (made []) ∙ directory_stays [] refl is.rooted;
+      closed = all-entries (λ entry. has_parent entries entry.0) entries up parents;
+      named = all-entries (λ entry. has_names entry.0) entries up (λ path inode here. (stated path inode (sym (made path) ∙ here)).named);
+      sound = all-entries (λ entry. is_sound_inode entry.1) entries up (λ path inode here. (stated path inode (sym (made path) ∙ here)).well);
+      unescaped = all-entries (λ entry. not (has_escaped_name entry.1.attrs)) entries up (λ path inode here. ap not (stated path inode (sym (made path) ∙ here)).bare);
+      limited = limited;
+      counted = counted;
+    }
+      where
+        parents : (path : PathNames) (inode : Inode) → entry_at entries path ≡ Some inode → has_parent entries path ≡ true
+        parents path inode here = by (last-name path)
+          where
+            by : (path ≡ []) ⊎ ((directory : PathNames) × (name : PathName) × (path ≡ child_path directory name)) → has_parent entries path ≡ true
+            by (inl e) = ap (has_parent entries) e
+            by (inr (directory, name, e)) =
+                ap (has_parent entries) e
+                ∙ directory-parent_of entries directory name
+                (ap directory_found (made directory) ∙ parent-kept directory name inode (sym (made (child_path directory name)) ∙ (ap (entry_at entries) (sym e) ∙ here)))
 
 pub DerefGivesLayer-holds : DerefGivesLayer
 DerefGivesLayer-holds top below is each sound entries up made limited counted = layer-but_limits top below is each sound entries up made limited counted

@@ -16,4 +16,5 @@ pub mod SoundLaws
 pub mod AttributeLaws
 pub mod ShownLaws
 pub mod StatedLaws
+pub mod TopLaws
 mod Rows
