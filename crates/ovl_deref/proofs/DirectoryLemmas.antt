@@ -242,7 +242,7 @@ module _ (stack : StackView) (each : All IsLayer stack.layers) (some : 0 < lengt
   pub new-entry : (directory : PathNames) (name : PathName) (inode : Inode) → new_at stack (child_path directory name) ≡ Some inode → In (name, inode) (inodes_in stack directory)
   new-entry directory name inode here = listed-there directory (names_in stack directory) name inode (new-named directory name inode here) here
 
-  entries-rise : (directory : PathNames) → Rises EntryBefore (inodes_in stack directory)
+  pub entries-rise : (directory : PathNames) → Rises EntryBefore (inodes_in stack directory)
   entries-rise directory = listed-rise directory (names_in stack directory) (names_in-rise directory)
 
   -- what has an entry in it is a directory

@@ -74,6 +74,6 @@ listed-more stack dir names name items found are is =
     (λ j. are j ++ cons_option (option_map (λ inode. (name, inode)) (is j)) [])
     ∙ sym (filter_map-append (named_inode stack dir) names (name ∷ []))
 
-pub not-some : (found : Option Inode) → ((inode : Inode) → found ≡ Some inode → ⊥) → found ≡ None
+pub not-some : {X : Type 0} → (found : Option X) → ((x : X) → found ≡ Some x → ⊥) → found ≡ None
 not-some None never = refl
-not-some (Some inode) never = absurd (never inode refl)
+not-some (Some x) never = absurd (never x refl)
