@@ -1,6 +1,6 @@
 -- The entries of a directory of the new layer: all that it has there, in order; those that are directories are lawful kids.
-use Rattle.std.proofs.Common.{◌≡◌, ℕ, ◌*◌, ◌≤◌, ◌<◌, zero, suc, inl, inr, Bool, true, false, cond, Option, Some, None, List, [], ◌∷◌, ◌++◌, length, map, refl, sym, ap, ◌∙◌, subst, arith}
-use Rattle.std.specs.Prelude.{◌||◌, ◌&&◌, not, is_some, filter, All}
+use Rattle.std.proofs.Common.{◌≡◌, ◌≤◌, ◌<◌, inl, inr, Bool, true, false, cond, Option, Some, None, List, [], ◌∷◌, length, map, refl, sym, ap, ◌∙◌, subst, arith}
+use Rattle.std.specs.Prelude.{◌||◌, not, is_some, filter, All}
 use Rattle.std.specs.Option.{option_map}
 use Rattle.std.specs.List.{list_any, list_all, cons_option, filter_map}
 use Rattle.std.specs.Ordering.{is_lt, ordering_then}
@@ -12,14 +12,13 @@ use Rattle.ovl_names.specs.Order.{ascends}
 use Rattle.ovl_names.specs.Paths.{PathNames, child_path, path_eq, path_cmp}
 use Rattle.ovl_names.proofs.Ascending.{both, is_lt-Less}
 use Rattle.ovl_inode.specs.declared.inodes.Inode.{Inode}
-use Rattle.ovl_inode.specs.Marks.{is_directory}
 use Rattle.ovl_manifest.specs.Layers.{Entries, Entry, entry_at, entry_cmp, name_below, names_below, IsLayer}
 use Rattle.ovl_manifest.proofs.OpenLemmas.{name_cmp-same}
 use Rattle.ovl_lookup.specs.declared.looks.Look.{Look}
 use Rattle.ovl_lookup.specs.declared.looks.Look.TheVariants.{Nothing, Shown, Broken}
 use Rattle.ovl_lookup.specs.Stacks.{StackView}
 use Rattle.ovl_lookup.specs.Passes.{kids_along}
-use Rattle.ovl_lookup.specs.Merged.{look, shows, is_nothing, AreKids}
+use Rattle.ovl_lookup.specs.Merged.{look, is_nothing, AreKids}
 use Rattle.ovl_lookup.specs.Words.{over, top_layer, lower_layers}
 use Rattle.ovl_lookup.proofs.ChildLemmas.{entry-limited, names_below-has}
 use Rattle.ovl_lookup.proofs.KidLemmas.{kids-ascend, kids-same}
@@ -31,7 +30,7 @@ use Rattle.ovl_board.specs.Pieces.{IsBefore, IsOneBelow, HasLawfulKids}
 use Rattle.ovl_board.proofs.Members.{In, Every, Rises, All-Every, AllPairs-Rises, In-map-cases, In-filter-cases, Rises-filter, rising_same}
 use Rattle.ovl_board.proofs.PieceOrder.{siblings, fork_before}
 use Rattle.ovl_deref.specs.Deref.{is_in_moved, inode_shown, dereferenced_inode}
-use Rattle.ovl_deref.specs.Directories.{is_at_moved, new_at, names_in, NamedInode, named_inode, inodes_in, piece_in, deref_kids, deref_depth}
+use Rattle.ovl_deref.specs.Directories.{is_at_moved, new_at, names_in, NamedInode, named_inode, inodes_in, piece_in, deref_depth}
 use Rattle.ovl_deref.proofs.LayerLemmas.{in_moved-child, outside, within, parent-kept}
 
 -- ---- ascending names

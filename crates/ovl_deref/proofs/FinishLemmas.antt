@@ -1,22 +1,22 @@
 -- From the parcels to the new layer.
-use Rattle.std.proofs.Common.{◌≡◌, ℕ, ◌+◌, ◌-◌, ◌≤◌, ◌<◌, Bool, true, false, cond, Option, Some, None, List, [], ◌∷◌, ◌++◌, length, map, get_or, drop, refl, sym, ap, ◌∙◌, subst, append_assoc, arith}
+use Rattle.std.proofs.Common.{◌≡◌, ℕ, ◌+◌, ◌-◌, ◌<◌, Bool, true, false, cond, Option, Some, None, List, [], ◌∷◌, ◌++◌, length, map, get_or, drop, refl, sym, ap, ◌∙◌, subst, append_assoc, arith}
 use Rattle.std.specs.Prelude.{◌&&◌, Vec, Result, Ok, Err, All, nat_le}
 use Rattle.std.specs.Global.{Global}
 use Rattle.std.specs.List.{list_all}
 use Rattle.std.specs.Option.{option_map}
 use Rattle.std.specs.List.{cons_option}
 use Rattle.std.proofs.lemmas.List.{append-nil, drop-map, drop_more}
-use Rattle.ovl_names.specs.Paths.{PathNames}
 use Rattle.ovl_names.proofs.Ascending.{both}
 use Rattle.ovl_inode.specs.declared.inodes.Inode.{Inode}
 use Rattle.ovl_manifest.specs.Layers.{Entries, Entry, entry_at, entry_limit, is_within_limits, IsLayer}
-use Rattle.ovl_manifest.specs.Manifest.{entry_after, entry_fault, entries_after, is_miscounted, is_statable, stated_pair, layer_of_pairs, IsFaultOf}
+use Rattle.ovl_manifest.specs.Manifest.{entry_fault, entries_after, is_miscounted, is_statable, stated_pair, layer_of_pairs, IsFaultOf}
 use Rattle.ovl_manifest.specs.declared.faults.LayerFault.{LayerFault}
 use Rattle.ovl_manifest.specs.declared.faults.LayerFault.TheVariants.{NotJson, Shape, Version, Count, Entry as WrongEntry, Order, NoParent, Root, Escaped, Memory}
 use Rattle.ovl_manifest.proofs.BackLemmas.{pairs-back}
 use Rattle.ovl_lookup.specs.Stacks.{StackView}
 use Rattle.ovl_lookup.specs.Sound.{IsSoundStack}
-use Rattle.ovl_lookup.specs.Words.{over, top_layer, lower_layers}
+use Rattle.ovl_lookup.specs.Words.{top_layer, lower_layers}
+use Rattle.ovl_lookup.proofs.MapLaws.{entries-unique}
 use Rattle.ovl_lookup.proofs.TopLaws.{top-over, top-layer, lower-layers}
 use Rattle.ovl_board.specs.declared.works.Parcel.{Parcel}
 use Rattle.ovl_board.specs.Parcels.{parcel_view, parcel_views}
@@ -110,3 +110,10 @@ module _ (stack : StackView) (each : All IsLayer stack.layers) (some : 0 < lengt
           (subst IsSoundStack (sym (top-over stack some)) sound) (new_entries stack) (new_entries-are stack each some).0 (new_entries-are stack each some).1 parts.0 parts.1 in
           let memory : fault ≡ Memory = told-memory (new_entries stack) fault (subst (λ (r : Result Entries LayerFault). IsFaultOf r fault) (ap layer_of_pairs are ∙ pairs-back (new_entries stack) is) told) in
           let bad : NoMemory ≡ LimitOut = ap refusal_of (sym memory) ∙ out in cc
+
+-- a layer that is given keeps the limits
+pub limit-kept : (stack : StackView) (layer : Entries) → IsLayer layer → IsDereferenced layer (top_layer stack) (lower_layers stack) → PassesLimit stack → ⊥
+limit-kept stack layer is made (entries, up, new, out) =
+    let same : entries ≡ layer = entries-unique entries layer up is.in_order (λ path. new path ∙ sym (made path)) in
+    let kept : keeps_limits entries ≡ true = ap keeps_limits same ∙ (λ j. is.limited j && is.counted j) in
+    let bad : false ≡ true = sym out ∙ kept in cc

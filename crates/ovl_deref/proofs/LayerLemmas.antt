@@ -37,7 +37,7 @@ use Rattle.ovl_lookup.proofs.StatedLaws.{shown-sound, shown-unescaped, shown-nam
 use Rattle.ovl_lookup.proofs.WalkLaws.{directory_found, mark-child}
 use Rattle.ovl_deref.specs.Deref.{any_prefix, is_in_moved, inode_shown, unfolded, full_attributes, filled, dereferenced_inode, dereferenced_at, IsDereferenced}
 use Rattle.ovl_deref.specs.Laws.{DerefGivesLayer}
-use Rattle.ovl_deref.proofs.DerefLemmas.{any_prefix-child, moved-directory, full-attribute}
+use Rattle.ovl_deref.proofs.DerefLemmas.{neither, any_prefix-child, moved-directory, full-attribute}
 
 -- ---- attributes of an unfolded directory
 
@@ -83,10 +83,6 @@ module _ (top : Entries) where
           ∙ (any_prefix-child (λ prefix. is_moved (mark_at top prefix)) directory name
           ∙ (ap (λ b. b || is_moved (mark_at top (child_path directory name))) (sym (in_moved-child directory name))
           ∙ sym (ap (λ (p : PathNames). is_in_moved top p || is_moved (mark_at top p)) e)))
-
-neither : (a b : Bool) → (a || b) ≡ false → (a ≡ false) × (b ≡ false)
-neither true b e = let bad : true ≡ false = e in cc
-neither false b e = (refl, e)
 
 second : (a b : Bool) → (a || b) ≡ true → a ≡ false → b ≡ true
 second true b e f = let bad : true ≡ false = f in cc

@@ -1,8 +1,8 @@
 -- The entries of the new layer: in order, and at each path what the new layer has.
 use Rattle.std.proofs.Common.{◌≡◌, ℕ, zero, suc, ◌+◌, ◌≤◌, ◌<◌, inl, inr, Bool, true, false, cond, Option, Some, None, List, [], ◌∷◌, ◌++◌, length, refl, sym, ap, ◌∙◌, subst, append_assoc, arith, length-append}
-use Rattle.std.specs.Prelude.{◌&&◌, All, Contains}
+use Rattle.std.specs.Prelude.{◌&&◌, All}
 use Rattle.std.specs.Option.{option_map}
-use Rattle.std.specs.List.{list_all, cons_option, flat_map}
+use Rattle.std.specs.List.{list_all, cons_option}
 use Rattle.std.specs.Ordering.{is_lt}
 use Rattle.std.specs.declared.cmp.Ordering.TheVariants.{Less, Equal}
 use Rattle.std.specs.Cmp.Lexicographic.{nat_list_cmp_total, pointwise_decides, bytes_decides}

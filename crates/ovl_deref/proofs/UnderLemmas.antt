@@ -1,5 +1,5 @@
 -- The parcels of a directory and of what lies under it, entry by entry, and the entries that they tell.
-use Rattle.std.proofs.Common.{◌≡◌, ℕ, zero, suc, ◌+◌, ◌-◌, ◌≤◌, ◌<◌, inl, Bool, true, false, cond, List, [], ◌∷◌, ◌++◌, length, map, get_or, take, drop, refl, sym, ap, ◌∙◌, subst, append_assoc, arith, length-append}
+use Rattle.std.proofs.Common.{◌≡◌, ℕ, zero, suc, ◌+◌, ◌-◌, ◌≤◌, ◌<◌, true, false, cond, List, [], ◌∷◌, ◌++◌, length, map, get_or, take, drop, refl, sym, ap, ◌∙◌, subst, append_assoc, arith, length-append}
 use Rattle.std.specs.Prelude.{filter}
 use Rattle.std.specs.List.{flat_map}
 use Rattle.std.proofs.lemmas.List.{append-nil, map-append, drop_more, take_more, take_all}
@@ -7,7 +7,7 @@ use Rattle.std.proofs.lemmas.List.Concat.{flat_map-append}
 use Rattle.std.proofs.Math.ListN.{drop_of_length-le}
 use Rattle.ovl_names.specs.Paths.{PathNames, child_path}
 use Rattle.ovl_inode.specs.Marks.{is_directory}
-use Rattle.ovl_manifest.specs.Layers.{Entries, Entry}
+use Rattle.ovl_manifest.specs.Layers.{Entries}
 use Rattle.ovl_board.specs.declared.pieces.Piece.{Piece}
 use Rattle.ovl_board.specs.Walks.{preorder}
 use Rattle.ovl_board.specs.Parcels.{own_view}
@@ -114,7 +114,6 @@ module _ (before : List View) (view : View) (later : List View) (first : before 
     record At (tree : Tree) (deepest : ℕ) (piece : Piece) (rest : List View) : Type 0 where
       pub dir : view.piece.dir ≡ piece.dir
       pub among : In entry (tree piece.dir)
-      pub onward : drop i (tree piece.dir) ≡ entry ∷ drop (i + 1) (tree piece.dir)
       pub longer : take (i + 1) (tree piece.dir) ≡ take i (tree piece.dir) ++ entry ∷ []
       pub left : after ≡ views_among tree deepest piece (entry ∷ drop (i + 1) (tree piece.dir)) ++ rest
       pub done : mid ≡ old ++ entries_among tree deepest piece (take i (tree piece.dir))
@@ -130,7 +129,6 @@ module _ (before : List View) (view : View) (later : List View) (first : before 
         record {
           dir = ap (λ (v : View). v.piece.dir) top.0;
           among = subst (λ (e : NamedInode). In e (tree piece.dir)) (sym own_entry) (get_or-In (tree piece.dir) i entry within);
-          onward = onward;
           longer = take_more (tree piece.dir) i entry within ∙ ap (λ (e : NamedInode). take i (tree piece.dir) ++ e ∷ []) (sym own_entry);
           left = known.0 ∙ ap (λ (entries : List NamedInode). views_among tree deepest piece entries ++ rest) onward;
           done = known.1;

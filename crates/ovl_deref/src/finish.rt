@@ -45,13 +45,18 @@ pub fn finish_deref(
 ) -> Result<Layer, DerefFault>
     requires { IsDerefWalk work.now (parcel_views inodes_seen parcels.items) }
     ensures layer { IfOk result (λ layer. IsDereferenced layer (top_layer work.now) (lower_layers work.now)) }
+    ensures kept { IfOk result (λ _. PassesLimit work.now → ⊥) }
     ensures limit { IsSoundStack work.now → result ≡ Err LimitOut → PassesLimit work.now }
 {
     // Each layer of a stack is one.
     let _layers = work.stack.layers();
     let entries = entries_of(alloc, work, &parcels)?;
     match from_entries(alloc, entries) {
-        Ok(layer) => Ok(layer),
+        Ok(layer) => {
+            // The type keeps that it is a layer.
+            let _root = layer.root();
+            Ok(layer)
+        }
         Err(fault) => Err(refusal(fault)),
     }
 }

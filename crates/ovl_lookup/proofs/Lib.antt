@@ -17,4 +17,5 @@ pub mod AttributeLaws
 pub mod ShownLaws
 pub mod StatedLaws
 pub mod TopLaws
+pub mod MapLaws
 mod Rows

@@ -24,7 +24,7 @@ use Rattle.ovl_lookup.specs.declared.looks.Look.TheVariants.{Nothing, Shown, Bro
 use Rattle.ovl_lookup.specs.Walk.{walk, walk_beyond, walk_to_file, nothing_found, mark_at, turn, is_shut}
 use Rattle.ovl_lookup.specs.Stacks.{StackView}
 use Rattle.ovl_lookup.specs.Trace.{things_found}
-use Rattle.ovl_lookup.specs.Merged.{look, shown_of, data_of, without_blob, is_shown_directory}
+use Rattle.ovl_lookup.specs.Merged.{look, shown_of, data_of, without_blob}
 use Rattle.ovl_lookup.specs.Sound.{IsSoundStack, is_malformed, is_meta}
 use Rattle.ovl_lookup.proofs.FoundLemmas.{things_found-step, shown_of-full}
 use Rattle.ovl_lookup.proofs.ChildLemmas.{all-first, all-rest}

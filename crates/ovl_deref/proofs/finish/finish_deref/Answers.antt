@@ -3,7 +3,7 @@ use Rattle.std.specs.Prelude.{All}
 use Rattle.ovl_manifest.specs.Layers.{IsLayer}
 use Rattle.ovl_lookup.specs.Stacks.{StackView}
 use Rattle.ovl_deref.specs.declared.finish.DerefFault.TheVariants.{LimitOut}
-use Rattle.ovl_deref.proofs.FinishLemmas.{layer-new, limit-passed}
+use Rattle.ovl_deref.proofs.FinishLemmas.{layer-new, limit-kept, limit-passed}
 use Rattle.ovl_deref.proofs.finish.finish_deref.Goals as goal
 
 pub returns-in-Ok-clause-layer : goal.returns-in-Ok-clause-layer
@@ -21,3 +21,6 @@ returns-clause-limit c sound out =
     (subst (λ (s : StackView). 0 < length s.layers) c.work.view_is (subst (λ (n : ℕ). 0 < n) c.layers-layers.ensures.value c.layers-layers.ensures.some))
     c.in_ok-entries.entries.items c.in-Err.fault c.in_ok-entries.ensures c.in-Err.ensures.value
     (sym c.refusal.ensures ∙ told) sound
+
+pub returns-in-Ok-clause-kept : goal.returns-in-Ok-clause-kept
+returns-in-Ok-clause-kept c passes = limit-kept c.args.work.now c.in-Ok.layer c.root-root.ensures.layer (returns-in-Ok-clause-layer c) passes
