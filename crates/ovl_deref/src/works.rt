@@ -90,11 +90,7 @@ fn directories(
 }
 
 // The names in a directory of the new layer, each with its inode.
-fn inodes_in(
-    alloc: Global,
-    stack: &Stack,
-    dir: &Path,
-) -> Result<Vec<(Name, Inode)>, AllocError>
+fn inodes_in(alloc: Global, stack: &Stack, dir: &Path) -> Result<Vec<(Name, Inode)>, AllocError>
     ensures { IfOk result (λ inodes. inodes.items ≡ the_inodes stack.now dir.now) }
 {
     let moved = is_at_moved(alloc, stack, dir)?;
@@ -123,12 +119,7 @@ fn is_at_moved(alloc: Global, stack: &Stack, dir: &Path) -> Result<bool, AllocEr
 }
 
 // The names in a directory of the new layer: at and in a moved one those that are shown, else the topmost layer's own.
-fn names_in(
-    alloc: Global,
-    stack: &Stack,
-    dir: &Path,
-    moved: bool,
-) -> Result<Vec<Name>, AllocError>
+fn names_in(alloc: Global, stack: &Stack, dir: &Path, moved: bool) -> Result<Vec<Name>, AllocError>
     requires { moved ≡ at_moved_test (top_layer stack.now) dir.now }
     ensures { IfOk result (λ names. names.items ≡ the_names stack.now dir.now) }
 {

@@ -22,14 +22,14 @@ returns c =
     let there = c.own_inode.ensures ∙ (λ j. entry_at (top_layer (c.work.view_is j)) (c.root-root.ensures j)) in
     let root : c.match-own_inode.entries.items ≡ told (entry_at (top_layer c.args.work.now) []) = elim c.match-own_inode.branch [
       | in-Some+in_ok-inode+in_ok-push w ↦
-        ap (λ es. es.items) w.entries-is
-            ∙ (w.in_ok-push.ensures.items
-            ∙ ((λ j. c.new-entries.ensures.items j ++ (c.root-root.ensures j, w.in_ok-inode.ensures j) ∷ [])
-            ∙ ap told (w.in-Some.ensures ∙ (λ j. entry_at (top_layer (c.work.view_is j)) (c.root-root.ensures j)))))
+          ap (λ es. es.items) w.entries-is
+          ∙ (w.in_ok-push.ensures.items
+          ∙ ((λ j. c.new-entries.ensures.items j ++ (c.root-root.ensures j, w.in_ok-inode.ensures j) ∷ [])
+          ∙ ap told (w.in-Some.ensures ∙ (λ j. entry_at (top_layer (c.work.view_is j)) (c.root-root.ensures j)))))
       | in_default w ↦
-        ap (λ es. es.items) w.entries-is
-            ∙ (c.new-entries.ensures.items
-            ∙ ap told (sym (ap (option_map (λ inode. inode.now)) (not-some c.own_inode.result w.in_default.not-Some)) ∙ there))
+          ap (λ es. es.items) w.entries-is
+          ∙ (c.new-entries.ensures.items
+          ∙ ap told (sym (ap (option_map (λ inode. inode.now)) (not-some c.own_inode.result w.in_default.not-Some)) ∙ there))
     ] in
     entries-whole c.args.work.now
     (subst (λ (s : StackView). All IsLayer s.layers) c.work.view_is c.layers-layers.ensures.each)
