@@ -21,4 +21,9 @@ pub mod DirViewLemmas
 pub mod ViewSteps
 pub mod KidNames
 pub mod ViewLookLemmas
+pub mod AttributeLaws
+pub mod ShownLaws
+pub mod StatedLaws
+pub mod TopLaws
+pub mod MapLaws
 mod Rows

@@ -1,15 +1,22 @@
 -- Words of the laws of walks.
-use Rattle.std.specs.Prelude.{◌≡◌, Bool, ◌∷◌, ◌++◌}
+use Rattle.std.specs.Prelude.{◌≡◌, Bool, [], ◌∷◌, ◌++◌, slice_get, unwrap_or}
 use Rattle.std.specs.List.{starts_with}
 use Rattle.ovl_names.specs.Names.{name_eq}
 use Rattle.ovl_names.specs.Paths.{PathNames}
 use Rattle.ovl_manifest.specs.Layers.{Entries, entry_at}
 use Rattle.ovl_lookup.specs.Walk.{mark_at}
-use Rattle.ovl_lookup.specs.Stacks.{StackView}
+use Rattle.ovl_lookup.specs.Stacks.{StackView, from_layer}
 
 -- a layer over the layers of a stack
 abbrev pub over : Entries → StackView → StackView
 over top below = record below { layers = top ∷ below.layers }
+
+-- the topmost layer of a stack, and the stack of those below it
+abbrev pub top_layer : StackView → Entries
+top_layer stack = unwrap_or (slice_get stack.layers 0) []
+
+abbrev pub lower_layers : StackView → StackView
+lower_layers stack = from_layer 1 stack
 
 -- the other path is this one, or lies under it
 abbrev pub is_at_or_under : PathNames → PathNames → Bool

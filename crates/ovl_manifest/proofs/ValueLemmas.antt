@@ -163,7 +163,7 @@ path-back path named limited =
 
 -- ---- attributes
 
-put-last : (done : Attributes) (name value : List ℕ) → list_all (λ attr. is_lt (attribute_cmp attr (name, value))) done ≡ true → with_attribute done name value ≡ done ++ (name, value) ∷ []
+pub put-last : (done : Attributes) (name value : List ℕ) → list_all (λ attr. is_lt (attribute_cmp attr (name, value))) done ≡ true → with_attribute done name value ≡ done ++ (name, value) ∷ []
 put-last [] name value before = refl
 put-last (first ∷ done) name value before =
     let parts = both {a = is_lt (attribute_cmp first (name, value))} {b = list_all (λ attr. is_lt (attribute_cmp attr (name, value))) done} before in

@@ -1,0 +1,79 @@
+-- What the passes of a visit keep.
+use Rattle.std.proofs.Common.{◌≡◌, ℕ, ◌+◌, ◌<◌, Bool, true, false, cond, Option, Some, None, List, [], ◌∷◌, ◌++◌, length, get_or, take, drop, refl, sym, ap, ◌∙◌}
+use Rattle.std.specs.Prelude.{◌||◌, not}
+use Rattle.std.specs.Option.{option_map}
+use Rattle.std.specs.List.{list_all, cons_option, filter_map}
+use Rattle.std.specs.Ordering.{is_lt}
+use Rattle.std.proofs.lemmas.List.{take-append-drop, drop_more, take_more}
+use Rattle.std.proofs.lemmas.List.Elements.{filter-append, filter_map-append}
+use Rattle.ovl_names.specs.Names.{PathName, name_eq}
+use Rattle.ovl_names.specs.Order.{ascends}
+use Rattle.ovl_names.specs.Paths.{PathNames, child_path}
+use Rattle.ovl_names.proofs.Ascending.{both, ascends-across, list_all-filter}
+use Rattle.ovl_inode.specs.declared.inodes.Inode.{Inode}
+use Rattle.ovl_inode.specs.Attributes.{Attributes, attribute_cmp, is_attribute, are_attributes, with_attribute, redirect_name, metacopy_name}
+use Rattle.ovl_inode.specs.Marks.{mark_of}
+use Rattle.ovl_manifest.specs.Layers.{Entries, entry_at}
+use Rattle.ovl_manifest.proofs.ValueLemmas.{put-last}
+use Rattle.ovl_lookup.specs.Walk.{mark_at}
+use Rattle.ovl_lookup.specs.Stacks.{StackView}
+use Rattle.ovl_lookup.specs.Sound.{is_moved}
+use Rattle.ovl_lookup.proofs.WalkLaws.{mark-child}
+use Rattle.ovl_deref.specs.Deref.{full_attributes}
+use Rattle.ovl_deref.specs.Directories.{is_at_moved, new_at, NamedInode, named_inode}
+use Rattle.ovl_deref.proofs.DerefLemmas.{any_prefix-child, any_prefix-under}
+
+-- ---- the attributes of a full file, one after another
+
+module _ (attrs : Attributes) (i : ℕ) (attr : List ℕ × List ℕ) (inside : i < length attrs) (is : attr ≡ get_or attrs i attr) where
+  abbrev keeps : List ℕ × List ℕ → Bool
+  keeps other = not (name_eq other.0 metacopy_name || name_eq other.0 redirect_name)
+
+  next : take (i + 1) attrs ≡ take i attrs ++ attr ∷ []
+  next = take_more attrs i attr inside ∙ ap (λ (a : List ℕ × List ℕ). take i attrs ++ a ∷ []) (sym is)
+
+  full-next : (b : Bool) → keeps attr ≡ b → full_attributes (take (i + 1) attrs) ≡ full_attributes (take i attrs) ++ cond b (attr ∷ []) []
+  full-next b e = ap full_attributes next ∙ (filter-append keeps (take i attrs) (attr ∷ []) ∙ ap (λ c. full_attributes (take i attrs) ++ cond c (attr ∷ []) []) e)
+
+  pub full-put : (full : Attributes) → are_attributes attrs ≡ true → full ≡ full_attributes (take i attrs) → (name_eq attr.0 metacopy_name || name_eq attr.0 redirect_name) ≡ false
+      → with_attribute full attr.0 attr.1 ≡ full_attributes (take (i + 1) attrs)
+  full-put full are so_far free =
+      let up : ascends attribute_cmp attrs ≡ true = (both {a = list_all is_attribute attrs} {b = ascends attribute_cmp attrs} are).1 in
+      let whole : take i attrs ++ attr ∷ drop (i + 1) attrs ≡ attrs = ap (λ (rest : Attributes). take i attrs ++ rest) (sym (drop_more attrs i attr inside ∙ ap (λ (a : List ℕ × List ℕ). a ∷ drop (i + 1) attrs) (sym is))) ∙ take-append-drop i attrs in
+      let before : list_all (λ other. is_lt (attribute_cmp other attr)) (take i attrs) ≡ true = ascends-across attribute_cmp (take i attrs) attr (drop (i + 1) attrs) (ap (ascends attribute_cmp) whole ∙ up) in
+      ap (λ (a : Attributes). with_attribute a attr.0 attr.1) so_far
+      ∙ (put-last (full_attributes (take i attrs)) attr.0 attr.1 (list_all-filter (λ other. is_lt (attribute_cmp other attr)) keeps (take i attrs) before)
+      ∙ sym (full-next true (ap not free)))
+
+-- ---- the directories above one
+
+module _ (top : Entries) (dir : PathNames) (i : ℕ) (name : PathName) (inside : i < length dir) (is : name ≡ get_or dir i name) (free : is_at_moved top (take i dir) ≡ false) where
+  pub prefix-next : child_path (take i dir) name ≡ take (i + 1) dir
+  prefix-next = sym (take_more dir i name inside ∙ ap (λ (n : PathName). take i dir ++ n ∷ []) (sym is))
+
+  moved-there : (b : Bool) → b ≡ is_moved (option_map mark_of (entry_at top (child_path (take i dir) name))) → is_at_moved top (child_path (take i dir) name) ≡ b
+  moved-there b told =
+      any_prefix-child (λ prefix. is_moved (mark_at top prefix)) (take i dir) name
+      ∙ (ap (λ c. c || is_moved (mark_at top (child_path (take i dir) name))) free
+      ∙ (ap is_moved (mark-child top (take i dir) name (entry_at top (child_path (take i dir) name)) refl) ∙ sym told))
+
+  pub moved-next : (b : Bool) → b ≡ is_moved (option_map mark_of (entry_at top (child_path (take i dir) name))) → is_at_moved top (take (i + 1) dir) ≡ b
+  moved-next b told = ap (is_at_moved top) (sym prefix-next) ∙ moved-there b told
+
+  pub moved-above : true ≡ is_moved (option_map mark_of (entry_at top (child_path (take i dir) name))) → is_at_moved top dir ≡ true
+  moved-above told =
+      ap (is_at_moved top) (sym (take-append-drop (i + 1) dir))
+      ∙ any_prefix-under (λ prefix. is_moved (mark_at top prefix)) (take (i + 1) dir) (drop (i + 1) dir) (moved-next true told)
+
+-- ---- the entries of a directory, one after another
+
+pub listed-more : (stack : StackView) (dir : PathNames) (names : List PathName) (name : PathName) (items : List NamedInode) (found : Option Inode)
+    → items ≡ filter_map (named_inode stack dir) names → found ≡ new_at stack (child_path dir name)
+    → items ++ cons_option (option_map (λ inode. (name, inode)) found) [] ≡ filter_map (named_inode stack dir) (names ++ name ∷ [])
+listed-more stack dir names name items found are is =
+    (λ j. are j ++ cons_option (option_map (λ inode. (name, inode)) (is j)) [])
+    ∙ sym (filter_map-append (named_inode stack dir) names (name ∷ []))
+
+pub not-some : {X : Type 0} → (found : Option X) → ((x : X) → found ≡ Some x → ⊥) → found ≡ None
+not-some None never = refl
+not-some (Some x) never = absurd (never x refl)
