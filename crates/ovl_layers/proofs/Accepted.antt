@@ -18,10 +18,10 @@ use Rattle.clap.specs.declared.builder.value_parser.Reading.{Reading}
 use Rattle.clap.specs.declared.builder.value_parser.Reading.TheVariants.{AsWritten}
 use Rattle.clap.specs.declared.builder.value_parser.ValueParser.TheVariants.{Unsigned}
 use Rattle.clap.proofs.ValueTestLemmas.{accepts-Accepts}
-use Rattle.ovl_layers.specs.Grammar.{blobs_rule, fsck_shape, show_shape, tool_app, workers_rule}
+use Rattle.ovl_layers.specs.Grammar.{blobs_rule, fsck_shape, out_rule, show_shape, tool_app, vacuum_shape, workers_rule}
 use Rattle.ovl_layers.specs.Lines.{IsGiven, name_of}
 use Rattle.ovl_engine.specs.declared.requests.Command.{Command}
-use Rattle.ovl_engine.specs.declared.requests.Command.TheVariants.{Show, Fsck}
+use Rattle.ovl_engine.specs.declared.requests.Command.TheVariants.{Show, Fsck, Vacuum}
 use Rattle.ovl_layers.proofs.Taken.{AllFit, AllPass, Each, Fits, IsOwn, each_find, no_kinds, values_fit, walk_fits, settled_fits}
 
 -- ---- searches
@@ -206,10 +206,19 @@ one_wanted : (a : Bool) → check_kinds false false (not a || false) ≡ [] → 
 one_wanted true e = refl
 one_wanted false e = cc
 
+own_vacuum : Each (IsOwn (leaf vacuum_shape).rules) (leaf vacuum_shape).rules
+own_vacuum = ((refl, inl (inl refl, refl), tt), ((refl, inl (inl refl, refl), tt), ((refl, inl (inl refl, refl), (refl, tt)), ((refl, inl (inr refl, refl), tt), ((refl, inr refl, tt), tt)))))
+
 two_wanted : (a b : Bool) → check_kinds false false (not a || (not b || false)) ≡ [] → (a ≡ true) × (b ≡ true)
 two_wanted true true e = (refl, refl)
 two_wanted true false e = cc
 two_wanted false b e = cc
+
+three_wanted : (a b c : Bool) → check_kinds false false (not a || (not b || (not c || false))) ≡ [] → (a ≡ true) × (b ≡ true) × (c ≡ true)
+three_wanted true true true e = (refl, refl, refl)
+three_wanted true true false e = cc
+three_wanted true false c e = cc
+three_wanted false b c e = cc
 
 show_given : (words : List Text) → level_fault (leaf show_shape) [] nothing_held words false [] ≡ [] → IsGiven Show (rows_after (leaf show_shape).rules [] words)
 show_given words e =
@@ -223,6 +232,7 @@ show_given words e =
     record {
       workers = workers_given rules rows fit refl there;
       blobs = ap is_some (absent rules (codes "blobs") rows fit refl);
+      out = ap is_some (absent rules (codes "out") rows fit refl);
       layers = files_given rules (codes "layers") _ rows fit refl (one_wanted _ check);
     }
 
@@ -239,7 +249,25 @@ fsck_given words e =
     record {
       workers = workers_given rules rows fit refl there;
       blobs = first_given rules (codes "blobs") (filled blobs_rule) rows fit refl wanted.0;
+      out = ap is_some (absent rules (codes "out") rows fit refl);
       layers = files_given rules (codes "layers") _ rows fit refl wanted.1;
+    }
+
+vacuum_given : (words : List Text) → level_fault (leaf vacuum_shape) [] nothing_held words false [] ≡ [] → IsGiven Vacuum (rows_after (leaf vacuum_shape).rules [] words)
+vacuum_given words e =
+    let rules = (leaf vacuum_shape).rules in
+    let fit = level_fits (leaf vacuum_shape) words own_vacuum e in
+    let check = (level_parts (leaf vacuum_shape) [] words false [] e).3 in
+    let rows = rows_after rules [] words in
+    let before = with_default (with_default (settled rules (walk rules [] nothing_held words).held).rows (filled blobs_rule)) (filled out_rule) in
+    let there : has_row (codes "workers") rows ≡ true =
+    defaults_stay (codes "workers") (rest_of (rest_of (rest_of rules))) (with_default before (filled workers_rule)) (default_made (filled workers_rule) (codes "4") [] before refl) in
+    let wanted = three_wanted _ _ _ check in
+    record {
+      workers = workers_given rules rows fit refl there;
+      blobs = first_given rules (codes "blobs") (filled blobs_rule) rows fit refl wanted.0;
+      out = first_given rules (codes "out") (filled out_rule) rows fit refl wanted.1;
+      layers = files_given rules (codes "layers") _ rows fit refl wanted.2;
     }
 
 -- ---- the whole command line
@@ -255,7 +283,10 @@ MakesCommand s = (words : List Text) → level_fault s [] nothing_held words fal
 makes : Each MakesCommand (built tool_app).subs
 makes = (
   (λ words e. (Show, rows_after (leaf show_shape).rules [] words, refl, show_given words e)),
-  ((λ words e. (Fsck, rows_after (leaf fsck_shape).rules [] words, refl, fsck_given words e)), tt),
+  (
+    (λ words e. (Fsck, rows_after (leaf fsck_shape).rules [] words, refl, fsck_given words e)),
+    ((λ words e. (Vacuum, rows_after (leaf vacuum_shape).rules [] words, refl, vacuum_given words e)), tt),
+  ),
 )
 
 named : (stop : Option (Text × List Text)) (rows : List Row) → entered_fault (built tool_app) stop ≡ []

@@ -1,5 +1,5 @@
 -- What the getters of the matches read of the options of a command.
-use Rattle.std.proofs.Common.{rules, ◌≡◌, ◌∙◌, ◌<◌, ◌≤◌, ℕ, false, refl, sym, ap, arith, List, length, map, Option, Some, None, is_some, codes}
+use Rattle.std.proofs.Common.{rules, ◌≡◌, ◌∙◌, ◌<◌, ◌≤◌, ℕ, refl, sym, ap, arith, List, length, map, Option, Some, None, is_some, codes}
 use Rattle.std.specs.Prelude.{IsSome, Result, option_map}
 use Rattle.std.specs.Str.Parse.{ParsesUnsigned}
 use Rattle.std.proofs.lemmas.List.{length-map}
@@ -7,9 +7,8 @@ use Rattle.clap.specs.Words.{ReadsOne, one_text}
 use Rattle.clap.specs.Walk.{one_of, rows_of}
 use Rattle.clap.specs.declared.parser.matches.Found.{Found}
 use Rattle.clap.proofs.WalkLemmas.{one_text-rows}
-use Rattle.ovl_layers.specs.Lines.{IsGiven, makes_layers, number_in}
+use Rattle.ovl_layers.specs.Lines.{IsGiven, number_in}
 use Rattle.ovl_engine.specs.declared.requests.Command.{Command}
-use Rattle.ovl_engine.specs.declared.requests.Command.TheVariants.{Show, Fsck}
 use Rattle.ovl_layers.proofs.Numbers.{number_read}
 
 -- the number of workers is read
@@ -21,10 +20,6 @@ workers_read E gives f what read given reads parses =
     let text = given.workers.0 in
     let number = number_read E gives 1 64 text read (reads text (one_text-rows f (codes "workers") ∙ given.workers.1)) parses given.workers.2 in
     (number.0, number.1, ap (option_map number_in) given.workers.1 ∙ ap Some (sym number.2), number.3, number.4)
-
-pub makes_none : (what : Command) → false ≡ makes_layers what
-makes_none Show = refl
-makes_none Fsck = refl
 
 pub is_some-map : {X Y : Type 0} (f : X → Y) (o : Option X) → is_some o ≡ is_some (option_map f o)
 is_some-map f None = refl

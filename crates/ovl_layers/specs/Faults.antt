@@ -1,11 +1,11 @@
 -- The faults of the program, and the exit status of each.
 use Rattle.std.specs.Prelude.{⊤, ℕ, List, string_bytes}
 use Rattle.ovl_engine.specs.declared.faults.EngineFault.{EngineFault}
-use Rattle.ovl_engine.specs.declared.faults.EngineFault.TheVariants.{Workers, Layers, Layer, BlobOrder, BlobSize, Run, Memory}
+use Rattle.ovl_engine.specs.declared.faults.EngineFault.TheVariants.{Workers, Layers, Layer, BlobOrder, BlobSize, Faulty, Run, Memory}
 use Rattle.ovl_layers.specs.declared.inputs.InputFault.{InputFault}
 use Rattle.ovl_layers.specs.declared.inputs.InputFault.TheVariants.{Device, TooLong, Memory as InputMemory}
 use Rattle.ovl_layers.specs.declared.faults.ProgramFault.{ProgramFault}
-use Rattle.ovl_layers.specs.declared.faults.ProgramFault.TheVariants.{Usage, Words, Input, Unread, Output, Engine}
+use Rattle.ovl_layers.specs.declared.faults.ProgramFault.TheVariants.{Usage, Words, Input, Unread, Unwritten, Output, Engine}
 
 -- the program's fault where its input isn't read
 abbrev pub unread_input : InputFault → ProgramFault
@@ -21,6 +21,7 @@ IsMemory Layers = ⊥
 IsMemory (Layer index fault) = ⊥
 IsMemory BlobOrder = ⊥
 IsMemory BlobSize = ⊥
+IsMemory (Faulty report) = ⊥
 IsMemory (Run fault) = ⊥
 
 -- a file or folder isn't read, of which this holds of the path; want of memory may come at any time
@@ -30,10 +31,22 @@ IsUnread P (Engine fault) = IsMemory fault
 IsUnread P (Usage text) = ⊥
 IsUnread P Words = ⊥
 IsUnread P Input = ⊥
+IsUnread P (Unwritten path) = ⊥
 IsUnread P Output = ⊥
 
--- 3 where the layers or blobs aren't taken, 5 for what isn't the input's fault
+-- a file isn't written, of which this holds of the path; want of memory may come at any time
+abbrev pub IsUnwritten : (List ℕ → Type 0) → ProgramFault → Type 0
+IsUnwritten P (Unwritten path) = P (string_bytes path)
+IsUnwritten P (Engine fault) = IsMemory fault
+IsUnwritten P (Usage text) = ⊥
+IsUnwritten P Words = ⊥
+IsUnwritten P Input = ⊥
+IsUnwritten P (Unread path) = ⊥
+IsUnwritten P Output = ⊥
+
+-- 1 where they have faults, 3 where they aren't taken, 5 for what isn't the input's fault
 abbrev pub engine_status : EngineFault → ℕ
+engine_status (Faulty report) = 1
 engine_status Layers = 3
 engine_status (Layer index fault) = 3
 engine_status BlobOrder = 3
@@ -48,5 +61,6 @@ program_status (Usage text) = 2
 program_status Words = 2
 program_status Input = 3
 program_status (Unread path) = 3
+program_status (Unwritten path) = 4
 program_status Output = 4
 program_status (Engine fault) = engine_status fault

@@ -31,6 +31,14 @@ blobs_rule = record (new_rule (codes "blobs")) {
   required = true;
 }
 
+-- `--out DIR`, which must be there
+abbrev pub out_rule : Rule
+out_rule = record (new_rule (codes "out")) {
+  long = Some (codes "out");
+  value_names = 1;
+  required = true;
+}
+
 -- one layer or more
 abbrev pub layers_rule : Rule
 layers_rule = record (new_rule (codes "layers")) {
@@ -46,6 +54,13 @@ show_shape = record (new_shape (codes "show")) { rules = workers_rule ∷ layers
 abbrev pub fsck_shape : Shape
 fsck_shape = record (new_shape (codes "fsck")) { rules = blobs_rule ∷ workers_rule ∷ layers_rule ∷ [] }
 
+-- `vacuum` with the options for its folders, and with all
+abbrev pub vacuum_folders_shape : Shape
+vacuum_folders_shape = record (new_shape (codes "vacuum")) { rules = blobs_rule ∷ out_rule ∷ [] }
+
+abbrev pub vacuum_shape : Shape
+vacuum_shape = record (new_shape (codes "vacuum")) { rules = blobs_rule ∷ out_rule ∷ workers_rule ∷ layers_rule ∷ [] }
+
 -- the words after the program's name, of which the first names a command, or asks for help or the version
 abbrev pub tool_app : App
 tool_app = record {
@@ -56,5 +71,5 @@ tool_app = record {
     disable_help_subcommand = true;
     subcommand_required = true;
   };
-  subs = show_shape ∷ fsck_shape ∷ [];
+  subs = show_shape ∷ fsck_shape ∷ vacuum_shape ∷ [];
 }

@@ -11,7 +11,7 @@ use Rattle.clap.specs.declared.error.kind.ErrorKind.TheVariants.{DisplayHelp, Di
 use Rattle.ovl_board.specs.Machine.{worker_limit}
 use Rattle.ovl_layers.specs.Grammar.{tool_app}
 use Rattle.ovl_engine.specs.declared.requests.Command.{Command}
-use Rattle.ovl_engine.specs.declared.requests.Command.TheVariants.{Show, Fsck}
+use Rattle.ovl_engine.specs.declared.requests.Command.TheVariants.{Show, Fsck, Vacuum}
 use Rattle.ovl_layers.specs.declared.lines.Line.{Line}
 use Rattle.ovl_layers.specs.declared.lines.LineFault.{LineFault}
 use Rattle.ovl_layers.specs.declared.lines.LineFault.TheVariants.{Help, Usage, Memory}
@@ -20,6 +20,7 @@ use Rattle.ovl_layers.specs.declared.lines.LineFault.TheVariants.{Help, Usage, M
 abbrev pub name_of : Command → Text
 name_of Show = codes "show"
 name_of Fsck = codes "fsck"
+name_of Vacuum = codes "vacuum"
 
 -- the name is a command's
 abbrev pub NamesCommand : Text → Type 0
@@ -29,11 +30,13 @@ NamesCommand name = (what : Command) × (name ≡ name_of what)
 abbrev pub takes_blobs : Command → Bool
 takes_blobs Show = false
 takes_blobs Fsck = true
+takes_blobs Vacuum = true
 
 -- the command makes new layers
 abbrev pub makes_layers : Command → Bool
 makes_layers Show = false
 makes_layers Fsck = false
+makes_layers Vacuum = true
 
 -- what every line keeps to
 pub record IsSound (line : Line) : Type 0 where
@@ -51,12 +54,14 @@ number_in text = digits_value 10 (without_leading_plus text)
 pub record IsGiven (what : Command) (rows : List Row) : Type 0 where
   pub workers : (text : Text) × (one_of (codes "workers") rows ≡ Some text) × IsUnsignedIn 1 worker_limit text
   pub blobs : is_some (first_of (codes "blobs") rows) ≡ takes_blobs what
+  pub out : is_some (first_of (codes "out") rows) ≡ makes_layers what
   pub layers : (files : List Text) × (all_of (codes "layers") rows ≡ Some files) × (0 < length files)
 
 -- the line is a command with the values that its options have
 pub record HasValues (line : Line) (rows : List Row) : Type 0 where
   pub workers : option_map number_in (one_of (codes "workers") rows) ≡ Some line.workers
   pub blobs : option_map string_bytes line.blobs ≡ first_of (codes "blobs") rows
+  pub out : option_map string_bytes line.out ≡ first_of (codes "out") rows
   pub layers : all_of (codes "layers") rows ≡ Some (map string_bytes line.layers.items)
 
 -- the words name the line's command, with the line's values for its options

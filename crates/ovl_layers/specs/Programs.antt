@@ -6,7 +6,7 @@ use Rattle.ovl_check.specs.Blobs.{BlobView, are_in_order}
 use Rattle.ovl_layers.specs.declared.lines.Line.{Line}
 use Rattle.ovl_layers.specs.declared.endings.Ending.{Ending}
 use Rattle.ovl_layers.specs.declared.faults.ProgramFault.{ProgramFault}
-use Rattle.ovl_layers.specs.declared.faults.ProgramFault.TheVariants.{Usage, Words, Input, Unread, Output, Engine}
+use Rattle.ovl_layers.specs.declared.faults.ProgramFault.TheVariants.{Usage, Words, Input, Unread, Unwritten, Output, Engine}
 use Rattle.ovl_layers.specs.Faults.{IsMemory}
 use Rattle.ovl_layers.specs.Folders.{IsInFolder}
 use Rattle.ovl_layers.specs.Reported.{IsReported}
@@ -29,12 +29,13 @@ pub record IsReadFor (line : Line) (manifests : List (List ℕ)) (blobs : List B
 abbrev pub IsDone : Line → Option (List ℕ) → Option (List ℕ) → Result Ending ProgramFault → Type 0
 IsDone line before after result =
     (manifests : List (List ℕ)) × (blobs : List BlobView)
-    × (IsReadFor line manifests blobs × IsReported line.what manifests blobs line.workers before after result)
+    × (IsReadFor line manifests blobs × IsReported line.what line.out manifests blobs line.workers before after result)
 
 -- what comes of a line: it is done; or a file or a folder of it isn't read, or memory is wanting, and nothing is written
 abbrev pub IsPerformed : Line → Option (List ℕ) → Option (List ℕ) → Result Ending ProgramFault → Type 0
 IsPerformed line before after (Ok ending) = IsDone line before after (Ok ending)
 IsPerformed line before after (Err Output) = IsDone line before after (Err Output)
+IsPerformed line before after (Err (Unwritten path)) = IsDone line before after (Err (Unwritten path))
 IsPerformed line before after (Err (Engine fault)) =
     (IsMemory fault ⊎ IsDone line before after (Err (Engine fault))) × Keeps before after
 IsPerformed line before after (Err (Unread path)) = IsOfLine line (string_bytes path) × Keeps before after

@@ -24,6 +24,9 @@ pub enum ProgramFault {
     /// The file or folder of this path can't be read.
     #[error("cannot read {0}")]
     Unread(String),
+    /// The file of this path can't be made, or a write to it failed or took nothing.
+    #[error("cannot write {0}")]
+    Unwritten(String),
     /// A write to standard output failed, or took nothing.
     #[error("cannot write standard output")]
     Output,
@@ -54,7 +57,7 @@ impl ProgramFault {
         match self {
             ProgramFault::Usage(_) | ProgramFault::Words => 2,
             ProgramFault::Input | ProgramFault::Unread(_) => 3,
-            ProgramFault::Output => 4,
+            ProgramFault::Unwritten(_) | ProgramFault::Output => 4,
             ProgramFault::Engine(fault) => engine_status(fault),
         }
     }
@@ -65,6 +68,7 @@ fn engine_status(fault: &EngineFault) -> u8
     ensures { result ≡ status_of fault.now }
 {
     match fault {
+        EngineFault::Faulty(_) => 1,
         EngineFault::Layers
         | EngineFault::Layer(..)
         | EngineFault::BlobOrder

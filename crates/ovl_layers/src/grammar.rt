@@ -2,7 +2,7 @@
 ghost use Rattle.std.specs.Prelude.{◌≡◌, IfOk, false};
 ghost use Rattle.clap.specs.Words.{app_of, rule_of};
 ghost use Rattle.clap.specs.declared.builder.command.Command.TheViews.{out-Command as fields_of};
-ghost use Rattle.ovl_layers.specs.Grammar.{blobs_rule, default_word, default_workers, fsck_shape, layers_rule, show_shape, tool_app, workers_rule};
+ghost use Rattle.ovl_layers.specs.Grammar.{blobs_rule, default_word, default_workers, fsck_shape, layers_rule, out_rule, show_shape, tool_app, vacuum_folders_shape, vacuum_shape, workers_rule};
 ghost use Rattle.ovl_layers.specs.Lines.{number_in};
 ghost use Rattle.clap.specs.Simple.{shape_of};
 
@@ -21,7 +21,8 @@ const NAME: &str = "ovl_layers";
 const VERSION: &str = "0.1.0";
 
 const ABOUT: &str = "\
-Tells what a stack of overlay layers shows and what is wrong with it, from their JSON manifests. Nothing is mounted.
+Tells what a stack of overlay layers shows and what is wrong with it, and takes out of a layer what changes nothing,
+all by their JSON manifests. Nothing is mounted.
 Without words it shows the layer whose manifest is on standard input.";
 
 const SHOW: &str = "Lists each path that the overlay of the layers shows, with what is there";
@@ -29,10 +30,15 @@ const SHOW: &str = "Lists each path that the overlay of the layers shows, with w
 const FSCK: &str =
     "Checks that the layers fit one another and that the contents of their files are whole";
 
+const VACUUM: &str =
+    "Takes out of the topmost layer what changes nothing in what the overlay shows";
+
 const WORKERS: &str = "How many workers share the directories, 1 to 64";
 
 const BLOBS: &str =
     "Folder with the contents of the layers' files, each file named by its SHA-256 digest";
+
+const OUT: &str = "Folder for the new topmost layer, which is written there as layer-0.json";
 
 const LAYERS: &str = "Manifest of a layer, the topmost layer first";
 
@@ -40,16 +46,22 @@ const MORE: &str = "\
 What the commands take:
   <LAYER>...     Manifest of a layer, the topmost layer first
   --workers <N>  How many workers share the directories, 1 to 64 [default: 4]
-  --blobs <DIR>  For fsck: folder with the contents of the layers' files, each file named by its SHA-256 digest
+  --blobs <DIR>  For fsck and vacuum: folder with the contents of the layers' files, each file named by its SHA-256 digest
+  --out <DIR>    For vacuum: folder for the new topmost layer, which is written there as layer-0.json
 
 fsck is for a stack that is to be mounted or shipped: it tells faults, as directories moved from a place that is lost or
 not hidden, and files whose contents are missing or wrong, and it notes marks that do nothing. It ends with status 1
 where it tells a fault. It repairs nothing.
 
+vacuum is for an upper layer that is to be kept or shipped: it takes out each file and directory that only says again what
+the layers below show there, and tells which. With the new layer the overlay shows the same as before. It first checks as
+fsck does; where there is a fault it tells that in place of all else, writes no layer, and ends with status 1.
+
 Examples:
   ovl_layers < layer.json
   ovl_layers show upper.json lower.json
-  ovl_layers fsck --blobs contents --workers 8 upper.json lower.json";
+  ovl_layers fsck --blobs contents --workers 8 upper.json lower.json
+  ovl_layers vacuum --blobs contents --out new upper.json lower.json";
 
 const SHOW_EXAMPLE: &str = "\
 Example:
@@ -58,6 +70,10 @@ Example:
 const FSCK_EXAMPLE: &str = "\
 Example:
   ovl_layers fsck --blobs contents --workers 8 upper.json lower.json";
+
+const VACUUM_EXAMPLE: &str = "\
+Example:
+  ovl_layers vacuum --blobs contents --out new upper.json lower.json";
 
 /// The whole command line after the program's name.
 pub fn tool<'a>(alloc: Global) -> Result<Command<'a>, AllocError>
@@ -72,7 +88,8 @@ pub fn tool<'a>(alloc: Global) -> Result<Command<'a>, AllocError>
         .about(ABOUT)
         .after_help(MORE)
         .subcommand(show(alloc)?)?
-        .subcommand(fsck(alloc)?)
+        .subcommand(fsck(alloc)?)?
+        .subcommand(vacuum(alloc)?)
 }
 
 fn show<'a>(alloc: Global) -> Result<Command<'a>, AllocError>
@@ -96,6 +113,25 @@ fn fsck<'a>(alloc: Global) -> Result<Command<'a>, AllocError>
         .arg(layers(alloc))
 }
 
+fn vacuum<'a>(alloc: Global) -> Result<Command<'a>, AllocError>
+    ensures { IfOk result (λ command. (shape_of command ≡ vacuum_shape) × ((fields_of command).has_globals ≡ false)) }
+{
+    vacuum_folders(alloc)?
+        .arg(workers(alloc))?
+        .arg(layers(alloc))
+}
+
+// The command `vacuum` with the options for its folders.
+fn vacuum_folders<'a>(alloc: Global) -> Result<Command<'a>, AllocError>
+    ensures { IfOk result (λ command. (shape_of command ≡ vacuum_folders_shape) × ((fields_of command).has_globals ≡ false)) }
+{
+    Command::new(alloc, "vacuum")
+        .about(VACUUM)
+        .after_help(VACUUM_EXAMPLE)
+        .arg(blobs(alloc))?
+        .arg(out(alloc))
+}
+
 fn workers<'a>(alloc: Global) -> Arg<'a>
     ensures rule { (rule_of result ≡ workers_rule) × (result.global ≡ false) }
     ensures default { (number_in default_word ≡ default_workers) × (DEFAULT_WORKERS ≡ default_workers) }
@@ -116,6 +152,16 @@ fn blobs<'a>(alloc: Global) -> Arg<'a>
         .value_name("DIR")
         .required(true)
         .help(BLOBS)
+}
+
+fn out<'a>(alloc: Global) -> Arg<'a>
+    ensures { (rule_of result ≡ out_rule) × (result.global ≡ false) }
+{
+    Arg::new(alloc, "out")
+        .long("out")
+        .value_name("DIR")
+        .required(true)
+        .help(OUT)
 }
 
 fn layers<'a>(alloc: Global) -> Arg<'a>

@@ -15,7 +15,7 @@ pub struct Line {
     pub workers: usize,
     /// The folder of the files' contents, for each command but `show`.
     pub blobs: Option<String>,
-    /// The folder for new layers, for the commands that make some: so far for none.
+    /// The folder for new layers, for the commands that make some.
     pub out: Option<String>,
     /// The files of the manifests, the topmost layer first. There is at least one.
     pub layers: Vec<String>,

@@ -1,4 +1,5 @@
-//! Offline tools for stacks of overlay layers: what layers show, and what is wrong with them.
+//! Offline tools for stacks of overlay layers: what layers show, what is wrong with them, and layers without what changes
+//! nothing.
 #![tactic(auto)]
 
 mod arguments;
@@ -15,6 +16,7 @@ mod inputs;
 #[cfg(test)]
 mod line_tests;
 mod lines;
+mod outputs;
 #[cfg(test)]
 mod program_tests;
 mod programs;
@@ -51,7 +53,7 @@ fn run<R: Env + Files + Input + Print + AllocGlobal + Clone + Drop + Threads + W
     let alloc = rt.alloc();
     let mut writer = io::writer(rt);
     if !arguments::are_there(rt) {
-        return shows::show_input(rt, alloc, &mut rt.reader(), &mut writer);
+        return shows::show_input(rt, &mut rt.reader(), &mut writer);
     }
     let words = arguments::read(rt)?;
     let texts: Vec<&str> = words.iter().map(|word| word.as_str()).collect(alloc)?;

@@ -18,6 +18,10 @@ use std::{env, fs, process};
 const ROOT: &[u8] =
     b"{\"entries\":[{\"gid\":0,\"kind\":\"dir\",\"mode\":493,\"mtime\":0,\"path\":\"/\",\"uid\":0,\"xattrs\":{}}],\"overlay-layer\":1}";
 
+// The first as it is written.
+const ROOT_WRITTEN: &[u8] =
+    b"{\"entries\":[{\"gid\":0,\"kind\":\"dir\",\"mode\":493,\"mtime\":0,\"path\":\"/\",\"uid\":0,\"xattrs\":{}}],\"overlay-layer\":1}\n";
+
 const KEPT: &[u8] = b"{\"entries\":[\
     {\"gid\":0,\"kind\":\"dir\",\"mode\":493,\"mtime\":0,\"path\":\"/\",\"uid\":0,\"xattrs\":{}},\
     {\"blob\":\"ba7816bf8f01cfea414140de5dae2223b00361a396177a9cb410ff61f20015ad\",\"gid\":0,\"kind\":\"file\",\
@@ -60,6 +64,14 @@ fn line(alloc: Global, blobs: Option<&str>, layers: &[&str]) -> Result<Line, All
         out: None,
         layers: paths,
     })
+}
+
+// A `vacuum` of these layers, with a folder of blobs and one for the new layer.
+fn vacuum_line(alloc: Global, blobs: &str, out: &str, layers: &[&str]) -> Result<Line, AllocError> {
+    let mut asked = line(alloc, Some(blobs), layers)?;
+    asked.what = Command::Vacuum;
+    asked.out = Some(String::from_str(alloc, out)?);
+    Ok(asked)
 }
 
 fn unread(alloc: Global, path: &str) -> Result<Option<ProgramFault>, AllocError> {
@@ -189,6 +201,56 @@ fn a_report_that_cannot_be_written_is_told(rt: HostRuntime) -> Result<(), Fail> 
     Ok(())
 }
 
+#[test]
+fn layers_with_faults_are_not_vacuumed(rt: HostRuntime) -> Result<(), Fail> {
+    let alloc = rt.alloc();
+    // Without its blob both layers have a fault, and nothing is written to the file that is there, which takes nothing.
+    let things: [(&'static str, Thing); 3] = [
+        ("b/", Folder(b"")),
+        ("low", File(KEPT)),
+        ("o/layer-0.json", File(b"")),
+    ];
+    let disk = Disk {
+        rt: &rt,
+        things: &things,
+    };
+    let mut output = Vec::new(alloc);
+    let asked = vacuum_line(alloc, "b", "o", &["low", "low"])?;
+    assert_eq!(rt; perform(&disk, &asked, &mut output)?, Ending::Faulty);
+    assert_eq!(rt;
+        output.as_slice(),
+        b"fault blob-missing 0 /k\nfault blob-missing 1 /k\nfaults 2 notes 0\n".as_slice()
+    );
+    Ok(())
+}
+
+#[test]
+fn a_new_layer_that_cannot_be_written_is_told(rt: HostRuntime) -> Result<(), Fail> {
+    let alloc = rt.alloc();
+    let things: [(&'static str, Thing); 4] = [
+        ("b/", Folder(ABC_ALONE)),
+        (BLOB_ABC, File(b"abc")),
+        ("low", File(KEPT)),
+        ("o/layer-0.json", File(b"")),
+    ];
+    let disk = Disk {
+        rt: &rt,
+        things: &things,
+    };
+    let mut output = Vec::new(alloc);
+    // A file that takes nothing, and a folder that isn't there.
+    for (folder, path) in [
+        ("o", "o/layer-0.json"),
+        ("missing/", "missing//layer-0.json"),
+    ] {
+        let asked = vacuum_line(alloc, "b", folder, &["low", "low"])?;
+        let fault = ProgramFault::Unwritten(String::from_str(alloc, path)?);
+        assert_eq!(rt; perform(&disk, &asked, &mut output).err(), Some(fault));
+        assert!(rt; output.is_empty());
+    }
+    Ok(())
+}
+
 // Names of blobs of which the contents aren't known.
 const OF_ZEROS: &str = "0000000000000000000000000000000000000000000000000000000000000000";
 
@@ -226,6 +288,45 @@ fn a_stack_in_files_of_the_system_is_checked(rt: HostRuntime) -> Result<(), Fail
     fs::remove_dir_all(&rt, folder.as_str())?;
     assert_eq!(rt; ending?, Ending::Clean);
     assert_eq!(rt; output.as_slice(), b"faults 0 notes 0\n".as_slice());
+    Ok(())
+}
+
+#[test]
+fn a_layer_in_files_of_the_system_is_vacuumed(rt: HostRuntime) -> Result<(), Fail> {
+    let alloc = rt.alloc();
+    let folder = new_folder(&rt, process::id(rt.process()), "vacuum")?;
+    let layer = new_file(&rt, folder.as_str(), "k.json", KEPT)?;
+    // What is there already is overwritten.
+    let new = new_file(&rt, folder.as_str(), "layer-0.json", CLOSED)?;
+    new_file(&rt, folder.as_str(), ABC, b"abc")?;
+    let mut output = Vec::new(alloc);
+    let layers = [layer.as_str(), layer.as_str()];
+    let asked = vacuum_line(alloc, folder.as_str(), folder.as_str(), &layers)?;
+    let ending = perform(&rt, &asked, &mut output);
+    let written = read_file(&rt, new.as_str());
+    fs::remove_dir_all(&rt, folder.as_str())?;
+    assert_eq!(rt; ending?, Ending::Clean);
+    assert_eq!(rt;
+        output.as_slice(),
+        b"removed /k\nremoved 1 kept 1\n".as_slice()
+    );
+    assert_eq!(rt; written?.as_slice(), ROOT_WRITTEN);
+    Ok(())
+}
+
+#[test]
+fn a_folder_of_the_system_in_place_of_a_new_layer_is_told(rt: HostRuntime) -> Result<(), Fail> {
+    let alloc = rt.alloc();
+    let folder = new_folder(&rt, process::id(rt.process()), "in_place")?;
+    let layer = new_file(&rt, folder.as_str(), "root.json", ROOT)?;
+    let inner = format!(in alloc; "{folder}/layer-0.json")?;
+    fs::create_dir(&rt, inner.as_str())?;
+    let mut output = Vec::new(alloc);
+    let asked = vacuum_line(alloc, folder.as_str(), folder.as_str(), &[layer.as_str()])?;
+    let fault = perform(&rt, &asked, &mut output).err();
+    fs::remove_dir_all(&rt, folder.as_str())?;
+    assert_eq!(rt; fault, Some(ProgramFault::Unwritten(inner)));
+    assert!(rt; output.is_empty());
     Ok(())
 }
 

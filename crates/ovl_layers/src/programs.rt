@@ -15,8 +15,9 @@ use std::rt::Files;
 use std::sync::Wait;
 use std::thread::Threads;
 
-/// Does what a line asks for: reads its layers and then its blobs, and writes the report. Nothing is written where a
-/// file or a folder isn't read, or the command gives no answer.
+/// Does what a line asks for: reads its layers and then its blobs, and writes the new layers and then the report. Nothing
+/// is written where a file or a folder isn't read, or the command gives no answer; where it is refused for faults, their
+/// report is written alone.
 pub fn perform<R: Files + AllocGlobal + Clone + Drop + Threads + Wait + Sync, W: Write>(
     rt: &R,
     line: &Line,
@@ -28,11 +29,11 @@ pub fn perform<R: Files + AllocGlobal + Clone + Drop + Threads + Wait + Sync, W:
     let blobs = blobs_of_line(rt, line)?;
     write_report(
         rt,
-        rt.alloc(),
         line.what,
         &manifests,
         &blobs,
         line.workers,
+        &line.out,
         writer,
     )
 }

@@ -1,33 +1,70 @@
-ghost use Rattle.std.specs.Prelude.{map};
+ghost use Rattle.std.specs.Prelude.{◌≡◌, ◌<◌, ℕ, IfErr, MatchResult, length, map, take};
+ghost use Rattle.std.specs.Io.KnownBytes.{Appends};
 ghost use Rattle.ovl_check.specs.Blobs.{blob_views};
+ghost use Rattle.ovl_layers.specs.declared.faults.ProgramFault.TheVariants.{Output};
+ghost use Rattle.ovl_layers.specs.Faults.{IsUnwritten};
+ghost use Rattle.ovl_layers.specs.Outputs.{IsOutFile};
 ghost use Rattle.ovl_layers.specs.Reported.{IsReported};
 
 use crate::endings::Ending;
 use crate::faults::ProgramFault;
-use ovl_engine::{Blob, Command, command, emit};
+use crate::outputs::write_layers;
+use ovl_engine::{Blob, Command, EngineFault, command, emit};
 use ovl_pool::OpenGate;
 use std::alloc::Global;
 use std::io::Write;
+use std::rt::Files;
 use std::sync::Wait;
 use std::thread::Threads;
 
-/// Writes the report of a command over these manifests, the topmost layer's first, and these blobs. Nothing is written
-/// where the command gives no answer.
-pub fn write_report<H: Threads + Wait + Sync, W: Write>(
+/// Writes what a command gives of these manifests, the topmost layer's first, and these blobs: first its new layers
+/// into the folder `out`, if there is one, and then its report. Where the command is refused for faults, their report is
+/// written and no layer. Nothing is written to the writer where the command gives no answer, or a layer can't be written.
+pub fn write_report<H: Threads + Wait + Sync + Files + AllocGlobal, W: Write>(
     rt: &H,
-    alloc: Global,
     what: Command,
     manifests: &[Vec<u8>],
     blobs: &[Blob],
     workers: usize,
+    out: &Option<String>,
     writer: &mut W,
 ) -> Result<Ending, ProgramFault>
-    ensures { IsReported what (map (λ manifest. manifest.items) manifests.now) (blob_views blobs.now) workers
+    ensures { IsReported what out.now (map (λ manifest. manifest.items) manifests.now) (blob_views blobs.now) workers
         (W.contents writer.old) (W.contents writer.new) result }
 {
-    let answer = command(rt, alloc, what, manifests, blobs, workers, &OpenGate)?;
-    match emit(writer, &answer.report) {
-        Ok(()) => Ok(Ending::of(answer.clean)),
+    match command(rt, rt.alloc(), what, manifests, blobs, workers, &OpenGate) {
+        Ok(answer) => {
+            write_new(rt, out, &answer.layers)?;
+            write(writer, &answer.report, Ending::of(answer.clean))
+        }
+        Err(EngineFault::Faulty(report)) => write(writer, &report, Ending::Faulty),
+        Err(fault) => Err(ProgramFault::Engine(fault)),
+    }
+}
+
+// Writes new layers into the folder for them, if there is one.
+fn write_new<H: Files + AllocGlobal>(
+    rt: &H,
+    out: &Option<String>,
+    layers: &[Vec<u8>],
+) -> Result<(), ProgramFault>
+    ensures { IfErr result (λ fault. IsUnwritten (IsOutFile out.now) fault) }
+{
+    match out {
+        Some(folder) => write_layers(rt, folder.as_str(), layers),
+        None => Ok(()),
+    }
+}
+
+// Writes a report, with which the program ends so.
+fn write<W: Write>(writer: &mut W, report: &[u8], ending: Ending) -> Result<Ending, ProgramFault>
+    ensures { MatchResult result
+        (λ ended. (ended ≡ ending) × Appends (W.contents writer.old) (W.contents writer.new) report.now)
+        (λ fault. (fault ≡ Output) × ((count : ℕ) × ((count < length report.now)
+        × Appends (W.contents writer.old) (W.contents writer.new) (take count report.now)))) }
+{
+    match emit(writer, report) {
+        Ok(()) => Ok(ending),
         Err(_) => Err(ProgramFault::Output),
     }
 }

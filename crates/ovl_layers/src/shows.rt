@@ -1,4 +1,4 @@
-ghost use Rattle.std.specs.Prelude.{◌≡◌, ◌≢◌, ◌⊎◌, ◌∷◌, [], Err, IfErr, IfSome};
+ghost use Rattle.std.specs.Prelude.{◌≡◌, ◌≢◌, ◌⊎◌, ◌∷◌, [], None, Err, IfErr, IfSome};
 ghost use Rattle.std.specs.Io.KnownBytes.{Keeps};
 ghost use Rattle.ovl_engine.specs.declared.requests.Command.TheVariants.{Show};
 ghost use Rattle.ovl_engine.specs.declared.faults.EngineFault.TheVariants.{Memory};
@@ -12,31 +12,30 @@ use crate::grammar::DEFAULT_WORKERS;
 use crate::inputs::{INPUT_LIMIT, read_limited};
 use crate::reports::write_report;
 use ovl_engine::Command;
-use std::alloc::Global;
 use std::io::{Read, Write};
+use std::rt::Files;
 use std::sync::Wait;
 use std::thread::Threads;
 
 /// Writes the report of `show` over the one layer that a reader's manifest states, by [`DEFAULT_WORKERS`].
 /// Nothing is written where the input isn't read or the layer has no report.
-pub fn show_input<H: Threads + Wait + Sync, R: Read, W: Write>(
+pub fn show_input<H: Threads + Wait + Sync + Files + AllocGlobal, R: Read, W: Write>(
     rt: &H,
-    alloc: Global,
     reader: &mut R,
     writer: &mut W,
 ) -> Result<Ending, ProgramFault>
     ensures shown { IfSome (R.remaining reader.old) (λ manifest. (result ≡ Err Input) ⊎ ((result ≡ Err (Engine Memory))
-        ⊎ IsReported Show (manifest ∷ []) [] default_workers (W.contents writer.old) (W.contents writer.new) result)) }
+        ⊎ IsReported Show None (manifest ∷ []) [] default_workers (W.contents writer.old) (W.contents writer.new) result)) }
     ensures silent { IfErr result (λ fault. fault ≢ Output → Keeps (W.contents writer.old) (W.contents writer.new)) }
 {
-    let manifest = read_limited(alloc, reader, INPUT_LIMIT)?;
+    let manifest = read_limited(rt.alloc(), reader, INPUT_LIMIT)?;
     write_report(
         rt,
-        alloc,
         Command::Show,
         &[manifest],
         &[],
         DEFAULT_WORKERS,
+        &None,
         writer,
     )
 }

@@ -22,6 +22,11 @@ fn a_fault_of_the_engine_has_its_text_and_its_status(rt: HostRuntime) -> Result<
         (EngineFault::Layers, "layers must be 1 to 128", 3),
         (EngineFault::BlobOrder, "blobs out of order", 3),
         (EngineFault::BlobSize, "blobs over 268435456 bytes", 3),
+        (
+            EngineFault::Faulty(Vec::new(rt.alloc())),
+            "the layers or the blobs have faults",
+            1,
+        ),
         (EngineFault::Run(RunFault::Gate), "gate", 5),
         (EngineFault::Memory, "out of memory", 5),
     ] {
@@ -98,6 +103,11 @@ fn an_input_or_an_output_has_its_text_and_its_status(rt: HostRuntime) -> Result<
             "out of memory",
             5,
         ),
+        (
+            ProgramFault::Unwritten(String::from_str(alloc, "new/layer-0.json")?),
+            "cannot write new/layer-0.json",
+            4,
+        ),
         (ProgramFault::Output, "cannot write standard output", 4),
     ] {
         assert_eq!(rt; fault.to_string(rt.alloc())?.as_str(), text);
@@ -153,7 +163,7 @@ fn a_failed_read_is_told(rt: HostRuntime) -> Result<(), Fail> {
 fn an_input_is_shown_on_the_output(rt: HostRuntime) -> Result<(), Fail> {
     let alloc = rt.alloc();
     let mut output = Vec::new(alloc);
-    let ending = show_input(&rt, alloc, &mut Cursor::new(ROOT.as_bytes()), &mut output)?;
+    let ending = show_input(&rt, &mut Cursor::new(ROOT.as_bytes()), &mut output)?;
     assert_eq!(rt; ending, Ending::Clean);
     assert_eq!(rt; output.as_slice(), ROOT_REPORT.as_bytes());
     Ok(())
@@ -164,7 +174,7 @@ fn white_space_before_an_input_is_passed_over(rt: HostRuntime) -> Result<(), Fai
     let alloc = rt.alloc();
     let mut output = Vec::new(alloc);
     let mut input = input_of(100_000, ROOT.as_bytes(), false);
-    let ending = show_input(&rt, alloc, &mut input, &mut output)?;
+    let ending = show_input(&rt, &mut input, &mut output)?;
     assert_eq!(rt; ending, Ending::Clean);
     assert_eq!(rt; output.as_slice(), ROOT_REPORT.as_bytes());
     Ok(())
@@ -179,7 +189,7 @@ fn an_output_that_fails_has_what_was_written_before(rt: HostRuntime) -> Result<(
             fails,
             taken: Vec::new(alloc),
         };
-        let ending = show_input(&rt, alloc, &mut Cursor::new(ROOT.as_bytes()), &mut output);
+        let ending = show_input(&rt, &mut Cursor::new(ROOT.as_bytes()), &mut output);
         assert_eq!(rt; ending.err(), Some(ProgramFault::Output), "of {room}");
         assert_eq!(rt; output.taken.as_slice(), &ROOT_REPORT.as_bytes()[..room]);
     }
@@ -191,12 +201,12 @@ fn nothing_is_written_before_a_fault(rt: HostRuntime) -> Result<(), Fail> {
     let alloc = rt.alloc();
     let mut output = Vec::new(alloc);
     for (text, fault) in [("", LayerFault::NotJson), ("[]", LayerFault::Shape)] {
-        let refused = show_input(&rt, alloc, &mut Cursor::new(text.as_bytes()), &mut output);
+        let refused = show_input(&rt, &mut Cursor::new(text.as_bytes()), &mut output);
         let fault = ProgramFault::Engine(EngineFault::Layer(0, fault));
         assert_eq!(rt; refused.err(), Some(fault), "at {text:?}");
         assert!(rt; output.is_empty(), "at {text:?}");
     }
-    let refused = show_input(&rt, alloc, &mut Failing { left: 3 }, &mut output);
+    let refused = show_input(&rt, &mut Failing { left: 3 }, &mut output);
     assert_eq!(rt; refused.err(), Some(ProgramFault::Input));
     assert!(rt; output.is_empty());
     Ok(())

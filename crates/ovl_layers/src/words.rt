@@ -33,6 +33,7 @@ fn command_of(name: &str) -> Command
     match name {
         "show" => Command::Show,
         "fsck" => Command::Fsck,
+        "vacuum" => Command::Vacuum,
         _ => unreachable!(),
     }
 }
@@ -47,7 +48,7 @@ fn read(alloc: Global, what: Command, given: &ArgMatches<'_>) -> Result<Line, Al
         what,
         workers: given.get_one("workers").unwrap(),
         blobs: copy(alloc, given.get_str("blobs"))?,
-        out: None,
+        out: copy(alloc, given.get_str("out"))?,
         layers: copies(alloc, given.get_strs("layers").unwrap())?,
     })
 }

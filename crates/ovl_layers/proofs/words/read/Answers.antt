@@ -2,7 +2,7 @@ use Rattle.std.proofs.Common.{rules, ◌≡◌, ◌∙◌, ap, refl, sym, Some, 
 use Rattle.std.specs.Str.Parse.{ExplainsUnsignedError, HasUnsignedDigitsIfOk, ParsesUnsigned}
 use Rattle.clap.proofs.WalkLemmas.{first_value-rows, raw_values-rows}
 use Rattle.clap.specs.Matches.{found_of}
-use Rattle.ovl_layers.proofs.Options.{is_some-map, makes_none, some_copied, some_mapped, workers_read}
+use Rattle.ovl_layers.proofs.Options.{is_some-map, some_copied, some_mapped, workers_read}
 use Rattle.ovl_layers.proofs.words.read.Goals as goal
 
 pub unwrap-requires : goal.unwrap-requires
@@ -27,7 +27,7 @@ returns-clause-sound c =
       few_workers = rw (← is) read.4;
       some_layer = some_copied string_bytes _ c.in_ok-copies.field-0.items c.unwrap-2.result.now files.0 c.in_ok-copies.ensures (texts ∙ raw_values-rows (found_of c.args.given.now) (codes "layers") ∙ files.1) files.2;
       blobs = is_some-map string_bytes c.in_ok-copy.field-0 ∙ ap is_some (c.in_ok-copy.ensures ∙ c.get_str.ensures ∙ first_value-rows (found_of c.args.given.now) (codes "blobs")) ∙ c.requires.blobs;
-      out = makes_none c.args.what;
+      out = is_some-map string_bytes c.in_ok-copy-2.field-0 ∙ ap is_some (c.in_ok-copy-2.ensures ∙ c.get_str-2.ensures ∙ first_value-rows (found_of c.args.given.now) (codes "out")) ∙ c.requires.out;
     }
 
 pub returns-clause-values : goal.returns-clause-values
@@ -40,6 +40,7 @@ returns-clause-values c =
       record {
         workers = read.2 ∙ ap Some is;
         blobs = c.in_ok-copy.ensures ∙ c.get_str.ensures ∙ first_value-rows (found_of c.args.given.now) (codes "blobs");
+        out = c.in_ok-copy-2.ensures ∙ c.get_str-2.ensures ∙ first_value-rows (found_of c.args.given.now) (codes "out");
         layers = sym (raw_values-rows (found_of c.args.given.now) (codes "layers")) ∙ sym texts ∙ ap Some (sym c.in_ok-copies.ensures);
       },
     )
