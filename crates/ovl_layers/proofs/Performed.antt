@@ -1,5 +1,5 @@
 -- What comes of a line, by what comes of its parts.
-use Rattle.std.proofs.Common.{◌≡◌, ◌<◌, ℕ, refl, Option, None, Some, Result, Ok, Err, List, IfErr, MatchResult, inl, inr, length, take, sym, subst, String, Global, string_bytes}
+use Rattle.std.proofs.Common.{◌≡◌, ◌<◌, ℕ, refl, Option, None, Some, Result, Ok, Err, List, IfErr, MatchResult, inr, length, take, sym, subst, String, Global, string_bytes}
 use Rattle.std.specs.Io.KnownBytes.{Appends, Keeps}
 use Rattle.ovl_check.specs.Blobs.{BlobView}
 use Rattle.ovl_engine.specs.declared.requests.Command.{Command}

@@ -1,6 +1,9 @@
-use Rattle.std.proofs.Common.{ℕ, List, map, inl, inr, refl, Vec, Global}
+use Rattle.std.proofs.Common.{ℕ, List, map, subst, inl, inr, refl, Err, Vec, Global}
 use Rattle.std.proofs.lemmas.Result.{err_from_is_err_and}
 use Rattle.ovl_check.specs.Blobs.{blob_views}
+use Rattle.ovl_engine.specs.declared.faults.EngineFault.{EngineFault}
+use Rattle.ovl_engine.specs.Outcomes.{IsOutcome}
+use Rattle.ovl_layers.specs.Reported.{refuses_nothing}
 use Rattle.ovl_layers.proofs.Performed.{not_written, stays, told}
 use Rattle.ovl_layers.proofs.reports.write_report.Goals as goal
 
@@ -22,6 +25,8 @@ returns-in_ok-write_new-in-Ok g c =
 
 pub returns-in-Err-Faulty : goal.returns-in-Err-Faulty
 returns-in-Err-Faulty g c =
+    let outcome = subst (λ (fault : EngineFault). IsOutcome c.args.what (texts c.args.manifests.now) (blob_views c.args.blobs.now) c.args.workers refuses_nothing (Err fault))
+    c.in-Err-Faulty.field-0-is c.in-Err-Faulty.ensures.outcome in
     told c.args.what c.args.out.now (texts c.args.manifests.now) (blob_views c.args.blobs.now) c.args.workers (g.W.Write.contents c.args.writer.now) (g.W.Write.contents c.write-in-Err-Faulty.new.writer)
     c.deref-in-Err-Faulty.result.now _ c.write-in-Err-Faulty.result
-    (inr (c.in-Err-Faulty.report, (c.in-Err-Faulty.ensures.outcome, (c.deref-in-Err-Faulty.ensures.value, refl)))) c.write-in-Err-Faulty.ensures
+    (inr (c.in-Err-Faulty.report, (outcome, (c.deref-in-Err-Faulty.ensures.value, refl)))) c.write-in-Err-Faulty.ensures
