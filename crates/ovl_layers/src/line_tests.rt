@@ -79,7 +79,7 @@ fn words_that_no_command_takes_are_a_usage_fault(rt: HostRuntime) -> Result<(), 
         (
             ["fsck", "--blobs", "b", "--out", "o", "a.json"].as_slice(),
             "unexpected argument '--out' found\n\n  tip: to pass '--out' as a value, use '-- --out'",
-            "Usage: ovl_layers fsck [OPTIONS] --blobs <DIR> <LAYER>...\n\n",
+            "Usage: ovl_layers fsck --blobs <DIR> <LAYER>...\n\n",
         ),
         (
             ["show", "--blobs", "b", "a.json"].as_slice(),
