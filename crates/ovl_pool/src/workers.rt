@@ -63,7 +63,8 @@ impl Worker {
 }
 
 /// Serves pieces until all that are known are delivered, or a worker met a fault. A worker that finds no piece spins for
-/// a moment, then yields its processor, and tries again (`Backoff::snooze`); it doesn't sleep.
+/// a moment, then yields its processor, and tries again (`Backoff::snooze`); it doesn't sleep. In the end it sorts its
+/// haul, while the others sort theirs.
 pub(crate) fn labor<W: Work, G: Gate, R: Wait>(
     rt: &R,
     alloc: Global,
@@ -100,6 +101,7 @@ pub(crate) fn labor<W: Work, G: Gate, R: Wait>(
             }
         }
     }
+    haul.sort();
     (worker, haul)
 }
 
