@@ -1,27 +1,44 @@
--- What the passes of a visit keep.
-use Rattle.std.proofs.Common.{◌≡◌, ℕ, ◌+◌, ◌<◌, Bool, true, false, cond, Option, Some, None, List, [], ◌∷◌, ◌++◌, length, get_or, take, drop, refl, sym, ap, ◌∙◌}
-use Rattle.std.specs.Prelude.{◌||◌, not}
+-- What the passes of a visit keep, and what it finds in its directory.
+use Rattle.std.proofs.Common.{◌≡◌, ℕ, ◌+◌, ◌<◌, Bool, true, false, cond, Option, Some, None, List, [], ◌∷◌, ◌++◌, length, get_or, take, drop, map, refl, sym, ap, ◌∙◌, append_assoc, arith}
+use Rattle.std.specs.Prelude.{◌||◌, not, All}
 use Rattle.std.specs.Option.{option_map}
 use Rattle.std.specs.List.{list_all, cons_option, filter_map}
 use Rattle.std.specs.Ordering.{is_lt}
-use Rattle.std.proofs.lemmas.List.{take-append-drop, drop_more, take_more}
+use Rattle.std.proofs.lemmas.List.{append-nil, take-append-drop, drop_more, take_more}
 use Rattle.std.proofs.lemmas.List.Elements.{filter-append, filter_map-append}
 use Rattle.ovl_names.specs.Names.{PathName, name_eq}
 use Rattle.ovl_names.specs.Order.{ascends}
 use Rattle.ovl_names.specs.Paths.{PathNames, child_path}
 use Rattle.ovl_names.proofs.Ascending.{both, ascends-across, list_all-filter}
 use Rattle.ovl_inode.specs.declared.inodes.Inode.{Inode}
+use Rattle.ovl_inode.specs.declared.marks.Mark.{Mark}
+use Rattle.ovl_inode.specs.declared.marks.Mark.TheVariants.{Meta}
+use Rattle.ovl_inode.specs.declared.marks.Redirect.{Redirect}
 use Rattle.ovl_inode.specs.Attributes.{Attributes, attribute_cmp, is_attribute, are_attributes, with_attribute, redirect_name, metacopy_name}
-use Rattle.ovl_inode.specs.Marks.{mark_of}
-use Rattle.ovl_manifest.specs.Layers.{Entries, entry_at}
+use Rattle.ovl_inode.specs.Marks.{mark_of, is_metacopy_mark}
+use Rattle.ovl_manifest.specs.Layers.{Entries, IsLayer, entry_at, names_below}
+use Rattle.ovl_manifest.specs.LayerTrees.{entries_in, entries_under}
+use Rattle.ovl_manifest.proofs.NodeLemmas.{entry_at-under}
+use Rattle.ovl_manifest.proofs.SheetLemmas.{entries_under-child}
 use Rattle.ovl_manifest.proofs.ValueLemmas.{put-last}
+use Rattle.ovl_lookup.specs.declared.looks.Look.{Look}
+use Rattle.ovl_lookup.specs.declared.views.DirView.{DirView}
 use Rattle.ovl_lookup.specs.Walk.{mark_at}
-use Rattle.ovl_lookup.specs.Stacks.{StackView}
+use Rattle.ovl_lookup.specs.Stacks.{StackView, from_layer}
+use Rattle.ovl_lookup.specs.Passes.{kids_along}
+use Rattle.ovl_lookup.specs.Merged.{look, is_nothing, shows_directory}
+use Rattle.ovl_lookup.specs.ViewPasses.{AreLooks}
 use Rattle.ovl_lookup.specs.Sound.{is_moved}
+use Rattle.ovl_lookup.specs.Words.{over, top_layer, lower_layers}
+use Rattle.ovl_lookup.proofs.ChildLemmas.{all-first, all-rest}
+use Rattle.ovl_lookup.proofs.LookLaws.{nothing-under}
+use Rattle.ovl_lookup.proofs.TopLaws.{top-over}
 use Rattle.ovl_lookup.proofs.WalkLaws.{mark-child}
-use Rattle.ovl_deref.specs.Deref.{full_attributes}
-use Rattle.ovl_deref.specs.Directories.{is_at_moved, new_at, NamedInode, named_inode}
+use Rattle.ovl_deref.specs.Deref.{inode_shown, unfolded, full_attributes, filled, dereferenced_inode}
+use Rattle.ovl_deref.specs.Directories.{is_at_moved, new_at, names_in, NamedInode, named_inode, inodes_in}
+use Rattle.ovl_deref.specs.Visits.{IsSought, look_by, shown_inode}
 use Rattle.ovl_deref.proofs.DerefLemmas.{any_prefix-child, any_prefix-under}
+use Rattle.ovl_deref.proofs.DirectoryLemmas.{kids-unique, new-moved}
 
 -- ---- the attributes of a full file, one after another
 
@@ -47,6 +64,18 @@ module _ (attrs : Attributes) (i : ℕ) (attr : List ℕ × List ℕ) (inside : 
 
 -- ---- the directories above one
 
+nothing-there : (top : Entries) (path : PathNames) → entries_under path top ≡ [] → entry_at top path ≡ None
+nothing-there top path none = entry_at-under path top ∙ ap (λ (entries : Entries). entry_at entries []) none
+
+stays-free : (top : Entries) (path rest : PathNames) → entries_under path top ≡ [] → is_at_moved top path ≡ false → is_at_moved top (path ++ rest) ≡ false
+stays-free top path [] none free = ap (is_at_moved top) (append-nil path) ∙ free
+stays-free top path (name ∷ rest) none free =
+    let below : entries_under (child_path path name) top ≡ [] = entries_under-child path name top ∙ ap (entries_in name) none in
+    ap (is_at_moved top) (sym (append_assoc path (name ∷ []) rest))
+    ∙ stays-free top (child_path path name) rest below
+    (any_prefix-child (λ prefix. is_moved (mark_at top prefix)) path name
+    ∙ (λ j. free j || is_moved (mark-child top path name None (nothing-there top (child_path path name) below) j)))
+
 module _ (top : Entries) (dir : PathNames) (i : ℕ) (name : PathName) (inside : i < length dir) (is : name ≡ get_or dir i name) (free : is_at_moved top (take i dir) ≡ false) where
   pub prefix-next : child_path (take i dir) name ≡ take (i + 1) dir
   prefix-next = sym (take_more dir i name inside ∙ ap (λ (n : PathName). take i dir ++ n ∷ []) (sym is))
@@ -65,6 +94,42 @@ module _ (top : Entries) (dir : PathNames) (i : ℕ) (name : PathName) (inside :
       ap (is_at_moved top) (sym (take-append-drop (i + 1) dir))
       ∙ any_prefix-under (λ prefix. is_moved (mark_at top prefix)) (take (i + 1) dir) (drop (i + 1) dir) (moved-next true told)
 
+  -- where the layer has nothing, nothing at or under it is moved
+  pub nothing-moved : entries_under (child_path (take i dir) name) top ≡ [] → is_at_moved top dir ≡ false
+  nothing-moved none =
+      ap (is_at_moved top) (sym (take-append-drop (i + 1) dir))
+      ∙ stays-free top (take (i + 1) dir) (drop (i + 1) dir) (ap (λ (path : PathNames). entries_under path top) (sym prefix-next) ∙ none)
+      (moved-next false (sym (ap (λ (found : Option Inode). is_moved (option_map mark_of found)) (nothing-there top (child_path (take i dir) name) none))))
+
+-- ---- what is sought once in a directory
+
+-- an entry in a directory, from the directory's place on
+pub entry-in : (layer : Entries) (directory : PathNames) (name : PathName) (place : Entries) → place ≡ entries_under directory layer
+    → entry_at (entries_in name place) [] ≡ entry_at layer (child_path directory name)
+entry-in layer directory name place is =
+    ap (λ (entries : Entries). entry_at (entries_in name entries) []) is
+    ∙ sym (entry_at-under (child_path directory name) layer ∙ ap (λ (entries : Entries). entry_at entries []) (entries_under-child directory name layer))
+
+module _ (stack : StackView) (path : PathNames) where
+  pub sought-look : All IsLayer stack.layers → (name : PathName) (found : Option DirView) → IsSought stack path found → look_by stack name found ≡ look stack (child_path path name)
+  sought-look each name None none = sym (nothing-under stack each path name [] none)
+  sought-look each name (Some view) is = (λ j. look (from_layer (is.starts j) stack) (child_path (is.stands j) name))
+
+  -- the names in it, where neither it nor a directory above it is moved
+  pub own-names : is_at_moved (top_layer stack) path ≡ false → names_in stack path ≡ names_below (top_layer stack) path
+  own-names free = ap (λ b. cond b (kids_along stack path) (names_below (top_layer stack) path)) free
+
+  pub none-listed : is_at_moved (top_layer stack) path ≡ false → names_below (top_layer stack) path ≡ [] → [] ≡ inodes_in stack path
+  none-listed free none = sym (ap (filter_map (named_inode stack path)) (own-names free ∙ none))
+
+  -- a metacopy file is filled with what is shown
+  pub filled-there : (name : PathName) (inode : Inode) (redirect : Option Redirect) (shown : Look) → 0 < length stack.layers → entry_at (top_layer stack) (child_path path name) ≡ Some inode → mark_of inode ≡ Meta redirect → shown ≡ look stack (child_path path name)
+      → filled inode shown ≡ dereferenced_inode (top_layer stack) (lower_layers stack) (child_path path name) inode
+  filled-there name inode redirect shown some here meta is =
+      let marked : mark_at (top_layer stack) (child_path path name) ≡ Some (Meta redirect) = mark-child (top_layer stack) path name (Some inode) here ∙ ap (λ (m : Mark). Some m) meta in
+      (λ j. filled inode ((is ∙ ap (λ (s : StackView). look s (child_path path name)) (sym (top-over stack some))) j))
+      ∙ (λ j. cond (is_moved (sym marked j)) (unfolded inode) (cond (is_metacopy_mark (sym meta j)) (filled inode (look (over (top_layer stack) (lower_layers stack)) (child_path path name))) inode))
+
 -- ---- the entries of a directory, one after another
 
 pub listed-more : (stack : StackView) (dir : PathNames) (names : List PathName) (name : PathName) (items : List NamedInode) (found : Option Inode)
@@ -73,6 +138,41 @@ pub listed-more : (stack : StackView) (dir : PathNames) (names : List PathName) 
 listed-more stack dir names name items found are is =
     (λ j. are j ++ cons_option (option_map (λ inode. (name, inode)) (is j)) [])
     ∙ sym (filter_map-append (named_inode stack dir) names (name ∷ []))
+
+-- the same of what is shown
+pub shown-more : (looks : List (PathName × Look)) (name : PathName) (shown : Look) (items : List NamedInode) (found : Option Inode)
+    → items ≡ filter_map shown_inode looks → found ≡ inode_shown shown
+    → items ++ cons_option (option_map (λ inode. (name, inode)) found) [] ≡ filter_map shown_inode (looks ++ (name, shown) ∷ [])
+shown-more looks name shown items found are is =
+    (λ j. are j ++ cons_option (option_map (λ inode. (name, inode)) (is j)) [])
+    ∙ sym (filter_map-append shown_inode looks ((name, shown) ∷ []))
+
+-- at and in a moved directory the entries are what is shown
+module _ (stack : StackView) (each : All IsLayer stack.layers) (some : 0 < length stack.layers) (dir : PathNames) (moved : is_at_moved (top_layer stack) dir ≡ true) where
+  by-names : (looks : List (PathName × Look)) → All (λ e. e.1 ≡ look stack (child_path dir e.0)) looks → filter_map shown_inode looks ≡ filter_map (named_inode stack dir) (map (λ e. e.0) looks)
+  by-names [] are = refl
+  by-names (entry ∷ looks) are =
+      (λ j. cons_option (option_map (λ inode. (entry.0, inode)) (first j)) (by-names looks (all-rest (λ (e : PathName × Look). e.1 ≡ look stack (child_path dir e.0)) entry looks are) j))
+    where
+      first : inode_shown entry.1 ≡ new_at stack (child_path dir entry.0)
+      first = ap inode_shown (all-first (λ (e : PathName × Look). e.1 ≡ look stack (child_path dir e.0)) entry looks are) ∙ sym (new-moved stack each some dir entry.0 moved)
+
+  pub shown-listed : (looks : List (PathName × Look)) → AreLooks stack dir looks → filter_map shown_inode looks ≡ inodes_in stack dir
+  shown-listed looks are =
+      by-names looks are.each
+      ∙ ap (filter_map (named_inode stack dir))
+      (kids-unique stack each dir (map (λ e. e.0) looks) are.names
+      ∙ sym (ap (λ b. cond b (kids_along stack dir) (names_below (top_layer stack) dir)) moved))
+
+  -- nothing where no directory is shown
+  pub none-shown : shows_directory stack dir ≡ false → [] ≡ inodes_in stack dir
+  none-shown none = shown-listed [] (record {
+    names = record {
+      in_order = refl;
+      same = λ name. sym (ap (λ shown. not (is_nothing shown)) (nothing-under stack each dir name [] none));
+    };
+    each = λ k d inside. absurd (omega (arith, inside));
+  })
 
 pub not-some : {X : Type 0} → (found : Option X) → ((x : X) → found ≡ Some x → ⊥) → found ≡ None
 not-some None never = refl

@@ -1,13 +1,11 @@
 ghost use Rattle.std.specs.Prelude.{◌≡◌, IfOk};
-ghost use Rattle.ovl_names.specs.Paths.{child_path};
-ghost use Rattle.ovl_lookup.specs.Words.{top_layer};
-ghost use Rattle.ovl_deref.specs.Directories.{is_at_moved as at_moved_test, new_at, names_in as the_names, inodes_in as the_inodes, directories_among};
+ghost use Rattle.ovl_deref.specs.Directories.{directories_among};
 
-use crate::inodes::{dereferenced, is_moved, own_inode};
+use crate::directories::inodes_in;
 use ovl_board::{Piece, Work};
 use ovl_inode::{Inode, is_directory};
-use ovl_lookup::{Look, Stack};
-use ovl_names::{DEPTH_LIMIT, Name, Path};
+use ovl_lookup::Stack;
+use ovl_names::{DEPTH_LIMIT, Name};
 use std::alloc::{AllocError, Global};
 use std::marker::Model;
 
@@ -87,72 +85,4 @@ fn directories(
         }
     }
     Ok(kids)
-}
-
-// The names in a directory of the new layer, each with its inode.
-fn inodes_in(alloc: Global, stack: &Stack, dir: &Path) -> Result<Vec<(Name, Inode)>, AllocError>
-    ensures { IfOk result (λ inodes. inodes.items ≡ the_inodes stack.now dir.now) }
-{
-    let moved = is_at_moved(alloc, stack, dir)?;
-    let names = names_in(alloc, stack, dir, moved)?;
-    let mut inodes = Vec::with_capacity(alloc, names.len())?;
-    for name in names {
-        if let Some(inode) = inode_in(alloc, stack, dir, &name, moved)? {
-            inodes.push((name, inode))?;
-        }
-    }
-    Ok(inodes)
-}
-
-// Whether the directory or one above it is moved.
-fn is_at_moved(alloc: Global, stack: &Stack, dir: &Path) -> Result<bool, AllocError>
-    ensures { IfOk result (λ answer. answer ≡ at_moved_test (top_layer stack.now) dir.now) }
-{
-    let mut path = Path::root(alloc);
-    for name in dir.names() {
-        path.push(name.copy(alloc)?)?;
-        if is_moved(alloc, stack, &path)? {
-            return Ok(true);
-        }
-    }
-    Ok(false)
-}
-
-// The names in a directory of the new layer: at and in a moved one those that are shown, else the topmost layer's own.
-fn names_in(alloc: Global, stack: &Stack, dir: &Path, moved: bool) -> Result<Vec<Name>, AllocError>
-    requires { moved ≡ at_moved_test (top_layer stack.now) dir.now }
-    ensures { IfOk result (λ names. names.items ≡ the_names stack.now dir.now) }
-{
-    // A stack has a topmost layer.
-    let _layers = stack.layers();
-    if !moved {
-        return stack.own_names(alloc, 0, dir);
-    }
-    let names = stack.names(alloc, 0, dir)?;
-    Ok(names)
-}
-
-// What the new layer has at a name in a directory.
-fn inode_in(
-    alloc: Global,
-    stack: &Stack,
-    dir: &Path,
-    name: &Name,
-    moved: bool,
-) -> Result<Option<Inode>, AllocError>
-    requires { moved ≡ at_moved_test (top_layer stack.now) dir.now }
-    ensures { IfOk result (λ found. found ≡ new_at stack.now (child_path dir.now name.now)) }
-{
-    let _layers = stack.layers();
-    let path = dir.child(alloc, name)?;
-    if moved {
-        return Ok(match stack.look(alloc, 0, &path)? {
-            Look::Shown(inode) | Look::Broken(inode) => Some(inode),
-            Look::Nothing => None,
-        });
-    }
-    match own_inode(stack, &path) {
-        Some(inode) => Ok(Some(dereferenced(alloc, stack, &path, inode)?)),
-        None => Ok(None),
-    }
 }

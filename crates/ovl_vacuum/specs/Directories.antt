@@ -1,6 +1,6 @@
 -- The directories of the topmost layer as work: a piece is a directory, its kids are the directories in it, and its
 -- output is each name in it with whether its entry is idle.
-use Rattle.std.specs.Prelude.{Bool, false, Some, None, List, [], map, filter, slice_get, unwrap_or, Vec}
+use Rattle.std.specs.Prelude.{ℕ, Bool, false, Some, None, List, [], map, filter, slice_get, unwrap_or, Vec}
 use Rattle.std.specs.Global.{Global}
 use Rattle.std.specs.Coded.{Coded-set, codes}
 use Rattle.ovl_names.specs.Names.{PathName}
@@ -30,7 +30,10 @@ IdleName = PathName × Bool
 abbrev pub idle_name : StackView → PathNames → PathName → IdleName
 idle_name stack directory name = (name, is_idle_at stack (child_path directory name))
 
--- an entry of a piece's directory as a piece
+-- a directory as a piece, and an entry of a piece's directory as one
+abbrev pub directory_piece : ℕ → PathNames → Piece
+directory_piece space path = record { space = space; dir = path }
+
 abbrev pub piece_in : Piece → PathName → Piece
 piece_in piece name = record { space = piece.space; dir = child_path piece.dir name }
 

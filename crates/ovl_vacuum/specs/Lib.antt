@@ -1,4 +1,5 @@
 pub mod Vacuum
 pub mod Laws
 pub mod Directories
+pub mod Visits
 pub mod Passes

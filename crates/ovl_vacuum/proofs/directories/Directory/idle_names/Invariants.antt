@@ -1,0 +1,6 @@
+use Rattle.std.proofs.Common.{◌≡◌, map}
+use Rattle.ovl_vacuum.specs.Directories.{idle_name}
+use Rattle.ovl_vacuum.proofs.directories.Directory.idle_names.Given as goal
+
+abbrev pub invariant-loop-name : goal.invariant-loop-name
+invariant-loop-name l = l.found.items ≡ map (idle_name l.self.stack.now l.self.path.now) l.yielded

@@ -1,0 +1,12 @@
+use Rattle.std.proofs.Common.{◌≡◌, map, take}
+use Rattle.std.specs.Prelude.{filter}
+use Rattle.ovl_names.specs.Paths.{child_path}
+use Rattle.ovl_manifest.specs.Layers.{is_directory_at}
+use Rattle.ovl_vacuum.specs.Directories.{top_layer, directory_piece, piece_in}
+use Rattle.ovl_vacuum.proofs.directories.Directory.kids.Given as goal
+
+abbrev pub invariant-loop-name : goal.invariant-loop-name
+invariant-loop-name l =
+    l.kids.items
+    ≡ map (piece_in (directory_piece l.space l.self.path.now))
+    (filter (λ name. is_directory_at (top_layer l.self.stack.now) (child_path l.self.path.now name)) (take l.name-index l.names))

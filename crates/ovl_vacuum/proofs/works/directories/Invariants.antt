@@ -1,9 +1,0 @@
-use Rattle.std.proofs.Common.{◌≡◌, map, take}
-use Rattle.std.specs.Prelude.{filter}
-use Rattle.ovl_names.specs.Paths.{child_path}
-use Rattle.ovl_manifest.specs.Layers.{is_directory_at}
-use Rattle.ovl_vacuum.specs.Directories.{top_layer, piece_in}
-use Rattle.ovl_vacuum.proofs.works.directories.Given as goal
-
-abbrev pub invariant-loop-name : goal.invariant-loop-name
-invariant-loop-name l = l.kids.items ≡ map (piece_in l.piece) (filter (λ name. is_directory_at (top_layer l.stack) (child_path l.piece.dir name)) (take l.name-index l.names))
