@@ -25,7 +25,7 @@ fn commands_report_and_give_new_layers(rt: HostRuntime) -> Result<(), Fail> {
     let alloc = rt.alloc();
     let blobs = blob_of_a(alloc)?;
     for (what, layers, report, new) in [
-        // A root alone is no layer's to lose.
+        // The root stays.
         (
             Command::Vacuum,
             [""].as_slice(),
@@ -59,6 +59,17 @@ fn commands_report_and_give_new_layers(rt: HostRuntime) -> Result<(), Fail> {
             ["dir-0700 /d", "dir /d, file /d/k"].as_slice(),
             "removed 0 kept 2\n",
             ["dir-0700 /d"].as_slice(),
+        ),
+        // What is in an opaque directory isn't below; in a moved one it is below at the place that it came from.
+        (
+            Command::Vacuum,
+            [
+                "bare /m metacopy=, dir /o opaque=y, file /o/k, dir /p redirect=/x, file /p/k, whiteout /x",
+                "file /m, dir /o, file /o/k, dir /x, file /x/k",
+            ]
+            .as_slice(),
+            "removed /m\nremoved /p/k\nremoved 2 kept 5\n",
+            ["dir /o opaque=y, file /o/k, dir /p redirect=/x, whiteout /x"].as_slice(),
         ),
         // A note is no fault: `opaque` and `redirect` on one directory.
         (
