@@ -190,22 +190,38 @@ fn answered<R: Threads + Wait + Sync>(
     Ok(alone)
 }
 
-// What a command that makes new layers answers, alike by one worker and by four. With them in place of the topmost ones
-// the stack shows the same.
+// What a command that makes new layers reports, and behind it their manifests, alike by one worker and by four. With
+// them in place of the topmost ones the stack shows the same.
 pub(crate) fn rewritten<R: Threads + Wait + Sync>(
     rt: &R,
     alloc: Global,
     what: Command,
     layers: &[&str],
     blobs: &[Blob],
-) -> Result<Answer, Fail> {
+) -> Result<String, Fail> {
     let manifests = manifests_of(alloc, layers)?;
     let before = reported(rt, alloc, &manifests)?;
-    let answer = answered(rt, alloc, what, &manifests, blobs)?;
-    let mut after = answer.layers.clone()?;
-    after.extend_from_slice(&manifests[answer.layers.len()..])?;
+    let Answer {
+        report,
+        layers: mut after,
+        clean,
+    } = answered(rt, alloc, what, &manifests, blobs)?;
+    if !clean {
+        return Err(Fail::new("there are faults"));
+    }
+    let told = told_of(alloc, String::from_utf8(report)?.as_str(), &after)?;
+    after.extend_from_slice(&manifests[after.len()..])?;
     if reported(rt, alloc, &after)? != before {
         return Err(Fail::new("the stack with the new layers shows something else"));
     }
-    Ok(answer)
+    Ok(told)
+}
+
+// A report, and behind it these manifests.
+pub(crate) fn told_of(alloc: Global, report: &str, manifests: &[Vec<u8>]) -> Result<String, Fail> {
+    let mut told = Vec::from_slice(alloc, report.as_bytes())?;
+    for manifest in manifests {
+        told.extend_from_slice(manifest)?;
+    }
+    Ok(String::from_utf8(told)?)
 }

@@ -1,7 +1,7 @@
 //! Worked stacks: the new layers that commands make of them, with their reports.
 
-use crate::command_samples::{contents_of, manifest_of, manifests_of, rewritten};
-use ovl_engine::{Answer, Blob, Command, EngineFault, command, named_blobs};
+use crate::command_samples::{contents_of, manifest_of, manifests_of, rewritten, told_of};
+use ovl_engine::{Blob, Command, EngineFault, command, named_blobs};
 use ovl_pool::OpenGate;
 use std::alloc::Global;
 use std::test::Fail;
@@ -9,15 +9,6 @@ use std::test::Fail;
 // The blob of the contents `a`.
 fn blob_of_a(alloc: Global) -> Result<Vec<Blob>, Fail> {
     Ok(named_blobs(alloc, &contents_of(alloc, &["a"])?)?)
-}
-
-// The answer of this report and these new layers, of a command that isn't for faults.
-fn answer_of(alloc: Global, report: &str, layers: &[&str]) -> Result<Answer, Fail> {
-    Ok(Answer {
-        report: String::from_str(alloc, report)?.into_bytes(),
-        layers: manifests_of(alloc, layers)?,
-        clean: true,
-    })
 }
 
 #[test]
@@ -83,12 +74,9 @@ fn commands_report_and_give_new_layers(rt: HostRuntime) -> Result<(), Fail> {
             ["dir /d opaque=y redirect=/x"].as_slice(),
         ),
     ] {
-        let answer = rewritten(&rt, alloc, what, layers, &blobs)?;
-        assert_eq!(rt;
-            answer,
-            answer_of(alloc, report, new)?,
-            "{what:?} of {layers:?}"
-        );
+        let told = rewritten(&rt, alloc, what, layers, &blobs)?;
+        let wanted = told_of(alloc, report, &manifests_of(alloc, new)?)?;
+        assert_eq!(rt; told, wanted, "{what:?} of {layers:?}");
     }
     Ok(())
 }
@@ -102,13 +90,12 @@ fn a_stack_with_faults_gives_their_report_and_no_layer(rt: HostRuntime) -> Resul
     let manifests = manifests_of(alloc, &[upper, ""])?;
     for what in [Command::Vacuum] {
         for workers in [1, 4] {
-            let fault = command(&rt, alloc, what, &manifests, &[], workers, &OpenGate).err();
-            let told = String::from_str(alloc, report)?.into_bytes();
-            assert_eq!(rt;
-                fault,
-                Some(EngineFault::Faulty(told)),
-                "{what:?} by {workers}"
-            );
+            let answer = command(&rt, alloc, what, &manifests, &[], workers, &OpenGate);
+            let Err(EngineFault::Faulty(told)) = answer else {
+                return Err(Fail::new("the faults aren't told"));
+            };
+            let told = String::from_utf8(told)?;
+            assert_eq!(rt; told.as_str(), report, "{what:?} by {workers}");
         }
     }
     Ok(())
