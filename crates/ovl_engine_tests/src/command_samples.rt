@@ -210,7 +210,10 @@ pub(crate) fn rewritten<R: Threads + Wait + Sync>(
         return Err(Fail::new("there are faults"));
     }
     let told = told_of(alloc, String::from_utf8(report)?.as_str(), &after)?;
-    after.extend_from_slice(&manifests[after.len()..])?;
+    let new_layers = after.len();
+    for manifest in manifests.into_iter().skip(new_layers) {
+        after.push(manifest)?;
+    }
     if reported(rt, alloc, &after)? != before {
         return Err(Fail::new("the stack with the new layers shows something else"));
     }
