@@ -1,11 +1,13 @@
 #!/usr/bin/env python3
-"""Measures `show` and `fsck` by several numbers of workers, on large layers and on many blobs.
+"""Measures the commands by several numbers of workers, on large layers and on many blobs.
 
 Python 3.11, standard library. In a temporary folder it makes three layers of the
 same number of entries (generate.py, seeds 1 to 3) and a folder of blobs with a
 layer that names each of them, runs the program several times, each run a fresh
 process, and prints Markdown tables: the least wall time of the runs and the
-largest peak memory of one run.
+largest peak memory of one run. Commands that make new layers want contents that
+are right: their layers have empty files, and are once of other names and once
+the same one three times.
 
     python3 bench/commands.py --program ./ovl_layers
 """
@@ -21,6 +23,8 @@ import tempfile
 import run
 
 WORKERS = (1, 2, 4)
+# The commands that make new layers.
+REWRITING = ("vacuum",)
 
 
 def measure(command, statuses, repeats):
@@ -34,13 +38,24 @@ def measure(command, statuses, repeats):
     return min(s for s, _ in runs), max(p for _, p in runs)
 
 
-def make_layers(folder, entries):
+def make_layers(folder, entries, empty=False):
+    """Three layers of other names; where it is asked for, with files that are all empty."""
     files = []
     for n in (1, 2, 3):
-        files.append(os.path.join(folder, "layer-%d.json" % n))
+        files.append(os.path.join(folder, "%s-%d.json" % ("empty" if empty else "layer", n)))
         subprocess.run([sys.executable, run.GENERATE, "--entries", str(entries), "--seed", str(n),
-                        "--out", files[-1]], check=True)
+                        "--out", files[-1]] + ["--empty"] * empty, check=True)
     return files
+
+
+def rewriting(program, folder, none, entries):
+    """A name and a command for each command that makes new layers, over layers of other names and of the same."""
+    layers, new = make_layers(folder, entries, empty=True), os.path.join(folder, "new")
+    os.mkdir(new)
+    for what in REWRITING:
+        command = [program, what, "--blobs", none, "--out", new]
+        yield what + ", other names", command + layers
+        yield what + ", the same names", command + layers[:1] * 3
 
 
 def make_blobs(folder, count, size):
@@ -83,7 +98,7 @@ def by_workers(name, command, statuses, repeats):
 
 
 def main():
-    words = argparse.ArgumentParser(description="Measures show and fsck by several numbers of workers.")
+    words = argparse.ArgumentParser(description="Measures the commands by several numbers of workers.")
     words.add_argument("--program", required=True, help="path of the program")
     words.add_argument("--entries", type=int, default=100000, help="entries of each of three layers (default 100000)")
     words.add_argument("--blobs", type=int, default=2000, help="how many blobs (default 2000)")
@@ -100,12 +115,15 @@ def main():
         shows = by_workers("show", [program, "show"] + layers, (0,), given.repeats)
         # The generated layers name blobs that aren't there: faults, and status 1.
         checks = by_workers("fsck", [program, "fsck", "--blobs", none] + layers, (0, 1), given.repeats)
+        made = []
+        for name, command in rewriting(program, folder, none, given.entries):
+            made += by_workers(name, command, (0,), given.repeats)
         blobs, layer = make_blobs(folder, given.blobs, given.size)
         digests = by_workers("fsck of blobs", [program, "fsck", "--blobs", blobs, layer], (0,), given.repeats)
 
     print("Machine: %s. Least time of %d runs.\n" % (run.machine(), given.repeats))
     print("Three layers of {:,} entries each:\n".format(given.entries))
-    table(head, shows + checks)
+    table(head, shows + checks + made)
     print("{:,} blobs of {:,} bytes each:\n".format(given.blobs, given.size))
     table(head, digests)
 

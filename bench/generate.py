@@ -42,7 +42,7 @@ def pieces(rng):
 
 class Generator:
     def __init__(self, entries, fan_out=24, depth=16, attributes=0.05, seed=1,
-                 whiteouts=0.0, opaque=0.0):
+                 whiteouts=0.0, opaque=0.0, empty=False):
         if not 1 <= entries <= MOST_ENTRIES:
             raise ValueError("entries must be 1 to %d" % MOST_ENTRIES)
         if not 1 <= fan_out <= MOST_ENTRIES:
@@ -59,6 +59,7 @@ class Generator:
         self.attributes = round(attributes * 2 ** 24)
         self.whiteouts = round(whiteouts * 2 ** 24)
         self.opaque = round(opaque * 2 ** 24)
+        self.empty = empty
         self.rng = random.Random(seed)
         self.pieces = pieces(self.rng)
         self.count = 0
@@ -113,7 +114,7 @@ class Generator:
         mtime = 1_500_000_000 + (r >> 6 & 0xFFFFFFF)
         what = (r >> 34) % 1000
         xattrs = self.xattrs()
-        if what < 940:
+        if what < 940 and not self.empty:
             size = 1 + (r >> 8 & (1 << (4 + r % 17)) - 1)
             blob = hashlib.sha256(path.encode()).hexdigest()
             return ('{"blob":"%s","gid":%s,"kind":"file","mode":%d,"mtime":%d,"path":"%s","size":%d,'
@@ -289,6 +290,7 @@ def main():
     words.add_argument("--attributes", type=float, default=0.05, help="share of entries with extended attributes, 0 to 1 (default 0.05)")
     words.add_argument("--whiteouts", type=float, default=0.0, help="share of non-directories that are whiteouts, char 0:0 (default 0)")
     words.add_argument("--opaque", type=float, default=0.0, help="share of directories below the root that are opaque (default 0)")
+    words.add_argument("--empty", action="store_true", help="files are empty, so that no contents are wanted")
     words.add_argument("--seed", type=int, default=1, help="other seeds give other layers (default 1)")
     words.add_argument("--out", help="file to write (default: standard output)")
     words.add_argument("--self-test", action="store_true", help="make small layers of many shapes and check each")
@@ -298,7 +300,7 @@ def main():
         return
     try:
         generator = Generator(given.entries, given.fan_out, given.depth, given.attributes,
-                              given.seed, given.whiteouts, given.opaque)
+                              given.seed, given.whiteouts, given.opaque, given.empty)
     except ValueError as fault:
         words.error(str(fault))
     if given.out:

@@ -1,11 +1,12 @@
 #!/usr/bin/env python3
-"""Counts the instructions of `show` and `fsck` for each entry of their input, beside those of reading the manifests.
+"""Counts the instructions of each command for each entry of its input, beside those of reading the manifests.
 
 Python 3.11, standard library, and valgrind. In a temporary folder it makes three
 layers of the same number of entries (generate.py, seeds 1 to 3), runs each
 command by one worker under valgrind's callgrind, and prints a Markdown table.
 What reading takes is counted by a run with a fourth manifest that is none: it
-is refused where the three are read.
+is refused where the three are read. Commands that make new layers are run as
+commands.py does.
 
     python3 bench/instructions.py --program ./ovl_layers
 """
@@ -41,7 +42,7 @@ def dearest(out, count):
 
 
 def main():
-    words = argparse.ArgumentParser(description="Counts the instructions of show and fsck for each entry.")
+    words = argparse.ArgumentParser(description="Counts the instructions of each command for each entry.")
     words.add_argument("--program", required=True, help="path of the program")
     words.add_argument("--entries", type=int, default=10000, help="entries of each of three layers (default 10000)")
     words.add_argument("--dearest", type=int, default=0, help="list so many functions that took the most, with all that they call")
@@ -54,11 +55,12 @@ def main():
         os.mkdir(none)
         unread, out = os.path.join(folder, "unread.json"), os.path.join(folder, "callgrind")
         open(unread, "wb").close()
-        for name, more in (("show", []), ("fsck", ["--blobs", none])):
-            command = [program, name, *more, "--workers", "1", *layers]
+        counted = [("show", [program, "show", *layers]), ("fsck", [program, "fsck", "--blobs", none, *layers])]
+        for name, command in [*counted, *commands.rewriting(program, folder, none, given.entries)]:
+            command = [*command[:2], "--workers", "1", *command[2:]]
             total, reading = instructions(command, DONE, out), instructions([*command, unread], UNREAD)
             each = (total - reading) / (3 * given.entries)
-            print(run.row([f"`{name}`", f"{total:,}", f"{reading:,}", f"{each:,.0f}"]), flush=True)
+            print(run.row([name, f"{total:,}", f"{reading:,}", f"{each:,.0f}"]), flush=True)
             if given.dearest:
                 listed += ["", f"{name}:", *dearest(out, given.dearest)]
     print(*listed, sep="\n", end="\n" if listed else "")

@@ -1,7 +1,7 @@
 #!/usr/bin/env bash
-# Runs PROGRAM on files and folders that can't be read, on words that don't fit and on what its command refuses, and
-# compares status, standard output and standard error with what docs/FORMATS.md says. The program may take 3 GB of
-# memory, fewer than the blobs of one of the folders have.
+# Runs PROGRAM on files and folders that can't be read or written, on words that don't fit and on what its command
+# refuses, and compares status, standard output and standard error with what docs/FORMATS.md says. The program may take
+# 3 GB of memory, fewer than the blobs of one of the folders have.
 set -uo pipefail
 ulimit -v 3000000
 
@@ -15,6 +15,8 @@ trap 'rm -rf -- "$folder"' EXIT
 cd -- "$folder" || exit 1
 
 same=0 other=0
+# What runs the program, where it isn't run as it is.
+over=
 # Told of the words after what is wanted; `told` and `printed` hold what was written.
 differs() {
     local what=$1
@@ -29,7 +31,7 @@ differs() {
 ends() {
     local wanted=$1 silent=$2
     shift 2
-    "$program" "$@" < input > printed 2> told
+    $over "$program" "$@" < input > printed 2> told
     local status=$?
     if ((status != wanted)); then
         differs "status $status, not $wanted" "$@"
@@ -77,11 +79,38 @@ misfits() {
     fi
 }
 
+# Counts whether the new layer in FOLDER has the bytes of FILE, or isn't there where there is no FILE.
+gives() {
+    local new=$1/layer-0.json
+    if (($# == 1)) && [[ ! -e $new ]] || { (($# == 2)) && cmp -s -- "$new" "$2"; }; then
+        same=$((same + 1))
+    else
+        echo "$new is not as it should be" >&2
+        other=$((other + 1))
+    fi
+}
+
+# Ways to run the words: standard output is a device without room, or closed, or `disk` is one of 4,096 bytes.
+without_room() {
+    "$@" > /dev/full
+}
+without_output() {
+    "$@" >&-
+}
+on_a_small_disk() {
+    unshare -m sh -c 'mount -t tmpfs -o size=4096 none disk && exec "$@"' sh "$@"
+}
+
 root='{"gid":0,"kind":"dir","mode":493,"mtime":0,"path":"/","uid":0,"xattrs":{}}'
 abc=ba7816bf8f01cfea414140de5dae2223b00361a396177a9cb410ff61f20015ad
 kept='{"blob":"'$abc'","gid":0,"kind":"file","mode":420,"mtime":0,"path":"/k","size":3,"uid":0,"xattrs":{}}'
 printf '{"entries":[%s],"overlay-layer":1}\n' "$root" | tee input > root.json
 printf '{"entries":[%s,%s],"overlay-layer":1}\n' "$root" "$kept" > k.json
+pipes=
+for ((i = 1000; i < 1100; i++)); do
+    pipes+=',{"gid":0,"kind":"fifo","mode":384,"mtime":0,"path":"/p'$i'","uid":0,"xattrs":{}}'
+done
+printf '{"entries":[%s%s],"overlay-layer":1}\n' "$root" "$pipes" > pipes.json
 printf '[]' > shape.json
 : > empty.json
 mkdir blobs wrong none bad.utf8 large flood closed folder.json
@@ -156,23 +185,56 @@ misfits show --blobs none root.json
 misfits fsck root.json
 misfits fsck --blobs none
 misfits fsck --blobs
+misfits fsck --blobs none --out none root.json
 misfits show --unknown root.json
 misfits unknown root.json
 misfits ''
 refuses 2 'words must be UTF-8' show $'\xff'
 
-# The output. Standard output is a device without room.
-"$program" show root.json > /dev/full 2> told
-status=$?
-: > printed
-if ((status == 4)) && printf 'ovl_layers: cannot write standard output\n' | cmp -s - told; then
-    same=$((same + 1))
-else
-    differs "status $status, not 4" show root.json
-fi
+# New layers. That of k.json over itself is a root alone.
+mkdir new taken full disk taken/layer-0.json
+ln -s /dev/full full/layer-0.json
+for what in vacuum; do
+    misfits "$what" --blobs blobs k.json
+    misfits "$what" --out new k.json
+    misfits "$what" --blobs blobs --out new
+    refuses 3 'cannot read missing.json' "$what" --blobs missing --out missing missing.json
+    refuses 3 'cannot read missing' "$what" --blobs missing --out missing k.json
+    refuses 3 'layer 0: wrong shape' "$what" --blobs blobs --out missing shape.json
+    prints 1 'fault blob-missing 0 /k\nfaults 1 notes 0\n' "$what" --blobs none --out missing k.json
+    prints 1 'fault blob-missing 0 /k\nfaults 1 notes 0\n' "$what" --blobs none --out new k.json
+    gives new
+    refuses 4 'cannot write missing/layer-0.json' "$what" --blobs blobs --out missing k.json
+    refuses 4 'cannot write k.json/layer-0.json' "$what" --blobs blobs --out k.json k.json
+    refuses 4 'cannot write taken/layer-0.json' "$what" --blobs blobs --out taken k.json
+    refuses 4 'cannot write full//layer-0.json' "$what" --blobs blobs --out full/ k.json
+    if ((EUID != 0)); then
+        mkdir -m 500 shut
+        refuses 4 'cannot write shut/layer-0.json' "$what" --blobs blobs --out shut k.json
+        rmdir shut
+    fi
+    if on_a_small_disk true 2> told; then
+        over=on_a_small_disk refuses 4 'cannot write disk/layer-0.json' "$what" --blobs blobs --out disk pipes.json
+    fi
+    for way in without_output without_room; do
+        over=$way refuses 4 'cannot write standard output' "$what" --blobs blobs --out new k.json
+        gives new k.json
+        rm -f new/layer-0.json
+    done
+done
+cp k.json new/layer-0.json
+prints 0 'removed /k\nremoved 1 kept 1\n' vacuum --blobs blobs --out new k.json k.json
+gives new root.json
+prints 0 'removed 0 kept 2\n' vacuum --blobs blobs --out new --workers 64 k.json root.json
+gives new k.json
+
+# The output.
+for way in without_output without_room; do
+    over=$way refuses 4 'cannot write standard output' show root.json
+done
 
 # Help and the version go to standard output.
-for words in --help -h --version 'show --help' 'fsck --help'; do
+for words in --help -h --version 'show --help' 'fsck --help' 'vacuum --help'; do
     # shellcheck disable=SC2086
     "$program" $words < input > printed 2> told
     status=$?

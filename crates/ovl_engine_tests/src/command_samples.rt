@@ -7,34 +7,54 @@ use std::sync::Wait;
 use std::test::Fail;
 use std::thread::Threads;
 
-// What an entry states of its kind, by a word: `bare` files are those of which the contents lie elsewhere.
-fn kind_of(word: &str) -> Result<&'static str, Fail> {
+// What an entry states by the word of its kind: the member before `gid`, those before `mtime` and the one before `uid`.
+// `bare` files are those of which the contents lie elsewhere.
+fn kind_of(word: &str) -> Result<(&'static str, &'static str, &'static str), Fail> {
     match word {
-        "dir" => Ok("\"kind\":\"dir\",\"mode\":493"),
-        "file" => Ok(
-            "\"kind\":\"file\",\"mode\":420,\"size\":1,\"blob\":\"ca978112ca1bbdcafac231b39a23dc4da786eff8147c4e72b9807785afee48bb\"",
-        ),
-        "file-ab" => Ok(
-            "\"kind\":\"file\",\"mode\":420,\"size\":3,\"blob\":\"fb8e20fc2e4c3f248c60c39bd652f3c1347298bb977b8b4d5903b85055620603\"",
-        ),
-        "file-abc" => Ok(
-            "\"kind\":\"file\",\"mode\":420,\"size\":3,\"blob\":\"ba7816bf8f01cfea414140de5dae2223b00361a396177a9cb410ff61f20015ad\"",
-        ),
-        "empty" => Ok("\"kind\":\"file\",\"mode\":420,\"size\":0"),
-        "bare" => Ok("\"kind\":\"file\",\"mode\":420,\"size\":1"),
-        "bare-2" => Ok("\"kind\":\"file\",\"mode\":420,\"size\":2"),
-        "link" => Ok("\"kind\":\"symlink\",\"mode\":511,\"target\":\"a b\""),
-        "whiteout" => Ok("\"kind\":\"char\",\"mode\":0,\"major\":0,\"minor\":0"),
-        "console" => Ok("\"kind\":\"char\",\"mode\":384,\"major\":0,\"minor\":1"),
+        "dir" => Ok(("", "\"kind\":\"dir\",\"mode\":493", "")),
+        "dir-0700" => Ok(("", "\"kind\":\"dir\",\"mode\":448", "")),
+        "file" => Ok((BLOB_A, FILE, ",\"size\":1")),
+        "file-0645" => Ok((BLOB_A, "\"kind\":\"file\",\"mode\":421", ",\"size\":1")),
+        "file-ab" => Ok((BLOB_AB, FILE, ",\"size\":3")),
+        "file-abc" => Ok((BLOB_ABC, FILE, ",\"size\":3")),
+        "empty" => Ok(("", FILE, ",\"size\":0")),
+        "bare" => Ok(("", FILE, ",\"size\":1")),
+        "bare-2" => Ok(("", FILE, ",\"size\":2")),
+        "link" => Ok((
+            "",
+            "\"kind\":\"symlink\",\"mode\":511",
+            ",\"target\":\"a b\"",
+        )),
+        "whiteout" => Ok((
+            "",
+            "\"kind\":\"char\",\"major\":0,\"minor\":0,\"mode\":0",
+            "",
+        )),
+        "console" => Ok((
+            "",
+            "\"kind\":\"char\",\"major\":0,\"minor\":1,\"mode\":384",
+            "",
+        )),
         _ => Err(Fail::new("no kind has this word")),
     }
 }
 
-// The manifest of these entries, with commas between them, under a root of mode 0755 where none of them is one. An
-// entry is the word of its kind, its path and its attributes, the overlay's without their prefix, as
-// `dir /d redirect=/x user.k=v`.
+const FILE: &str = "\"kind\":\"file\",\"mode\":420";
+
+const BLOB_A: &str =
+    "\"blob\":\"ca978112ca1bbdcafac231b39a23dc4da786eff8147c4e72b9807785afee48bb\",";
+
+const BLOB_AB: &str =
+    "\"blob\":\"fb8e20fc2e4c3f248c60c39bd652f3c1347298bb977b8b4d5903b85055620603\",";
+
+const BLOB_ABC: &str =
+    "\"blob\":\"ba7816bf8f01cfea414140de5dae2223b00361a396177a9cb410ff61f20015ad\",";
+
+// The manifest of these entries, with commas between them, under a root of mode 0755 where none of them is one, as new
+// layers are written. An entry is the word of its kind, its path and its attributes, the overlay's without their prefix,
+// as `dir /d redirect=/x user.k=v`.
 pub(crate) fn manifest_of(alloc: Global, entries: &str) -> Result<Vec<u8>, Fail> {
-    let mut text = String::from_str(alloc, "{\"overlay-layer\":1,\"entries\":[")?;
+    let mut text = String::from_str(alloc, "{\"entries\":[")?;
     if !entries.starts_with("dir / ") {
         push_entry(alloc, &mut text, "dir /")?;
     }
@@ -47,17 +67,17 @@ pub(crate) fn manifest_of(alloc: Global, entries: &str) -> Result<Vec<u8>, Fail>
         }
         push_entry(alloc, &mut text, entry)?;
     }
-    text.push_str("]}")?;
+    text.push_str("],\"overlay-layer\":1}\n")?;
     Ok(text.into_bytes())
 }
 
 fn push_entry(alloc: Global, text: &mut String, entry: &str) -> Result<(), Fail> {
     let (word, more) = entry.split_once(' ').unwrap_or((entry, ""));
     let (path, marks) = more.split_once(' ').unwrap_or((more, ""));
-    let kind = kind_of(word)?;
+    let (blob, kind, more) = kind_of(word)?;
     let marks = attributes_of(alloc, marks)?;
     let stated = format!(in alloc;
-        "{{\"path\":\"{path}\",{kind},\"uid\":0,\"gid\":0,\"mtime\":0,\"xattrs\":{{{marks}}}}}"
+        "{{{blob}\"gid\":0,{kind},\"mtime\":0,\"path\":\"{path}\"{more},\"uid\":0,\"xattrs\":{{{marks}}}}}"
     )?;
     text.push_str(stated.as_str())?;
     Ok(())
@@ -147,7 +167,7 @@ pub(crate) fn checked<R: Threads + Wait + Sync>(
     Ok(report)
 }
 
-// What a command answers, alike by one worker and by four, with no new layer.
+// What a command answers, alike by one worker and by four, with as many new layers as it makes.
 fn answered<R: Threads + Wait + Sync>(
     rt: &R,
     alloc: Global,
@@ -160,8 +180,51 @@ fn answered<R: Threads + Wait + Sync>(
     if alone != together {
         return Err(Fail::new("four workers answer otherwise than one"));
     }
-    if !alone.layers.is_empty() {
-        return Err(Fail::new("there is a new layer"));
+    let new_layers = match what {
+        Command::Show | Command::Fsck => 0,
+        Command::Vacuum => 1,
+    };
+    if alone.layers.len() != new_layers {
+        return Err(Fail::new("there are other new layers than the command makes"));
     }
     Ok(alone)
+}
+
+// What a command that makes new layers reports, and behind it their manifests, alike by one worker and by four. With
+// them in place of the topmost ones the stack shows the same.
+pub(crate) fn rewritten<R: Threads + Wait + Sync>(
+    rt: &R,
+    alloc: Global,
+    what: Command,
+    layers: &[&str],
+    blobs: &[Blob],
+) -> Result<String, Fail> {
+    let manifests = manifests_of(alloc, layers)?;
+    let before = reported(rt, alloc, &manifests)?;
+    let Answer {
+        report,
+        layers: mut after,
+        clean,
+    } = answered(rt, alloc, what, &manifests, blobs)?;
+    if !clean {
+        return Err(Fail::new("there are faults"));
+    }
+    let told = told_of(alloc, String::from_utf8(report)?.as_str(), &after)?;
+    let new_layers = after.len();
+    for manifest in manifests.into_iter().skip(new_layers) {
+        after.push(manifest)?;
+    }
+    if reported(rt, alloc, &after)? != before {
+        return Err(Fail::new("the stack with the new layers shows something else"));
+    }
+    Ok(told)
+}
+
+// A report, and behind it these manifests.
+pub(crate) fn told_of(alloc: Global, report: &str, manifests: &[Vec<u8>]) -> Result<String, Fail> {
+    let mut told = Vec::from_slice(alloc, report.as_bytes())?;
+    for manifest in manifests {
+        told.extend_from_slice(manifest)?;
+    }
+    Ok(String::from_utf8(told)?)
 }

@@ -1,0 +1,110 @@
+#!/usr/bin/env python3
+"""Vacuums stacks of layers twice, and tells where the second time removes something or a stack shows something else.
+
+Python 3.11, standard library. A stack is a folder with `l0.json`, the topmost, `l1.json` and so on, as compare.sh
+takes them, or the file of one manifest. Each of its layers in turn is vacuumed over those below it, and the lowest
+one over itself; then what comes of it is vacuumed again over the same layers. What the stack shows is compared before,
+between and after, byte for byte.
+
+Where a stack has no folder `blobs`, each digest gets contents of its own, of 64 bytes, and every file that isn't empty
+this size: vacuum wants right contents, and nothing is lost by it, since files of other contents stay others.
+
+    python3 bench/twice.py --program ./ovl_layers examples/copied examples/moved
+"""
+import argparse
+import hashlib
+import json
+import os
+import re
+import subprocess
+import sys
+import tempfile
+
+
+def manifests_of(stack):
+    """The manifests of a stack, the topmost first."""
+    if os.path.isfile(stack):
+        return [stack]
+    files = []
+    while os.path.isfile(os.path.join(stack, f"l{len(files)}.json")):
+        files.append(os.path.join(stack, f"l{len(files)}.json"))
+    return files
+
+
+def with_contents(layers, folder):
+    """The layers with contents for each digest, in files of the folder, and the folder of the blobs."""
+    blobs, files = os.path.join(folder, "blobs"), []
+    os.mkdir(blobs)
+    for n, layer in enumerate(layers):
+        with open(layer, "rb") as text:
+            manifest = json.load(text)
+        for entry in manifest["entries"]:
+            if entry.get("size", 0) > 0:
+                entry["size"] = 64
+            if "blob" in entry:
+                contents = entry["blob"].encode()
+                entry["blob"] = hashlib.sha256(contents).hexdigest()
+                with open(os.path.join(blobs, entry["blob"]), "wb") as blob:
+                    blob.write(contents)
+        files.append(os.path.join(folder, f"l{n}.json"))
+        with open(files[-1], "w", encoding="utf-8") as text:
+            json.dump(manifest, text)
+    return files, blobs
+
+
+def printed(program, *words):
+    """What the program prints; another status than 0 ends the script."""
+    ran = subprocess.run([program, *words], stdin=subprocess.DEVNULL, stdout=subprocess.PIPE, check=False)
+    if ran.returncode != 0:
+        sys.stdout.buffer.write(ran.stdout[-1000:])
+        sys.exit(f"twice.py: {' '.join(words)} ended with status {ran.returncode}")
+    return ran.stdout
+
+
+def vacuumed(program, layers, blobs, out):
+    """The new topmost layer of a stack in a new folder, how many entries were removed, and how many are left."""
+    os.mkdir(out)
+    report = printed(program, "vacuum", "--blobs", blobs, "--out", out, *layers)
+    counts = re.search(rb"(?:^|\n)removed (\d+) kept (\d+)\n\Z", report)
+    return os.path.join(out, "layer-0.json"), int(counts[1]), int(counts[2])
+
+
+def twice(program, layers, blobs, folder):
+    """What comes of vacuuming the topmost of these layers twice, as words, and whether it is as it should be."""
+    before = printed(program, "show", *layers)
+    once, removed, kept = vacuumed(program, layers, blobs, os.path.join(folder, "once"))
+    again, more, _ = vacuumed(program, [once, *layers[1:]], blobs, os.path.join(folder, "again"))
+    same = all(printed(program, "show", new, *layers[1:]) == before for new in (once, again))
+    said = f"removed {removed} kept {kept}, then removed {more}, shows {'the same' if same else 'something else'}"
+    return said, same and more == 0
+
+
+def trials(layers):
+    """Each layer over those below it, and the lowest over itself, with a word for it."""
+    yield from ((f"layer {n}", layers[n:]) for n in range(len(layers)))
+    yield "the lowest over itself", [layers[-1], layers[-1]]
+
+
+def main():
+    words = argparse.ArgumentParser(description="Vacuums stacks of layers twice.")
+    words.add_argument("--program", required=True, help="path of the program")
+    words.add_argument("stacks", nargs="+", metavar="STACK", help="a folder of layers, or a manifest")
+    given = words.parse_args()
+    program, good = os.path.abspath(given.program), True
+    for stack in given.stacks:
+        with tempfile.TemporaryDirectory(prefix="ovl-twice-") as folder:
+            layers, blobs = manifests_of(stack), os.path.join(stack, "blobs")
+            if not layers:
+                sys.exit(f"twice.py: {stack} has no l0.json")
+            if not os.path.isdir(blobs):
+                layers, blobs = with_contents(layers, folder)
+            for name, trial in trials(layers):
+                with tempfile.TemporaryDirectory(dir=folder) as inner:
+                    said, fine = twice(program, trial, blobs, inner)
+                print(f"{stack}, {name}: {said}", flush=True)
+                good = good and fine
+    sys.exit(0 if good else 1)
+
+
+if __name__ == "__main__":
+    main()

@@ -1,0 +1,159 @@
+//! Worked stacks: the new layers that commands make of them, with their reports.
+
+use crate::command_samples::{contents_of, manifest_of, manifests_of, rewritten, told_of};
+use ovl_engine::{Blob, Command, EngineFault, command, named_blobs};
+use ovl_pool::OpenGate;
+use std::alloc::Global;
+use std::test::Fail;
+
+// The blob of the contents `a`.
+fn blob_of_a(alloc: Global) -> Result<Vec<Blob>, Fail> {
+    Ok(named_blobs(alloc, &contents_of(alloc, &["a"])?)?)
+}
+
+#[test]
+fn commands_report_and_give_new_layers(rt: HostRuntime) -> Result<(), Fail> {
+    let alloc = rt.alloc();
+    let blobs = blob_of_a(alloc)?;
+    for (what, layers, report, new) in [
+        // The root stays.
+        (
+            Command::Vacuum,
+            [""].as_slice(),
+            "removed 0 kept 1\n",
+            [""].as_slice(),
+        ),
+        (
+            Command::Vacuum,
+            ["dir /d, file /d/k", "dir /d, file /d/k"].as_slice(),
+            "removed /d\nremoved /d/k\nremoved 2 kept 1\n",
+            [""].as_slice(),
+        ),
+        (
+            Command::Vacuum,
+            [
+                "dir /d, file /d/k, whiteout /d/z",
+                "dir /d, file /d/k, file /d/z",
+            ]
+            .as_slice(),
+            "removed /d/k\nremoved 1 kept 3\n",
+            ["dir /d, whiteout /d/z"].as_slice(),
+        ),
+        (
+            Command::Vacuum,
+            ["dir /d, file-0645 /d/k", "dir /d, file /d/k"].as_slice(),
+            "removed 0 kept 3\n",
+            ["dir /d, file-0645 /d/k"].as_slice(),
+        ),
+        (
+            Command::Vacuum,
+            ["dir-0700 /d", "dir /d, file /d/k"].as_slice(),
+            "removed 0 kept 2\n",
+            ["dir-0700 /d"].as_slice(),
+        ),
+        // What is in an opaque directory isn't below; in a moved one it is below at the place that it came from.
+        (
+            Command::Vacuum,
+            [
+                "bare /m metacopy=, dir /o opaque=y, file /o/k, dir /p redirect=/x, file /p/k, whiteout /x",
+                "file /m, dir /o, file /o/k, dir /x, file /x/k",
+            ]
+            .as_slice(),
+            "removed /m\nremoved /p/k\nremoved 2 kept 5\n",
+            ["dir /o opaque=y, file /o/k, dir /p redirect=/x, whiteout /x"].as_slice(),
+        ),
+        // A note is no fault: `opaque` and `redirect` on one directory.
+        (
+            Command::Vacuum,
+            [
+                "dir /d opaque=y redirect=/x, file /k",
+                "dir /d, file /d/k, file /k, dir /x, file /x/k",
+            ]
+            .as_slice(),
+            "removed /k\nremoved 1 kept 2\n",
+            ["dir /d opaque=y redirect=/x"].as_slice(),
+        ),
+    ] {
+        let told = rewritten(&rt, alloc, what, layers, &blobs)?;
+        let wanted = told_of(alloc, report, &manifests_of(alloc, new)?)?;
+        assert_eq!(rt; told, wanted, "{what:?} of {layers:?}");
+    }
+    Ok(())
+}
+
+#[test]
+fn a_stack_with_faults_gives_their_report_and_no_layer(rt: HostRuntime) -> Result<(), Fail> {
+    let alloc = rt.alloc();
+    let upper = "dir /a redirect=/, dir /b redirect=/a/, dir /c redirect=a/b, dir /e redirect=";
+    let report = "fault redirect-form 0 /a\nfault redirect-form 0 /b\nfault redirect-form 0 /c\n\
+        fault redirect-form 0 /e\nfaults 4 notes 0\n";
+    let manifests = manifests_of(alloc, &[upper, ""])?;
+    for what in [Command::Vacuum] {
+        for workers in [1, 4] {
+            let answer = command(&rt, alloc, what, &manifests, &[], workers, &OpenGate);
+            let Err(EngineFault::Faulty(told)) = answer else {
+                return Err(Fail::new("the faults aren't told"));
+            };
+            let told = String::from_utf8(told)?;
+            assert_eq!(rt; told.as_str(), report, "{what:?} by {workers}");
+        }
+    }
+    Ok(())
+}
+
+// The entries of 40 directories with a file each.
+fn forty_directories(alloc: Global) -> Result<String, Fail> {
+    let mut entries = String::new(alloc);
+    for number in 0..40 {
+        let entry = format!(in alloc; "dir /d{number:02}, file /d{number:02}/k, ")?;
+        entries.push_str(entry.as_str())?;
+    }
+    Ok(entries)
+}
+
+#[test]
+fn any_number_of_workers_gives_the_same_new_layer(rt: HostRuntime) -> Result<(), Fail> {
+    let alloc = rt.alloc();
+    let blobs = blob_of_a(alloc)?;
+    let entries = forty_directories(alloc)?;
+    let manifests = manifests_of(alloc, &[entries.as_str(), entries.as_str()])?;
+    let alone = command(
+        &rt,
+        alloc,
+        Command::Vacuum,
+        &manifests,
+        &blobs,
+        1,
+        &OpenGate,
+    )?;
+    assert!(rt; alone.report.ends_with(b"\nremoved 80 kept 1\n"));
+    assert_eq!(rt;
+        alone.layers.as_slice(),
+        [manifest_of(alloc, "")?].as_slice()
+    );
+    for workers in [2, 7, 64] {
+        let answer = command(
+            &rt,
+            alloc,
+            Command::Vacuum,
+            &manifests,
+            &blobs,
+            workers,
+            &OpenGate,
+        )?;
+        assert!(rt; answer == alone, "by {workers}");
+    }
+    for workers in [0, 65] {
+        let answer = command(
+            &rt,
+            alloc,
+            Command::Vacuum,
+            &manifests,
+            &blobs,
+            workers,
+            &OpenGate,
+        );
+        assert_eq!(rt; answer.err(), Some(EngineFault::Workers), "by {workers}");
+    }
+    Ok(())
+}
