@@ -28,10 +28,6 @@ module _ {S : Type 0} (kids : Piece → List Piece) (out : Piece → S) where
   each_own [] own = refl
   each_own (v ∷ views) own = ap (λ w. w ∷ views) (own v (inl refl)) ∙ ap (λ ws. own_view kids out v.piece ∷ ws) (each_own views (λ w h. own w (inr h)))
 
-  -- own parcels in another order are own
-  pub own_permuted : (views moved : List (ParcelView S)) → IsPermutation views moved → AreOwn kids out views → AreOwn kids out moved
-  own_permuted views moved same own = each_own moved (Every-All IsOwn moved (All-permutation IsOwn views moved same (All-Every IsOwn views (own_each views own))))
-
   own_kids : (v : ParcelView S) → IsOwn v → v.kids ≡ kids v.piece
   own_kids v own = ap (λ (w : ParcelView S). w.kids) own
 
@@ -83,7 +79,9 @@ module _ {S : Type 0} (kids : Piece → List Piece) (out : Piece → S) where
 
   -- the parcels of a plain walk in another order are the work's own
   pub plain_own : (root : Piece) (views : List (ParcelView S)) → IsPlainUnordered kids out root views → AreOwn kids out views
-  plain_own root views h = own_permuted h.0 views h.1.1 h.1.0.own
+  plain_own root views h =
+      let walk = h.0 in
+      each_own views (Every-All IsOwn views (All-permutation IsOwn walk views h.1.1 (All-Every IsOwn walk (own_each walk h.1.0.own))))
 
 -- parcels as they are seen in two ways
 module _ {O S T : Type 0} (f : O → S) (g : O → T) where
@@ -132,7 +130,8 @@ module _ {O S : Type 0} (seen : O → S) (kids : Piece → List Piece) (out : Pi
               reached_by (HasKid (bare parcels)) (ToKid kids) (λ q r k. to_work kids out views own q r (seen_kid none seen parcels q r k)) root p (Every-All (Reached (HasKid (bare parcels)) root) pieces walk.reached p h));
           whole = λ p r. walk.whole p (reached_by (HasKid views) (HasKid (bare parcels)) (seen_kid seen none parcels) root p (to_parcels kids out views own root closed p r));
         });
-        own = own_permuted kids out views (parcel_views seen assembled) (IsPermutation-map (parcel_view seen) parcels assembled order.0) own;
+        own = each_own kids out (parcel_views seen assembled) (Every-All (IsOwn kids out) (parcel_views seen assembled)
+            (All-permutation (IsOwn kids out) views (parcel_views seen assembled) (IsPermutation-map (parcel_view seen) parcels assembled order.0) (All-Every (IsOwn kids out) views (own_each kids out views own))));
       }
 
 -- one more parcel with lawful kids

@@ -49,7 +49,7 @@ pub fn assemble<T: Drop>(
         (λ assembled. IsInOrder root.now parcels.items assembled.items)
         (λ fault. IsBoardFault root.now (bare parcels.items) fault) }
 {
-    sort_parcels(&mut parcels)?;
+    sort(&mut parcels)?;
     if is_walk(alloc, root, &parcels)? {
         return Ok(parcels);
     }
@@ -86,9 +86,7 @@ fn push_reversed<'a>(waiting: &mut Vec<&'a Piece>, kids: &'a [Piece]) -> Result<
     waiting.extend(kids.iter().rev())
 }
 
-/// Puts parcels into the order of their pieces; fails only for want of memory. It goes on from runs that stand in order
-/// already, so that parts which were sorted apart are merely merged.
-pub fn sort_parcels<T>(parcels: &mut Vec<Parcel<T>>) -> Result<(), AllocError>
+fn sort<T>(parcels: &mut Vec<Parcel<T>>) -> Result<(), AllocError>
     ensures same { IsPermutation parcels.old.items parcels.new.items }
     ensures sorted { OnOk result (IsSorted piece_cmp (pieces_of (bare parcels.new.items))) }
 {

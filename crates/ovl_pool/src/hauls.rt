@@ -1,6 +1,6 @@
-ghost use Rattle.std.specs.Prelude.{◌≡◌, ◌++◌, ◌⊎◌, None, IfOk, [], IsPermutation};
+ghost use Rattle.std.specs.Prelude.{◌≡◌, ◌++◌, ◌⊎◌, None, IfOk, []};
 
-use ovl_board::{Parcel, Piece, sort_parcels};
+use ovl_board::{Parcel, Piece};
 use std::alloc::{AllocError, Global};
 
 /// What workers bring: their parcels, a piece that the gate refused, and whether memory was wanted.
@@ -20,16 +20,6 @@ impl<T: Drop> Haul<T> {
             parcels: Vec::new(alloc),
             refused: None,
             starved: false,
-        }
-    }
-
-    /// Puts the parcels into the order of their pieces. Where memory is wanted for that, it is noted.
-    pub(crate) fn sort(&mut self)
-        ensures parcels { IsPermutation self.old.parcels.items self.new.parcels.items }
-        ensures refused { self.new.refused ≡ self.old.refused }
-    {
-        if sort_parcels(&mut self.parcels).is_err() {
-            self.starved = true;
         }
     }
 

@@ -63,8 +63,7 @@ impl Worker {
 }
 
 /// Serves pieces until all that are known are delivered, or a worker met a fault. A worker that finds no piece spins for
-/// a moment, then yields its processor, and tries again (`Backoff::snooze`); it doesn't sleep. In the end it sorts its
-/// haul, while the others sort theirs.
+/// a moment, then yields its processor, and tries again (`Backoff::snooze`); it doesn't sleep.
 pub(crate) fn labor<W: Work, G: Gate, R: Wait>(
     rt: &R,
     alloc: Global,
@@ -101,7 +100,6 @@ pub(crate) fn labor<W: Work, G: Gate, R: Wait>(
             }
         }
     }
-    haul.sort();
     (worker, haul)
 }
 
