@@ -2,7 +2,7 @@
 use Rattle.std.proofs.Common.{◌≡◌, ℕ, ◌+◌, ◌<◌, length, arith, Bool, true, false, cond, Option, Some, None, is_some, get_or, List, [], ◌∷◌, ◌++◌, take, drop, refl, sym, ap, ◌∙◌, subst, append_assoc, inl, inr, ◌⊎◌}
 use Rattle.std.specs.Prelude.{◌||◌, unwrap_or, slice_get, IsSomeAnd}
 use Rattle.std.specs.Option.{option_map}
-use Rattle.std.proofs.lemmas.Option.{slice_get-map, slice_get-get_or, slice_get_read, slice_get_within}
+use Rattle.std.proofs.lemmas.Option.{get_or_from_slice_get, slice_get-map, slice_get-get_or, slice_get_read, slice_get_within}
 use Rattle.std.proofs.Math.Bool.{or-true}
 use Rattle.std.proofs.lemmas.List.{map_push}
 use Rattle.std.proofs.lemmas.List.Elements.{All-push}
@@ -95,6 +95,12 @@ module _ (layer : Entries) (path : PathNames) (descent : Descent) (name : PathNa
           never : ((walk layer path).found ≡ Some file.inode) ⊎ (((walk layer path).found ≡ None) × ((walk layer path).closed ≡ true)) → ⊥
           never (inl found) = let bad : None ≡ Some file.inode = ap (λ (s : Step). s.found) (walked None here) ∙ found in cc
           never (inr shut) = let bad : false ≡ true = sym closed ∙ shut.1 in cc
+
+-- a walk that ends before the path does comes to no directory
+pub short-descent : (layer : Entries) (path : PathNames) (descent : Descent) → IsDescent layer path descent → descent.depth < length path → is_directory_at layer path ≡ false
+short-descent layer path descent is inside =
+    let name : PathName = get_or path descent.depth [] in
+    not-directory layer path descent name is inside (sym (get_or_from_slice_get path descent.depth name name (slice_get-get_or path descent.depth [] inside)))
 
 -- ---- places that were added
 

@@ -10,6 +10,7 @@ use Rattle.ovl_inode.specs.Marks.{is_metacopy, is_data}
 use Rattle.ovl_manifest.specs.Layers.{Entries, IsLayer, entry_at, is_directory_at, names_below}
 use Rattle.ovl_manifest.specs.Sheets.{path_at}
 use Rattle.ovl_lookup.specs.declared.steps.Descent.{Descent}
+use Rattle.ovl_lookup.specs.declared.steps.OwnDirectory.{OwnDirectory}
 use Rattle.ovl_lookup.specs.declared.steps.Trail.{Trail}
 use Rattle.ovl_lookup.specs.declared.steps.Arrival.{Arrival}
 use Rattle.ovl_lookup.specs.declared.steps.Arrival.TheVariants.{Directory, Past, End}
@@ -31,6 +32,14 @@ pub record IsDescent (layer : Entries) (path : PathNames) (descent : Descent) : 
   pub turned : descent.next ≡ turn layer (take descent.depth path)
   pub shut : descent.closed ≡ is_shut layer (take descent.depth path)
   pub stops : IfSome (slice_get path descent.depth) (λ name. is_directory_at layer (child_path (take descent.depth path) name) ≡ false)
+
+-- a directory of a layer at a path, and how its walk goes on
+pub record IsOwnDirectory (layer : Entries) (path : PathNames) (own : OwnDirectory) : Type 0 where
+  pub inside : own.row < length layer
+  pub here : path_at layer own.row ≡ path
+  pub directory : is_directory_at layer path ≡ true
+  pub next : own.next ≡ (walk layer path).next
+  pub closed : own.closed ≡ (walk layer path).closed
 
 -- the path of a trail
 abbrev pub names_along : Trail → PathNames

@@ -3,7 +3,7 @@ ghost use Rattle.ovl_names.specs.Paths.{child_path};
 ghost use Rattle.ovl_inode.specs.Marks.{mark_of as the_mark};
 ghost use Rattle.ovl_manifest.specs.Layers.{is_directory_at};
 ghost use Rattle.ovl_manifest.specs.Sheets.{path_at};
-ghost use Rattle.ovl_lookup.specs.Passes.{IsDescent, IsArrival, names_along, entered_path, entered_closed};
+ghost use Rattle.ovl_lookup.specs.Passes.{IsDescent, IsArrival, IsOwnDirectory, names_along, entered_path, entered_closed};
 ghost use Rattle.ovl_lookup.specs.Walk.{walk as the_walk, nothing_found, walk_beyond, walk_to_file};
 
 use ovl_inode::{Inode, Mark, Redirect, is_directory, is_whiteout};
@@ -113,6 +113,40 @@ fn name_in<'a>(turned: &'a [Name], rest: &'a [Name], number: usize) -> &'a Name
         return &turned[number];
     }
     &rest[number - turned.len()]
+}
+
+/// A directory of one layer, and how its walk goes on.
+#[derive(Debug, Drop)]
+pub struct OwnDirectory {
+    /// The number of its row in the layer's sheet.
+    pub row: u32,
+    /// The path by which the layer below knows it.
+    pub next: Path,
+    /// Whether the layers below are hidden there.
+    pub closed: bool,
+}
+
+// The directory that a layer has at a path.
+pub(crate) fn directory_in(
+    alloc: Global,
+    sheet: &Sheet,
+    path: &Path,
+) -> Result<Option<OwnDirectory>, AllocError>
+    ensures { IfOk result (λ found. MatchOption found
+        (is_directory_at sheet.now path.now ≡ false)
+        (λ own. IsOwnDirectory sheet.now path.now own)) }
+{
+    let names = path.names();
+    let Descent {
+        row,
+        depth,
+        next,
+        closed,
+    } = descend(alloc, sheet, &[], names)?;
+    if depth < names.len() {
+        return Ok(None);
+    }
+    Ok(Some(OwnDirectory { row, next, closed }))
 }
 
 // A path from the root in two parts: what layers above made of its first names, and the names after those, which no
