@@ -9,7 +9,7 @@ use Rattle.ovl_lookup.specs.declared.looks.Look.{Look}
 use Rattle.ovl_lookup.specs.declared.looks.Look.TheVariants.{Nothing, Shown, Broken}
 use Rattle.ovl_lookup.specs.Stacks.{StackView}
 use Rattle.ovl_lookup.specs.Trace.{things_found}
-use Rattle.ovl_lookup.specs.Merged.{look, is_nothing, shows_directory}
+use Rattle.ovl_lookup.specs.Merged.{look, is_nothing, shows, shows_directory}
 use Rattle.ovl_lookup.proofs.LawLemmas.{ShowsParents-holds}
 use Rattle.ovl_check.specs.Checks.{layers_below, size_shown}
 use Rattle.ovl_check.specs.Facts.{data_size}
@@ -24,7 +24,10 @@ module _ (stack : StackView) (each : All IsLayer stack.layers) (i : ℕ) (direct
       by false e =
           let bad : true ≡ false = sym (ShowsParents-holds (layers_below stack i) (All-drop IsLayer (i + 1) stack.layers each) directory name (ap not e)) ∙ none in cc
 
-  pub look-nothing : Nothing ≡ look (layers_below stack i) (child_path directory name)
+  pub shows-nothing : false ≡ shows (layers_below stack i) (child_path directory name)
+  shows-nothing = sym (ap not nothing)
+
+  look-nothing : Nothing ≡ look (layers_below stack i) (child_path directory name)
   look-nothing = by (look (layers_below stack i) (child_path directory name)) nothing
     where
       by : (found : Look) → is_nothing found ≡ true → Nothing ≡ found

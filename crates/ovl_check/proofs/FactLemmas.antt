@@ -2,9 +2,7 @@
 use Rattle.std.proofs.Common.{◌≡◌, ℕ, ◌+◌, ◌<◌, Bool, true, false, cond, Option, Some, None, List, [], ◌∷◌, ◌++◌, get_or, take, map, refl, sym, ap, ◌∙◌, append_assoc}
 use Rattle.std.specs.Prelude.{◌&&◌, ◌||◌, ◌==◌, not, is_none, length, codes, filter}
 use Rattle.std.specs.Option.{option_map}
-use Rattle.std.specs.List.{list_any}
 use Rattle.std.proofs.Math.Bool.{and-false}
-use Rattle.std.proofs.lemmas.Bool.{or_parts}
 use Rattle.std.proofs.lemmas.List.{map-append}
 use Rattle.std.proofs.lemmas.List.Elements.{filter_more}
 use Rattle.ovl_names.specs.Names.{PathName}
@@ -43,12 +41,6 @@ use Rattle.ovl_check.specs.Facts.{AreFacts, tells, found_at_child, content_of, k
 never-whiteout : (test : KindFacts → Bool) (opaque marked hides : Bool) → test WhiteoutInOpaque ≡ false → test (Whiteout marked hides) ≡ false → test (cond opaque WhiteoutInOpaque (Whiteout marked hides)) ≡ false
 never-whiteout test true marked hides one other = one
 never-whiteout test false marked hides one other = other
-
-pub none_kept : {X : Type 0} (test : X → Bool) (xs : List X) → list_any test xs ≡ false → filter test xs ≡ []
-none_kept test [] none = refl
-none_kept {X} test (x ∷ xs) none =
-    let parts = or_parts (test x) (list_any test xs) none in
-    ap (λ b. cond b (x ∷ filter test xs) (filter test xs)) parts.0 ∙ none_kept test xs parts.1
 
 -- ---- by kind
 

@@ -1,15 +1,20 @@
 -- What is found along the walks of all layers.
-use Rattle.std.proofs.Common.{◌≡◌, ℕ, zero, suc, ◌+◌, inl, inr, List, [], ◌∷◌, ◌++◌, map, drop, length, refl, sym, ap, ◌∙◌, subst, arith, append_assoc, add-one}
-use Rattle.std.specs.Prelude.{slice_get, unwrap_or}
-use Rattle.std.specs.List.{flat_map, All}
+use Rattle.std.proofs.Common.{◌≡◌, ℕ, zero, suc, ◌+◌, inl, inr, Bool, true, false, cond, Option, Some, None, List, [], ◌∷◌, ◌++◌, map, drop, length, refl, sym, ap, ◌∙◌, subst, arith, append_assoc, add-one}
+use Rattle.std.specs.Prelude.{◌||◌, ◌&&◌, slice_get, unwrap_or}
+use Rattle.std.specs.List.{flat_map, list_any, All}
 use Rattle.std.proofs.lemmas.List.{flat_map_more}
 use Rattle.ovl_manifest.specs.Layers.{Entries, IsLayer}
 use Rattle.ovl_lookup.proofs.ChildLemmas.{all-first, all-rest}
+use Rattle.ovl_names.specs.Paths.{PathNames}
+use Rattle.ovl_board.specs.declared.works.Parcel.{Parcel}
+use Rattle.ovl_board.specs.Parcels.{parcel_view, parcel_views}
 use Rattle.ovl_board.proofs.Members.{In, In-left, In-right, In-cases}
 use Rattle.ovl_check.specs.declared.findings.Finding.{Finding}
-use Rattle.ovl_check.specs.Findings.{findings_in, findings_from}
-use Rattle.ovl_check.specs.Checks.{CheckView, layer_at, layers_below}
-use Rattle.ovl_check.specs.Walks.{View, AreLayerWalks, found_along}
+use Rattle.ovl_check.specs.declared.findings.Code.TheVariants.{RedirectDouble}
+use Rattle.ovl_check.specs.declared.subjects.CheckOut.{CheckOut}
+use Rattle.ovl_check.specs.Findings.{finding, findings_in, findings_from}
+use Rattle.ovl_check.specs.Checks.{CheckView, check_seen, layer_at, layers_below}
+use Rattle.ovl_check.specs.Walks.{View, AreLayerWalks, is_among, double_at, places_with, doubles_after, found_along}
 use Rattle.ovl_check.proofs.MemberLemmas.{along-sound, along-whole}
 
 -- one more list of parcels
@@ -71,3 +76,18 @@ along-lists seen (x ∷ xs) = ap (λ (rest : List Finding). found_along (seen x)
 pub length-lists : {X : Type 0} (seen : X → List View) (xs : List X) → length (map seen xs) ≡ length xs
 length-lists seen [] = refl
 length-lists seen (x ∷ xs) = ap (λ n. suc n) (length-lists seen xs)
+
+-- without a moved directory there are no doubles
+pub none-doubled : (parcels : List (Parcel CheckOut)) (places : List PathNames) → list_any (λ parcel. parcel.out.moved) parcels ≡ false → doubles_after places (parcel_views check_seen parcels) ≡ []
+none-doubled [] places none = refl
+none-doubled (parcel ∷ parcels) places none =
+    by (λ other. none-doubled parcels other) parcel.out.moved refl parcel.out.place (list_any (λ parcel. parcel.out.moved) parcels) refl none
+  where
+    by : ((other : List PathNames) → list_any (λ parcel. parcel.out.moved) parcels ≡ false → doubles_after other (parcel_views check_seen parcels) ≡ [])
+        → (moved : Bool) → parcel.out.moved ≡ moved → (place : Option PathNames) → (more : Bool) → list_any (λ parcel. parcel.out.moved) parcels ≡ more → (moved || more) ≡ false
+        → double_at places (parcel_view check_seen parcel) place ++ doubles_after (places_with places place) (parcel_views check_seen parcels) ≡ []
+    by later true m place more e none = let bad : true ≡ false = none in cc
+    by later false m None more e none = later places (e ∙ none)
+    by later false m (Some place) more e none =
+        ap (λ b. cond (b && is_among places place) (finding parcel.piece.space parcel.piece.dir RedirectDouble ∷ []) [] ++ doubles_after (places_with places (Some place)) (parcel_views check_seen parcels)) m
+        ∙ later (places_with places (Some place)) (e ∙ none)

@@ -35,6 +35,8 @@ use Rattle.ovl_check.specs.declared.facts.KindFacts.TheVariants.{WhiteoutInOpaqu
 use Rattle.ovl_check.specs.declared.facts.NamedBlob.{NamedBlob}
 use Rattle.ovl_check.specs.declared.facts.NamedBlob.TheVariants.{Unnamed, Missing, Found}
 use Rattle.ovl_check.specs.declared.facts.Facts.{Facts}
+use Rattle.ovl_check.specs.declared.checks.EntryPlace.{EntryPlace}
+use Rattle.ovl_check.specs.declared.checks.EntryPlace.TheVariants.{At, In}
 use Rattle.ovl_check.specs.declared.directories.Child.{Child}
 use Rattle.ovl_check.specs.declared.directories.Directory.{Directory}
 use Rattle.ovl_check.specs.Blobs.{BlobView, is_wrong as is_wrong_blob}
@@ -149,6 +151,11 @@ pub record AreFacts (work : CheckView) (i : ℕ) (path : PathNames) (facts : Fac
   pub kind : facts.kind ≡ kind_at (layer_at work.stack i) (layers_below work.stack i) path facts.inode.now facts.mark.now
   pub blob : facts.blob ≡ blob_named work.blobs facts.inode.now
   pub origin : facts.holds_origin ≡ list_any (λ name. has_origin_at (layer_at work.stack i) (child_path path name)) (names_below (layer_at work.stack i) path)
+
+-- the path of an entry by its place
+abbrev pub entry_path : EntryPlace → PathNames
+entry_path (At path) = path.now
+entry_path (In directory name) = child_path directory.now name.now
 
 -- what is found at what a directory holds, redirect-double apart, where that is no directory itself
 abbrev pub found_at_child : CheckView → ℕ → PathNames → PathName × Inode → List Finding

@@ -1,13 +1,13 @@
 ghost use Rattle.std.specs.Prelude.{◌≡◌, ◌<◌, true, false, length, IfOk};
 ghost use Rattle.std.specs.List.{list_any};
 ghost use Rattle.ovl_names.specs.Paths.{child_path};
-ghost use Rattle.ovl_lookup.specs.Merged.{look as the_look};
+ghost use Rattle.ovl_lookup.specs.Merged.{shows};
 ghost use Rattle.ovl_check.specs.Checks.{layers_below};
 ghost use Rattle.ovl_check.specs.Facts.{IsBelow, asks as asks_test, data_size};
 
 use crate::directories::{Child, Directory};
 use ovl_inode::{Mark, file_size};
-use ovl_lookup::{DirView, Look, Stack};
+use ovl_lookup::{DirView, Stack};
 use ovl_names::{Name, Path};
 use std::alloc::{AllocError, Global};
 
@@ -49,22 +49,16 @@ fn asks(mark: &Mark) -> bool
     matches!(mark, Mark::Whiteout | Mark::Meta(_))
 }
 
-// What the layers below layer `i` show under a name in the place of a directory.
-pub(crate) fn look_in(
-    alloc: Global,
-    stack: &Stack,
-    _i: usize,
-    directory: &Directory<'_>,
-    name: &Name,
-) -> Result<Look, AllocError>
+// Whether the layers below layer `i` show something under a name in the place of a directory.
+pub(crate) fn show_in(stack: &Stack, _i: usize, directory: &Directory<'_>, name: &Name) -> bool
     requires { IsBelow stack.now _i directory.now.next directory.now.below }
-    ensures { IfOk result (λ look. look ≡ the_look (layers_below stack.now _i) (child_path directory.now.next name.now)) }
+    ensures { result ≡ shows (layers_below stack.now _i) (child_path directory.now.next name.now) }
 {
     // Each of them is a layer.
     let _layers = stack.layers();
     match &directory.below {
-        Some(view) => view.look(alloc, stack, name),
-        None => Ok(Look::Nothing),
+        Some(view) => view.shows(stack, name),
+        None => false,
     }
 }
 

@@ -7,7 +7,7 @@ ghost use Rattle.ovl_check.specs.Findings.{finding};
 ghost use Rattle.ovl_check.specs.Blobs.{blob_views, are_in_order, wrong_names};
 ghost use Rattle.ovl_check.specs.Checks.{check_seen, no_seen, layer_at, directory_piece, findings_at_path, check_out};
 ghost use Rattle.ovl_check.specs.CheckViews.{check_view};
-ghost use Rattle.ovl_check.specs.Facts.{IsGathered, IsBelow, IsBelowOf, IsMarked, asks, child_seen, found_at_child, tells};
+ghost use Rattle.ovl_check.specs.Facts.{IsGathered, IsBelow, IsBelowOf, IsMarked, asks, child_seen, entry_path, found_at_child, tells};
 
 use crate::blobs::Blob;
 use crate::directories::{Child, Directory, directory_at, kids_of};
@@ -19,7 +19,7 @@ use crate::subjects::{CheckOut, CheckWork};
 use ovl_board::{Piece, Work};
 use ovl_inode::{Digest, is_directory};
 use ovl_lookup::Stack;
-use ovl_names::{DEPTH_LIMIT, Path};
+use ovl_names::{DEPTH_LIMIT, Name, Path};
 use std::alloc::{AllocError, Global};
 
 impl<'a> CheckWork<'a> {
@@ -122,6 +122,24 @@ fn nothing(alloc: Global) -> CheckOut
     }
 }
 
+// Where an entry is: at a path, or under a name in the directory of a path. Its own path is made where it is told.
+#[derive(Clone, Copy)]
+enum EntryPlace<'a> {
+    At(&'a Path),
+    In(&'a Path, &'a Name),
+}
+
+impl<'a> EntryPlace<'a> {
+    fn path(self, alloc: Global) -> Result<Path, AllocError>
+        ensures { IfOk result (λ path. path ≡ entry_path self.entry) }
+    {
+        match self {
+            EntryPlace::At(path) => path.copy(alloc),
+            EntryPlace::In(directory, name) => directory.child(alloc, name),
+        }
+    }
+}
+
 // Adds what is found at a directory itself, redirect-double apart.
 fn push_directory(
     alloc: Global,
@@ -135,7 +153,8 @@ fn push_directory(
     ensures { OnOk result (findings.new.items ≡ findings.old.items ++ findings_at_path (check_view work.now) layer directory.now.path.now) }
 {
     let facts = facts_of_directory(alloc, work, usize::from(layer), directory)?;
-    push_codes(alloc, layer, directory.path, &facts, findings)
+    let place = EntryPlace::At(directory.path);
+    push_codes(alloc, layer, place, &facts, findings)
 }
 
 // Adds what is found at those entries of a directory that are none themselves.
@@ -179,25 +198,22 @@ fn push_file(
         return Ok(());
     }
     let facts = facts_of_child(alloc, work, usize::from(layer), directory, child)?;
-    if !facts.tells_any() {
-        return Ok(());
-    }
-    let path = directory.path.child(alloc, child.name)?;
-    push_codes(alloc, layer, &path, &facts, findings)
+    let place = EntryPlace::In(directory.path, child.name);
+    push_codes(alloc, layer, place, &facts, findings)
 }
 
 // Adds a finding of each code that the facts of an entry tell.
 fn push_codes(
     alloc: Global,
     layer: u16,
-    path: &Path,
+    place: EntryPlace<'_>,
     facts: &Facts<'_>,
     findings: &mut Vec<Finding>,
 ) -> Result<(), AllocError>
-    ensures { OnOk result (findings.new.items ≡ findings.old.items ++ map (finding layer path.now) (filter (tells facts.now) all_codes)) }
+    ensures { OnOk result (findings.new.items ≡ findings.old.items ++ map (finding layer (entry_path place.entry)) (filter (tells facts.now) all_codes)) }
 {
     for code in &CODES {
-        push_if(alloc, layer, path, *code, facts.tells(*code), findings)?;
+        push_if(alloc, layer, place, *code, facts.tells(*code), findings)?;
     }
     Ok(())
 }
@@ -205,15 +221,15 @@ fn push_codes(
 fn push_if(
     alloc: Global,
     layer: u16,
-    path: &Path,
+    place: EntryPlace<'_>,
     code: Code,
     told: bool,
     findings: &mut Vec<Finding>,
 ) -> Result<(), AllocError>
-    ensures { OnOk result (findings.new.items ≡ findings.old.items ++ (if told then finding layer path.now code ∷ [] else [])) }
+    ensures { OnOk result (findings.new.items ≡ findings.old.items ++ (if told then finding layer (entry_path place.entry) code ∷ [] else [])) }
 {
     if told {
-        let path = path.copy(alloc)?;
+        let path = place.path(alloc)?;
         findings.push(Finding { layer, path, code })?;
     }
     Ok(())

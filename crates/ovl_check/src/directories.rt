@@ -4,17 +4,17 @@ ghost use Rattle.std.specs.Option.{option_map};
 ghost use Rattle.ovl_names.specs.Paths.{child_path};
 ghost use Rattle.ovl_inode.specs.Attributes.{origin_name};
 ghost use Rattle.ovl_inode.specs.Marks.{has_attribute as attribute_test, is_directory as the_directory};
-ghost use Rattle.ovl_manifest.specs.Layers.{entry_at, is_directory_at};
+ghost use Rattle.ovl_manifest.specs.Layers.{is_directory_at};
 ghost use Rattle.ovl_manifest.specs.Sheets.{path_at, last_name};
 ghost use Rattle.ovl_check.specs.Checks.{layer_at, directory_piece};
 ghost use Rattle.ovl_check.specs.Facts.{IsGathered, IsBelowOf, IsMarked, child_seen, seen_at, held_in};
 
 use crate::below::below_children;
 use crate::marks::has_attribute;
-use crate::places::{mark_of_entry, step_of};
+use crate::places::mark_of_entry;
 use ovl_board::Piece;
 use ovl_inode::{Inode, Mark, is_directory, overlay};
-use ovl_lookup::{DirView, Stack};
+use ovl_lookup::{DirView, OwnDirectory, Stack};
 use ovl_manifest::{Sheet, SheetRow};
 use ovl_names::{Name, Path};
 use std::alloc::{AllocError, Global};
@@ -55,43 +55,23 @@ pub(crate) fn directory_at<'a>(
 {
     // Each of them is a layer.
     let _layers = stack.layers();
-    let sheet = stack.sheet(i);
-    let Some(row) = row_at(sheet, path) else {
+    let Some(OwnDirectory { row, next, closed }) = stack.own_directory(alloc, i, path)? else {
         return Ok(None);
     };
+    let sheet = stack.sheet(i);
     let inode = sheet.inode(row);
-    if !is_directory(inode) {
-        return Ok(None);
-    }
     let mark = mark_of_entry(alloc, stack, i, path, inode)?;
-    let step = step_of(alloc, stack, i, path)?;
     let children = children_in(alloc, sheet, row)?;
-    let below = below_children(alloc, stack, i, &step.next, step.closed, &children)?;
+    let below = below_children(alloc, stack, i, &next, closed, &children)?;
     Ok(Some(Directory {
         path,
         inode,
         mark,
-        next: step.next,
-        closed: step.closed,
+        next,
+        closed,
         children,
         below,
     }))
-}
-
-// The number of the row of a path, and `None` where there is no entry.
-fn row_at(sheet: &Sheet, path: &Path) -> Option<u32>
-    ensures { MatchOption result
-        (entry_at sheet.now path.now ≡ None)
-        (λ row. (row < length sheet.now) × (path_at sheet.now row ≡ path.now)) }
-{
-    let mut row = sheet.root_number();
-    for name in path.names() {
-        let Some(child) = sheet.child(row, name) else {
-            return None;
-        };
-        row = child;
-    }
-    Some(row)
 }
 
 // What a layer has directly below the row of a number, in one pass over the rows.

@@ -1,6 +1,4 @@
 ghost use Rattle.std.specs.Prelude.{◌≡◌};
-ghost use Rattle.std.specs.List.{list_any};
-ghost use Rattle.ovl_check.specs.Codes.{all_codes};
 ghost use Rattle.ovl_check.specs.Facts.{tells as the_tells, is_lost as lost_test, is_of_wrong_kind as wrong_kind_test, is_open as open_test, lacks_data as no_data_test, has_data_of_other_size as data_size_test, is_missing as missing_test, is_of_other_length as length_test, is_wrong as wrong_test, is_orphan as orphan_test, is_in_opaque as in_opaque_test, is_unmarked as unmarked_test, impure_is_missing as the_impure};
 
 use crate::findings::Code;
@@ -104,13 +102,6 @@ impl<'a> Facts<'a> {
             Code::ImpureMissing => impure_is_missing(self.inode, self.holds_origin),
             Code::MarkIgnored => mark_is_ignored(self.is_root, self.inode, self.mark),
         }
-    }
-
-    // Whether the condition of any code does.
-    pub(crate) fn tells_any(&self) -> bool
-        ensures { result ≡ list_any (the_tells self.now) all_codes }
-    {
-        CODES.iter().any(|code| self.tells(*code))
     }
 }
 

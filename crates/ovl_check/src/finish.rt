@@ -1,5 +1,5 @@
 ghost use Rattle.std.specs.Prelude.{◌≡◌, ◌++◌, [], length, map, IfOk, OnOk};
-ghost use Rattle.std.specs.List.{flat_map};
+ghost use Rattle.std.specs.List.{flat_map, list_any};
 ghost use Rattle.ovl_board.specs.Parcels.{parcel_view, parcel_views};
 ghost use Rattle.ovl_check.specs.Blobs.{blob_views};
 ghost use Rattle.ovl_check.specs.Findings.{findings as all_findings};
@@ -68,11 +68,21 @@ fn push_doubles(
 ) -> Result<(), AllocError>
     ensures { OnOk result (findings.new.items ≡ findings.old.items ++ doubles_after [] (parcel_views check_seen parcels.now)) }
 {
+    if !has_moved(parcels) {
+        return Ok(());
+    }
     let mut places = BTreeSet::new(alloc);
     for parcel in parcels {
         note_place(alloc, parcel, &mut places, findings)?;
     }
     Ok(())
+}
+
+// Whether one of these directories is a moved one; without one there are no doubles.
+fn has_moved(parcels: &[Parcel<CheckOut>]) -> bool
+    ensures { result ≡ list_any (λ parcel. parcel.out.moved) parcels.now }
+{
+    parcels.iter().any(|parcel| parcel.out.moved)
 }
 
 // Notes where a directory goes on, and adds a finding where it is moved and an earlier one goes on there.

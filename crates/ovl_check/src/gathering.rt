@@ -9,7 +9,7 @@ ghost use Rattle.ovl_check.specs.Checks.{layer_at, layers_below};
 ghost use Rattle.ovl_check.specs.CheckViews.{check_view};
 ghost use Rattle.ovl_check.specs.Facts.{IsGathered, IsBelow, IsMarked, AreFacts, asks, old_place as the_old_place, content_of as the_content, whiteout_in as the_whiteout, data_size_on};
 
-use crate::below::{data_size_in, look_in};
+use crate::below::{data_size_in, show_in};
 use crate::contents::blob_named;
 use crate::directories::{Child, Directory, hold_origin};
 use crate::facts::{Content, Facts, KindFacts, OldPlace};
@@ -69,7 +69,7 @@ pub(crate) fn facts_of_child<'a>(
     ensures { IfOk result (λ facts. (facts.inode.now ≡ child.now.inode.now) × AreFacts (check_view work.now) i (child_path directory.now.path.now child.now.name.now) facts) }
 {
     let kind = match child.mark {
-        Mark::Whiteout => whiteout_in(alloc, work.stack, i, directory, child.name)?,
+        Mark::Whiteout => whiteout_in(work.stack, i, directory, child.name),
         Mark::Meta(redirect) => KindFacts::Metacopy(data_size(
             alloc,
             work.stack,
@@ -141,32 +141,25 @@ fn is_seen(alloc: Global, stack: &Stack, i: usize, place: &Path) -> Result<bool,
 }
 
 // A whiteout in a directory of layer `i`.
-fn whiteout_in(
-    alloc: Global,
-    stack: &Stack,
-    i: usize,
-    directory: &Directory<'_>,
-    name: &Name,
-) -> Result<KindFacts, AllocError>
+fn whiteout_in(stack: &Stack, i: usize, directory: &Directory<'_>, name: &Name) -> KindFacts
     requires inside { i < length stack.now.layers }
     requires below { directory.now.closed ≡ false → IsBelow stack.now i directory.now.next directory.now.below }
-    ensures { IfOk result (λ kind. kind ≡ the_whiteout (layers_below stack.now i) directory.now name.now) }
+    ensures { result ≡ the_whiteout (layers_below stack.now i) directory.now name.now }
 {
     if matches!(&directory.mark, Mark::DirOpaque) {
-        return Ok(KindFacts::WhiteoutInOpaque);
+        return KindFacts::WhiteoutInOpaque;
     }
     let is_marked = attribute_is(directory.inode, overlay::OPAQUE, b"x");
     if directory.closed {
-        return Ok(KindFacts::Whiteout {
+        return KindFacts::Whiteout {
             is_marked,
             hides: false,
-        });
+        };
     }
-    let look = look_in(alloc, stack, i, directory, name)?;
-    Ok(KindFacts::Whiteout {
+    KindFacts::Whiteout {
         is_marked,
-        hides: !look.is_nothing(),
-    })
+        hides: show_in(stack, i, directory, name),
+    }
 }
 
 // The size of the data of a metacopy file with this redirect in a directory of layer `i`, where it has any.

@@ -2,7 +2,7 @@
 use Rattle.std.proofs.Common.{◌≡◌, ℕ, ◌+◌, ◌<◌, length, arith, Bool, true, false, cond, Option, Some, None, is_some, get_or, List, [], ◌∷◌, ◌++◌, take, drop, refl, sym, ap, ◌∙◌, subst, append_assoc, inl, inr, ◌⊎◌}
 use Rattle.std.specs.Prelude.{◌||◌, unwrap_or, slice_get, IsSomeAnd}
 use Rattle.std.specs.Option.{option_map}
-use Rattle.std.proofs.lemmas.Option.{slice_get-map, slice_get_read, slice_get_within}
+use Rattle.std.proofs.lemmas.Option.{get_or_from_slice_get, slice_get-map, slice_get-get_or, slice_get_read, slice_get_within}
 use Rattle.std.proofs.Math.Bool.{or-true}
 use Rattle.std.proofs.lemmas.List.{map_push}
 use Rattle.std.proofs.lemmas.List.Elements.{All-push}
@@ -18,17 +18,17 @@ use Rattle.ovl_lookup.specs.declared.steps.Step.{Step}
 use Rattle.ovl_lookup.specs.declared.steps.Arrival.TheVariants.{Directory}
 use Rattle.ovl_lookup.specs.declared.views.DirPlace.{DirPlace}
 use Rattle.ovl_lookup.specs.declared.views.PlaceEntry.{PlaceEntry}
-use Rattle.ovl_lookup.specs.Walk.{walk, walk_beyond}
-use Rattle.ovl_lookup.specs.Passes.{IsDescent, IsArrival, entered_path, entered_closed}
+use Rattle.ovl_lookup.specs.Walk.{walk, walk_beyond, turn, is_shut, mark_at}
+use Rattle.ovl_lookup.specs.Passes.{IsDescent, IsArrival}
 use Rattle.ovl_lookup.specs.Stacks.{StackView}
 use Rattle.ovl_lookup.specs.Views.{Reached, reached, is_reached, entry_in, entered, below_entry, reached_below}
 use Rattle.ovl_lookup.proofs.ViewSteps.{arrives-directory, below-directory}
-use Rattle.ovl_inode.specs.Marks.{is_directory}
+use Rattle.ovl_inode.specs.Marks.{mark_of, is_directory}
 use Rattle.ovl_inode.specs.declared.marks.Mark.{Mark}
 use Rattle.ovl_inode.specs.declared.marks.Mark.TheVariants.{Whiteout, DirOpaque, DirMoved, DirBad, DirPlain, Meta, MetaBad, Leaf}
 use Rattle.ovl_inode.specs.declared.marks.Redirect.TheVariants.{To, Beside}
 use Rattle.ovl_lookup.specs.DirViews.{path_on, name_on, IsEntryIn, place_below, place_in, places_in, IsPlaceOver}
-use Rattle.ovl_lookup.proofs.WalkFacts.{cut, drop-head, stopped, walk-ends, no-directory-below}
+use Rattle.ovl_lookup.proofs.WalkFacts.{cut, drop-head, stopped, walk-ends, walk-whole, no-directory-below, mark_at-child, turn-entered, is_shut-entered}
 use Rattle.ovl_lookup.proofs.WalkLaws.{Beyond}
 use Rattle.ovl_lookup.proofs.ViewLemmas.{NothingAt, FileAt, past}
 
@@ -96,7 +96,22 @@ module _ (layer : Entries) (path : PathNames) (descent : Descent) (name : PathNa
           never (inl found) = let bad : None ≡ Some file.inode = ap (λ (s : Step). s.found) (walked None here) ∙ found in cc
           never (inr shut) = let bad : false ≡ true = sym closed ∙ shut.1 in cc
 
+-- a walk that ends before the path does comes to no directory
+pub short-descent : (layer : Entries) (path : PathNames) (descent : Descent) → IsDescent layer path descent → descent.depth < length path → is_directory_at layer path ≡ false
+short-descent layer path descent is inside =
+    let name : PathName = get_or path descent.depth [] in
+    not-directory layer path descent name is inside (sym (get_or_from_slice_get path descent.depth name name (slice_get-get_or path descent.depth [] inside)))
+
 -- ---- places that were added
+
+-- a place, by what there is of its layer
+abbrev placed_by : DirPlace → Option Entries → Reached
+placed_by place layer = record {
+  layer = place.layer;
+  path = elim layer as (λ _. PathNames) [ Some entries ↦ path_at entries place.row | None ↦ [] ];
+  next = elim layer as (λ _. PathNames) [ Some entries ↦ turn entries (path_at entries place.row) | None ↦ [] ];
+  closed = elim layer as (λ _. Bool) [ Some entries ↦ is_shut entries (path_at entries place.row) | None ↦ false ];
+}
 
 module _ (stack : StackView) where
   pub places-push : (places : List DirPlace) (own : DirPlace) → places_in stack (places ++ own ∷ []) ≡ places_in stack places ++ place_in stack own ∷ []
@@ -113,20 +128,26 @@ module _ (stack : StackView) where
   pub row-over : (place : DirPlace) (layer : Entries) → slice_get stack.layers place.layer ≡ Some layer → place.row < length layer → IsPlaceOver stack place
   row-over place layer at inside = subst (λ (o : Option Entries). IsSomeAnd o (λ own. place.row < length own)) (sym at) inside
 
-  pub place-is : (place : DirPlace) (layer : Entries) (path : PathNames) → slice_get stack.layers place.layer ≡ Some layer → path_at layer place.row ≡ path → place_in stack place ≡ record { layer = place.layer; path = path; next = place.next; closed = place.closed }
-  place-is place layer path at is = λ j. record { layer = place.layer; path = ((λ i. elim (at i) as (λ _. PathNames) [ Some entries ↦ path_at entries place.row | None ↦ [] ]) ∙ is) j; next = place.next; closed = place.closed }
+  place-is : (place : DirPlace) (layer : Entries) (path : PathNames) → slice_get stack.layers place.layer ≡ Some layer → path_at layer place.row ≡ path → place_in stack place ≡ record { layer = place.layer; path = path; next = turn layer path; closed = is_shut layer path }
+  place-is place layer path at is =
+      ap (placed_by place) at
+      ∙ (λ j. record { layer = place.layer; path = is j; next = turn layer (is j); closed = is_shut layer (is j) })
 
   -- a layer that has the directory, and then the layers below it
   pub directory-step : (i : ℕ) (layer : Entries) (path : PathNames) (row : ℕ) (next : PathNames) (closed : Bool) → slice_get stack.layers i ≡ Some layer → IsArrival layer path (Directory row next closed)
-      → (old so_far new : List DirPlace) (more : List Reached) → new ≡ so_far ++ (record { layer = i; row = row; next = next; closed = closed }) ∷ [] → places_in stack so_far ++ reached (drop i stack.layers) i path ≡ places_in stack old ++ more
+      → (old so_far new : List DirPlace) (more : List Reached) → new ≡ so_far ++ (record { layer = i; row = row }) ∷ [] → places_in stack so_far ++ reached (drop i stack.layers) i path ≡ places_in stack old ++ more
       → places_in stack new ++ cond closed [] (reached (drop (i + 1) stack.layers) (i + 1) next) ≡ places_in stack old ++ more
   directory-step i layer path row next closed at arrival old so_far new more is same =
-      let own : DirPlace = record { layer = i; row = row; next = next; closed = closed } in
+      let own : DirPlace = record { layer = i; row = row } in
       let rest : List Reached = cond closed [] (reached (drop (i + 1) stack.layers) (i + 1) next) in
+      let step = walk-whole layer path arrival.0 in
+      let turned : turn layer path ≡ next = sym (arrival.3 ∙ ap (λ (s : Step). s.next) step) in
+      let shut : is_shut layer path ≡ closed = sym (arrival.4 ∙ ap (λ (s : Step). s.closed) step) in
       pushed old so_far new own rest more is
-      (ap (λ (p : Reached). places_in stack so_far ++ p ∷ rest) (place-is own layer path at arrival.2)
+      ((λ j. places_in stack so_far ++ place-is own layer path at arrival.2 j ∷ rest)
+      ∙ ((λ j. places_in stack so_far ++ (record { layer = i; path = path; next = turned j; closed = shut j }) ∷ rest)
       ∙ (ap (λ (ps : List Reached). places_in stack so_far ++ ps) (sym (arrives-directory stack.layers i layer at path next closed arrival.0 arrival.3 arrival.4))
-      ∙ same))
+      ∙ same)))
 
   pub over-push : (old so_far new : List DirPlace) (own : DirPlace) (layer : Entries) → slice_get stack.layers own.layer ≡ Some layer → own.row < length layer → new ≡ so_far ++ own ∷ [] → (All (IsPlaceOver stack) old → All (IsPlaceOver stack) so_far) → All (IsPlaceOver stack) old → All (IsPlaceOver stack) new
   over-push old so_far new own layer at inside is over all =
@@ -181,37 +202,50 @@ pub place-at : (stack : StackView) (places : List DirPlace) (k : ℕ) (own : Dir
 place-at stack places k own inside at =
     slice_get-map (place_in stack) places k ∙ ap (option_map (place_in stack)) (slice_get_read places (length places) k own refl inside at)
 
+-- the place of a number as a slice of them is read
+abbrev pub place_read : List DirPlace → ℕ → DirPlace
+place_read places k = get_or places k (record { layer = 0; row = 0 })
+
+pub place-read : (stack : StackView) (places : List DirPlace) (k : ℕ) → k < length places → slice_get (places_in stack places) k ≡ Some (place_in stack (place_read places k))
+place-read stack places k inside =
+    slice_get-map (place_in stack) places k ∙ ap (option_map (place_in stack)) (slice_get-get_or places k (record { layer = 0; row = 0 }) inside)
+
 module _ (stack : StackView) (name : PathName) (places : List DirPlace) (k : ℕ) (own : DirPlace) (at : slice_get (places_in stack places) k ≡ Some (place_in stack own)) where
   abbrev left : ℕ → List Reached
   left n = drop n (places_in stack places)
 
   -- the directory of the name there
-  entered-there : (entry : PlaceEntry) → IsEntryIn stack name own entry → place_in stack (place_below own entry name) ≡ entered name entry.mark.now (place_in stack own)
-  entered-there entry is = λ j. record { layer = own.layer; path = by (slice_get stack.layers own.layer) is.row j; next = entered_path entry.mark.now own.next name; closed = entered_closed entry.mark.now own.closed }
+  entered-there : (entry : PlaceEntry) → IsEntryIn stack name own entry → place_in stack (place_below own entry) ≡ entered name entry.mark.now (place_in stack own)
+  entered-there entry is = by (slice_get stack.layers own.layer) is.row is.inode
     where
       by : (o : Option Entries) → IsSomeAnd o (λ layer. (entry.row < length layer) × (path_at layer entry.row ≡ child_path (path_at layer own.row) name))
-          → elim o as (λ _. PathNames) [ Some entries ↦ path_at entries entry.row | None ↦ [] ] ≡ child_path (elim o as (λ _. PathNames) [ Some entries ↦ path_at entries own.row | None ↦ [] ]) name
-      by None row = absurd row
-      by (Some layer) row = row.1
+          → elim o as (λ _. Option Inode) [ Some layer ↦ entry_at layer (child_path (placed_by own o).path name) | None ↦ None ] ≡ Some entry.inode.now
+          → placed_by (place_below own entry) o ≡ entered name entry.mark.now (placed_by own o)
+      by None row here = absurd row
+      by (Some layer) row here =
+          let path : PathNames = path_at layer own.row in
+          let marked : mark_at layer (child_path path name) ≡ Some entry.mark.now = mark_at-child layer path name entry.mark.now (ap (option_map mark_of) here ∙ ap (λ (m : Mark). Some m) (sym is.mark)) in
+          (λ j. record { layer = own.layer; path = row.1 j; next = turn layer (row.1 j); closed = is_shut layer (row.1 j) })
+          ∙ (λ j. record { layer = own.layer; path = child_path path name; next = turn-entered layer path name entry.mark.now marked j; closed = is_shut-entered layer path name entry.mark.now marked j })
 
-  over-there : (entry : PlaceEntry) → IsEntryIn stack name own entry → IsPlaceOver stack (place_below own entry name)
+  over-there : (entry : PlaceEntry) → IsEntryIn stack name own entry → IsPlaceOver stack (place_below own entry)
   over-there entry is = by (slice_get stack.layers own.layer) is.row
     where
       by : (o : Option Entries) → IsSomeAnd o (λ layer. (entry.row < length layer) × (path_at layer entry.row ≡ child_path (path_at layer own.row) name)) → IsSomeAnd o (λ layer. entry.row < length layer)
       by None row = absurd row
       by (Some layer) row = row.0
 
-  pub over-below : (entry : PlaceEntry) → IsEntryIn stack name own entry → (old so_far new : List DirPlace) → new ≡ so_far ++ place_below own entry name ∷ [] → (All (IsPlaceOver stack) old → All (IsPlaceOver stack) so_far) → All (IsPlaceOver stack) old → All (IsPlaceOver stack) new
+  pub over-below : (entry : PlaceEntry) → IsEntryIn stack name own entry → (old so_far new : List DirPlace) → new ≡ so_far ++ place_below own entry ∷ [] → (All (IsPlaceOver stack) old → All (IsPlaceOver stack) so_far) → All (IsPlaceOver stack) old → All (IsPlaceOver stack) new
   over-below entry is old so_far new pushes over all =
-      subst (λ (ps : List DirPlace). All (IsPlaceOver stack) ps) (sym pushes) (All-push (IsPlaceOver stack) so_far (place_below own entry name) (over all) (over-there entry is))
+      subst (λ (ps : List DirPlace). All (IsPlaceOver stack) ps) (sym pushes) (All-push (IsPlaceOver stack) so_far (place_below own entry) (over all) (over-there entry is))
 
   pub below-step : (entry : PlaceEntry) → IsEntryIn stack name own entry → is_directory entry.inode.now ≡ true
-      → (old so_far new : List DirPlace) (rest more : List Reached) → new ≡ so_far ++ place_below own entry name ∷ []
+      → (old so_far new : List DirPlace) (rest more : List Reached) → new ≡ so_far ++ place_below own entry ∷ []
       → below_entry entry.mark.now name (reached (drop (own.layer + 1) stack.layers) (own.layer + 1)) (λ other. reached_below stack.layers other (left (k + 1))) ≡ rest
       → places_in stack so_far ++ reached_below stack.layers name (left k) ≡ places_in stack old ++ more
       → places_in stack new ++ rest ≡ places_in stack old ++ more
   below-step entry is holds old so_far new rest more pushes onward same =
-      pushed stack old so_far new (place_below own entry name) rest more pushes
+      pushed stack old so_far new (place_below own entry) rest more pushes
       ((λ j. places_in stack so_far ++ entered-there entry is j ∷ sym onward j)
       ∙ (ap (λ (ps : List Reached). places_in stack so_far ++ ps) (sym (below-directory stack.layers name (places_in stack places) k (place_in stack own) at entry.inode.now entry.mark.now is.inode holds (sym is.mark)))
       ∙ same))
@@ -224,8 +258,8 @@ layer-inside stack place over = by (slice_get stack.layers place.layer) refl ove
     by None e over = absurd over
     by (Some layer) e over = slice_get_within stack.layers place.layer layer e
 
-pub over-at : (stack : StackView) (places : List DirPlace) (k : ℕ) (own : DirPlace) → All (IsPlaceOver stack) places → k < length places → own ≡ get_or places k own → IsPlaceOver stack own
-over-at stack places k own all inside at = subst (IsPlaceOver stack) (sym at) (all k own inside)
+pub over-read : (stack : StackView) (places : List DirPlace) (k : ℕ) → All (IsPlaceOver stack) places → k < length places → IsPlaceOver stack (place_read places k)
+over-read stack places k all inside = all k (record { layer = 0; row = 0 }) inside
 
 -- a view has a place exactly where a directory is shown
 pub no-places : (stack : StackView) (places : List DirPlace) (more : List Reached) → places_in stack places ≡ more → length places ≡ 0 → is_reached more ≡ false

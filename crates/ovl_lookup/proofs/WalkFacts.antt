@@ -114,7 +114,7 @@ marked None = refl
 marked (Some inode) = refl
 
 -- the mark of the entry of a name
-mark_at-child : (layer : Entries) (path : PathNames) (name : PathName) (mark : Mark) → option_map mark_of (entry_at layer (child_path path name)) ≡ Some mark → mark_at layer (child_path path name) ≡ Some mark
+pub mark_at-child : (layer : Entries) (path : PathNames) (name : PathName) (mark : Mark) → option_map mark_of (entry_at layer (child_path path name)) ≡ Some mark → mark_at layer (child_path path name) ≡ Some mark
 mark_at-child layer [] name mark here = marked (entry_at layer (child_path [] name)) ∙ here
 mark_at-child layer (first ∷ path) name mark here = marked (entry_at layer (child_path (first ∷ path) name)) ∙ here
 

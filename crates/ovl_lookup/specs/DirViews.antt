@@ -1,5 +1,5 @@
 -- Views of directories over a stack, as the program keeps them.
-use Rattle.std.specs.Prelude.{◌≡◌, ℕ, ◌<◌, ◌≤◌, ◌++◌, true, Option, Some, None, List, [], drop, length, map, slice_get, IsSomeAnd}
+use Rattle.std.specs.Prelude.{◌≡◌, ℕ, ◌<◌, ◌≤◌, ◌++◌, Bool, true, false, Option, Some, None, List, [], drop, length, map, slice_get, IsSomeAnd}
 use Rattle.std.specs.List.{All}
 use Rattle.ovl_names.specs.Names.{PathName}
 use Rattle.ovl_names.specs.Paths.{PathNames, child_path}
@@ -12,7 +12,7 @@ use Rattle.ovl_lookup.specs.declared.views.DirPlace.{DirPlace}
 use Rattle.ovl_lookup.specs.declared.views.PlaceEntry.{PlaceEntry}
 use Rattle.ovl_lookup.specs.declared.views.DirView.{DirView}
 use Rattle.ovl_lookup.specs.Stacks.{StackView, from_layer}
-use Rattle.ovl_lookup.specs.Passes.{entered_path, entered_closed}
+use Rattle.ovl_lookup.specs.Walk.{turn, is_shut}
 use Rattle.ovl_lookup.specs.Merged.{shows_directory}
 use Rattle.ovl_lookup.specs.Views.{Reached, reached, entry_in}
 
@@ -24,9 +24,21 @@ IsPlaceOver stack place = IsSomeAnd (slice_get stack.layers place.layer) (λ lay
 abbrev pub path_in : StackView → ℕ → ℕ → PathNames
 path_in stack layer row = elim (slice_get stack.layers layer) [ Some entries ↦ path_at entries row | None ↦ [] ]
 
+-- the path by which the layers below know the directory of such a row, and whether they are hidden there
+abbrev pub next_in : StackView → ℕ → ℕ → PathNames
+next_in stack layer row = elim (slice_get stack.layers layer) [ Some entries ↦ turn entries (path_at entries row) | None ↦ [] ]
+
+abbrev pub closed_in : StackView → ℕ → ℕ → Bool
+closed_in stack layer row = elim (slice_get stack.layers layer) [ Some entries ↦ is_shut entries (path_at entries row) | None ↦ false ]
+
 -- the place as the laws of views have it
 abbrev pub place_in : StackView → DirPlace → Reached
-place_in stack place = record { layer = place.layer; path = path_in stack place.layer place.row; next = place.next; closed = place.closed }
+place_in stack place = record {
+  layer = place.layer;
+  path = path_in stack place.layer place.row;
+  next = next_in stack place.layer place.row;
+  closed = closed_in stack place.layer place.row;
+}
 
 abbrev pub places_in : StackView → List DirPlace → List Reached
 places_in stack places = map (place_in stack) places
@@ -57,13 +69,8 @@ pub record IsEntryIn (stack : StackView) (name : PathName) (place : DirPlace) (e
       (λ layer. (entry.row < length layer) × (path_at layer entry.row ≡ child_path (path_at layer place.row) name))
 
 -- the place of the directory that an entry of a place is
-abbrev pub place_below : DirPlace → PlaceEntry → PathName → DirPlace
-place_below place entry name = record {
-  layer = place.layer;
-  row = entry.row;
-  next = entered_path entry.mark.now place.next name;
-  closed = entered_closed entry.mark.now place.closed;
-}
+abbrev pub place_below : DirPlace → PlaceEntry → DirPlace
+place_below place entry = record { layer = place.layer; row = entry.row }
 
 -- where the layers below go on below an entry of this mark: at a path from the root, or beside it by a name
 abbrev pub path_on : Mark → Option PathNames

@@ -10,6 +10,8 @@ use Rattle.ovl_inode.specs.Marks.{is_metacopy, is_data}
 use Rattle.ovl_manifest.specs.Layers.{Entries, IsLayer, entry_at, is_directory_at, names_below}
 use Rattle.ovl_manifest.specs.Sheets.{path_at}
 use Rattle.ovl_lookup.specs.declared.steps.Descent.{Descent}
+use Rattle.ovl_lookup.specs.declared.steps.OwnDirectory.{OwnDirectory}
+use Rattle.ovl_lookup.specs.declared.steps.Trail.{Trail}
 use Rattle.ovl_lookup.specs.declared.steps.Arrival.{Arrival}
 use Rattle.ovl_lookup.specs.declared.steps.Arrival.TheVariants.{Directory, Past, End}
 use Rattle.ovl_lookup.specs.declared.looks.Look.{Look}
@@ -31,13 +33,26 @@ pub record IsDescent (layer : Entries) (path : PathNames) (descent : Descent) : 
   pub shut : descent.closed ≡ is_shut layer (take descent.depth path)
   pub stops : IfSome (slice_get path descent.depth) (λ name. is_directory_at layer (child_path (take descent.depth path) name) ≡ false)
 
+-- a directory of a layer at a path, and how its walk goes on
+pub record IsOwnDirectory (layer : Entries) (path : PathNames) (own : OwnDirectory) : Type 0 where
+  pub inside : own.row < length layer
+  pub here : path_at layer own.row ≡ path
+  pub directory : is_directory_at layer path ≡ true
+  pub next : own.next ≡ (walk layer path).next
+  pub closed : own.closed ≡ (walk layer path).closed
+
+-- the path of a trail
+abbrev pub names_along : Trail → PathNames
+names_along trail = trail.turned ++ trail.rest.now
+
 -- where the walk of a path in a layer leads: to a directory, past the layer where nothing is there, or no further
 abbrev pub IsArrival : Entries → PathNames → Arrival → Type 0
 IsArrival layer path (Directory row next closed) =
     (is_directory_at layer path ≡ true) × (row < length layer) × (path_at layer row ≡ path)
     × (next ≡ (walk layer path).next) × (closed ≡ (walk layer path).closed)
-IsArrival layer path (Past next) =
-    (entry_at layer path ≡ None) × ((walk layer path).closed ≡ false) × (next ≡ (walk layer path).next)
+IsArrival layer path (Past next walked) =
+    (entry_at layer path ≡ None) × ((walk layer path).closed ≡ false) × (walked ≤ length path)
+    × (next ++ drop walked path ≡ (walk layer path).next)
 IsArrival layer path End =
     (is_directory_at layer path ≡ false) × ((is_some (entry_at layer path) || (walk layer path).closed) ≡ true)
 

@@ -11,5 +11,5 @@ mod views;
 
 pub use looks::Look;
 pub use stacks::{LAYER_LIMIT, Stack, StackFault};
-pub use steps::{Step, walk};
+pub use steps::{OwnDirectory, Step, walk};
 pub use views::DirView;

@@ -1,12 +1,14 @@
-ghost use Rattle.std.specs.Prelude.{◌≡◌, ◌<◌, ◌≤◌, ◌↔◌, ◌⊎◌, Some, Err, length, IfOk, MatchResult, slice_get, IfSome};
+ghost use Rattle.std.specs.Prelude.{◌≡◌, ◌<◌, ◌≤◌, ◌↔◌, ◌⊎◌, false, Some, Err, length, IfOk, MatchOption, MatchResult, slice_get, IfSome};
 ghost use Rattle.std.specs.Option.{option_map};
 ghost use Rattle.std.specs.List.{All};
-ghost use Rattle.ovl_manifest.specs.Layers.{IsLayer, entry_at, names_below};
+ghost use Rattle.ovl_manifest.specs.Layers.{IsLayer, entry_at, is_directory_at, names_below};
+ghost use Rattle.ovl_lookup.specs.Passes.{IsOwnDirectory};
 ghost use Rattle.ovl_lookup.specs.Walk.{walk as the_walk, open_natural_path};
 ghost use Rattle.ovl_lookup.specs.declared.stacks.StackFault.TheVariants.{Layers, Memory};
 ghost use Rattle.ovl_lookup.specs.Stacks.{layer_limit};
 
-use crate::{Step, walk};
+use crate::steps::directory_in;
+use crate::{OwnDirectory, Step, walk};
 use ovl_inode::Inode;
 use ovl_manifest::{Layer, Sheet};
 use ovl_names::{Name, Path};
@@ -111,6 +113,23 @@ impl Stack {
         ensures { IfSome (slice_get self.now.layers i) (λ layer. IfOk result (λ step. step ≡ the_walk layer path.now)) }
     {
         walk(alloc, &self.layers[i], path)
+    }
+
+    /// The directory that layer `i` has at a path, with how its walk goes on, and `None` where it has none; `i` is below
+    /// the number of layers. Fails only for want of memory. overlayfs.rst: "renaming directories", "whiteouts and opaque
+    /// directories".
+    pub fn own_directory(
+        &self,
+        alloc: Global,
+        i: usize,
+        path: &Path,
+    ) -> Result<Option<OwnDirectory>, AllocError>
+        requires { i < length self.now.layers }
+        ensures { IfSome (slice_get self.now.layers i) (λ layer. IfOk result (λ found. MatchOption found
+            (is_directory_at layer path.now ≡ false)
+            (λ own. IsOwnDirectory layer path.now own))) }
+    {
+        directory_in(alloc, &self.layers[i], path)
     }
 
     /// The path at which the layers below layer `i` have an entry by its own name: the next path of the walk of its

@@ -1,9 +1,9 @@
-ghost use Rattle.std.specs.Prelude.{◌≡◌, ◌≢◌, ◌<◌, ◌++◌, false, true, Some, None, length, IfOk, MatchResult, MatchOption};
+ghost use Rattle.std.specs.Prelude.{◌≡◌, ◌≢◌, ◌+◌, ◌<◌, ◌≤◌, ◌++◌, false, true, Some, None, length, drop, get_or, IfOk, MatchResult, MatchOption};
 ghost use Rattle.ovl_names.specs.Paths.{child_path};
 ghost use Rattle.ovl_inode.specs.Marks.{mark_of as the_mark};
 ghost use Rattle.ovl_manifest.specs.Layers.{is_directory_at};
 ghost use Rattle.ovl_manifest.specs.Sheets.{path_at};
-ghost use Rattle.ovl_lookup.specs.Passes.{IsDescent, IsArrival, entered_path, entered_closed};
+ghost use Rattle.ovl_lookup.specs.Passes.{IsDescent, IsArrival, IsOwnDirectory, names_along, entered_path, entered_closed};
 ghost use Rattle.ovl_lookup.specs.Walk.{walk as the_walk, nothing_found, walk_beyond, walk_to_file};
 
 use ovl_inode::{Inode, Mark, Redirect, is_directory, is_whiteout};
@@ -35,7 +35,7 @@ pub fn walk(alloc: Global, sheet: &Sheet, path: &Path) -> Result<Step, AllocErro
         depth,
         next,
         closed,
-    } = descend(alloc, sheet, path)?;
+    } = descend(alloc, sheet, &[], names)?;
     if depth == names.len() {
         return Ok(Step {
             found: Some(sheet.inode(row).copy(alloc)?),
@@ -68,16 +68,21 @@ pub(crate) struct Descent {
     pub(crate) closed: bool,
 }
 
-// How far a path goes through directories.
-pub(crate) fn descend(alloc: Global, sheet: &Sheet, path: &Path) -> Result<Descent, AllocError>
-    ensures { IfOk result (λ descent. IsDescent sheet.now path.now descent) }
+// How far a path of two parts goes through directories.
+pub(crate) fn descend(
+    alloc: Global,
+    sheet: &Sheet,
+    turned: &[Name],
+    rest: &[Name],
+) -> Result<Descent, AllocError>
+    ensures { IfOk result (λ descent. IsDescent sheet.now (turned.now ++ rest.now) descent) }
 {
-    let names = path.names();
     let mut row = sheet.root_number();
     let mut next = Path::root(alloc);
     let mut closed = false;
-    for i in 0..names.len() {
-        let name = &names[i];
+    let depth = turned.len() + rest.len();
+    for i in 0..depth {
+        let name = name_in(turned, rest, i);
         let Some(child) = directory_below(sheet, row, name) else {
             return Ok(Descent {
                 row,
@@ -93,23 +98,43 @@ pub(crate) fn descend(alloc: Global, sheet: &Sheet, path: &Path) -> Result<Desce
     }
     Ok(Descent {
         row,
-        depth: names.len(),
+        depth,
         next,
         closed,
     })
 }
 
-// Where the walk of a path in one layer leads: to a directory's row, past the layer, or no further.
-#[derive(Drop)]
-pub(crate) enum Arrival {
-    Directory { row: u32, next: Path, closed: bool },
-    Past(Path),
-    End,
+// The name of a number in a path of two parts.
+fn name_in<'a>(turned: &'a [Name], rest: &'a [Name], number: usize) -> &'a Name
+    requires { number < length turned.now + length rest.now }
+    ensures { result.now ≡ get_or (turned.now ++ rest.now) number result.now }
+{
+    if number < turned.len() {
+        return &turned[number];
+    }
+    &rest[number - turned.len()]
 }
 
-// Where the walk of a path leads.
-pub(crate) fn arrive(alloc: Global, sheet: &Sheet, path: &Path) -> Result<Arrival, AllocError>
-    ensures { IfOk result (λ arrival. IsArrival sheet.now path.now arrival) }
+/// A directory of one layer, and how its walk goes on.
+#[derive(Debug, Drop)]
+pub struct OwnDirectory {
+    /// The number of its row in the layer's sheet.
+    pub row: u32,
+    /// The path by which the layer below knows it.
+    pub next: Path,
+    /// Whether the layers below are hidden there.
+    pub closed: bool,
+}
+
+// The directory that a layer has at a path.
+pub(crate) fn directory_in(
+    alloc: Global,
+    sheet: &Sheet,
+    path: &Path,
+) -> Result<Option<OwnDirectory>, AllocError>
+    ensures { IfOk result (λ found. MatchOption found
+        (is_directory_at sheet.now path.now ≡ false)
+        (λ own. IsOwnDirectory sheet.now path.now own)) }
 {
     let names = path.names();
     let Descent {
@@ -117,17 +142,80 @@ pub(crate) fn arrive(alloc: Global, sheet: &Sheet, path: &Path) -> Result<Arriva
         depth,
         next,
         closed,
-    } = descend(alloc, sheet, path)?;
-    if depth == names.len() {
+    } = descend(alloc, sheet, &[], names)?;
+    if depth < names.len() {
+        return Ok(None);
+    }
+    Ok(Some(OwnDirectory { row, next, closed }))
+}
+
+// A path from the root in two parts: what layers above made of its first names, and the names after those, which no
+// layer copies.
+#[derive(Drop)]
+pub(crate) struct Trail<'a> {
+    pub(crate) turned: Path,
+    pub(crate) rest: &'a [Name],
+}
+
+impl<'a> Trail<'a> {
+    // The trail that goes on at `next` in place of so many names.
+    pub(crate) fn onward(
+        self,
+        alloc: Global,
+        next: Path,
+        walked: usize,
+    ) -> Result<Trail<'a>, AllocError>
+        requires { walked ≤ length (names_along self) }
+        ensures { IfOk result (λ trail. names_along trail ≡ next ++ drop walked (names_along self.entry)) }
+    {
+        let Trail { turned, rest } = self;
+        let count = turned.len();
+        if walked >= count {
+            let rest = &rest[walked - count..];
+            return Ok(Trail { turned: next, rest });
+        }
+        if walked == 0 && next.is_empty() {
+            return Ok(Trail { turned, rest });
+        }
+        let turned = next.joined(alloc, &turned.names()[walked..])?;
+        Ok(Trail { turned, rest })
+    }
+}
+
+// Where the walk of a path in one layer leads: to a directory's row, past the layer, where `next` goes on in place of
+// the names that were walked, or no further.
+#[derive(Drop)]
+pub(crate) enum Arrival {
+    Directory { row: u32, next: Path, closed: bool },
+    Past { next: Path, walked: usize },
+    End,
+}
+
+// Where the walk of a path leads.
+pub(crate) fn arrive(alloc: Global, sheet: &Sheet, trail: &Trail<'_>) -> Result<Arrival, AllocError>
+    ensures { IfOk result (λ arrival. IsArrival sheet.now (names_along trail.now) arrival) }
+{
+    let turned = trail.turned.names();
+    let rest = trail.rest;
+    let Descent {
+        row,
+        depth,
+        next,
+        closed,
+    } = descend(alloc, sheet, turned, rest)?;
+    if depth == turned.len() + rest.len() {
         return Ok(Arrival::Directory { row, next, closed });
     }
-    if let Some(_file) = sheet.child(row, &names[depth]) {
+    if let Some(_file) = sheet.child(row, name_in(turned, rest, depth)) {
         return Ok(Arrival::End);
     }
     if closed {
         return Ok(Arrival::End);
     }
-    Ok(Arrival::Past(next.joined(alloc, &names[depth..])?))
+    Ok(Arrival::Past {
+        next,
+        walked: depth,
+    })
 }
 
 // The row of the directory `name` in the directory of a row, and `None` where there is none.

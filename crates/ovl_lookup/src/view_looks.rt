@@ -6,7 +6,7 @@ ghost use Rattle.ovl_inode.specs.Marks.{is_metacopy_mark};
 ghost use Rattle.ovl_manifest.specs.Sheets.{path_at, last_name};
 ghost use Rattle.ovl_lookup.specs.Stacks.{from_layer};
 ghost use Rattle.ovl_lookup.specs.Trace.{things_found};
-ghost use Rattle.ovl_lookup.specs.Merged.{AreKids, look as the_look, shown_of, is_nothing as nothing_test};
+ghost use Rattle.ovl_lookup.specs.Merged.{AreKids, look as the_look, shows as shows_there, shown_of, is_nothing as nothing_test};
 ghost use Rattle.ovl_lookup.specs.Passes.{data_below};
 ghost use Rattle.ovl_lookup.specs.Views.{found_below};
 ghost use Rattle.ovl_lookup.specs.ViewPasses.{AreLooks, names_in, put_top, put_tops, tops_of};
@@ -30,6 +30,15 @@ impl DirView {
     {
         let _ = &stack.layers;
         look_in(alloc, stack, &self.places, name)
+    }
+
+    /// Whether something is shown at a name in this directory; takes no memory.
+    pub fn shows(&self, stack: &Stack, name: &Name) -> bool
+        requires { IsViewOver stack.now self.now }
+        ensures { result ≡ shows_there (from_layer self.now.from stack.now) (child_path self.now.path name.now) }
+    {
+        let _ = &stack.layers;
+        shows_in(stack, &self.places, name)
     }
 
     /// The data that there is at a name in this directory below metacopy files. Fails only for want of memory.

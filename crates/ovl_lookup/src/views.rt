@@ -5,10 +5,10 @@ ghost use Rattle.ovl_names.specs.Paths.{child_path};
 ghost use Rattle.ovl_lookup.specs.Stacks.{from_layer};
 ghost use Rattle.ovl_lookup.specs.Merged.{shows_directory};
 ghost use Rattle.ovl_lookup.specs.Views.{reached, entry_in, reached_below};
-ghost use Rattle.ovl_lookup.specs.DirViews.{path_on, name_on, IsViewOver, IsViewOf, IsPlaceOver, IsEntryIn, AddsPlaces, place_in, places_in, place_below};
+ghost use Rattle.ovl_lookup.specs.DirViews.{path_on, name_on, IsViewOver, IsViewOf, IsPlaceOver, IsEntryIn, AddsPlaces, place_in, places_in};
 
 use crate::Stack;
-use crate::steps::{Arrival, Entered, arrive, enter};
+use crate::steps::{Arrival, Trail, arrive};
 use ovl_inode::{Inode, Mark, Redirect, is_directory};
 use ovl_names::{Name, Path};
 use std::alloc::{AllocError, Global};
@@ -22,14 +22,11 @@ pub struct DirView {
     pub(crate) places: Vec<DirPlace>,
 }
 
-// A layer that has the directory: the number of its row there, the path by which the layer below knows it, and whether
-// the layers below are hidden there.
+// A layer that has the directory, and the number of its row there.
 #[derive(Drop)]
 pub(crate) struct DirPlace {
     pub(crate) layer: usize,
     pub(crate) row: u32,
-    next: Path,
-    closed: bool,
 }
 
 // What stands at a name in a place.
@@ -131,22 +128,23 @@ fn push_reached(
     requires { from ≤ length stack.now.layers }
     ensures { OnOk result (AddsPlaces stack.now places.old.items places.new.items (reached (drop from stack.now.layers) from path.now)) }
 {
-    let mut place = path.copy(alloc)?;
+    let mut trail = Trail {
+        turned: Path::root(alloc),
+        rest: path.names(),
+    };
     for layer in from..stack.layers() {
-        match arrive(alloc, stack.sheet(layer), &place)? {
+        match arrive(alloc, stack.sheet(layer), &trail)? {
             Arrival::Directory { row, next, closed } => {
-                place = next.copy(alloc)?;
-                places.push(DirPlace {
-                    layer,
-                    row,
-                    next,
-                    closed,
-                })?;
+                places.push(DirPlace { layer, row })?;
                 if closed {
                     return Ok(());
                 }
+                trail = Trail {
+                    turned: next,
+                    rest: &[],
+                };
             }
-            Arrival::Past(next) => place = next,
+            Arrival::Past { next, walked } => trail = trail.onward(alloc, next, walked)?,
             Arrival::End => return Ok(()),
         }
     }
@@ -173,7 +171,10 @@ fn push_below(
         if !is_directory(entry.inode) {
             return Ok(());
         }
-        push_entered(alloc, place, &entry, own, below)?;
+        below.push(DirPlace {
+            layer: place.layer,
+            row: entry.row,
+        })?;
         if let Some(origin) = goes_on_at(entry.mark) {
             return push_reached(alloc, stack, place.layer + 1, origin, below);
         }
@@ -182,27 +183,6 @@ fn push_below(
         };
         own = other;
     }
-    Ok(())
-}
-
-// Adds the place of the directory that this entry of a place is.
-fn push_entered(
-    alloc: Global,
-    place: &DirPlace,
-    entry: &PlaceEntry<'_>,
-    name: &Name,
-    below: &mut Vec<DirPlace>,
-) -> Result<(), AllocError>
-    ensures { OnOk result (below.new.items ≡ below.old.items ++ place_below place.now entry.now name.now ∷ []) }
-{
-    let next = place.next.copy(alloc)?;
-    let Entered { next, closed } = enter(alloc, entry.mark, name, place.closed, next)?;
-    below.push(DirPlace {
-        layer: place.layer,
-        row: entry.row,
-        next,
-        closed,
-    })?;
     Ok(())
 }
 

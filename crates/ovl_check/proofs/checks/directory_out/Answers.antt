@@ -1,12 +1,9 @@
-use Rattle.std.proofs.Common.{◌∙◌, ◌++◌, sym, ap, Bool, false, Option, Some, None, List}
-use Rattle.std.specs.List.{flat_map}
+use Rattle.std.proofs.Common.{◌∙◌, sym, ap, Bool, false, Option, Some, None}
 use Rattle.ovl_inode.specs.declared.inodes.Inode.{Inode}
 use Rattle.ovl_inode.specs.Marks.{is_directory}
 use Rattle.ovl_lookup.specs.Sound.{is_moved}
-use Rattle.ovl_check.specs.declared.directories.Child.{Child}
 use Rattle.ovl_check.specs.Checks.{directory_piece}
 use Rattle.ovl_check.specs.CheckViews.{check_view}
-use Rattle.ovl_check.specs.Facts.{child_seen, found_at_child}
 use Rattle.ovl_check.proofs.OutLemmas.{seen-same, found-all}
 use Rattle.ovl_check.proofs.checks.directory_out.Goals as goal
 

@@ -13,7 +13,7 @@ use Rattle.ovl_check.specs.Checks.{layer_at, layers_below}
 use Rattle.ovl_check.proofs.GatherLemmas.{mark-child, child-whiteout, child-metacopy, child-other}
 use Rattle.ovl_check.proofs.MarkLemmas.{whiteout-marked}
 use Rattle.ovl_check.proofs.gathering.facts_of_child.Goals as goal
-use Rattle.ovl_check.proofs.gathering.facts_of_child.Goals.{in-Whiteout+in_ok-kind-in-Whiteout, in-Meta+in_ok-data_size-in-Meta, in_default}
+use Rattle.ovl_check.proofs.gathering.facts_of_child.Goals.{in-Whiteout, in-Meta+in_ok-data_size-in-Meta, in_default}
 
 pub returns : goal.returns
 returns c =
@@ -33,7 +33,7 @@ returns c =
         whiteout = whiteout-marked inode ∙ ap is_whiteout_mark (sym c.requires.marked);
         root = sym (length-child directory.path.now name);
         kind = elim c.match-child.branch [
-          | in-Whiteout+in_ok-kind-in-Whiteout w ↦ w.kind-is ∙ (w.in_ok-kind-in-Whiteout.ensures ∙ child-whiteout layer below directory gathered name inode c.requires.entry c.requires.none c.args.child.now.mark.now w.in-Whiteout.is)
+          | in-Whiteout w ↦ w.kind-is ∙ (w.whiteout_in-kind.ensures ∙ child-whiteout layer below directory gathered name inode c.requires.entry c.requires.none c.args.child.now.mark.now w.in-Whiteout.is)
           | in-Meta+in_ok-data_size-in-Meta w ↦ w.kind-is ∙ (ap (λ size. Metacopy size) w.in_ok-data_size-in-Meta.ensures ∙ child-metacopy layer below directory gathered name inode c.requires.entry c.requires.none c.args.child.now.mark.now w.in-Meta.redirect c.requires.marked w.in-Meta.is)
           | in_default w ↦ w.kind-is ∙ child-other layer below directory gathered name inode c.requires.entry c.requires.none c.args.child.now.mark.now c.requires.marked w.in_default.not-Whiteout w.in_default.not-Meta
         ];

@@ -1,4 +1,4 @@
-use Rattle.std.proofs.Common.{◌≡◌, ◌<◌, true, length, take}
+use Rattle.std.proofs.Common.{◌≡◌, ◌<◌, ◌++◌, true, length, take}
 use Rattle.ovl_manifest.specs.Layers.{is_directory_at}
 use Rattle.ovl_manifest.specs.Sheets.{path_at}
 use Rattle.ovl_lookup.specs.Walk.{turn, is_shut}
@@ -8,8 +8,8 @@ use Rattle.ovl_lookup.proofs.steps.descend.Given as goal
 abbrev pub invariant-loop-i : goal.invariant-loop-i
 invariant-loop-i l = record {
   inside : l.row < length l.sheet;
-  here : path_at l.sheet l.row ≡ take l.i l.names;
-  directory : is_directory_at l.sheet (take l.i l.names) ≡ true;
-  turned : l.next ≡ turn l.sheet (take l.i l.names);
-  shut : l.closed ≡ is_shut l.sheet (take l.i l.names);
+  here : path_at l.sheet l.row ≡ take l.i (l.turned ++ l.rest);
+  directory : is_directory_at l.sheet (take l.i (l.turned ++ l.rest)) ≡ true;
+  turned : l.next ≡ turn l.sheet (take l.i (l.turned ++ l.rest));
+  shut : l.closed ≡ is_shut l.sheet (take l.i (l.turned ++ l.rest));
 }

@@ -8,6 +8,7 @@ use Rattle.ovl_manifest.specs.Sheets.{path_at}
 use Rattle.ovl_manifest.proofs.NodeLemmas.{entry_at-under}
 use Rattle.ovl_lookup.specs.declared.steps.Descent.{Descent}
 use Rattle.ovl_lookup.specs.declared.steps.Step.{Step}
+use Rattle.ovl_lookup.specs.Passes.{IsDescent}
 use Rattle.ovl_lookup.specs.Walk.{walk_beyond, nothing_found}
 use Rattle.ovl_lookup.proofs.WalkFacts.{walk-ends, walk-misses, walk-ends_whole, stopped, take-rest}
 use Rattle.ovl_lookup.proofs.steps.walk.Goals as goal
@@ -17,7 +18,7 @@ returns-then-depth-names c =
     let layer : Entries = c.args.sheet.now in
     let path : PathNames = c.args.path.now in
     let descent : Descent = c.in_ok-row.field-0 in
-    let is = c.in_ok-row.ensures in
+    let is = subst (λ (names : PathNames). IsDescent layer names descent) c.names-names.ensures.value c.in_ok-row.ensures in
     let here : Some c.in_ok-copy.field-0 ≡ entry_at layer (take descent.depth path) =
     ap (λ (inode : Inode). Some inode) c.in_ok-copy.ensures ∙ (sym c.inode.ensures ∙ ap (entry_at layer) is.here) in
     walk-ends_whole layer path descent.depth (Some c.in_ok-copy.field-0) descent.next descent.closed
@@ -31,7 +32,7 @@ returns-in-Some c =
     let same : names ≡ path = c.names-names.ensures.value in
     let descent : Descent = c.in_ok-row.field-0 in
     let name : PathName = c.index-names-depth.result in
-    let is = c.in_ok-row.ensures in
+    let is = subst (λ (names : PathNames). IsDescent layer names descent) c.names-names.ensures.value c.in_ok-row.ensures in
     let inside : descent.depth < length path = grind (arith, nat_tests, is.within, ap length same) in
     let at : name ≡ get_or path descent.depth name = c.index-names-depth.is ∙ ap (λ (ns : PathNames). get_or ns descent.depth name) same in
     let here : Some c.inode-in-Some.result.now ≡ entry_at layer (child_path (take descent.depth path) name) =
@@ -51,7 +52,7 @@ returns-in-None c =
     let same : names ≡ path = c.names-names.ensures.value in
     let descent : Descent = c.in_ok-row.field-0 in
     let name : PathName = c.index-names-depth.result in
-    let is = c.in_ok-row.ensures in
+    let is = subst (λ (names : PathNames). IsDescent layer names descent) c.names-names.ensures.value c.in_ok-row.ensures in
     let inside : descent.depth < length path = grind (arith, nat_tests, is.within, ap length same) in
     let at : name ≡ get_or path descent.depth name = c.index-names-depth.is ∙ ap (λ (ns : PathNames). get_or ns descent.depth name) same in
     let here : entry_at layer (child_path (take descent.depth path) name) ≡ None =

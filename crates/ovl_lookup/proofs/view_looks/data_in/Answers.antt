@@ -10,7 +10,7 @@ use Rattle.ovl_lookup.specs.Passes.{data_below}
 use Rattle.ovl_lookup.specs.Views.{found_below}
 use Rattle.ovl_lookup.specs.DirViews.{place_in, places_in}
 use Rattle.ovl_lookup.proofs.ViewSteps.{found-none}
-use Rattle.ovl_lookup.proofs.DirViewLemmas.{place-at, over-at, layer-inside, on-path, on-name, on-none}
+use Rattle.ovl_lookup.proofs.DirViewLemmas.{place_read, place-read, over-read, layer-inside, on-path, on-name, on-none}
 use Rattle.ovl_lookup.proofs.ViewLookLemmas.{whiteout-data, own-data, other-data, onward-data}
 use Rattle.ovl_lookup.proofs.view_looks.data_in.Goals as goal
 
@@ -19,8 +19,8 @@ loop-place-preserved-in_default c =
     let stack : StackView = c.args.stack.now in
     let places : List DirPlace = c.args.places.now in
     let k = c.loop-place.place-index in
-    let own : DirPlace = c.place-item.result in
-    let at = place-at stack places k own c.loop-place-test.true c.place-item.is in
+    let own : DirPlace = place_read places k in
+    let at = place-read stack places k c.loop-place-test.true in
     ap data_below (sym (found-none stack.layers c.loop-place.own.now (places_in stack places) k (place_in stack own) at c.in_default.ensures)) ∙ c.loop-place.invariant
 
 pub returns-then-is_whiteout : goal.returns-then-is_whiteout
@@ -28,8 +28,8 @@ returns-then-is_whiteout c =
     let stack : StackView = c.args.stack.now in
     let places : List DirPlace = c.args.places.now in
     let k = c.loop-place.place-index in
-    let own : DirPlace = c.place-item.result in
-    let at = place-at stack places k own c.loop-place-test.true c.place-item.is in
+    let own : DirPlace = place_read places k in
+    let at = place-read stack places k c.loop-place-test.true in
     let is = c.in-Some.ensures in
     let inode : Inode = c.in-Some.entry.inode.now in
     let mark : Mark = c.in-Some.entry.mark.now in
@@ -40,8 +40,8 @@ returns-then-is_data c =
     let stack : StackView = c.args.stack.now in
     let places : List DirPlace = c.args.places.now in
     let k = c.loop-place.place-index in
-    let own : DirPlace = c.place-item.result in
-    let at = place-at stack places k own c.loop-place-test.true c.place-item.is in
+    let own : DirPlace = place_read places k in
+    let at = place-read stack places k c.loop-place-test.true in
     let is = c.in-Some.ensures in
     let inode : Inode = c.in-Some.entry.inode.now in
     let mark : Mark = c.in-Some.entry.mark.now in
@@ -53,8 +53,8 @@ returns-then-not-is_meta c =
     let stack : StackView = c.args.stack.now in
     let places : List DirPlace = c.args.places.now in
     let k = c.loop-place.place-index in
-    let own : DirPlace = c.place-item.result in
-    let at = place-at stack places k own c.loop-place-test.true c.place-item.is in
+    let own : DirPlace = place_read places k in
+    let at = place-read stack places k c.loop-place-test.true in
     let is = c.in-Some.ensures in
     let inode : Inode = c.in-Some.entry.inode.now in
     let mark : Mark = c.in-Some.entry.mark.now in
@@ -62,12 +62,12 @@ returns-then-not-is_meta c =
 
 pub overflow_add-place : goal.overflow_add-place
 overflow_add-place c =
-    let inside = layer-inside c.args.stack.now c.place-item.result (over-at c.args.stack.now c.args.places.now c.loop-place.place-index c.place-item.result c.requires c.loop-place-test.true c.place-item.is) in
+    let inside = layer-inside c.args.stack.now (place_read c.args.places.now c.loop-place.place-index) (over-read c.args.stack.now c.args.places.now c.loop-place.place-index c.requires c.loop-place-test.true) in
     omega (arith, inside, ap (λ (s : StackView). length s.layers) c.stack.view_is, c.stack.invariant.1)
 
 pub data-requires : goal.data-requires
 data-requires c =
-    let inside = layer-inside c.args.stack.now c.place-item.result (over-at c.args.stack.now c.args.places.now c.loop-place.place-index c.place-item.result c.requires c.loop-place-test.true c.place-item.is) in
+    let inside = layer-inside c.args.stack.now (place_read c.args.places.now c.loop-place.place-index) (over-read c.args.stack.now c.args.places.now c.loop-place.place-index c.requires c.loop-place-test.true) in
     omega (arith, inside)
 
 pub returns-in-Some-goes_on_at : goal.returns-in-Some-goes_on_at
@@ -75,8 +75,8 @@ returns-in-Some-goes_on_at c =
     let stack : StackView = c.args.stack.now in
     let places : List DirPlace = c.args.places.now in
     let k = c.loop-place.place-index in
-    let own : DirPlace = c.place-item.result in
-    let at = place-at stack places k own c.loop-place-test.true c.place-item.is in
+    let own : DirPlace = place_read places k in
+    let at = place-read stack places k c.loop-place-test.true in
     let is = c.in-Some.ensures in
     let inode : Inode = c.in-Some.entry.inode.now in
     let mark : Mark = c.in-Some.entry.mark.now in
@@ -92,8 +92,8 @@ returns-in_default-goes_on_by c =
     let stack : StackView = c.args.stack.now in
     let places : List DirPlace = c.args.places.now in
     let k = c.loop-place.place-index in
-    let own : DirPlace = c.place-item.result in
-    let at = place-at stack places k own c.loop-place-test.true c.place-item.is in
+    let own : DirPlace = place_read places k in
+    let at = place-read stack places k c.loop-place-test.true in
     let is = c.in-Some.ensures in
     let inode : Inode = c.in-Some.entry.inode.now in
     let mark : Mark = c.in-Some.entry.mark.now in
@@ -105,8 +105,8 @@ loop-place-preserved c =
     let stack : StackView = c.args.stack.now in
     let places : List DirPlace = c.args.places.now in
     let k = c.loop-place.place-index in
-    let own : DirPlace = c.place-item.result in
-    let at = place-at stack places k own c.loop-place-test.true c.place-item.is in
+    let own : DirPlace = place_read places k in
+    let at = place-read stack places k c.loop-place-test.true in
     let is = c.in-Some.ensures in
     let inode : Inode = c.in-Some.entry.inode.now in
     let mark : Mark = c.in-Some.entry.mark.now in

@@ -10,7 +10,7 @@ use Rattle.ovl_lookup.specs.Passes.{data_below, shown_with}
 use Rattle.ovl_lookup.specs.Views.{Reached, found_below}
 use Rattle.ovl_lookup.specs.DirViews.{place_in, places_in}
 use Rattle.ovl_lookup.proofs.ViewSteps.{found-none}
-use Rattle.ovl_lookup.proofs.DirViewLemmas.{place-at}
+use Rattle.ovl_lookup.proofs.DirViewLemmas.{place_read, place-read}
 use Rattle.ovl_lookup.proofs.ViewLookLemmas.{slice-places, whiteout-shows, full-shows, lacking-shows}
 use Rattle.ovl_lookup.proofs.view_looks.look_in.Goals as goal
 
@@ -19,8 +19,8 @@ loop-i-preserved c =
     let stack : StackView = c.args.stack.now in
     let places : List DirPlace = c.args.places.now in
     let k = c.loop-i.i in
-    let own : DirPlace = c.index-places-i.result in
-    let at = place-at stack places k own c.loop-i-test.true c.index-places-i.is in
+    let own : DirPlace = place_read places k in
+    let at = place-read stack places k c.loop-i-test.true in
     sym (found-none stack.layers c.args.name.now (places_in stack places) k (place_in stack own) at c.in_default.ensures) ∙ c.loop-i.invariant
 
 pub returns-then-is_whiteout : goal.returns-then-is_whiteout
@@ -28,8 +28,8 @@ returns-then-is_whiteout c =
     let stack : StackView = c.args.stack.now in
     let places : List DirPlace = c.args.places.now in
     let k = c.loop-i.i in
-    let own : DirPlace = c.index-places-i.result in
-    let at = place-at stack places k own c.loop-i-test.true c.index-places-i.is in
+    let own : DirPlace = place_read places k in
+    let at = place-read stack places k c.loop-i-test.true in
     let is = c.in-Some.ensures in
     let inode : Inode = c.in-Some.entry.inode.now in
     let mark : Mark = c.in-Some.entry.mark.now in
@@ -40,8 +40,8 @@ returns-then-not-lacks_contents c =
     let stack : StackView = c.args.stack.now in
     let places : List DirPlace = c.args.places.now in
     let k = c.loop-i.i in
-    let own : DirPlace = c.index-places-i.result in
-    let at = place-at stack places k own c.loop-i-test.true c.index-places-i.is in
+    let own : DirPlace = place_read places k in
+    let at = place-read stack places k c.loop-i-test.true in
     let is = c.in-Some.ensures in
     let inode : Inode = c.in-Some.entry.inode.now in
     let mark : Mark = c.in-Some.entry.mark.now in
@@ -53,8 +53,8 @@ returns-in-loop-i c =
     let stack : StackView = c.args.stack.now in
     let places : List DirPlace = c.args.places.now in
     let k = c.loop-i.i in
-    let own : DirPlace = c.index-places-i.result in
-    let at = place-at stack places k own c.loop-i-test.true c.index-places-i.is in
+    let own : DirPlace = place_read places k in
+    let at = place-read stack places k c.loop-i-test.true in
     let is = c.in-Some.ensures in
     let inode : Inode = c.in-Some.entry.inode.now in
     let mark : Mark = c.in-Some.entry.mark.now in

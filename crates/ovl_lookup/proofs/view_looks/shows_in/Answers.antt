@@ -9,7 +9,7 @@ use Rattle.ovl_lookup.specs.Merged.{shown_of, is_nothing}
 use Rattle.ovl_lookup.specs.Views.{found_below}
 use Rattle.ovl_lookup.specs.DirViews.{place_in, places_in}
 use Rattle.ovl_lookup.proofs.ViewSteps.{found-none}
-use Rattle.ovl_lookup.proofs.DirViewLemmas.{place-at}
+use Rattle.ovl_lookup.proofs.DirViewLemmas.{place_read, place-read}
 use Rattle.ovl_lookup.proofs.ViewLookLemmas.{whiteout-shows, entry-shows}
 use Rattle.std.proofs.Common.{Bool, true, false}
 use Rattle.std.specs.Prelude.{not}
@@ -21,8 +21,8 @@ loop-place-preserved c =
     let stack : StackView = c.args.stack.now in
     let places : List DirPlace = c.args.places.now in
     let k = c.loop-place.place-index in
-    let own : DirPlace = c.place-item.result in
-    let at = place-at stack places k own c.loop-place-test.true c.place-item.is in
+    let own : DirPlace = place_read places k in
+    let at = place-read stack places k c.loop-place-test.true in
     sym (found-none stack.layers c.args.name.now (places_in stack places) k (place_in stack own) at c.in_default.ensures) ∙ c.loop-place.invariant
 
 -- whether something is shown, by whether the first entry is a whiteout
@@ -35,8 +35,8 @@ returns-in-Some c =
     let stack : StackView = c.args.stack.now in
     let places : List DirPlace = c.args.places.now in
     let k = c.loop-place.place-index in
-    let own : DirPlace = c.place-item.result in
-    let at = place-at stack places k own c.loop-place-test.true c.place-item.is in
+    let own : DirPlace = place_read places k in
+    let at = place-read stack places k c.loop-place-test.true in
     let is = c.in-Some.ensures in
     let inode : Inode = c.in-Some.entry.inode.now in
     let mark : Mark = c.in-Some.entry.mark.now in

@@ -1,5 +1,0 @@
-use Rattle.ovl_check.proofs.BelowLemmas.{look-nothing}
-use Rattle.ovl_check.proofs.below.look_in.Goals as goal
-
-pub returns-in-None : goal.returns-in-None
-returns-in-None c = look-nothing c.args.stack.now c.layers-layers.ensures.each c.args._i c.args.directory.now.next (rw c.in-None.is at c.requires) c.args.name.now
