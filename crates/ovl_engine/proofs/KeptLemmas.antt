@@ -86,27 +86,31 @@ of_last j (suc n) k (manifest ∷ more) layers all =
     let h = first_of k manifest more layers all in
     of_last j n (suc k) more h.rest h.others ∙ ap (λ (ls : List Entries). Ok (drop (suc n) ls)) (sym h.same)
 
+-- what a manifest of a layer is read as
+abbrev stated_as : Entries → Result Entries LayerFault
+stated_as layer = Ok layer
+
 -- new manifests in front of others
-of_new : (k : ℕ) (texts : List (List ℕ)) (new : List Entries) (others : List (List ℕ)) (rest : List Entries) → map read_layer texts ≡ map (λ layer. Ok layer) new
+of_new : (k : ℕ) (texts : List (List ℕ)) (new : List Entries) (others : List (List ℕ)) (rest : List Entries) → map read_layer texts ≡ map stated_as new
     → ((j : ℕ) → layers_from j others ≡ Ok rest) → layers_from k (texts ++ others) ≡ Ok (new ++ rest)
 of_new k [] [] others rest reads below = below k
-of_new k [] (layer ∷ new) others rest reads below = let bad : [] ≡ Ok {E = LayerFault} layer ∷ map (λ one. Ok one) new = reads in cc
+of_new k [] (layer ∷ new) others rest reads below = let bad : [] ≡ stated_as layer ∷ map stated_as new = reads in cc
 of_new k (text ∷ texts) [] others rest reads below = let bad : read_layer text ∷ map read_layer texts ≡ [] = reads in cc
 of_new k (text ∷ texts) (layer ∷ new) others rest reads below =
-    let each : read_layer text ∷ map read_layer texts ≡ Ok layer ∷ map (λ one. Ok one) new = reads in
-    let one : read_layer text ≡ Ok layer = cc in
-    let more : map read_layer texts ≡ map (λ one. Ok one) new = cc in
+    let each : read_layer text ∷ map read_layer texts ≡ stated_as layer ∷ map stated_as new = reads in
+    let one : read_layer text ≡ stated_as layer = cc in
+    let more : map read_layer texts ≡ map stated_as new = cc in
     in_front k text (texts ++ others) layer (new ++ rest) one (of_new (suc k) texts new others rest more below)
 
 -- the new layers over those that are left, and what the stack of these is told to keep
 abbrev after : List Entries → List Entries → List Entries
 after new layers = new ++ drop (length new) layers
 
-module _ (answer : Answer) (new layers : List Entries) (reads : map read_layer (new_manifests answer) ≡ map (λ layer. Ok layer) new) (manifests : List (List ℕ)) (old : layers_from 0 manifests ≡ Ok layers) where
+module _ (answer : Answer) (new layers : List Entries) (reads : map read_layer (new_manifests answer) ≡ map stated_as new) (manifests : List (List ℕ)) (old : layers_from 0 manifests ≡ Ok layers) where
   count : length (new_manifests answer) ≡ length new
   count =
       sym (length-map (new_manifests answer) read_layer)
-      ∙ (ap length reads ∙ length-map new (λ (layer : Entries). Ok {E = LayerFault} layer))
+      ∙ (ap length reads ∙ length-map new stated_as)
 
   after_read : layers_from 0 (manifests_after manifests answer) ≡ Ok (after new layers)
   after_read =
@@ -119,7 +123,7 @@ module _ (answer : Answer) (new layers : List Entries) (reads : map read_layer (
   before_stated : stated_layers manifests ≡ layers
   before_stated = rw (old, stated_layers) refl
 
-pub keeps_tree : (answer : Answer) (new layers : List Entries) → map read_layer (new_manifests answer) ≡ map (λ layer. Ok layer) new
+pub keeps_tree : (answer : Answer) (new layers : List Entries) → map read_layer (new_manifests answer) ≡ map stated_as new
     → ((path : PathNames) → look (stack_of (after new layers)) path ≡ look (stack_of layers) path) → KeepsTreeOf layers answer
 keeps_tree answer new layers reads same manifests old = record {
   read = rw (after_read answer new layers reads manifests old, first_unread) refl;
@@ -128,7 +132,7 @@ keeps_tree answer new layers reads same manifests old = record {
       ∙ (same path ∙ ap (λ (ls : List Entries). look (stack_of ls) path) (sym (before_stated answer new layers reads manifests old)));
 }
 
-pub keeps_soundness : (answer : Answer) (new layers : List Entries) → map read_layer (new_manifests answer) ≡ map (λ layer. Ok layer) new
+pub keeps_soundness : (answer : Answer) (new layers : List Entries) → map read_layer (new_manifests answer) ≡ map stated_as new
     → IsSoundStack (stack_of (after new layers)) → KeepsSoundness layers answer
 keeps_soundness answer new layers reads sound manifests old =
     subst (λ (ls : List Entries). IsSoundStack (stack_of ls)) (sym (after_stated answer new layers reads manifests old)) sound

@@ -1,14 +1,14 @@
 -- Worked reports of new layers, computed.
-use Rattle.std.specs.Prelude.{◌≡◌, ℕ, pos, None, Some, List, [], ◌∷◌, codes, refl}
+use Rattle.std.specs.Prelude.{◌≡◌, pos, None, [], ◌∷◌, codes, refl}
 use Rattle.std.specs.Fmt.{digits}
 use Rattle.hex.specs.Hex.{encode_with}
 use Rattle.ovl_names.specs.Paths.{PathNames}
 use Rattle.ovl_inode.specs.Attributes.{Attributes, opaque_name, redirect_name, metacopy_name}
-use Rattle.ovl_inode.specs.declared.inodes.Inode.{Inode}
 use Rattle.ovl_inode.specs.declared.inodes.Kind.{Kind}
 use Rattle.ovl_inode.specs.declared.inodes.Kind.TheVariants.{Dir, File, Char}
+use Rattle.ovl_inode.proofs.OnLiterals.{inode_on_literals}
 use Rattle.ovl_manifest.specs.Layers.{Entry}
-use Rattle.ovl_engine.specs.LayerReports.{entry_line, layer_report}
+use Rattle.ovl_engine.specs.LayerReports.{layer_report}
 
 -- an entry of user, group and time 0
 abbrev entry : PathNames → Kind → Attributes → Entry
@@ -42,7 +42,7 @@ moved_directories : layer_report (
     ∷ entry (codes "n" ∷ codes "d" ∷ []) Dir ((redirect_name, codes "/x/y") ∷ [])
     ∷ [])
     ≡ codes "moved /b a\\x20b\nplain /n\nmoved /n/d /x/y\nentries 4\n"
-unfolding digits encode_with
+unfolding digits encode_with inode_on_literals
 moved_directories = refl
 
 metacopy_files : layer_report (
@@ -51,5 +51,5 @@ metacopy_files : layer_report (
     ∷ entry (codes "g" ∷ []) (File 1 None) ((metacopy_name, []) ∷ (redirect_name, codes "/f") ∷ [])
     ∷ [])
     ≡ codes "meta /f\nmeta /g /f\nentries 3\n"
-unfolding digits
+unfolding digits inode_on_literals
 metacopy_files = refl

@@ -64,11 +64,7 @@ fn push_redirect_of(alloc: Global, report: &mut String, mark: &Mark) -> Result<(
     }
 }
 
-fn push_redirect(
-    alloc: Global,
-    report: &mut String,
-    redirect: &Redirect,
-) -> Result<(), AllocError>
+fn push_redirect(alloc: Global, report: &mut String, redirect: &Redirect) -> Result<(), AllocError>
     ensures { OnOk result (string_bytes report.new ≡ string_bytes report.old ++ redirect_word redirect.now) }
 {
     match redirect {

@@ -1,8 +1,13 @@
-use Rattle.std.proofs.Common.{◌<◌, ℕ, [], ◌∷◌, subst}
+use Rattle.std.proofs.Common.{◌<◌, ℕ, [], ◌∷◌, refl, subst}
 use Rattle.std.proofs.lemmas.Result.{err_from_is_err_and}
-use Rattle.ovl_check.specs.Blobs.{blob_views}
+use Rattle.ovl_engine.specs.declared.requests.Command.TheVariants.{Deref}
 use Rattle.ovl_engine.proofs.KeptLemmas.{keeps_tree, keeps_soundness, deref_same, deref_sound}
 use Rattle.ovl_engine.proofs.derefs.deref.Goals as goal
+
+pub returns-in_err-expect_clean-clause-outcome : goal.returns-in_err-expect_clean-clause-outcome
+returns-in_err-expect_clean-clause-outcome g c =
+    let out = err_from_is_err_and c.from_residual.result c.from_residual.ensures.1 in
+    rw (out.1, out.2) (c.in_err-expect_clean.ensures.refused Deref refl)
 
 pub returns-clause-tree : goal.returns-clause-tree
 returns-clause-tree g c =

@@ -1,12 +1,16 @@
-use Rattle.std.proofs.Common.{◌∙◌, ◌<◌, ℕ, [], ◌∷◌, Ok, ap, subst}
+use Rattle.std.proofs.Common.{◌∙◌, ◌<◌, ℕ, [], ◌∷◌, Ok, refl, ap, subst}
 use Rattle.std.proofs.lemmas.Result.{err_from_is_err_and}
 use Rattle.ovl_manifest.specs.Layers.{Entries}
-use Rattle.ovl_manifest.specs.declared.faults.LayerFault.{LayerFault}
 use Rattle.ovl_check.specs.Blobs.{blob_views}
 use Rattle.ovl_engine.specs.declared.requests.Command.TheVariants.{Vacuum}
 use Rattle.ovl_engine.specs.Outcomes.{left_by_vacuum}
 use Rattle.ovl_engine.proofs.KeptLemmas.{keeps_tree, keeps_soundness, vacuum_same, vacuum_sound}
 use Rattle.ovl_engine.proofs.vacuums.vacuum.Goals as goal
+
+pub returns-in_err-expect_clean-clause-outcome : goal.returns-in_err-expect_clean-clause-outcome
+returns-in_err-expect_clean-clause-outcome g c =
+    let out = err_from_is_err_and c.from_residual.result c.from_residual.ensures.1 in
+    rw (out.1, out.2) (c.in_err-expect_clean.ensures.refused Vacuum refl)
 
 pub returns-in_err-done-clause-outcome : goal.returns-in_err-done-clause-outcome
 returns-in_err-done-clause-outcome g c =
@@ -18,7 +22,7 @@ returns-clause-tree g c =
     let layers = c.args.stack.now.layers in
     let some = subst (λ (n : ℕ). 0 < n) c.layers-layers.ensures.value c.layers-layers.ensures.some in
     keeps_tree c.in_ok-rewritten.field-0 (left_by_vacuum layers ∷ []) layers
-    (c.in_ok-rewritten.ensures.back ∙ ap (λ (left : Entries). Ok {E = LayerFault} left ∷ []) c.in_ok-done.ensures.0)
+    (c.in_ok-rewritten.ensures.back ∙ ap (λ (left : Entries). Ok left ∷ []) c.in_ok-done.ensures.0)
     (vacuum_same c.vacuum_keeps_the_tree.ensures layers some c.layers-layers.ensures.each)
 
 pub returns-clause-sound : goal.returns-clause-sound
@@ -26,5 +30,5 @@ returns-clause-sound g c =
     let layers = c.args.stack.now.layers in
     let some = subst (λ (n : ℕ). 0 < n) c.layers-layers.ensures.value c.layers-layers.ensures.some in
     keeps_soundness c.in_ok-rewritten.field-0 (left_by_vacuum layers ∷ []) layers
-    (c.in_ok-rewritten.ensures.back ∙ ap (λ (left : Entries). Ok {E = LayerFault} left ∷ []) c.in_ok-done.ensures.0)
+    (c.in_ok-rewritten.ensures.back ∙ ap (λ (left : Entries). Ok left ∷ []) c.in_ok-done.ensures.0)
     (vacuum_sound c.vacuum_keeps_soundness.ensures layers some c.layers-layers.ensures.each c.in_ok-expect_clean.ensures.sound)
