@@ -129,6 +129,35 @@ for ((i = 0; i < 24; i++)); do
     truncate -s 200000000 "flood/$name"
 done
 
+# A metacopy file over its contents; and a moved directory with a chain of directories below its old place, of which the
+# last lies within the limit of names for the shorter chain alone.
+at() {
+    printf ',{"gid":0,"kind":"%s","mode":493,"mtime":0,"path":"%s","uid":0,%s}' "$@"
+}
+layer() {
+    printf '{"entries":[%s' "$root"
+    cat
+    printf '],"overlay-layer":1}\n'
+}
+plain='"xattrs":{}'
+at file /k '"size":3,"xattrs":{"trusted.overlay.metacopy":""}' | sed 's/493/420/' | layer > meta.json
+{
+    at dir /p "$plain"
+    at dir /p/q '"xattrs":{"trusted.overlay.redirect":"2f78"}'
+    at char /x "$plain"',"major":0,"minor":0'
+} | layer > moved.json
+chain() {
+    local deep=/x
+    at dir $deep "$plain"
+    for ((i = 0; i < $1; i++)); do
+        deep+=/d
+        at dir $deep "$plain"
+    done
+}
+chain 62 | layer > deep.json
+chain 63 | layer > deeper.json
+mkdir new
+
 # Done.
 prints 0 'dir 0755 0 0 0 - - /\nentries 1\n'
 prints 0 'dir 0755 0 0 0 - - /\nentries 1\n' show root.json
@@ -173,6 +202,28 @@ done
 refuses 3 'layers must be 1 to 128' show "${layers[@]}"
 prints 0 'dir 0755 0 0 0 - - /\nentries 1\n' show "${layers[@]:1}"
 
+# Without redirects and metacopy files.
+refuses 5 'result over the limits' deref --blobs none --out new moved.json deeper.json
+prints 1 'fault blob-missing 1 /k\nfaults 1 notes 0\n' deref --blobs none --out new meta.json k.json
+refuses 3 'layer 0: wrong shape' deref --blobs none --out new shape.json
+if [[ -e new/layer-0.json ]]; then
+    differs 'a new layer' deref --blobs none --out new
+else
+    same=$((same + 1))
+fi
+refuses 4 'cannot write missing/layer-0.json' deref --blobs none --out missing moved.json deep.json
+prints 0 'leaf /k\nentries 2\n' deref --blobs blobs --out new meta.json k.json
+: > printed
+if cmp -s new/layer-0.json k.json; then
+    same=$((same + 1))
+else
+    differs 'another layer' deref --blobs blobs --out new meta.json k.json
+fi
+if ends 0 told deref --blobs none --out new/ moved.json deep.json; then
+    tail -n 2 printed > last
+    printf 'whiteout /x\nentries 66\n' | cmp -s - last && same=$((same + 1)) || differs 'another end' deref moved.json deep.json
+fi
+
 # Words.
 for workers in 0 65 -1 x '' 4.0 18446744073709551616; do
     misfits show --workers "$workers" root.json
@@ -187,6 +238,8 @@ misfits fsck --blobs none
 misfits fsck --blobs
 misfits fsck --blobs none --out none root.json
 misfits show --unknown root.json
+misfits deref --blobs none root.json
+misfits deref --out new root.json
 misfits unknown root.json
 misfits ''
 refuses 2 'words must be UTF-8' show $'\xff'
@@ -234,7 +287,7 @@ for way in without_output without_room; do
 done
 
 # Help and the version go to standard output.
-for words in --help -h --version 'show --help' 'fsck --help' 'vacuum --help'; do
+for words in --help -h --version 'show --help' 'fsck --help' 'vacuum --help' 'deref --help'; do
     # shellcheck disable=SC2086
     "$program" $words < input > printed 2> told
     status=$?

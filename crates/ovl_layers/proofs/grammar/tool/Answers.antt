@@ -20,4 +20,5 @@ returns c =
     let is_bare : app_of c.after_help.result ≡ bare = search rules in
     let with_show = c.in_ok-subcommand.ensures.shape c.in_ok-show.ensures.1 ∙ ap₂ with_subcommand is_bare c.in_ok-show.ensures.0 in
     let with_fsck = c.in_ok-subcommand-2.ensures.shape c.in_ok-fsck.ensures.1 ∙ ap₂ with_subcommand with_show c.in_ok-fsck.ensures.0 in
-    IfOk-weaker c.subcommand-3.result _ _ (λ command added. added.shape c.in_ok-vacuum.ensures.1 ∙ ap₂ with_subcommand with_fsck c.in_ok-vacuum.ensures.0) c.subcommand-3.ensures
+    let with_vacuum = c.in_ok-subcommand-3.ensures.shape c.in_ok-rewriting.ensures.1 ∙ ap₂ with_subcommand with_fsck c.in_ok-rewriting.ensures.0 in
+    IfOk-weaker c.subcommand-4.result _ _ (λ command added. added.shape c.in_ok-rewriting-2.ensures.1 ∙ ap₂ with_subcommand with_vacuum c.in_ok-rewriting-2.ensures.0) c.subcommand-4.ensures
