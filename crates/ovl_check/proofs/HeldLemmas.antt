@@ -1,9 +1,8 @@
 -- What a directory of a layer directly holds.
-use Rattle.std.proofs.Common.{◌≡◌, ℕ, zero, suc, arith, ◌+◌, ◌<◌, inl, inr, Bool, true, false, cond, Option, Some, None, List, [], ◌∷◌, ◌++◌, length, get_or, take, drop, map, refl, sym, ap, ◌∙◌, subst}
+use Rattle.std.proofs.Common.{◌≡◌, ℕ, zero, suc, arith, ◌<◌, inl, inr, Bool, true, false, cond, Option, Some, None, List, [], ◌∷◌, ◌++◌, length, get_or, map, refl, sym, ap, ◌∙◌, subst}
 use Rattle.std.specs.Prelude.{◌||◌, not, filter}
 use Rattle.std.specs.List.{list_any, flat_map}
 use Rattle.std.specs.Option.{option_map}
-use Rattle.std.proofs.lemmas.List.{take_more, take-append-drop}
 use Rattle.std.proofs.Math.Bool.{or-true}
 use Rattle.std.proofs.lemmas.List.Folds.{flat_map-map}
 use Rattle.std.proofs.lemmas.Simd.{map-map}
@@ -15,8 +14,6 @@ use Rattle.ovl_inode.specs.declared.marks.Mark.{Mark}
 use Rattle.ovl_inode.specs.Marks.{mark_of, is_directory, has_attribute}
 use Rattle.ovl_manifest.specs.Layers.{Entries, IsLayer, entry_at, is_directory_at, names_below, has_parent}
 use Rattle.ovl_manifest.specs.Sheets.{path_at}
-use Rattle.ovl_manifest.specs.LayerTrees.{entries_in, entries_under}
-use Rattle.ovl_manifest.proofs.NodeLemmas.{entries_under-nothing, entry_at-under}
 use Rattle.ovl_manifest.proofs.SheetLemmas.{last_name-child}
 use Rattle.ovl_lookup.proofs.WalkFacts.{length-child, parent_path-child}
 use Rattle.ovl_board.specs.declared.pieces.Piece.{Piece}
@@ -124,24 +121,6 @@ held-numbers layer directory kids same =
 pub marked-row : (layer : Entries) (path : PathNames) (inode : Inode) (mark : Mark) → entry_at layer path ≡ Some inode → option_map mark_of (entry_at layer path) ≡ Some mark → mark ≡ mark_of inode
 marked-row layer path inode mark here marked =
     ap (λ (o : Option Mark). elim o as (λ _. Mark) [ Some m ↦ m | None ↦ mark ]) (sym marked ∙ ap (option_map mark_of) here)
-
--- a path goes on by its next name
-pub next-path : (path names : PathNames) (i : ℕ) (name : PathName) → i < length names → name ≡ get_or names i name → path ≡ take i names → child_path path name ≡ take (i + 1) names
-next-path path names i name inside is here = (λ j. here j ++ is j ∷ []) ∙ sym (take_more names i name inside)
-
--- a path that leaves the layer after some of its names
-pub left-after : (layer : Entries) (names : PathNames) (i : ℕ) → entries_under (take i names) layer ≡ [] → entry_at layer names ≡ None
-left-after layer names i none =
-    entry_at-under names layer
-    ∙ ap (λ (es : Entries). entry_at es [])
-    (ap (λ (p : PathNames). entries_under p layer) (sym (take-append-drop i names))
-    ∙ (under-append (take i names) (drop i names) layer
-    ∙ (ap (entries_under (drop i names)) none
-    ∙ entries_under-nothing (drop i names))))
-  where
-    under-append : (front rest : PathNames) (es : Entries) → entries_under (front ++ rest) es ≡ entries_under rest (entries_under front es)
-    under-append [] rest es = refl
-    under-append (name ∷ front) rest es = under-append front rest (entries_in name es)
 
 -- ---- by the children that were gathered
 
