@@ -1,0 +1,12 @@
+//! A stack's topmost layer put into the next, as work in pieces.
+#![tactic(auto)]
+
+mod faults;
+mod finish;
+pub mod laws;
+pub mod walks;
+mod works;
+
+pub use faults::MergeFault;
+pub use finish::{MergeDone, finish_merge};
+pub use works::MergeWork;
