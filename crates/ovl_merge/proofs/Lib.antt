@@ -11,4 +11,6 @@ pub mod Core
 pub mod CoreLaw
 pub mod SoundHits
 pub mod Tree
+pub mod ByteLemmas
 pub mod MergedEntries
+pub mod LayerLemmas
