@@ -83,7 +83,7 @@ unescaped-with (attr ∷ attrs) name value own none = by (name_cmp name attr.0) 
     by Equal false e n later = (λ j. e j || n j)
     by Greater false e n later = (λ j. e j || later n j)
 
-directory-flag : (kind : Kind) (had : Bool) → elim kind as (λ _. Bool) [ Dir ↦ true | _ ↦ false ] ≡ true → is_sound_kind kind had ≡ true
+pub directory-flag : (kind : Kind) (had : Bool) → elim kind as (λ _. Bool) [ Dir ↦ true | _ ↦ false ] ≡ true → is_sound_kind kind had ≡ true
 directory-flag Dir had is = refl
 directory-flag (File size blob) had is = let bad : false ≡ true = is in cc
 directory-flag (Symlink target) had is = let bad : false ≡ true = is in cc
@@ -104,13 +104,13 @@ flag-none Fifo had full sound = refl
 flag-none Socket had full sound = refl
 
 module _ (m : Merge) (each : All IsLayer (whole m).layers) where
-  upper : IsLayer m.upper
+  pub upper : IsLayer m.upper
   upper = all-first IsLayer m.upper (m.lower ∷ m.rest.layers) each
 
-  lower : IsLayer m.lower
+  pub lower : IsLayer m.lower
   lower = all-first IsLayer m.lower m.rest.layers (all-rest IsLayer m.upper (m.lower ∷ m.rest.layers) each)
 
-  rest : All IsLayer m.rest.layers
+  pub rest : All IsLayer m.rest.layers
   rest = all-rest IsLayer m.lower m.rest.layers (all-rest IsLayer m.upper (m.lower ∷ m.rest.layers) each)
 
   -- ---- names
@@ -120,7 +120,7 @@ module _ (m : Merge) (each : All IsLayer (whole m).layers) where
       let found = things_found (two_layers m).layers path in
       shows-found (two_layers m) path ∙ ap any_found (first-cons found inode (sym (first_of-hits found) ∙ hit))
 
-  own-shown : (path : PathNames) → shows_own_directory m path ≡ true → shows (two_layers m) path ≡ true
+  pub own-shown : (path : PathNames) → shows_own_directory m path ≡ true → shows (two_layers m) path ≡ true
   own-shown path own = by (first_hit m path) refl
     where
       by : (o : Option Inode) → first_hit m path ≡ o → shows (two_layers m) path ≡ true

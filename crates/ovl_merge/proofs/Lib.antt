@@ -14,3 +14,7 @@ pub mod Tree
 pub mod ByteLemmas
 pub mod MergedEntries
 pub mod LayerLemmas
+pub mod DirectoryLemmas
+pub mod UnderLemmas
+pub mod TreeLemmas
+pub mod FinishLemmas
