@@ -29,7 +29,7 @@ use Rattle.ovl_merge.proofs.Steps.{found-closes}
 use Rattle.ovl_merge.proofs.Firsts.{hit-no_whiteout, found-whole, hit-from}
 use Rattle.ovl_lookup.proofs.LookLaws.{data-regular}
 use Rattle.ovl_merge.proofs.Inodes.{bare-kind, merged-is_other, merged-metacopy, merged-other, with_contents-attrs}
-use Rattle.ovl_merge.proofs.Core.{root-shown, one_hit, root_of, base-none, base-reach, Core, merge-core, GoesOn, FindsNothing, GoesOnAlike, IsShownDirectory}
+use Rattle.ovl_merge.proofs.Core.{root_of, base-none, base-reach, Core, merge-core, GoesOn, FindsNothing, GoesOnAlike, IsShownDirectory}
 use Rattle.ovl_merge.proofs.SoundHits.{sound-hit}
 
 and_false : (b : Bool) → (b && false) ≡ false

@@ -24,7 +24,7 @@ use Rattle.ovl_board.specs.declared.pieces.Piece.{Piece}
 use Rattle.ovl_board.specs.Pieces.{IsBefore, IsOneBelow, HasLawfulKids}
 use Rattle.ovl_board.proofs.Members.{In, Every, Rises, All-Every, AllPairs-Rises, In-map-cases, In-filter-cases, Rises-filter}
 use Rattle.ovl_board.proofs.PieceOrder.{fork_before}
-use Rattle.ovl_merge.specs.Places.{Merge, whole, two_layers, shows_own_directory, base, child_of, shows_at}
+use Rattle.ovl_merge.specs.Places.{Merge, whole, two_layers, base, child_of, shows_at}
 use Rattle.ovl_merge.specs.MergeDown.{merged_entry}
 use Rattle.ovl_merge.specs.Directories.{NamedInode, named_inode, base_names, candidate_names, entries_in, piece_in, directories_among, merge_depth}
 use Rattle.ovl_merge.proofs.MergedEntries.{entry-directory, entry-stands, two}

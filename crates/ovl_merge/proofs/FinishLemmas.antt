@@ -1,5 +1,5 @@
 -- From the parcels to the new layer.
-use Rattle.std.proofs.Common.{◌≡◌, ℕ, suc, ◌+◌, ◌-◌, ◌<◌, Bool, true, false, cond, Option, Some, None, List, [], ◌∷◌, ◌++◌, length, map, get_or, drop, refl, sym, ap, ◌∙◌, subst, append_assoc, arith}
+use Rattle.std.proofs.Common.{◌≡◌, ℕ, suc, ◌+◌, ◌<◌, Bool, true, false, cond, Option, Some, None, List, [], ◌∷◌, ◌++◌, length, map, get_or, drop, refl, sym, ap, ◌∙◌, subst, append_assoc, arith}
 use Rattle.std.specs.Prelude.{◌&&◌, not, Vec, Result, Ok, Err, All, nat_le, slice_get, unwrap_or}
 use Rattle.std.specs.Global.{Global}
 use Rattle.std.specs.List.{list_all, cons_option}
@@ -31,7 +31,7 @@ use Rattle.ovl_board.proofs.LawLemmas.{HasReachedPieces-holds}
 use Rattle.ovl_merge.specs.Places.{Merge, whole, merge_of}
 use Rattle.ovl_merge.specs.MergeDown.{merged_top, IsMergedDown}
 use Rattle.ovl_merge.specs.Directories.{NamedInode, entries_in, inodes_seen, directories_among, merge_depth, merge_root}
-use Rattle.ovl_merge.specs.Passes.{View, views_under, entries_under, WalksUnder, new_entries}
+use Rattle.ovl_merge.specs.Passes.{View, views_under, WalksUnder, new_entries}
 use Rattle.ovl_merge.specs.Limits.{keeps_limits, PassesLimit}
 use Rattle.ovl_merge.proofs.LayerLemmas.{upper, directory-flag, MergeGivesLayer-holds}
 use Rattle.ovl_merge.proofs.TreeLemmas.{new_entries-are, is-tree}

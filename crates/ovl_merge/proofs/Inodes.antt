@@ -8,12 +8,12 @@ use Rattle.ovl_inode.specs.declared.inodes.Inode.{Inode}
 use Rattle.ovl_inode.specs.declared.inodes.Kind.{Kind}
 use Rattle.ovl_inode.specs.declared.inodes.Kind.TheVariants.{File}
 use Rattle.ovl_inode.specs.Attributes.{Attributes, attribute, visible_attributes, redirect_name, metacopy_name, opaque_name, whiteout_name}
-use Rattle.ovl_inode.specs.Marks.{is_data, is_directory, is_regular, is_whiteout, is_metacopy, has_metacopy}
+use Rattle.ovl_inode.specs.Marks.{is_directory, is_regular, is_whiteout, is_metacopy, has_metacopy}
 use Rattle.ovl_inode.specs.Inodes.{visible}
 use Rattle.ovl_lookup.specs.declared.looks.Look.{Look}
 use Rattle.ovl_lookup.specs.declared.looks.Look.TheVariants.{Nothing, Shown, Broken}
-use Rattle.ovl_lookup.specs.Trace.{things_found, hits_of}
-use Rattle.ovl_lookup.specs.Merged.{look, shown_of, data_of, last_of, without_blob}
+use Rattle.ovl_lookup.specs.Trace.{things_found}
+use Rattle.ovl_lookup.specs.Merged.{look, shown_of, data_of, without_blob}
 use Rattle.ovl_lookup.proofs.LookLaws.{data-regular}
 use Rattle.ovl_lookup.proofs.FoundLemmas.{metacopy-file, shown_of-contents, shown_of-broken}
 use Rattle.ovl_lookup.proofs.ShownLaws.{attribute-hidden}

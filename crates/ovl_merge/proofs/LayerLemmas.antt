@@ -21,7 +21,7 @@ use Rattle.ovl_inode.specs.Inodes.{visible}
 use Rattle.ovl_inode.specs.Sound.{is_sound_inode, is_sound_kind}
 use Rattle.ovl_inode.proofs.AttributeLemmas.{are_attributes-visible, are_attributes-with}
 use Rattle.ovl_inode.proofs.OnLiterals.{inode_on_literals}
-use Rattle.ovl_manifest.specs.Layers.{Entry, Entries, IsLayer, entry_at, entry_cmp, entry_limit, is_directory_at, is_within_limits, has_parent}
+use Rattle.ovl_manifest.specs.Layers.{Entry, Entries, IsLayer, entry_at, entry_cmp, entry_limit, is_within_limits, has_parent}
 use Rattle.ovl_lookup.specs.Trace.{things_found}
 use Rattle.ovl_lookup.specs.Merged.{look, shows, shown_of, data_of}
 use Rattle.ovl_lookup.specs.Sound.{IsSoundStack}
@@ -34,10 +34,9 @@ use Rattle.ovl_lookup.proofs.PathLemmas.{last-name, all-entries}
 use Rattle.ovl_lookup.proofs.WalkLaws.{directory_found}
 use Rattle.ovl_lookup.proofs.LookLaws.{data-regular}
 use Rattle.ovl_lookup.proofs.AttributeLaws.{attribute-with}
-use Rattle.ovl_lookup.proofs.ShownLaws.{attribute-hidden}
 use Rattle.ovl_lookup.proofs.StatedLaws.{found-all, data-all, data-kind, sound-with, sound-kind, sound-visible, sound-attributes, unescaped-filter, shown-named}
-use Rattle.ovl_merge.specs.Places.{Merge, whole, two_layers, rest_path, lower_path, first_of, first_hit, passes, shows_own_directory, is_hidden, reach, gets_opaque, natural, base, child_of, shows_at}
-use Rattle.ovl_merge.specs.MergeDown.{with_value, last_name, redirected, with_contents, merged_directory, merged_metacopy, merged_inode, merged_entry, merged_entry_of, needs_whiteout, new_whiteout, IsMergedDown}
+use Rattle.ovl_merge.specs.Places.{Merge, whole, two_layers, lower_path, first_hit, passes, shows_own_directory, is_hidden, reach, gets_opaque, natural, base, child_of, shows_at}
+use Rattle.ovl_merge.specs.MergeDown.{with_value, last_name, with_contents, merged_directory, merged_metacopy, merged_inode, merged_entry, merged_entry_of, needs_whiteout, new_whiteout, IsMergedDown}
 use Rattle.ovl_merge.specs.Laws.{MergeGivesLayer}
 use Rattle.ovl_merge.proofs.NameParts.{name_facts}
 use Rattle.ovl_merge.proofs.ByteLemmas.{utf8-bytes}
@@ -45,7 +44,7 @@ use Rattle.ovl_merge.proofs.Redirects.{slashed-utf8}
 use Rattle.ovl_merge.proofs.Named.{walk-named}
 use Rattle.ovl_merge.proofs.Values.{attribute-other, with_metacopy}
 use Rattle.ovl_merge.proofs.Firsts.{whole-first, rest_of, first-cons, first_of-hits}
-use Rattle.ovl_merge.proofs.Inodes.{merged-directory, merged-metacopy, merged-other, redirected-cases, with_contents-attrs}
+use Rattle.ovl_merge.proofs.Inodes.{merged-directory, merged-metacopy, merged-other, redirected-cases}
 use Rattle.ovl_merge.proofs.SoundHits.{sound-hit}
 use Rattle.ovl_merge.proofs.Core.{natural-child, reach-is}
 use Rattle.ovl_merge.proofs.MergedEntries.{entry-directory, entry-stands, root-entry, two}

@@ -18,3 +18,4 @@ pub mod DirectoryLemmas
 pub mod UnderLemmas
 pub mod TreeLemmas
 pub mod FinishLemmas
+mod Rows

@@ -1,29 +1,23 @@
 -- Where a merge's entries stand: in shown directories, under names of the two layers or of the rest.
-use Rattle.std.proofs.Common.{◌≡◌, ℕ, Bool, true, false, cond, Option, Some, None, List, [], ◌∷◌, refl, sym, ap, ◌∙◌, arith, inl, inr, ◌⊎◌}
-use Rattle.std.specs.Prelude.{not, ◌&&◌, ◌||◌}
+use Rattle.std.proofs.Common.{◌≡◌, Bool, true, false, cond, Option, Some, None, List, [], ◌∷◌, refl, sym, ap, ◌∙◌, arith, inl, inr, ◌⊎◌}
+use Rattle.std.specs.Prelude.{◌&&◌}
 use Rattle.std.specs.List.{list_any, All}
 use Rattle.std.proofs.lemmas.List.Elements.{All-cons}
-use Rattle.ovl_names.specs.Names.{PathName, name_eq, name_cmp}
+use Rattle.ovl_names.specs.Names.{PathName, name_eq}
 use Rattle.ovl_names.specs.Paths.{PathNames, child_path, parent_path}
 use Rattle.ovl_names.proofs.Ascending.{both}
-use Rattle.std.specs.declared.cmp.Ordering.{Ordering}
-use Rattle.std.specs.declared.cmp.Ordering.TheVariants.{Less, Equal, Greater}
 use Rattle.ovl_inode.specs.declared.inodes.Inode.{Inode}
-use Rattle.ovl_inode.specs.Attributes.{Attributes, with_attribute, visible_attributes, has_escaped_name, is_escaped_name, is_overlay_name, redirect_name, metacopy_name, opaque_name}
-use Rattle.ovl_inode.specs.Marks.{is_directory, is_metacopy}
-use Rattle.ovl_inode.specs.Inodes.{visible}
+use Rattle.ovl_inode.specs.Marks.{is_directory}
 use Rattle.ovl_manifest.specs.Layers.{IsLayer}
 use Rattle.ovl_lookup.specs.Trace.{things_found}
-use Rattle.ovl_lookup.specs.Merged.{look}
 use Rattle.ovl_lookup.specs.Passes.{own_names_along}
 use Rattle.ovl_lookup.proofs.WalkFacts.{parent_path-child}
 use Rattle.ovl_lookup.proofs.ChildLemmas.{child_found, any_found, starts_directory}
-use Rattle.ovl_merge.specs.Places.{Merge, whole, two_layers, first_of, first_hit, passes, shows_own_directory, is_hidden, reach, natural, base, child_of, shows_at}
-use Rattle.ovl_merge.specs.MergeDown.{merged_metacopy, merged_inode, new_whiteout, needs_whiteout, merged_entry_of, merged_entry}
+use Rattle.ovl_merge.specs.Places.{Merge, two_layers, first_of, first_hit, passes, shows_own_directory, is_hidden, natural, base, child_of, shows_at}
+use Rattle.ovl_merge.specs.MergeDown.{merged_inode, new_whiteout, needs_whiteout, merged_entry_of, merged_entry}
 use Rattle.ovl_lookup.proofs.WalkLaws.{directory_found}
-use Rattle.ovl_merge.proofs.Values.{with_metacopy}
 use Rattle.ovl_merge.proofs.Firsts.{first_of-hits, first-cons, hit-no_whiteout}
-use Rattle.ovl_merge.proofs.Inodes.{merged-is_directory, merged-is_other, merged-directory, merged-metacopy, merged-other, redirected-cases, with_contents-attrs, by_reach}
+use Rattle.ovl_merge.proofs.Inodes.{merged-is_directory, merged-is_other}
 use Rattle.ovl_merge.proofs.Core.{natural-child, root-shown}
 
 module _ (m : Merge) (upper : IsLayer m.upper) (lower : IsLayer m.lower) where

@@ -1,5 +1,5 @@
 -- The entries of the new layer: in order, and at each path what the new layer has.
-use Rattle.std.proofs.Common.{◌≡◌, ℕ, zero, suc, ◌+◌, ◌≤◌, ◌<◌, inl, inr, Bool, true, false, cond, Option, Some, None, List, [], ◌∷◌, ◌++◌, length, refl, sym, ap, ◌∙◌, subst, append_assoc, arith, length-append}
+use Rattle.std.proofs.Common.{◌≡◌, ℕ, zero, suc, ◌+◌, ◌≤◌, inl, inr, Bool, true, false, cond, Option, Some, None, List, [], ◌∷◌, ◌++◌, length, refl, sym, ap, ◌∙◌, subst, append_assoc, arith, length-append}
 use Rattle.std.specs.Prelude.{◌&&◌, All}
 use Rattle.std.specs.Option.{option_map}
 use Rattle.std.specs.List.{list_all, cons_option}
@@ -10,7 +10,6 @@ use Rattle.ovl_names.specs.Names.{PathName, name_cmp}
 use Rattle.ovl_names.specs.Order.{ascends}
 use Rattle.ovl_names.specs.Paths.{PathNames, child_path, path_eq, path_cmp}
 use Rattle.ovl_inode.specs.declared.inodes.Inode.{Inode}
-use Rattle.ovl_inode.specs.Marks.{is_directory}
 use Rattle.ovl_inode.specs.Inodes.{visible}
 use Rattle.ovl_manifest.specs.Layers.{Entries, Entry, entry_at, entry_cmp, is_directory_at, IsLayer}
 use Rattle.ovl_manifest.proofs.LayerLemmas.{path_cmp-same}

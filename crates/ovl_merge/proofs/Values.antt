@@ -1,6 +1,6 @@
 -- The attributes of a visible inode and of one with a value, and the mark that they give.
-use Rattle.std.proofs.Common.{◌≡◌, ℕ, List, [], ◌∷◌, Bool, true, false, cond, Option, Some, None, is_some, refl, sym, ap, ◌∙◌}
-use Rattle.std.specs.Prelude.{not, ◌&&◌, ◌==◌, codes}
+use Rattle.std.proofs.Common.{◌≡◌, ℕ, List, [], ◌∷◌, Bool, true, false, cond, Some, None, is_some, refl, sym, ap, ◌∙◌}
+use Rattle.std.specs.Prelude.{◌&&◌, ◌==◌, codes}
 use Rattle.std.specs.declared.cmp.Ordering.{Ordering}
 use Rattle.std.specs.declared.cmp.Ordering.TheVariants.{Less, Equal, Greater}
 use Rattle.std.specs.Cmp.Lexicographic.{bytes_decides}
@@ -14,7 +14,7 @@ use Rattle.ovl_inode.specs.Attributes.{Attributes, attribute, with_attribute, vi
 use Rattle.ovl_inode.specs.Marks.{mark_of, is_directory, is_regular, is_whiteout, has_metacopy, has_opaque, redirect_reading, directory_mark, metacopy_mark}
 use Rattle.ovl_inode.specs.Redirects.{read_redirect}
 use Rattle.ovl_inode.specs.Inodes.{visible}
-use Rattle.ovl_manifest.proofs.NodeLemmas.{name_eq-same, name_eq-cmp}
+use Rattle.ovl_manifest.proofs.NodeLemmas.{name_eq-cmp}
 use Rattle.ovl_lookup.proofs.AttributeLaws.{attribute-with, visible-with}
 use Rattle.ovl_lookup.proofs.ShownLaws.{attribute-hidden, visible-twice}
 use Rattle.ovl_merge.specs.MergeDown.{with_value}

@@ -1,4 +1,4 @@
-use Rattle.std.proofs.Common.{◌<◌, ◌≤◌, ◌-◌, length, drop}
+use Rattle.std.proofs.Common.{◌<◌, ◌-◌, length, drop}
 use Rattle.ovl_board.specs.Parcels.{parcel_views}
 use Rattle.ovl_merge.specs.Directories.{inodes_seen}
 use Rattle.ovl_merge.proofs.UnderLemmas.{WalksAmong}

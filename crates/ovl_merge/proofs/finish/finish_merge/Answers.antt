@@ -1,8 +1,6 @@
 use Rattle.std.proofs.Common.{◌≡◌, ◌∙◌, Err, sym, ap, subst}
 use Rattle.std.proofs.lemmas.Result.{err_from_is_err_and}
 use Rattle.ovl_manifest.specs.Layers.{Entries, IsLayer}
-use Rattle.ovl_lookup.specs.Stacks.{StackView}
-use Rattle.ovl_lookup.specs.Sound.{IsSoundStack}
 use Rattle.ovl_merge.specs.declared.faults.MergeFault.TheVariants.{LimitOut}
 use Rattle.ovl_merge.specs.Places.{merge_of}
 use Rattle.ovl_merge.specs.MergeDown.{IsMergedDown}

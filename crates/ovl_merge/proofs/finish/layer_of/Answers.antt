@@ -1,5 +1,4 @@
-use Rattle.std.proofs.Common.{◌≡◌, ◌∙◌, ap, sym}
-use Rattle.ovl_merge.specs.declared.faults.MergeFault.{MergeFault}
+use Rattle.std.proofs.Common.{◌≡◌, sym}
 use Rattle.ovl_merge.specs.declared.faults.MergeFault.TheVariants.{NoLower, LimitOut}
 use Rattle.ovl_merge.proofs.FinishLemmas.{pairs-are, layer-refused}
 use Rattle.ovl_merge.proofs.finish.layer_of.Goals as goal
