@@ -18,14 +18,14 @@ use Rattle.ovl_lookup.specs.Merged.{look, shows_directory, shown_of, data_of, wi
 use Rattle.ovl_lookup.specs.Sound.{IsSoundStack}
 use Rattle.ovl_lookup.specs.Passes.{data_below}
 use Rattle.ovl_lookup.proofs.WalkFacts.{walk-whole}
-use Rattle.ovl_lookup.proofs.FoundLemmas.{things_found-step, metacopy-file, bare_file, data_of-metacopy, data_below-metacopy, shown_of-full, shown_of-contents, shown_of-broken}
+use Rattle.ovl_lookup.proofs.FoundLemmas.{directory-kind, things_found-step, metacopy-file, bare_file, data_of-metacopy, data_below-metacopy, shown_of-full, shown_of-contents, shown_of-broken}
 use Rattle.ovl_lookup.proofs.ChildLemmas.{all-first, all-rest}
 use Rattle.ovl_lookup.proofs.ShownLaws.{attribute-hidden, visible-twice}
 use Rattle.ovl_lookup.specs.Words.{over}
 use Rattle.ovl_merge.specs.Places.{Merge, whole, lower_path, rest_path, is_open, first_hit, is_nothing_or, is_shown_regular, goes_on, reach, reach_of}
 use Rattle.ovl_merge.specs.MergeDown.{with_value, last_name, redirected, with_contents, merged_metacopy, merged_inode, merged_entry_of, IsMergedDown}
 use Rattle.ovl_merge.specs.Laws.{after_merge, MergeKeepsTree}
-use Rattle.ovl_merge.proofs.Values.{visible-value, visible-visible, with_metacopy, regular-directory}
+use Rattle.ovl_merge.proofs.Values.{visible-value, visible-visible, with_metacopy}
 use Rattle.ovl_lookup.proofs.WalkLaws.{directory_found}
 use Rattle.ovl_merge.proofs.Firsts.{found-whole, passes-found, whole-first, rest_of, hit-from}
 use Rattle.ovl_merge.proofs.Inodes.{merged-is_directory, merged-visible, merged-metacopy, merged-other, redirected-cases}
@@ -82,7 +82,7 @@ module _ (m : Merge) (new : Entries) (each : All IsLayer (whole m).layers) (soun
       ∙ (ap (things_found m.rest.layers) alike.next ∙ sym (passes-found m path alike.old)))
 
   directory_full : (inode : Inode) → is_directory inode ≡ true → (is_regular inode && has_metacopy inode) ≡ false
-  directory_full inode is_dir = ap (λ b. b && has_metacopy inode) (regular-directory inode.kind is_dir)
+  directory_full inode is_dir = ap (λ b. b && has_metacopy inode) (directory-kind inode.kind is_dir)
 
   at_directory : (path : PathNames) (inode : Inode) → first_hit m path ≡ Some inode → is_directory inode ≡ true → shown_of (things_found (new ∷ m.rest.layers) path) ≡ shown_of (things_found (whole m).layers path)
   at_directory path inode hit dir =
@@ -249,7 +249,7 @@ MergeKeepsTree-holds m new each sound layered is path = by (entry_at m.upper [])
     upper = all-first IsLayer m.upper (m.lower ∷ m.rest.layers) each
 
     root_full : (inode : Inode) → is_directory inode ≡ true → (is_regular inode && has_metacopy inode) ≡ false
-    root_full inode is_dir = ap (λ b. b && has_metacopy inode) (regular-directory inode.kind is_dir)
+    root_full inode is_dir = ap (λ b. b && has_metacopy inode) (directory-kind inode.kind is_dir)
 
     at : (inode : Inode) → entry_at m.upper [] ≡ Some inode → (p : PathNames) → look (over (top_of inode) (over new m.rest)) p ≡ look (whole m) p
     at inode here [] =

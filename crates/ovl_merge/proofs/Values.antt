@@ -95,10 +95,6 @@ pub directory-regular : (kind : Kind) → elim kind as (λ _. Bool) [ File size 
 directory-regular Dir is = let bad : false ≡ true = is in cc
 directory-regular _ is = refl
 
-pub regular-directory : (kind : Kind) → elim kind as (λ _. Bool) [ Dir ↦ true | _ ↦ false ] ≡ true → elim kind as (λ _. Bool) [ File size blob ↦ true | _ ↦ false ] ≡ false
-regular-directory (File size blob) is = let bad : false ≡ true = is in cc
-regular-directory _ is = refl
-
 -- ---- the marks that a merge writes on a visible inode
 
 pub mark-plain : (inode : Inode) → is_directory inode ≡ true → mark_of (visible inode) ≡ DirPlain
