@@ -12,3 +12,4 @@ pub mod CoreLaw
 pub mod SoundHits
 pub mod Tree
 pub mod MergedEntries
+pub mod VisitLemmas
