@@ -4,10 +4,10 @@ use Rattle.std.proofs.lemmas.List.{append-nil}
 use Rattle.ovl_names.specs.Names.{PathName}
 use Rattle.ovl_names.specs.Paths.{PathNames, child_path, longest}
 use Rattle.ovl_inode.specs.declared.inodes.Inode.{Inode}
-use Rattle.ovl_inode.specs.Marks.{mark_of, is_directory, is_whiteout}
+use Rattle.ovl_inode.specs.Marks.{mark_of, is_whiteout}
 use Rattle.ovl_manifest.specs.Layers.{Entries, IsLayer, entry_at, is_directory_at}
 use Rattle.ovl_lookup.specs.declared.steps.Step.{Step}
-use Rattle.ovl_lookup.specs.Walk.{mark_at, turn, is_shut, walk, walk_from, walk_beyond, walk_to_file, nothing_found}
+use Rattle.ovl_lookup.specs.Walk.{turn, is_shut, walk, walk_from, walk_beyond, walk_to_file, nothing_found}
 use Rattle.ovl_lookup.proofs.Longest.{longest-holds, longest-rest, longest-child}
 use Rattle.ovl_lookup.proofs.Turns.{rest-child}
 use Rattle.ovl_lookup.proofs.WalkFacts.{directory-parent, walk-whole}

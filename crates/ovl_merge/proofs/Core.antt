@@ -192,7 +192,7 @@ root_of [] e = refl
 root_of (name ∷ names) e = let bad : false ≡ true = e in cc
 
 -- where a path has a reach, that is where its walks go on
-reach-is : (m : Merge) (path place : PathNames) → reach m path ≡ Some place → place ≡ rest_path m path
+pub reach-is : (m : Merge) (path place : PathNames) → reach m path ≡ Some place → place ≡ rest_path m path
 reach-is m path place is = by (first_hit m path) is
   where
     at : (b : Bool) → cond b (Some (rest_path m path)) None ≡ Some place → place ≡ rest_path m path

@@ -8,12 +8,12 @@ use Rattle.ovl_inode.specs.declared.inodes.Inode.{Inode}
 use Rattle.ovl_inode.specs.declared.inodes.Kind.{Kind}
 use Rattle.ovl_inode.specs.declared.inodes.Kind.TheVariants.{File}
 use Rattle.ovl_inode.specs.Attributes.{Attributes, attribute, visible_attributes, redirect_name, metacopy_name, opaque_name, whiteout_name}
-use Rattle.ovl_inode.specs.Marks.{is_data, is_directory, is_regular, is_whiteout, is_metacopy, has_metacopy}
+use Rattle.ovl_inode.specs.Marks.{is_directory, is_regular, is_whiteout, is_metacopy, has_metacopy}
 use Rattle.ovl_inode.specs.Inodes.{visible}
 use Rattle.ovl_lookup.specs.declared.looks.Look.{Look}
 use Rattle.ovl_lookup.specs.declared.looks.Look.TheVariants.{Nothing, Shown, Broken}
-use Rattle.ovl_lookup.specs.Trace.{things_found, hits_of}
-use Rattle.ovl_lookup.specs.Merged.{look, shown_of, data_of, last_of, without_blob}
+use Rattle.ovl_lookup.specs.Trace.{things_found}
+use Rattle.ovl_lookup.specs.Merged.{look, shown_of, data_of, without_blob}
 use Rattle.ovl_lookup.proofs.LookLaws.{data-regular}
 use Rattle.ovl_lookup.proofs.FoundLemmas.{metacopy-file, shown_of-contents, shown_of-broken}
 use Rattle.ovl_lookup.proofs.ShownLaws.{attribute-hidden}
@@ -23,15 +23,15 @@ use Rattle.ovl_merge.proofs.Values.{attribute-other, visible-value, visible-visi
 use Rattle.ovl_merge.proofs.Firsts.{whole-first, rest_of}
 
 -- an inode gets a redirect or stays as it is
-module _ (P : Inode → Type 0) (inode : Inode) (place : PathNames) (bare : P inode) (valued : (value : List ℕ) → P (with_value inode redirect_name value)) where
+module _ (P : Inode → Type 0) (inode : Inode) (place : PathNames) (bare : P inode) (beside : P (with_value inode redirect_name (last_name place))) (absolute : P (with_value inode redirect_name (path_text place))) where
   redirected_from-cases : (above : Option PathNames) (own : PathName) → P (redirected_from above own inode place)
-  redirected_from-cases None own = valued (path_text place)
+  redirected_from-cases None own = absolute
   redirected_from-cases (Some above) own = by (path_eq place (child_path above own)) (path_eq place (child_path above (last_name place)))
     where
       by : (one other : Bool) → P (cond one inode (cond other (with_value inode redirect_name (last_name place)) (with_value inode redirect_name (path_text place))))
       by true other = bare
-      by false true = valued (last_name place)
-      by false false = valued (path_text place)
+      by false true = beside
+      by false false = absolute
 
   pub redirected-cases : (m : Merge) (path : PathNames) → P (redirected m path inode place)
   redirected-cases m path = by (is_root path)
@@ -47,7 +47,7 @@ module _ (m : Merge) (path : PathNames) (inode : Inode) (is : is_directory inode
   merged-directory = ap (λ b. cond b (merged_directory m path inode (reach m path)) (cond (is_metacopy inode) (merged_metacopy m path inode (reach m path)) (visible inode))) is
 
   pub by_reach : (P : Inode → Type 0) → P (visible inode) → ((value : List ℕ) → P (with_value (visible inode) redirect_name value)) → ((value : List ℕ) → P (with_value (visible inode) opaque_name value)) → (place : Option PathNames) → P (merged_directory m path inode place)
-  by_reach P bare moved opaque (Some place) = redirected-cases P (visible inode) place bare moved m path
+  by_reach P bare moved opaque (Some place) = redirected-cases P (visible inode) place bare (moved (last_name place)) (moved (path_text place)) m path
   by_reach P bare moved opaque None = by (gets_opaque m path)
     where
       by : (b : Bool) → P (cond b (with_value (visible inode) opaque_name (121 ∷ [])) (visible inode))
@@ -123,9 +123,12 @@ module _ (m : Merge) (path : PathNames) (inode : Inode) (is : is_directory inode
           at (Some place) =
               redirected-cases IsOther (with_metacopy inode) place
               (regular-other (with_metacopy inode) regular (with_metacopy-bare inode))
-              (λ value. regular-other (with_value (with_metacopy inode) redirect_name value) regular
-              (attribute-other (with_metacopy inode).attrs redirect_name value whiteout_name refl ∙ with_metacopy-bare inode))
-              m path
+              (other (last_name place)) (other (path_text place)) m path
+            where
+              other : (value : List ℕ) → IsOther (with_value (with_metacopy inode) redirect_name value)
+              other value =
+                  regular-other (with_value (with_metacopy inode) redirect_name value) regular
+                  (attribute-other (with_metacopy inode).attrs redirect_name value whiteout_name refl ∙ with_metacopy-bare inode)
           at None =
               regular-other (with_contents (visible inode) (look (whole m) path))
               (ap (λ (xs : List Inode). is_regular (with_contents (visible inode) (shown_of xs))) (whole-first m path inode hit)

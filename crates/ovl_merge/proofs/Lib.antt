@@ -11,5 +11,12 @@ pub mod Core
 pub mod CoreLaw
 pub mod SoundHits
 pub mod Tree
+pub mod ByteLemmas
 pub mod MergedEntries
+pub mod LayerLemmas
+pub mod DirectoryLemmas
 pub mod VisitLemmas
+pub mod UnderLemmas
+pub mod TreeLemmas
+pub mod FinishLemmas
+mod Rows

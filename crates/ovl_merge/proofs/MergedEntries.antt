@@ -1,33 +1,27 @@
 -- Where a merge's entries stand: in shown directories, under names of the two layers or of the rest.
-use Rattle.std.proofs.Common.{◌≡◌, ℕ, Bool, true, false, cond, Option, Some, None, List, [], ◌∷◌, refl, sym, ap, ◌∙◌, arith, inl, inr, ◌⊎◌}
-use Rattle.std.specs.Prelude.{not, ◌&&◌, ◌||◌}
+use Rattle.std.proofs.Common.{◌≡◌, Bool, true, false, cond, Option, Some, None, List, [], ◌∷◌, refl, sym, ap, ◌∙◌, arith, inl, inr, ◌⊎◌}
+use Rattle.std.specs.Prelude.{◌&&◌}
 use Rattle.std.specs.List.{list_any, All}
 use Rattle.std.proofs.lemmas.List.Elements.{All-cons}
-use Rattle.ovl_names.specs.Names.{PathName, name_eq, name_cmp}
+use Rattle.ovl_names.specs.Names.{PathName, name_eq}
 use Rattle.ovl_names.specs.Paths.{PathNames, child_path, parent_path}
 use Rattle.ovl_names.proofs.Ascending.{both}
-use Rattle.std.specs.declared.cmp.Ordering.{Ordering}
-use Rattle.std.specs.declared.cmp.Ordering.TheVariants.{Less, Equal, Greater}
 use Rattle.ovl_inode.specs.declared.inodes.Inode.{Inode}
-use Rattle.ovl_inode.specs.Attributes.{Attributes, with_attribute, visible_attributes, has_escaped_name, is_escaped_name, is_overlay_name, redirect_name, metacopy_name, opaque_name}
-use Rattle.ovl_inode.specs.Marks.{is_directory, is_metacopy}
-use Rattle.ovl_inode.specs.Inodes.{visible}
+use Rattle.ovl_inode.specs.Marks.{is_directory}
 use Rattle.ovl_manifest.specs.Layers.{IsLayer}
 use Rattle.ovl_lookup.specs.Trace.{things_found}
-use Rattle.ovl_lookup.specs.Merged.{look}
 use Rattle.ovl_lookup.specs.Passes.{own_names_along}
 use Rattle.ovl_lookup.proofs.WalkFacts.{parent_path-child}
 use Rattle.ovl_lookup.proofs.ChildLemmas.{child_found, any_found, starts_directory}
-use Rattle.ovl_merge.specs.Places.{Merge, whole, two_layers, first_of, first_hit, passes, shows_own_directory, is_hidden, reach, natural, base, child_of, shows_at}
-use Rattle.ovl_merge.specs.MergeDown.{merged_metacopy, merged_inode, new_whiteout, needs_whiteout, merged_entry_of, merged_entry}
+use Rattle.ovl_merge.specs.Places.{Merge, two_layers, first_of, first_hit, passes, shows_own_directory, is_hidden, natural, base, child_of, shows_at}
+use Rattle.ovl_merge.specs.MergeDown.{merged_inode, new_whiteout, needs_whiteout, merged_entry_of, merged_entry}
 use Rattle.ovl_lookup.proofs.WalkLaws.{directory_found}
-use Rattle.ovl_merge.proofs.Values.{with_metacopy}
 use Rattle.ovl_merge.proofs.Firsts.{first_of-hits, first-cons, hit-no_whiteout}
-use Rattle.ovl_merge.proofs.Inodes.{merged-is_directory, merged-is_other, merged-directory, merged-metacopy, merged-other, redirected-cases, with_contents-attrs, by_reach}
+use Rattle.ovl_merge.proofs.Inodes.{merged-is_directory, merged-is_other}
 use Rattle.ovl_merge.proofs.Core.{natural-child, root-shown}
 
 module _ (m : Merge) (upper : IsLayer m.upper) (lower : IsLayer m.lower) where
-  two : All IsLayer (two_layers m).layers
+  pub two : All IsLayer (two_layers m).layers
   two = All-cons IsLayer m.upper (m.lower ∷ []) upper (All-cons IsLayer m.lower [] lower (λ k d inside. absurd (omega arith)))
 
   -- the entries that are directories are the shown directories
@@ -79,58 +73,3 @@ module _ (m : Merge) (upper : IsLayer m.upper) (lower : IsLayer m.lower) where
   root-entry =
       let d = root-shown m upper in
       entry-directory [] ∙ (ap (passes is_directory) d.hit ∙ d.directory)
-
--- ---- no attribute's name is escaped
-
-filter-none : (attrs : Attributes) → has_escaped_name attrs ≡ false → has_escaped_name (visible_attributes attrs) ≡ false
-filter-none [] none = refl
-filter-none (attr ∷ attrs) none = by (is_overlay_name attr.0) (neither (is_escaped_name attr.0) (has_escaped_name attrs) none) (filter-none attrs)
-  where
-    neither : (a b : Bool) → (a || b) ≡ false → (a ≡ false) × (b ≡ false)
-    neither true b e = let bad : true ≡ false = e in cc
-    neither false b e = (refl, e)
-
-    by : (b : Bool) → (is_escaped_name attr.0 ≡ false) × (has_escaped_name attrs ≡ false) → (has_escaped_name attrs ≡ false → has_escaped_name (visible_attributes attrs) ≡ false) → has_escaped_name (cond (not b) (attr ∷ visible_attributes attrs) (visible_attributes attrs)) ≡ false
-    by true parts later = later parts.1
-    by false parts later = λ j. parts.0 j || later parts.1 j
-
-with-none : (attrs : Attributes) (name value : List ℕ) → has_escaped_name attrs ≡ false → is_escaped_name name ≡ false → has_escaped_name (with_attribute attrs name value) ≡ false
-with-none [] name value none plain = λ j. plain j || false
-with-none (attr ∷ attrs) name value none plain = by (with-none attrs name value) (neither (is_escaped_name attr.0) (has_escaped_name attrs) none) (name_cmp name attr.0) refl
-  where
-    neither : (a b : Bool) → (a || b) ≡ false → (a ≡ false) × (b ≡ false)
-    neither true b e = let bad : true ≡ false = e in cc
-    neither false b e = (refl, e)
-
-    by : (has_escaped_name attrs ≡ false → is_escaped_name name ≡ false → has_escaped_name (with_attribute attrs name value) ≡ false) → (is_escaped_name attr.0 ≡ false) × (has_escaped_name attrs ≡ false) → (o : Ordering) → name_cmp name attr.0 ≡ o → has_escaped_name (with_attribute (attr ∷ attrs) name value) ≡ false
-    by later parts Less e = rw e (λ j. plain j || none j)
-    by later parts Equal e = rw e (λ j. parts.0 j || parts.1 j)
-    by later parts Greater e = rw e (λ j. parts.0 j || later parts.1 plain j)
-
-module _ (m : Merge) (path : PathNames) (inode : Inode) (none : has_escaped_name inode.attrs ≡ false) where
-  seen : has_escaped_name (visible inode).attrs ≡ false
-  seen = filter-none inode.attrs none
-
-  pub merged-unescaped : has_escaped_name (merged_inode m path inode).attrs ≡ false
-  merged-unescaped = by (is_directory inode) refl
-    where
-      copied : (place : Option PathNames) → has_escaped_name (merged_metacopy m path inode place).attrs ≡ false
-      copied (Some place) =
-          redirected-cases (λ i. has_escaped_name i.attrs ≡ false) (with_metacopy inode) place
-          (with-none (visible_attributes inode.attrs) metacopy_name [] (filter-none inode.attrs none) refl)
-          (λ value. with-none (with_metacopy inode).attrs redirect_name value (with-none (visible_attributes inode.attrs) metacopy_name [] (filter-none inode.attrs none) refl) refl)
-          m path
-      copied None = ap has_escaped_name (with_contents-attrs (visible inode) (look (whole m) path)) ∙ filter-none inode.attrs none
-
-      file : is_directory inode ≡ false → (b : Bool) → is_metacopy inode ≡ b → has_escaped_name (merged_inode m path inode).attrs ≡ false
-      file d true k = ap (λ (i : Inode). has_escaped_name i.attrs) (merged-metacopy m path inode d k) ∙ copied (reach m path)
-      file d false k = ap (λ (i : Inode). has_escaped_name i.attrs) (merged-other m path inode d k) ∙ filter-none inode.attrs none
-
-      by : (b : Bool) → is_directory inode ≡ b → has_escaped_name (merged_inode m path inode).attrs ≡ false
-      by true d =
-          ap (λ (i : Inode). has_escaped_name i.attrs) (merged-directory m path inode d)
-          ∙ by_reach m path inode d (λ i. has_escaped_name i.attrs ≡ false) (filter-none inode.attrs none)
-          (λ value. with-none (visible_attributes inode.attrs) redirect_name value (filter-none inode.attrs none) refl)
-          (λ value. with-none (visible_attributes inode.attrs) opaque_name value (filter-none inode.attrs none) refl)
-          (reach m path)
-      by false d = file d (is_metacopy inode) refl

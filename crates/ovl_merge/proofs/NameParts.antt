@@ -18,10 +18,6 @@ pub not_false : (b : Bool) → not b ≡ false → b ≡ true
 not_false true e = refl
 not_false false e = let bad : true ≡ false = e in cc
 
-pub not_true : (b : Bool) → not b ≡ true → b ≡ false
-not_true true e = let bad : false ≡ true = e in cc
-not_true false e = refl
-
 -- ---- names
 
 pub record NameFacts (name : List ℕ) : Type 0 where

@@ -11,7 +11,7 @@ use Rattle.std.proofs.lemmas.List.Splits.{slice_split-cons_yes, slice_split-cons
 use Rattle.std.proofs.lemmas.Str.{IsUtf8-take, IsUtf8-drop, IsCharBoundary-before_ascii, IsCharBoundary-after_ascii, IsUtf8-from_is_utf8, is_utf8-from_IsUtf8}
 use Rattle.ovl_names.specs.Names.{PathName, is_name, name_eq, dot, dot_dot, slash, name_limit}
 use Rattle.ovl_names.specs.Paths.{PathNames, has_names, is_root, child_path, parts_between, longest}
-use Rattle.ovl_names.proofs.Ascending.{both}
+use Rattle.ovl_names.proofs.Ascending.{both, not_true}
 use Rattle.ovl_names.proofs.NameLemmas.{has_names-child}
 use Rattle.ovl_inode.specs.declared.inodes.Inode.{Inode}
 use Rattle.ovl_inode.specs.declared.marks.Mark.{Mark}
@@ -29,7 +29,7 @@ use Rattle.ovl_lookup.proofs.Longest.{longest-rest}
 use Rattle.ovl_lookup.proofs.Turns.{turn-child, turn-moved}
 use Rattle.ovl_lookup.proofs.WalkFacts.{length-child}
 use Rattle.ovl_lookup.proofs.WalkLaws.{by_child}
-use Rattle.ovl_merge.proofs.NameParts.{neither, not_false, not_true, name_from, one_part, split_at}
+use Rattle.ovl_merge.proofs.NameParts.{neither, not_false, name_from, one_part, split_at}
 
 -- ---- what is read has names
 

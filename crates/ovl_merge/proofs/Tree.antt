@@ -1,10 +1,9 @@
 -- A merge keeps the merged tree, from its core.
-use Rattle.std.proofs.Common.{◌≡◌, Bool, true, false, cond, Option, Some, None, is_some, List, [], ◌∷◌, refl, sym, ap, ◌∙◌, inl, inr, ◌⊎◌}
+use Rattle.std.proofs.Common.{◌≡◌, ℕ, Bool, true, false, cond, Option, Some, None, is_some, List, [], ◌∷◌, refl, sym, ap, ◌∙◌, inl, inr, ◌⊎◌}
 use Rattle.std.specs.Prelude.{not, ◌&&◌}
 use Rattle.std.specs.Option.{option_map}
 use Rattle.std.specs.List.{cons_option, All}
-use Rattle.ovl_names.specs.Names.{PathName}
-use Rattle.ovl_names.specs.Paths.{PathNames, is_root}
+use Rattle.ovl_names.specs.Paths.{PathNames, path_text}
 use Rattle.ovl_names.proofs.Ascending.{both}
 use Rattle.ovl_inode.specs.declared.inodes.Inode.{Inode}
 use Rattle.ovl_inode.specs.Attributes.{Attributes, attribute, redirect_name, metacopy_name}
@@ -19,14 +18,14 @@ use Rattle.ovl_lookup.specs.Merged.{look, shows_directory, shown_of, data_of, wi
 use Rattle.ovl_lookup.specs.Sound.{IsSoundStack}
 use Rattle.ovl_lookup.specs.Passes.{data_below}
 use Rattle.ovl_lookup.proofs.WalkFacts.{walk-whole}
-use Rattle.ovl_lookup.proofs.FoundLemmas.{things_found-step, metacopy-file, bare_file, data_of-metacopy, data_below-metacopy, shown_of-full, shown_of-contents, shown_of-broken}
+use Rattle.ovl_lookup.proofs.FoundLemmas.{directory-kind, things_found-step, metacopy-file, bare_file, data_of-metacopy, data_below-metacopy, shown_of-full, shown_of-contents, shown_of-broken}
 use Rattle.ovl_lookup.proofs.ChildLemmas.{all-first, all-rest}
 use Rattle.ovl_lookup.proofs.ShownLaws.{attribute-hidden, visible-twice}
 use Rattle.ovl_lookup.specs.Words.{over}
 use Rattle.ovl_merge.specs.Places.{Merge, whole, lower_path, rest_path, is_open, first_hit, is_nothing_or, is_shown_regular, goes_on, reach, reach_of}
-use Rattle.ovl_merge.specs.MergeDown.{redirected, with_contents, merged_metacopy, merged_inode, merged_entry_of, IsMergedDown}
+use Rattle.ovl_merge.specs.MergeDown.{with_value, last_name, redirected, with_contents, merged_metacopy, merged_inode, merged_entry_of, IsMergedDown}
 use Rattle.ovl_merge.specs.Laws.{after_merge, MergeKeepsTree}
-use Rattle.ovl_merge.proofs.Values.{visible-value, visible-visible, with_metacopy, regular-directory}
+use Rattle.ovl_merge.proofs.Values.{visible-value, visible-visible, with_metacopy}
 use Rattle.ovl_lookup.proofs.WalkLaws.{directory_found}
 use Rattle.ovl_merge.proofs.Firsts.{found-whole, passes-found, whole-first, rest_of, hit-from}
 use Rattle.ovl_merge.proofs.Inodes.{merged-is_directory, merged-visible, merged-metacopy, merged-other, redirected-cases}
@@ -83,7 +82,7 @@ module _ (m : Merge) (new : Entries) (each : All IsLayer (whole m).layers) (soun
       ∙ (ap (things_found m.rest.layers) alike.next ∙ sym (passes-found m path alike.old)))
 
   directory_full : (inode : Inode) → is_directory inode ≡ true → (is_regular inode && has_metacopy inode) ≡ false
-  directory_full inode is_dir = ap (λ b. b && has_metacopy inode) (regular-directory inode.kind is_dir)
+  directory_full inode is_dir = ap (λ b. b && has_metacopy inode) (directory-kind inode.kind is_dir)
 
   at_directory : (path : PathNames) (inode : Inode) → first_hit m path ≡ Some inode → is_directory inode ≡ true → shown_of (things_found (new ∷ m.rest.layers) path) ≡ shown_of (things_found (whole m).layers path)
   at_directory path inode hit dir =
@@ -190,16 +189,18 @@ module _ (m : Merge) (new : Entries) (each : All IsLayer (whole m).layers) (soun
           made : is_metacopy (merged_inode m path inode) ≡ true
           made = ((core path).copy inode hit meta place e).1
 
+          hidden : (value : List ℕ) → visible (with_value (with_metacopy inode) redirect_name value) ≡ visible inode
+          hidden value = visible-value (with_metacopy inode) redirect_name value refl ∙ (visible-value (visible inode) metacopy_name [] refl ∙ visible-visible inode)
+
           seen : visible (merged_inode m path inode) ≡ visible inode
           seen =
               ap visible written
               ∙ redirected-cases (λ i. visible i ≡ visible inode) (with_metacopy inode) place
               (visible-value (visible inode) metacopy_name [] refl ∙ visible-visible inode)
-              (λ value. visible-value (with_metacopy inode) redirect_name value refl ∙ (visible-value (visible inode) metacopy_name [] refl ∙ visible-visible inode))
-              m path
+              (hidden (last_name place)) (hidden (path_text place)) m path
 
           kind : (merged_inode m path inode).kind ≡ inode.kind
-          kind = ap (λ (i : Inode). i.kind) written ∙ redirected-cases (λ i. i.kind ≡ inode.kind) (with_metacopy inode) place refl (λ value. refl) m path
+          kind = ap (λ (i : Inode). i.kind) written ∙ redirected-cases (λ i. i.kind ≡ inode.kind) (with_metacopy inode) place refl refl refl m path
 
           from : (xs : List Inode) → things_found (whole m).layers path ≡ inode ∷ xs → data_below xs ≡ data_below (things_found m.rest.layers place) → shown_of (things_found (new ∷ m.rest.layers) path) ≡ shown_of (things_found (whole m).layers path)
           from xs all contained =
@@ -248,7 +249,7 @@ MergeKeepsTree-holds m new each sound layered is path = by (entry_at m.upper [])
     upper = all-first IsLayer m.upper (m.lower ∷ m.rest.layers) each
 
     root_full : (inode : Inode) → is_directory inode ≡ true → (is_regular inode && has_metacopy inode) ≡ false
-    root_full inode is_dir = ap (λ b. b && has_metacopy inode) (regular-directory inode.kind is_dir)
+    root_full inode is_dir = ap (λ b. b && has_metacopy inode) (directory-kind inode.kind is_dir)
 
     at : (inode : Inode) → entry_at m.upper [] ≡ Some inode → (p : PathNames) → look (over (top_of inode) (over new m.rest)) p ≡ look (whole m) p
     at inode here [] =

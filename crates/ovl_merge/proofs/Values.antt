@@ -1,6 +1,6 @@
 -- The attributes of a visible inode and of one with a value, and the mark that they give.
-use Rattle.std.proofs.Common.{◌≡◌, ℕ, List, [], ◌∷◌, Bool, true, false, cond, Option, Some, None, is_some, refl, sym, ap, ◌∙◌}
-use Rattle.std.specs.Prelude.{not, ◌&&◌, ◌==◌, codes}
+use Rattle.std.proofs.Common.{◌≡◌, ℕ, List, [], ◌∷◌, Bool, true, false, cond, Some, None, is_some, refl, sym, ap, ◌∙◌}
+use Rattle.std.specs.Prelude.{◌&&◌, ◌==◌, codes}
 use Rattle.std.specs.declared.cmp.Ordering.{Ordering}
 use Rattle.std.specs.declared.cmp.Ordering.TheVariants.{Less, Equal, Greater}
 use Rattle.std.specs.Cmp.Lexicographic.{bytes_decides}
@@ -14,7 +14,7 @@ use Rattle.ovl_inode.specs.Attributes.{Attributes, attribute, with_attribute, vi
 use Rattle.ovl_inode.specs.Marks.{mark_of, is_directory, is_regular, is_whiteout, has_metacopy, has_opaque, redirect_reading, directory_mark, metacopy_mark}
 use Rattle.ovl_inode.specs.Redirects.{read_redirect}
 use Rattle.ovl_inode.specs.Inodes.{visible}
-use Rattle.ovl_manifest.proofs.NodeLemmas.{name_eq-same, name_eq-cmp}
+use Rattle.ovl_manifest.proofs.NodeLemmas.{name_eq-cmp}
 use Rattle.ovl_lookup.proofs.AttributeLaws.{attribute-with, visible-with}
 use Rattle.ovl_lookup.proofs.ShownLaws.{attribute-hidden, visible-twice}
 use Rattle.ovl_merge.specs.MergeDown.{with_value}
@@ -94,10 +94,6 @@ whiteout-regular inode is bare = by inode.kind is
 pub directory-regular : (kind : Kind) → elim kind as (λ _. Bool) [ File size blob ↦ true | _ ↦ false ] ≡ true → elim kind as (λ _. Bool) [ Dir ↦ true | _ ↦ false ] ≡ false
 directory-regular Dir is = let bad : false ≡ true = is in cc
 directory-regular _ is = refl
-
-pub regular-directory : (kind : Kind) → elim kind as (λ _. Bool) [ Dir ↦ true | _ ↦ false ] ≡ true → elim kind as (λ _. Bool) [ File size blob ↦ true | _ ↦ false ] ≡ false
-regular-directory (File size blob) is = let bad : false ≡ true = is in cc
-regular-directory _ is = refl
 
 -- ---- the marks that a merge writes on a visible inode
 

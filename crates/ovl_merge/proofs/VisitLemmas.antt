@@ -1,43 +1,59 @@
 -- What a visit of a merge reckons.
-use Rattle.std.proofs.Common.{◌≡◌, ℕ, ◌<◌, Bool, true, false, cond, Option, Some, None, is_some, List, [], ◌∷◌, ◌++◌, length, take, drop, refl, sym, ap, ◌∙◌, append_assoc, arith}
-use Rattle.std.specs.Prelude.{◌&&◌, not, is_none, slice_get, unwrap_or}
+use Rattle.std.proofs.Common.{◌≡◌, ℕ, ◌+◌, ◌<◌, inl, inr, get_or, subst, Bool, true, false, cond, Option, Some, None, is_some, List, [], ◌∷◌, ◌++◌, length, take, drop, refl, sym, ap, ◌∙◌, append_assoc, arith}
+use Rattle.std.specs.Prelude.{◌&&◌, ◌||◌, not, is_none, slice_get, unwrap_or, IfSome}
 use Rattle.std.specs.Option.{option_map}
-use Rattle.std.specs.List.{cons_option, filter_map}
-use Rattle.std.specs.Cmp.Lexicographic.{pointwise_decides, bytes_decides}
-use Rattle.std.proofs.lemmas.List.{append-nil}
+use Rattle.std.specs.List.{cons_option, filter_map, list_any, All}
+use Rattle.std.specs.declared.cmp.Ordering.TheVariants.{Less, Equal}
+use Rattle.std.specs.Cmp.Lexicographic.{pointwise_decides, bytes_decides, nat_list_cmp_total}
+use Rattle.std.proofs.lemmas.List.{append-nil, take-append-drop, take_more}
 use Rattle.std.proofs.lemmas.List.Elements.{filter_map-append}
 use Rattle.ovl_names.specs.Names.{PathName, name_eq}
 use Rattle.ovl_names.specs.Paths.{PathNames, child_path, parent_path, path_eq, path_text, is_root}
 use Rattle.ovl_inode.specs.declared.inodes.Inode.{Inode}
-use Rattle.ovl_inode.specs.Attributes.{redirect_name}
+use Rattle.ovl_inode.specs.Attributes.{redirect_name, metacopy_name}
 use Rattle.ovl_inode.specs.Marks.{is_directory}
+use Rattle.ovl_inode.specs.Inodes.{visible}
 use Rattle.ovl_manifest.specs.Layers.{Entries, IsLayer, names_below}
+use Rattle.ovl_manifest.proofs.OpenLemmas.{name_cmp-same}
 use Rattle.ovl_lookup.specs.declared.steps.Step.{Step}
+use Rattle.ovl_lookup.specs.declared.looks.Look.{Look}
 use Rattle.ovl_lookup.specs.Walk.{walk}
 use Rattle.ovl_lookup.specs.Stacks.{StackView}
-use Rattle.ovl_lookup.specs.Passes.{own_names_along, put_names}
+use Rattle.ovl_lookup.specs.Passes.{own_names_along, put_names, kids_along}
+use Rattle.ovl_lookup.specs.Merged.{look, AreKids}
+use Rattle.ovl_lookup.specs.Words.{top_layer, lower_layers}
 use Rattle.ovl_lookup.proofs.WalkFacts.{length-child, parent_path-child}
-use Rattle.ovl_lookup.proofs.KidLemmas.{put_names-append}
+use Rattle.ovl_lookup.proofs.KidLemmas.{put_names-append, kids-ascend, kids-same}
+use Rattle.ovl_board.proofs.Members.{In, rising_same}
 use Rattle.ovl_merge.specs.declared.passages.Passage.{Passage}
 use Rattle.ovl_merge.specs.declared.places.Place.{Place}
 use Rattle.ovl_merge.specs.Places.{Merge, whole, two_layers, merge_of, lower_path, first_hit, passes, shows_own_directory, is_hidden, reach, reach_of, shows_directory_at, shows_at, gets_opaque_at, natural, base}
-use Rattle.ovl_merge.specs.MergeDown.{with_value, last_name, redirected, redirected_from, merged_inode, new_whiteout, merged_entry, merged_entry_of}
+use Rattle.ovl_merge.specs.MergeDown.{with_value, with_contents, last_name, redirected, redirected_from, merged_directory, merged_metacopy, merged_inode, new_whiteout, merged_entry, merged_entry_of}
 use Rattle.ovl_merge.specs.Directories.{NamedInode, named_inode, candidate_names, entries_in}
 use Rattle.ovl_merge.specs.Reckoned.{IsPassage, IsPlace, found_by, first_in, next_of, goes_on_at, base_in, name_directly_in}
 use Rattle.ovl_merge.proofs.Firsts.{first_step, first_hit-steps}
 use Rattle.ovl_merge.proofs.Core.{last_name-child}
 use Rattle.ovl_merge.proofs.MergedEntries.{entry-stands}
+use Rattle.ovl_merge.proofs.DirectoryLemmas.{NameBefore, rising-names, any-In}
+use Rattle.ovl_merge.proofs.FinishLemmas.{merge-whole}
 
 -- ---- the stack
 
--- a stack of several layers is what its merge is of
-pub merge-whole : (stack : StackView) → 1 < length stack.layers → whole (merge_of stack) ≡ stack
-merge-whole stack several = ap (λ (layers : List Entries). record stack { layers = layers }) (by stack.layers several)
+-- its two topmost layers
+pub upper-layer : (stack : StackView) → 1 < length stack.layers → (P : Entries → Type 0) → IfSome (slice_get stack.layers 0) P → P (top_layer stack)
+upper-layer stack several P = by stack.layers several
   where
-    by : (layers : List Entries) → 1 < length layers → unwrap_or (slice_get layers 0) [] ∷ unwrap_or (slice_get (drop 1 layers) 0) [] ∷ drop 2 layers ≡ layers
-    by [] none = absurd (omega (arith, none))
-    by (upper ∷ []) none = absurd (omega (arith, none))
-    by (upper ∷ lower ∷ rest) several = refl
+    by : (layers : List Entries) → 1 < length layers → IfSome (slice_get layers 0) P → P (unwrap_or (slice_get layers 0) [])
+    by [] none h = absurd (omega (arith, none))
+    by (upper ∷ layers) several h = h
+
+pub lower-layer : (stack : StackView) → 1 < length stack.layers → (P : Entries → Type 0) → IfSome (slice_get stack.layers 1) P → P (top_layer (lower_layers stack))
+lower-layer stack several P = by stack.layers several
+  where
+    by : (layers : List Entries) → 1 < length layers → IfSome (slice_get layers 1) P → P (unwrap_or (slice_get (drop 1 layers) 0) [])
+    by [] none h = absurd (omega (arith, none))
+    by (upper ∷ []) none h = absurd (omega (arith, none))
+    by (upper ∷ lower ∷ layers) several h = h
 
 -- ---- what the walks of a path find
 
@@ -78,40 +94,18 @@ base-told m place is = λ j. cond (is_some (is.reach j)) (is.reach j) (cond (is.
 pub lower-told : (m : Merge) (path : PathNames) (passage : Passage) → IsPassage m path passage → next_of (Some passage.upper) ≡ cond (walk m.upper path).closed None (Some (lower_path m path))
 lower-told m path passage is = ap (λ (step : Step). cond step.closed None (Some step.next)) is.upper
 
-and_false : (a : Bool) → (a && false) ≡ false
-and_false true = refl
-and_false false = refl
+pub opaque-unshown : (m : Merge) (path : PathNames) (place : Option PathNames) → shows_own_directory m path ≡ false → gets_opaque_at m path place ≡ false
+opaque-unshown m path place none =
+    (λ j. not (is_root path) && none j && is_none (reach m path) && shows_directory_at m.rest place)
+    ∙ ap (λ (b : Bool). b && is_none (reach m path) && shows_directory_at m.rest place) (neither (not (is_root path)))
+  where
+    neither : (a : Bool) → (a && false) ≡ false
+    neither true = refl
+    neither false = refl
 
 and_true : (a : Bool) → (a && true) ≡ a
 and_true true = refl
 and_true false = refl
-
-module _ (m : Merge) (path : PathNames) (place : Option PathNames) where
-  pub opaque-root : path ≡ [] → gets_opaque_at m path place ≡ false
-  opaque-root is = ap (λ (p : PathNames). not (is_root p) && shows_own_directory m path && is_none (reach m path) && shows_directory_at m.rest place) is
-
-  pub opaque-unshown : shows_own_directory m path ≡ false → gets_opaque_at m path place ≡ false
-  opaque-unshown none = (λ j. not (is_root path) && none j && is_none (reach m path) && shows_directory_at m.rest place) ∙ ap (λ (b : Bool). b && is_none (reach m path) && shows_directory_at m.rest place) (and_false (not (is_root path)))
-
-  pub opaque-reached : is_some (reach m path) ≡ true → gets_opaque_at m path place ≡ false
-  opaque-reached some =
-      (λ j. not (is_root path) && shows_own_directory m path && none (reach m path) some j && shows_directory_at m.rest place)
-      ∙ ap (λ (b : Bool). b && shows_directory_at m.rest place) (and_false (not (is_root path) && shows_own_directory m path))
-    where
-      none : (o : Option PathNames) → is_some o ≡ true → is_none o ≡ false
-      none None e = let bad : false ≡ true = e in cc
-      none (Some p) e = refl
-
-  pub opaque-told : is_root path ≡ false → shows_own_directory m path ≡ true → is_some (reach m path) ≡ false → shows_directory_at m.rest place ≡ gets_opaque_at m path place
-  opaque-told below shown unreached = sym (λ j. not (below j) && shown j && none (reach m path) unreached j && shows_directory_at m.rest place)
-    where
-      none : (o : Option PathNames) → is_some o ≡ false → is_none o ≡ true
-      none None e = refl
-      none (Some p) e = let bad : true ≡ false = e in cc
-
-pub root-no : (path : PathNames) → (path ≡ [] → ⊥) → is_root path ≡ false
-root-no [] never = absurd (never refl)
-root-no (name ∷ names) never = refl
 
 -- what becomes of a name in a shown directory at which nothing is shown
 pub unshown-entry : (m : Merge) (dir path : PathNames) (name : PathName) → path ≡ child_path dir name → shows_own_directory m dir ≡ true → first_hit m path ≡ None
@@ -207,6 +201,28 @@ redirected-child m above path name is inode place =
     sym (ap (λ (p : PathNames). redirected m p inode place) is
     ∙ (λ j. cond (length-child above name j) inode (redirected_from (reach m (parent_path-child above name j)) (last_name-child above name j) inode place)))
 
+-- the new inodes of an entry, by the reaches of its directory and its own
+module _ (m : Merge) (above path : PathNames) (name : PathName) (is : path ≡ child_path above name) (inode shown : Inode) (seen : shown ≡ visible inode) (upper own : Option PathNames) (reached : upper ≡ reach m above) where
+  pub directory-told : (place : PathNames) → own ≡ Some place → redirected_from upper name shown place ≡ merged_directory m path inode own
+  directory-told place e =
+      (λ j. redirected_from (reached j) name (seen j) place)
+      ∙ (redirected-child m above path name is (visible inode) place
+      ∙ sym (ap (merged_directory m path inode) e))
+
+  pub metacopy-told : (copied : Inode) → copied ≡ with_value shown metacopy_name [] → (place : PathNames) → own ≡ Some place → redirected_from upper name copied place ≡ merged_metacopy m path inode own
+  metacopy-told copied made place e =
+      (λ j. redirected_from (reached j) name (made j) place)
+      ∙ ((λ j. redirected_from (reach m above) name (with_value (seen j) metacopy_name []) place)
+      ∙ (redirected-child m above path name is (with_value (visible inode) metacopy_name []) place
+      ∙ sym (ap (merged_metacopy m path inode) e)))
+
+pub contents-told : (stack : StackView) → 1 < length stack.layers → (path : PathNames) (inode shown : Inode) → shown ≡ visible inode → (own : Option PathNames) → own ≡ None → (found : Look) → found ≡ look stack path
+    → with_contents shown found ≡ merged_metacopy (merge_of stack) path inode own
+contents-told stack several path inode shown seen own none found e =
+    (λ j. with_contents (seen j) (e j))
+    ∙ (ap (λ (s : StackView). with_contents (visible inode) (look s path)) (sym (merge-whole stack several))
+    ∙ sym (ap (merged_metacopy (merge_of stack) path inode) none))
+
 -- ---- names
 
 pub own-names : (m : Merge) (path : PathNames) (lower : Option PathNames) → lower ≡ cond (walk m.upper path).closed None (Some (lower_path m path))
@@ -225,6 +241,26 @@ own-names m path lower is =
     by false =
         ap (put_names (put_names [] (names_below m.upper path))) (last (walk m.lower (lower_path m path)).closed)
         ∙ sym (put_names-append [] (names_below m.upper path) (names_below m.lower (lower_path m path) ++ cond (walk m.lower (lower_path m path)).closed [] []))
+
+-- the names of a directory are the only ones that the merged tree has in it
+pub kids-unique : (stack : StackView) → All IsLayer stack.layers → (path : PathNames) (names : List PathName) → AreKids stack path names → names ≡ kids_along stack path
+kids-unique stack each path names are =
+    rising_same NameBefore never-itself nat_list_cmp_total.trans names (kids_along stack path)
+    (rising-names names are.in_order) (rising-names (kids_along stack path) (kids-ascend stack path))
+    (λ name h. any-In name (kids_along stack path) (kids-same stack each path name ∙ (sym (are.same name) ∙ In-any name names h)))
+    (λ name h. any-In name names (are.same name ∙ (sym (kids-same stack each path name) ∙ In-any name (kids_along stack path) h)))
+  where
+    never-itself : (name : PathName) → NameBefore name name → ⊥
+    never-itself name less = let bad : Less ≡ Equal = sym less ∙ name_cmp-same name in cc
+
+    In-any : (name : PathName) (names : List PathName) → In name names → list_any (name_eq name) names ≡ true
+    In-any name [] h = absurd h
+    In-any name (other ∷ names) (inl same) = ap (λ b. b || list_any (name_eq name) names) ((bytes_decides name other).1 same)
+    In-any name (other ∷ names) (inr h) = by (name_eq name other) (In-any name names h)
+      where
+        by : (b : Bool) → list_any (name_eq name) names ≡ true → (b || list_any (name_eq name) names) ≡ true
+        by true any = refl
+        by false any = any
 
 -- ---- shown directories
 
@@ -245,10 +281,17 @@ module _ (m : Merge) (upper : IsLayer m.upper) (lower : IsLayer m.lower) where
       by (Some inode) e =
           let bad : None ≡ Some (merged_inode m (child_path path name) inode) = sym (nothing-in path name none) ∙ ap (merged_entry_of m (child_path path name)) e in cc
 
-  pub unshown-under : (path rest : PathNames) → shows_own_directory m path ≡ false → shows_own_directory m (path ++ rest) ≡ false
+  unshown-under : (path rest : PathNames) → shows_own_directory m path ≡ false → shows_own_directory m (path ++ rest) ≡ false
   unshown-under path [] none = ap (shows_own_directory m) (append-nil path) ∙ none
   unshown-under path (name ∷ rest) none =
       ap (shows_own_directory m) (sym (append_assoc path (name ∷ []) rest)) ∙ unshown-under (child_path path name) rest (unshown-child path name none)
+
+  -- nor under one of the paths above
+  pub unshown-from : (dir : PathNames) (i : ℕ) (name : PathName) → i < length dir → name ≡ get_or dir i name → shows_own_directory m (child_path (take i dir) name) ≡ false → shows_own_directory m dir ≡ false
+  unshown-from dir i name inside is none =
+      let next : child_path (take i dir) name ≡ take (i + 1) dir = sym (take_more dir i name inside ∙ ap (λ (n : PathName). take i dir ++ n ∷ []) (sym is)) in
+      ap (shows_own_directory m) (sym (take-append-drop (i + 1) dir))
+      ∙ unshown-under (take (i + 1) dir) (drop (i + 1) dir) (ap (shows_own_directory m) (sym next) ∙ none)
 
   pub no-entries : (path : PathNames) → shows_own_directory m path ≡ false → entries_in m path ≡ []
   no-entries path none = by (candidate_names m path)

@@ -1,13 +1,11 @@
 -- The directories of the new lower layer as work: a piece is a directory, its kids are the directories in it, and its
 -- output is each name in it with its inode.
-use Rattle.std.specs.Prelude.{◌≡◌, ◌*◌, ℕ, true, Option, Some, None, List, [], map, filter, length, Vec}
+use Rattle.std.specs.Prelude.{◌*◌, ℕ, Option, Some, None, List, [], map, filter, Vec}
 use Rattle.std.specs.Global.{Global}
 use Rattle.std.specs.Coded.{Coded-set, codes}
 use Rattle.std.specs.List.{filter_map}
 use Rattle.std.specs.Option.{option_map}
-use Rattle.std.specs.Map.{lookup}
-use Rattle.ovl_names.specs.Names.{PathName, name_eq, name_cmp}
-use Rattle.ovl_names.specs.Order.{ascends}
+use Rattle.ovl_names.specs.Names.{PathName}
 use Rattle.ovl_names.specs.Paths.{PathNames, child_path, depth_limit}
 use Rattle.ovl_inode.specs.declared.inodes.Inode.{Inode}
 use Rattle.ovl_inode.specs.Marks.{is_directory}

@@ -48,6 +48,7 @@ WalksUnder before after old new =
     (tree : Tree) (deepest : ℕ) → IsTree tree deepest → (piece : Piece) (rest : List View) → before ≡ views_under tree deepest piece ++ rest →
     (after ≡ rest) × (new ≡ old ++ entries_under tree (deepest - length piece.dir) piece.dir)
 
--- the entries of the new lower layer: the same root as in the new upper one, and what lies under it
+-- the entries of the new lower layer: the same root as in the new upper one, and what lies under it; an entry may lie one
+-- name below the deepest directory
 abbrev pub new_entries : Merge → Entries
-new_entries m = merged_top m ++ entries_under (entries_in m) merge_depth []
+new_entries m = merged_top m ++ entries_under (entries_in m) (suc merge_depth) []

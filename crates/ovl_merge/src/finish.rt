@@ -1,4 +1,5 @@
 ghost use Rattle.std.specs.Prelude.{◌≡◌, ◌≤◌, Err, IfOk, drop};
+ghost use Rattle.ovl_manifest.specs.declared.faults.LayerFault.TheVariants.{Memory as NoMemory};
 ghost use Rattle.ovl_manifest.specs.Layers.{IsLayer};
 ghost use Rattle.ovl_lookup.specs.Sound.{IsSoundStack};
 ghost use Rattle.ovl_board.specs.Parcels.{parcel_views};
@@ -36,10 +37,12 @@ pub fn finish_merge(
     requires { IsMergeWalk work.now (parcel_views inodes_seen parcels.items) }
     ensures top { IfOk result (λ done. done.top ≡ merged_top (merge_of work.now)) }
     ensures lower { IfOk result (λ done. IsMergedDown (merge_of work.now) done.lower) }
-    ensures kept { IfOk result (λ _. PassesLimit work.now → ⊥) }
-    ensures limit { IsSoundStack work.now → result ≡ Err LimitOut → PassesLimit work.now }
+    ensures kept { IfOk result (λ _. PassesLimit (merge_of work.now) → ⊥) }
+    ensures limit { IsSoundStack work.now → result ≡ Err LimitOut → PassesLimit (merge_of work.now) }
     ensures two { result ≡ Err NoLower → ⊥ }
 {
+    // Each layer of a stack is one.
+    let _layers = work.stack.layers();
     let top = layer_of(alloc, root_of(alloc, work)?)?;
     let lower = layer_of(alloc, entries_of(alloc, work, &parcels)?)?;
     Ok(MergeDone { top, lower })
@@ -57,8 +60,18 @@ fn layer_of(alloc: Global, entries: Vec<(Path, Inode)>) -> Result<Layer, MergeFa
             let _root = layer.root();
             Ok(layer)
         }
-        Err(LayerFault::Memory) => Err(MergeFault::Memory),
-        Err(_) => Err(MergeFault::LimitOut),
+        Err(fault) => Err(refusal(fault)),
+    }
+}
+
+// What a fault of entries that are a layer, but for the limits, says.
+fn refusal(fault: LayerFault) -> MergeFault
+    ensures limit { result ≡ LimitOut → fault ≡ NoMemory → ⊥ }
+    ensures two { result ≡ NoLower → ⊥ }
+{
+    match fault {
+        LayerFault::Memory => MergeFault::Memory,
+        _ => MergeFault::LimitOut,
     }
 }
 
@@ -86,6 +99,7 @@ fn entries_of(
     requires { IsMergeWalk work.now (parcel_views inodes_seen parcels.now) }
     ensures { IfOk result (λ entries. entries.items ≡ new_entries (merge_of work.now)) }
 {
+    // Each layer of a stack is one.
     let _layers = work.stack.layers();
     let mut entries = root_of(alloc, work)?;
     push_under(alloc, parcels, 0, &mut entries)?;

@@ -1,6 +1,7 @@
 ghost use Rattle.std.specs.Prelude.{◌≡◌, ◌<◌, length, IfOk};
 ghost use Rattle.std.specs.Option.{option_map};
 ghost use Rattle.ovl_lookup.specs.Merged.{look as the_look};
+ghost use Rattle.ovl_lookup.specs.Passes.{kids_along};
 ghost use Rattle.ovl_merge.specs.Places.{merge_of, shows_at as shows_test, shows_directory_at as directory_test};
 ghost use Rattle.ovl_merge.specs.Directories.{base_names};
 
@@ -57,10 +58,19 @@ pub(crate) fn names_at(
     requires { 1 < length stack.now.layers }
     ensures { IfOk result (λ names. names.items ≡ base_names (merge_of stack.now).rest (option_map (λ path. path.now) place.entry)) }
 {
-    // Each of its layers is one.
-    let _layers = stack.layers();
     match place {
-        Some(path) => stack.names(alloc, 2, path),
+        Some(path) => names_in_rest(alloc, stack, path),
         None => Ok(Vec::new(alloc)),
     }
+}
+
+// The names that it shows in the directory of a path.
+fn names_in_rest(alloc: Global, stack: &Stack, path: &Path) -> Result<Vec<Name>, AllocError>
+    requires { 1 < length stack.now.layers }
+    ensures { IfOk result (λ names. names.items ≡ kids_along (merge_of stack.now).rest path.now) }
+{
+    // Each layer of a stack is one.
+    let _layers = stack.layers();
+    let names = stack.names(alloc, 2, path)?;
+    Ok(names)
 }

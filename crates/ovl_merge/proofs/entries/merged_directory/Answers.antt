@@ -1,16 +1,13 @@
-use Rattle.std.proofs.Common.{◌∙◌, sym, ap}
-use Rattle.std.proofs.lemmas.Result.{IfOk-weaker}
-use Rattle.ovl_inode.specs.Inodes.{visible}
+use Rattle.std.proofs.Common.{◌≡◌, subst}
+use Rattle.std.specs.Prelude.{IfOk}
+use Rattle.ovl_inode.specs.declared.inodes.Inode.{Inode}
 use Rattle.ovl_merge.specs.Places.{merge_of}
-use Rattle.ovl_merge.specs.MergeDown.{redirected_from, merged_directory}
-use Rattle.ovl_merge.proofs.VisitLemmas.{redirected-child}
+use Rattle.ovl_merge.proofs.VisitLemmas.{directory-told}
 use Rattle.ovl_merge.proofs.entries.merged_directory.Goals as goal
 
 pub returns-in-Some : goal.returns-in-Some
 returns-in-Some c =
-    let m = merge_of c.args._stack.now in
-    let path = c.args.place.now.path in
-    IfOk-weaker c.redirected.result _ _ (λ new h. h
-    ∙ ((λ j. redirected_from (c.requires.above.reach j) c.args.name.now (c.in_ok-shown.ensures j) c.in-Some.reach)
-    ∙ (redirected-child m c.args.above.now.path path c.args.name.now c.requires.path (visible c.args.inode.now) c.in-Some.reach
-    ∙ sym (ap (merged_directory m path c.args.inode.now) c.in-Some.is)))) c.redirected.ensures
+    subst (λ (i : Inode). IfOk c.redirected.result (λ new. new ≡ i))
+    (directory-told (merge_of c.args._stack.now) c.args.above.now.path c.args.place.now.path c.args.name.now c.requires.path c.args.inode.now c.in_ok-shown.shown c.in_ok-shown.ensures
+    c.args.above.now.reach c.args.place.now.reach c.requires.above.reach c.in-Some.reach c.in-Some.is)
+    c.redirected.ensures
