@@ -103,19 +103,6 @@ opaque-unshown m path place none =
     neither true = refl
     neither false = refl
 
-and_true : (a : Bool) → (a && true) ≡ a
-and_true true = refl
-and_true false = refl
-
--- what becomes of a name in a shown directory at which nothing is shown
-pub unshown-entry : (m : Merge) (dir path : PathNames) (name : PathName) → path ≡ child_path dir name → shows_own_directory m dir ≡ true → first_hit m path ≡ None
-    → merged_entry m path ≡ cond (is_hidden m path && shows_at m.rest (natural m path)) (Some new_whiteout) None
-unshown-entry m dir path name is shown none =
-    let above : shows_own_directory m (parent_path path) ≡ true = ap (λ (p : PathNames). shows_own_directory m (parent_path p)) is ∙ (ap (shows_own_directory m) (parent_path-child dir name) ∙ shown) in
-    ap (merged_entry_of m path) none
-    ∙ ((λ j. cond (is_hidden m path && above j && shows_at m.rest (natural m path)) (Some new_whiteout) None)
-    ∙ ap (λ (b : Bool). cond (b && shows_at m.rest (natural m path)) (Some new_whiteout) None) (and_true (is_hidden m path)))
-
 -- ---- redirects
 
 pub same-end : (one other : PathNames) (name : PathName) → path_eq (child_path one name) (child_path other name) ≡ path_eq one other

@@ -93,7 +93,11 @@ fn merged_directory(
     let shown = visible(alloc, inode)?;
     match &place.reach {
         Some(reach) => redirected(alloc, above, name, shown, reach),
-        None => if place.opaque { with_value(shown, overlay::OPAQUE, b"y") } else { Ok(shown) },
+        None => if place.opaque {
+            with_value(shown, overlay::OPAQUE, b"y")
+        } else {
+            Ok(shown)
+        },
     }
 }
 
@@ -152,7 +156,11 @@ fn name_in<'a>(dir: &Option<Path>, path: &'a Path) -> Option<&'a Name>
         return None;
     };
     match path.names().split_last() {
-        Some((last, above)) => if above == dir.names() { Some(last) } else { None },
+        Some((last, above)) => if above == dir.names() {
+            Some(last)
+        } else {
+            None
+        },
         None => None,
     }
 }

@@ -128,12 +128,7 @@ impl Passage {
 }
 
 // Whether a thing goes on where this walk of the lower layer does.
-fn goes_on(
-    alloc: Global,
-    stack: &Stack,
-    inode: &Inode,
-    lower: &Step,
-) -> Result<bool, AllocError>
+fn goes_on(alloc: Global, stack: &Stack, inode: &Inode, lower: &Step) -> Result<bool, AllocError>
     requires { 1 < length stack.now.layers }
     ensures { IfOk result (λ answer. answer ≡ goes_on_at (merge_of stack.now) inode.now lower.now.found lower.now.next) }
 {

@@ -42,7 +42,12 @@ impl Place {
     }
 
     // The place of a name in the directory of this one.
-    pub(crate) fn child(&self, alloc: Global, stack: &Stack, name: &Name) -> Result<Place, AllocError>
+    pub(crate) fn child(
+        &self,
+        alloc: Global,
+        stack: &Stack,
+        name: &Name,
+    ) -> Result<Place, AllocError>
         requires several { 1 < length stack.now.layers }
         requires is { IsPlace (merge_of stack.now) self.now }
         ensures path { IfOk result (λ place. place.path ≡ child_path self.now.path name.now) }
@@ -98,7 +103,11 @@ impl Place {
         if self.reach.is_some() {
             return self.reach.as_ref();
         }
-        if self.opaque { None } else { self.natural.as_ref() }
+        if self.opaque {
+            None
+        } else {
+            self.natural.as_ref()
+        }
     }
 
     fn is_shown_directory(&self) -> bool

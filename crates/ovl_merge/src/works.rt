@@ -118,11 +118,7 @@ fn inodes_at(alloc: Global, stack: &Stack, dir: &Path) -> Result<Vec<(Name, Inod
 }
 
 // The same, in a directory that they show at this place.
-fn inodes_in(
-    alloc: Global,
-    stack: &Stack,
-    place: &Place,
-) -> Result<Vec<(Name, Inode)>, AllocError>
+fn inodes_in(alloc: Global, stack: &Stack, place: &Place) -> Result<Vec<(Name, Inode)>, AllocError>
     requires several { 1 < length stack.now.layers }
     requires directory { IsDirectoryPlace (merge_of stack.now) place.now.path place.now }
     ensures { IfOk result (λ inodes. inodes.items ≡ entries_in (merge_of stack.now) place.now.path) }
