@@ -32,7 +32,7 @@ use Rattle.ovl_merge.proofs.LayerLemmas.{upper, lower, rest, own-shown}
 
 -- ---- ascending names
 
-abbrev NameBefore : PathName → PathName → Type 0
+abbrev pub NameBefore : PathName → PathName → Type 0
 NameBefore one other = name_cmp one other ≡ Less
 
 later-names : (first : PathName) (names : List PathName) → list_all (λ later. is_lt (name_cmp first later)) names ≡ true → Every (NameBefore first) names
@@ -46,14 +46,14 @@ later-names first (other ∷ names) all name h = by (later-names first names par
     by later (inl same) = ap (name_cmp first) same ∙ is_lt-Less (name_cmp first other) parts.0
     by later (inr h) = later h
 
-rising-names : (names : List PathName) → ascends name_cmp names ≡ true → Rises NameBefore names
+pub rising-names : (names : List PathName) → ascends name_cmp names ≡ true → Rises NameBefore names
 rising-names [] up = tt
 rising-names (name ∷ names) up =
     let parts = both {a = list_all (λ later. is_lt (name_cmp name later)) names} {b = ascends name_cmp names} up in
     (later-names name names parts.0, rising-names names parts.1)
 
 -- a name is one of them where the test says so
-any-In : (name : PathName) (names : List PathName) → list_any (name_eq name) names ≡ true → In name names
+pub any-In : (name : PathName) (names : List PathName) → list_any (name_eq name) names ≡ true → In name names
 any-In name [] any = let bad : false ≡ true = any in cc
 any-In name (other ∷ names) any = by (any-In name names) (name_eq name other) refl any
   where

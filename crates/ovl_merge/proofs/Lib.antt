@@ -15,6 +15,7 @@ pub mod ByteLemmas
 pub mod MergedEntries
 pub mod LayerLemmas
 pub mod DirectoryLemmas
+pub mod VisitLemmas
 pub mod UnderLemmas
 pub mod TreeLemmas
 pub mod FinishLemmas

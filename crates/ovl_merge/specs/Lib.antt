@@ -5,3 +5,4 @@ pub mod Laws
 pub mod Directories
 pub mod Passes
 pub mod Limits
+pub mod Reckoned
