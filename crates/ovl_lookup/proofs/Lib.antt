@@ -26,4 +26,9 @@ pub mod ShownLaws
 pub mod StatedLaws
 pub mod TopLaws
 pub mod MapLaws
+pub mod NameParts
+pub mod NamedWalks
+pub mod BeyondLaws
+pub mod PassLaws
+pub mod CourseLaws
 mod Rows

@@ -1,7 +1,8 @@
 -- Sound stacks, entry by entry.
-use Rattle.std.proofs.Common.{◌≡◌, Bool, true, false, Some, List, [], ◌∷◌, refl, sym, ap, ◌∙◌}
+use Rattle.std.proofs.Common.{◌≡◌, true, false, Some, List, [], ◌∷◌, refl, sym, ap, ◌∙◌}
 use Rattle.std.specs.Prelude.{◌||◌, ◌&&◌, not}
 use Rattle.std.specs.List.{list_all}
+use Rattle.std.proofs.lemmas.Bool.{or_parts}
 use Rattle.ovl_names.specs.Order.{ascends}
 use Rattle.ovl_names.specs.Paths.{PathNames}
 use Rattle.ovl_names.proofs.Ascending.{both, not_true}
@@ -23,10 +24,6 @@ pub record Faultless (layer : Entries) (below : StackView) (path : PathNames) (i
   pub full : data_is_missing layer below path inode ≡ false
   pub sized : data_is_of_other_size layer below path inode ≡ false
 
-neither : (a b : Bool) → (a || b) ≡ false → (a ≡ false) × (b ≡ false)
-neither true b e = let bad : true ≡ false = e in cc
-neither false b e = (refl, e)
-
 module _ (layer : Entries) (below : StackView) (path : PathNames) (inode : Inode) where
   pub faultless-parts : is_faulty layer below (path, inode) ≡ false → Faultless layer below path inode
   faultless-parts none =
@@ -37,12 +34,12 @@ module _ (layer : Entries) (below : StackView) (path : PathNames) (inode : Inode
       let o = redirect_is_open layer path in
       let f = data_is_missing layer below path inode in
       let s = data_is_of_other_size layer below path inode in
-      let six = neither (m || l || k || d || o || f) s none in
-      let five = neither (m || l || k || d || o) f six.0 in
-      let four = neither (m || l || k || d) o five.0 in
-      let three = neither (m || l || k) d four.0 in
-      let two = neither (m || l) k three.0 in
-      let one = neither m l two.0 in
+      let six = or_parts (m || l || k || d || o || f) s none in
+      let five = or_parts (m || l || k || d || o) f six.0 in
+      let four = or_parts (m || l || k || d) o five.0 in
+      let three = or_parts (m || l || k) d four.0 in
+      let two = or_parts (m || l) k three.0 in
+      let one = or_parts m l two.0 in
       record { formed = one.0; found = one.1; fitting = two.1; single = three.1; hidden = four.1; full = five.1; sized = six.1 }
 
   pub faultless-whole : Faultless layer below path inode → is_faulty layer below (path, inode) ≡ false

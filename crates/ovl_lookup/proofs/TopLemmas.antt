@@ -10,6 +10,7 @@ use Rattle.std.specs.Cmp.Lexicographic.{bytes_decides}
 use Rattle.std.specs.declared.cmp.Ordering.{Ordering}
 use Rattle.std.specs.declared.cmp.Ordering.TheVariants.{Less, Equal, Greater}
 use Rattle.std.proofs.Math.Bool.{or-true, or-false, and-false}
+use Rattle.std.proofs.lemmas.Bool.{or_parts}
 use Rattle.std.proofs.Math.Seq.{drop-append_seam}
 use Rattle.std.proofs.lemmas.List.{append-nil}
 use Rattle.std.proofs.lemmas.List.Elements.{All-from_recursion}
@@ -53,14 +54,10 @@ found-unnamed layers name place rest absent = found-skip layers name place rest 
     by None e = refl
     by (Some inode) e = let bad : true ≡ false = sym (entry-named layers name place inode e) ∙ absent in cc
 
-neither : (a b : Bool) → (a || b) ≡ false → (a ≡ false) × (b ≡ false)
-neither true b e = let bad : true ≡ false = e in cc
-neither false b e = (refl, e)
-
 pub found-past : (layers : List Entries) (name : PathName) (front rest : List Reached) → list_any (name_eq name) (flat_map (names_in layers) front) ≡ false → found_below layers name (front ++ rest) ≡ found_below layers name rest
 found-past layers name [] rest absent = refl
 found-past layers name (place ∷ front) rest absent =
-    let parts = neither (list_any (name_eq name) (names_in layers place)) (list_any (name_eq name) (flat_map (names_in layers) front)) (sym (list_any-append (name_eq name) (names_in layers place) (flat_map (names_in layers) front)) ∙ absent) in
+    let parts = or_parts (list_any (name_eq name) (names_in layers place)) (list_any (name_eq name) (flat_map (names_in layers) front)) (sym (list_any-append (name_eq name) (names_in layers place) (flat_map (names_in layers) front)) ∙ absent) in
     found-unnamed layers name place (front ++ rest) parts.0 ∙ found-past layers name front rest parts.1
 
 -- where something is found, the name is one of those in the places
@@ -159,7 +156,7 @@ module _ (layers : List Entries) (places : List Reached) where
   put_tops-is i inside (name ∷ more) names tops are fresh =
       subst (λ (ns : List PathName). AreTops layers places ns (put_tops (put_top tops i name) i more)) (append_assoc names (name ∷ []) more)
       (put_tops-is i inside more (names ++ name ∷ []) (put_top tops i name) (put_top-is i inside name names tops are (fresh name))
-      (λ n absent. fresh n (neither (list_any (name_eq n) names) (list_any (name_eq n) (name ∷ [])) (sym (list_any-append (name_eq n) names (name ∷ [])) ∙ absent)).0))
+      (λ n absent. fresh n (or_parts (list_any (name_eq n) names) (list_any (name_eq n) (name ∷ [])) (sym (list_any-append (name_eq n) names (name ∷ [])) ∙ absent)).0))
 
   tops_along-are : (front rest : List Reached) (i : ℕ) (tops : List (PathName × ℕ)) → i ≡ length front → front ++ rest ≡ places → AreTops layers places (flat_map (names_in layers) front) tops → AreTops layers places (flat_map (names_in layers) places) (tops_along layers tops i rest)
   tops_along-are front [] i tops at whole are = subst (λ (ps : List Reached). AreTops layers places (flat_map (names_in layers) ps) tops) (sym (append-nil front) ∙ whole) are

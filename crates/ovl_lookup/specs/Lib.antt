@@ -11,3 +11,5 @@ pub mod DirViews
 pub mod Laws
 pub mod Equal
 pub mod EqualLaws
+pub mod Courses
+pub mod WalkLaws

@@ -1,5 +1,7 @@
-//! Laws of the merged tree; the contract of each is its statement.
+//! Laws of walks and of the merged tree; the contract of each is its statement.
+ghost use Rattle.ovl_lookup.specs.Courses.{CoursesJoin, TurnsByCourse, WalksSplit, AbsoluteRedirectsLead, RelativeRedirectsLead, WalksPass, FoundSplits};
 ghost use Rattle.ovl_lookup.specs.Laws.{ShowsParents, ShowsWithinDepth, ViewsGoOn, ViewsFind, ViewsShow, ViewsStand, ViewsLook};
+ghost use Rattle.ovl_lookup.specs.WalkLaws.{WalksEnter, WalksEnd, WalksPassOver, FilesClose, WalksKeepNames, WalksStayBelowRoot};
 
 /// The merged tree is closed under parents: where something is shown in a directory, that directory is shown.
 pub fn merged_tree_has_parents()
@@ -34,4 +36,69 @@ pub fn views_find()
 /// The looks of all names in a directory, by the first place of its view that has the name.
 pub fn views_look()
     ensures { ViewsLook }
+{}
+
+/// A course splits where its path does.
+pub fn courses_join()
+    ensures { CoursesJoin }
+{}
+
+/// The turn of a directory comes from one above it by the course between.
+pub fn turns_by_course()
+    ensures { TurnsByCourse }
+{}
+
+/// A walk splits at a directory.
+pub fn walks_split()
+    ensures { WalksSplit }
+{}
+
+/// Everything under an absolute redirect goes on from there.
+pub fn absolute_redirects_lead()
+    ensures { AbsoluteRedirectsLead }
+{}
+
+/// Everything under a relative redirect goes on beside it.
+pub fn relative_redirects_lead()
+    ensures { RelativeRedirectsLead }
+{}
+
+/// Everything under what a layer passes goes on by its own names.
+pub fn walks_pass()
+    ensures { WalksPass }
+{}
+
+/// What layers find is found by the first of them and then by the others.
+pub fn found_splits()
+    ensures { FoundSplits }
+{}
+
+/// A walk goes on into a directory by the mark of that.
+pub fn walks_enter()
+    ensures { WalksEnter }
+{}
+
+/// A walk ends at the first name that is no directory.
+pub fn walks_end()
+    ensures { WalksEnd }
+{}
+
+/// A layer that is passed with one more name is passed without it.
+pub fn walks_pass_over()
+    ensures { WalksPassOver }
+{}
+
+/// A file that is no metacopy file closes its walk.
+pub fn files_close()
+    ensures { FilesClose }
+{}
+
+/// Where a walk goes on there are names alone.
+pub fn walks_keep_names()
+    ensures { WalksKeepNames }
+{}
+
+/// The walk of a path below the root goes on below the root.
+pub fn walks_stay_below_root()
+    ensures { WalksStayBelowRoot }
 {}

@@ -1,0 +1,5 @@
+use Rattle.ovl_lookup.proofs.PassLaws.{found-closes}
+use Rattle.ovl_lookup.proofs.laws.files_close.Goals as goal
+
+pub returns : goal.returns
+returns c = found-closes

@@ -1,0 +1,5 @@
+use Rattle.ovl_lookup.proofs.NamedWalks.{walk-named}
+use Rattle.ovl_lookup.proofs.laws.walks_keep_names.Goals as goal
+
+pub returns : goal.returns
+returns c = walk-named

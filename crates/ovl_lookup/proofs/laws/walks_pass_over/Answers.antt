@@ -1,0 +1,5 @@
+use Rattle.ovl_lookup.proofs.PassLaws.{passes-over}
+use Rattle.ovl_lookup.proofs.laws.walks_pass_over.Goals as goal
+
+pub returns : goal.returns
+returns c = passes-over

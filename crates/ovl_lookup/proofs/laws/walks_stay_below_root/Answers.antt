@@ -1,0 +1,5 @@
+use Rattle.ovl_lookup.proofs.NamedWalks.{walk-below_root}
+use Rattle.ovl_lookup.proofs.laws.walks_stay_below_root.Goals as goal
+
+pub returns : goal.returns
+returns c = walk-below_root
