@@ -21,6 +21,7 @@ use Rattle.ovl_lookup.specs.Walk.{walk, walk_to_file, nothing_found}
 use Rattle.ovl_lookup.specs.Trace.{things_found}
 use Rattle.ovl_lookup.specs.Merged.{look, shows, shows_directory}
 use Rattle.ovl_lookup.specs.Passes.{entered_path, entered_closed}
+use Rattle.ovl_lookup.specs.WalkLaws.{PassesOver}
 use Rattle.ovl_lookup.proofs.WalkFacts.{length-child, parent_path-child, lookup-all}
 use Rattle.ovl_lookup.proofs.FoundLemmas.{things_found-step, metacopy-file}
 use Rattle.ovl_lookup.proofs.ChildLemmas.{all-first, all-rest, child_found, any_found, starts_directory, walk-below, Below}
@@ -31,10 +32,10 @@ use Rattle.ovl_merge.specs.MergeDown.{with_value, last_name, redirected, redirec
 use Rattle.ovl_merge.proofs.Values.{with_metacopy, mark-copied, mark-copied_moved, mark-plain, mark-opaque, mark-moved}
 use Rattle.ovl_lookup.proofs.WalkLaws.{directory_found, by_child}
 use Rattle.ovl_lookup.proofs.ChildLaws.{walk-child_directory, walk-child_end}
-use Rattle.ovl_merge.proofs.BeyondLemmas.{walk-child_beyond}
+use Rattle.ovl_lookup.proofs.BeyondLaws.{walk-child_beyond}
 use Rattle.ovl_merge.proofs.Redirects.{redirect-absolute, redirect-beside}
-use Rattle.ovl_merge.proofs.Named.{walk-named, walk-below_root}
-use Rattle.ovl_merge.proofs.Steps.{file-found, file-is_found, whiteout-closes, PassesOver, passes-over}
+use Rattle.ovl_lookup.proofs.NamedWalks.{walk-named, walk-below_root}
+use Rattle.ovl_lookup.proofs.PassLaws.{file-found, file-is_found, whiteout-closes, passes-over}
 use Rattle.ovl_merge.proofs.Firsts.{first_hit-steps, first_step, found-first_hit, first_of-hits, first-none, first-cons, PassesBoth, passes-found, unshown, hit-no_whiteout}
 use Rattle.ovl_merge.proofs.Inodes.{IsOther, merged-metacopy, merged-directory, merged-is_directory, merged-is_other}
 
@@ -286,8 +287,8 @@ module _ (m : Merge) (new : Entries) (each : All IsLayer (whole m).layers) (laye
   place-facts : (path : PathNames) (inode : Inode) → entry_at new path ≡ Some inode → is_root path ≡ false → (has_names (rest_path m path) ≡ true) × (is_root (rest_path m path) ≡ false)
   place-facts path inode here deeper =
       let named : has_names path ≡ true = lookup-all (λ entry. has_names entry.0) path new inode layered.named here in (
-        walk-named m.lower (lower_path m path) lower (walk-named m.upper path upper named),
-        walk-below_root m.lower (lower_path m path) lower (walk-below_root m.upper path upper deeper),
+        walk-named m.lower (lower_path m path) (walk-named m.upper path named),
+        walk-below_root m.lower (lower_path m path) (walk-below_root m.upper path deeper),
       )
 
   -- ---- a shown directory

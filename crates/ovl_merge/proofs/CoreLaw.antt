@@ -21,10 +21,10 @@ use Rattle.ovl_lookup.proofs.ChildLemmas.{all-first, all-rest}
 use Rattle.ovl_lookup.proofs.ShownLaws.{attribute-hidden}
 use Rattle.ovl_merge.specs.Places.{Merge, whole, two_layers, lower_path, rest_path, is_open, first_hit, passes, shows_own_directory, shows_directory_at, is_nothing_or, is_shown_regular, goes_on, reach, reach_of, base, natural, gets_opaque}
 use Rattle.ovl_merge.specs.MergeDown.{merged_inode, merged_metacopy, IsMergedDown}
-use Rattle.ovl_merge.specs.Courses.{through, look_on}
+use Rattle.ovl_lookup.specs.Courses.{through, look_on}
 use Rattle.ovl_merge.specs.Laws.{MergeHasCore}
 use Rattle.ovl_lookup.proofs.WalkLaws.{directory_found}
-use Rattle.ovl_merge.proofs.Steps.{found-closes}
+use Rattle.ovl_lookup.proofs.PassLaws.{found-closes}
 use Rattle.ovl_merge.proofs.Firsts.{hit-no_whiteout, found-whole, hit-from}
 use Rattle.ovl_lookup.proofs.LookLaws.{data-regular}
 use Rattle.ovl_merge.proofs.Inodes.{bare-kind, merged-is_other, merged-metacopy, merged-other, with_contents-attrs}

@@ -38,10 +38,10 @@ use Rattle.ovl_lookup.proofs.StatedLaws.{found-all, data-all, data-kind, sound-w
 use Rattle.ovl_merge.specs.Places.{Merge, whole, two_layers, lower_path, first_hit, passes, shows_own_directory, is_hidden, reach, gets_opaque, natural, base, child_of, shows_at}
 use Rattle.ovl_merge.specs.MergeDown.{with_value, last_name, with_contents, merged_directory, merged_metacopy, merged_inode, merged_entry, merged_entry_of, needs_whiteout, new_whiteout, IsMergedDown}
 use Rattle.ovl_merge.specs.Laws.{MergeGivesLayer}
-use Rattle.ovl_merge.proofs.NameParts.{name_facts}
+use Rattle.ovl_lookup.proofs.NameParts.{name_facts}
 use Rattle.ovl_merge.proofs.ByteLemmas.{utf8-bytes}
 use Rattle.ovl_merge.proofs.Redirects.{slashed-utf8}
-use Rattle.ovl_merge.proofs.Named.{walk-named}
+use Rattle.ovl_lookup.proofs.NamedWalks.{walk-named}
 use Rattle.ovl_merge.proofs.Values.{attribute-other, with_metacopy}
 use Rattle.ovl_merge.proofs.Firsts.{whole-first, rest_of, first-cons, first_of-hits}
 use Rattle.ovl_merge.proofs.Inodes.{merged-directory, merged-metacopy, merged-other, redirected-cases}
@@ -151,7 +151,7 @@ module _ (m : Merge) (each : All IsLayer (whole m).layers) where
   reach-named : (path place : PathNames) → has_names path ≡ true → reach m path ≡ Some place → has_names place ≡ true
   reach-named path place named e =
       ap has_names (reach-is m path place e)
-      ∙ walk-named m.lower (lower_path m path) lower (walk-named m.upper path upper named)
+      ∙ walk-named m.lower (lower_path m path) (walk-named m.upper path named)
 
   -- ---- what an entry of the merge is: a new inode, or a whiteout
 

@@ -1,8 +1,3 @@
-pub mod NameParts
-pub mod Named
-pub mod BeyondLemmas
-pub mod Steps
-pub mod Courses
 pub mod Redirects
 pub mod Values
 pub mod Firsts

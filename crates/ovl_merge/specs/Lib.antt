@@ -1,6 +1,5 @@
 pub mod Places
 pub mod MergeDown
-pub mod Courses
 pub mod Laws
 pub mod Directories
 pub mod Passes

@@ -8,7 +8,6 @@ pub mod laws;
 mod passages;
 mod places;
 mod rest;
-pub mod walks;
 mod works;
 
 pub use faults::MergeFault;
