@@ -2,7 +2,7 @@
 ghost use Rattle.std.specs.Prelude.{◌≡◌, IfOk, false};
 ghost use Rattle.clap.specs.Words.{app_of, rule_of};
 ghost use Rattle.clap.specs.declared.builder.command.Command.TheViews.{out-Command as fields_of};
-ghost use Rattle.ovl_layers.specs.Grammar.{blobs_rule, default_word, default_workers, folders_shape, fsck_shape, layers_rule, out_rule, rewriting_shape, show_shape, tool_app, workers_rule};
+ghost use Rattle.ovl_layers.specs.Grammar.{bare_app, blobs_rule, default_word, default_workers, folders_shape, fsck_shape, layers_rule, out_rule, rewriting_shape, show_shape, tool_app, workers_rule};
 ghost use Rattle.ovl_layers.specs.Lines.{number_in};
 ghost use Rattle.clap.specs.Simple.{shape_of};
 
@@ -91,18 +91,25 @@ Example:
 pub fn tool<'a>(alloc: Global) -> Result<Command<'a>, AllocError>
     ensures { IfOk result (λ command. app_of command ≡ tool_app) }
 {
-    Command::new(alloc, NAME)
+    bare(alloc)?
+        .subcommand(show(alloc)?)?
+        .subcommand(fsck(alloc)?)?
+        .subcommand(rewriting(alloc, "vacuum", VACUUM, VACUUM_EXAMPLE)?)?
+        .subcommand(rewriting(alloc, "deref", DEREF, DEREF_EXAMPLE)?)
+}
+
+// The program's own level, without its commands.
+fn bare<'a>(alloc: Global) -> Result<Command<'a>, AllocError>
+    ensures { IfOk result (λ command. app_of command ≡ bare_app) }
+{
+    Ok(Command::new(alloc, NAME)
         .bin_name(NAME)?
         .version(VERSION)
         .no_binary_name(true)
         .subcommand_required(true)
         .disable_help_subcommand(true)
         .about(ABOUT)
-        .after_help(MORE)
-        .subcommand(show(alloc)?)?
-        .subcommand(fsck(alloc)?)?
-        .subcommand(rewriting(alloc, "vacuum", VACUUM, VACUUM_EXAMPLE)?)?
-        .subcommand(rewriting(alloc, "deref", DEREF, DEREF_EXAMPLE)?)
+        .after_help(MORE))
 }
 
 fn show<'a>(alloc: Global) -> Result<Command<'a>, AllocError>
