@@ -1,0 +1,22 @@
+pub mod NameParts
+pub mod Named
+pub mod BeyondLemmas
+pub mod Steps
+pub mod Courses
+pub mod Redirects
+pub mod Values
+pub mod Firsts
+pub mod Inodes
+pub mod Core
+pub mod CoreLaw
+pub mod SoundHits
+pub mod Tree
+pub mod ByteLemmas
+pub mod MergedEntries
+pub mod LayerLemmas
+pub mod DirectoryLemmas
+pub mod VisitLemmas
+pub mod UnderLemmas
+pub mod TreeLemmas
+pub mod FinishLemmas
+mod Rows

@@ -1,0 +1,98 @@
+-- Worked examples of a merge, by computation.
+use Rattle.std.specs.Prelude.{◌≡◌, ◌∷◌, [], codes, Some, None, refl}
+use Rattle.ovl_inode.specs.declared.inodes.Inode.{Inode}
+use Rattle.ovl_inode.proofs.OnLiterals.{inode_on_literals}
+use Rattle.ovl_manifest.specs.Layers.{Entries}
+use Rattle.ovl_lookup.proofs.Notation.{directory, opaque, moved, file_a, metacopy, path, layer_of, whiteout}
+use Rattle.ovl_lookup.proofs.RowStacks.{stack_of, moved_in_opaque, top_of_moved_in_opaque, metacopies_over}
+use Rattle.ovl_merge.specs.Places.{Merge, merge_of, natural, reach}
+use Rattle.ovl_merge.specs.MergeDown.{merged_entry, new_whiteout}
+use Rattle.ovl_merge.specs.Passes.{new_entries}
+
+-- a redirect in an opaque directory, to the layer below, and to one under that
+in_opaque : new_entries (merge_of moved_in_opaque) ≡ layer_of (
+    (path (codes "/n"), directory)
+    ∷ (path (codes "/n/d"), directory)
+    ∷ (path (codes "/n/d/k"), file_a)
+    ∷ [])
+unfolding inode_on_literals
+in_opaque = refl
+
+abbrev in_opaque_over : Merge
+in_opaque_over = merge_of (stack_of (top_of_moved_in_opaque
+    ∷ layer_of []
+    ∷ layer_of (
+    (path (codes "/n"), directory)
+    ∷ (path (codes "/n/z"), file_a)
+    ∷ (path (codes "/x"), directory)
+    ∷ (path (codes "/x/k"), file_a)
+    ∷ [])
+    ∷ []))
+
+in_opaque_below : new_entries in_opaque_over ≡ layer_of (
+    (path (codes "/n"), opaque)
+    ∷ (path (codes "/n/d"), moved (codes "/x"))
+    ∷ (path (codes "/x"), new_whiteout)
+    ∷ [])
+unfolding inode_on_literals
+in_opaque_below = refl
+
+-- a metacopy file over another, over its data
+metacopies : new_entries (merge_of (metacopies_over file_a)) ≡ layer_of ((path (codes "/f"), metacopy 1) ∷ [])
+unfolding inode_on_literals
+metacopies = refl
+
+-- a directory of the lower layer that the upper one moves, over this rest
+abbrev moved_over : Entries → Merge
+moved_over rest = merge_of (stack_of (layer_of ((path (codes "/a"), whiteout) ∷ (path (codes "/b"), moved (codes "/a")) ∷ [])
+    ∷ layer_of ((path (codes "/a"), directory) ∷ (path (codes "/a/k"), file_a) ∷ [])
+    ∷ layer_of rest
+    ∷ []))
+
+-- the merged directory, with this inode
+abbrev moved_there : Inode → Entries
+moved_there inode = layer_of ((path (codes "/b"), inode) ∷ (path (codes "/b/k"), file_a) ∷ [])
+
+moved_over_own : new_entries (moved_over ((path (codes "/b"), directory) ∷ (path (codes "/b/z"), file_a) ∷ [])) ≡ moved_there opaque
+unfolding inode_on_literals
+moved_over_own = refl
+
+moved_over_nothing : new_entries (moved_over []) ≡ moved_there directory
+unfolding inode_on_literals
+moved_over_nothing = refl
+
+moved_over_file : new_entries (moved_over ((path (codes "/b"), file_a) ∷ [])) ≡ moved_there directory
+unfolding inode_on_literals
+moved_over_file = refl
+
+moved_over_old : new_entries (moved_over ((path (codes "/a"), directory) ∷ [])) ≡ layer_of (
+    (path (codes "/a"), new_whiteout)
+    ∷ (path (codes "/b"), moved (codes "a"))
+    ∷ (path (codes "/b/k"), file_a)
+    ∷ [])
+unfolding inode_on_literals
+moved_over_old = refl
+
+-- a directory that both layers move
+abbrev both_move : Merge
+both_move = merge_of (stack_of (layer_of ((path (codes "/a"), whiteout) ∷ (path (codes "/b"), moved (codes "/a")) ∷ [])
+    ∷ layer_of ((path (codes "/a"), moved (codes "/x")) ∷ (path (codes "/x"), whiteout) ∷ [])
+    ∷ layer_of ((path (codes "/x"), directory) ∷ (path (codes "/x/k"), file_a) ∷ [])
+    ∷ []))
+
+moved_twice : new_entries both_move ≡ layer_of ((path (codes "/b"), moved (codes "x")) ∷ (path (codes "/x"), new_whiteout) ∷ [])
+unfolding inode_on_literals
+moved_twice = refl
+
+-- its reach, its natural place, and a name under it, which the rest alone has
+moved_twice-reach : reach both_move (path (codes "/b")) ≡ Some (path (codes "/x"))
+unfolding inode_on_literals
+moved_twice-reach = refl
+
+moved_twice-natural : natural both_move (path (codes "/b")) ≡ Some (path (codes "/b"))
+unfolding inode_on_literals
+moved_twice-natural = refl
+
+moved_twice-under : merged_entry both_move (path (codes "/b/k")) ≡ None
+unfolding inode_on_literals
+moved_twice-under = refl

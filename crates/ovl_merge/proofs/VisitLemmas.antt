@@ -1,0 +1,301 @@
+-- What a visit of a merge reckons.
+use Rattle.std.proofs.Common.{◌≡◌, ℕ, ◌+◌, ◌<◌, inl, inr, get_or, subst, Bool, true, false, cond, Option, Some, None, is_some, List, [], ◌∷◌, ◌++◌, length, take, drop, refl, sym, ap, ◌∙◌, append_assoc, arith}
+use Rattle.std.specs.Prelude.{◌&&◌, ◌||◌, not, is_none, slice_get, unwrap_or, IfSome}
+use Rattle.std.specs.Option.{option_map}
+use Rattle.std.specs.List.{cons_option, filter_map, list_any, All}
+use Rattle.std.specs.declared.cmp.Ordering.TheVariants.{Less, Equal}
+use Rattle.std.specs.Cmp.Lexicographic.{pointwise_decides, bytes_decides, nat_list_cmp_total}
+use Rattle.std.proofs.lemmas.List.{append-nil, take-append-drop, take_more}
+use Rattle.std.proofs.lemmas.List.Elements.{filter_map-append}
+use Rattle.ovl_names.specs.Names.{PathName, name_eq}
+use Rattle.ovl_names.specs.Paths.{PathNames, child_path, parent_path, path_eq, path_text, is_root}
+use Rattle.ovl_inode.specs.declared.inodes.Inode.{Inode}
+use Rattle.ovl_inode.specs.Attributes.{redirect_name, metacopy_name}
+use Rattle.ovl_inode.specs.Marks.{is_directory}
+use Rattle.ovl_inode.specs.Inodes.{visible}
+use Rattle.ovl_manifest.specs.Layers.{Entries, IsLayer, names_below}
+use Rattle.ovl_manifest.proofs.OpenLemmas.{name_cmp-same}
+use Rattle.ovl_lookup.specs.declared.steps.Step.{Step}
+use Rattle.ovl_lookup.specs.declared.looks.Look.{Look}
+use Rattle.ovl_lookup.specs.Walk.{walk}
+use Rattle.ovl_lookup.specs.Stacks.{StackView}
+use Rattle.ovl_lookup.specs.Passes.{own_names_along, put_names, kids_along}
+use Rattle.ovl_lookup.specs.Merged.{look, AreKids}
+use Rattle.ovl_lookup.specs.Words.{top_layer, lower_layers}
+use Rattle.ovl_lookup.proofs.WalkFacts.{length-child, parent_path-child}
+use Rattle.ovl_lookup.proofs.KidLemmas.{put_names-append, kids-ascend, kids-same}
+use Rattle.ovl_board.proofs.Members.{In, rising_same}
+use Rattle.ovl_merge.specs.declared.passages.Passage.{Passage}
+use Rattle.ovl_merge.specs.declared.places.Place.{Place}
+use Rattle.ovl_merge.specs.Places.{Merge, whole, two_layers, merge_of, lower_path, first_hit, passes, shows_own_directory, is_hidden, reach, reach_of, shows_directory_at, shows_at, gets_opaque_at, natural, base}
+use Rattle.ovl_merge.specs.MergeDown.{with_value, with_contents, last_name, redirected, redirected_from, merged_directory, merged_metacopy, merged_inode, new_whiteout, merged_entry, merged_entry_of}
+use Rattle.ovl_merge.specs.Directories.{NamedInode, named_inode, candidate_names, entries_in}
+use Rattle.ovl_merge.specs.Reckoned.{IsPassage, IsPlace, found_by, first_in, next_of, goes_on_at, base_in, name_directly_in}
+use Rattle.ovl_merge.proofs.Firsts.{first_step, first_hit-steps}
+use Rattle.ovl_merge.proofs.Core.{last_name-child}
+use Rattle.ovl_merge.proofs.MergedEntries.{entry-stands}
+use Rattle.ovl_merge.proofs.DirectoryLemmas.{NameBefore, rising-names, any-In}
+use Rattle.ovl_merge.proofs.FinishLemmas.{merge-whole}
+
+-- ---- the stack
+
+-- its two topmost layers
+pub upper-layer : (stack : StackView) → 1 < length stack.layers → (P : Entries → Type 0) → IfSome (slice_get stack.layers 0) P → P (top_layer stack)
+upper-layer stack several P = by stack.layers several
+  where
+    by : (layers : List Entries) → 1 < length layers → IfSome (slice_get layers 0) P → P (unwrap_or (slice_get layers 0) [])
+    by [] none h = absurd (omega (arith, none))
+    by (upper ∷ layers) several h = h
+
+pub lower-layer : (stack : StackView) → 1 < length stack.layers → (P : Entries → Type 0) → IfSome (slice_get stack.layers 1) P → P (top_layer (lower_layers stack))
+lower-layer stack several P = by stack.layers several
+  where
+    by : (layers : List Entries) → 1 < length layers → IfSome (slice_get layers 1) P → P (unwrap_or (slice_get (drop 1 layers) 0) [])
+    by [] none h = absurd (omega (arith, none))
+    by (upper ∷ []) none h = absurd (omega (arith, none))
+    by (upper ∷ lower ∷ layers) several h = h
+
+-- ---- what the walks of a path find
+
+pub passage-first : (m : Merge) (path : PathNames) (passage : Passage) → IsPassage m path passage → first_in passage ≡ first_hit m path
+passage-first m path passage is =
+    (λ j. cond (is_some (is.upper j).found) (is.upper j).found (found_by (is.lower j)))
+    ∙ (by (walk m.upper path).found (walk m.upper path).closed (walk m.lower (lower_path m path)) ∙ sym (first_hit-steps m path))
+  where
+    end : (found : Option Inode) (closed : Bool) → found ≡ first_step found closed None
+    end (Some inode) closed = refl
+    end None true = refl
+    end None false = refl
+
+    by : (found : Option Inode) (closed : Bool) (step : Step) → cond (is_some found) found (found_by (cond closed None (Some step))) ≡ first_step found closed (first_step step.found step.closed None)
+    by (Some inode) closed step = refl
+    by None true step = refl
+    by None false step = end step.found step.closed
+
+-- where a thing that is found goes on, by the walk of the lower layer
+pub reach-told : (m : Merge) (path : PathNames) (passage : Passage) → IsPassage m path passage → (inode : Inode) → Some inode ≡ first_in passage → (lower : Step) → passage.lower ≡ Some lower → lower.closed ≡ false
+    → reach m path ≡ cond (goes_on_at m inode lower.found lower.next) (Some lower.next) None
+reach-told m path passage is inode first lower there opened = by (walk m.upper path).closed refl (sym is.lower ∙ there)
+  where
+    by : (closed : Bool) → (walk m.upper path).closed ≡ closed → cond (walk m.upper path).closed None (Some (walk m.lower (lower_path m path))) ≡ Some lower → reach m path ≡ cond (goes_on_at m inode lower.found lower.next) (Some lower.next) None
+    by true e k = let bad : None ≡ Some lower = sym (ap (λ (c : Bool). cond c None (Some (walk m.lower (lower_path m path)))) e) ∙ k in cc
+    by false e k =
+        let some : Some (walk m.lower (lower_path m path)) ≡ Some lower = sym (ap (λ (c : Bool). cond c None (Some (walk m.lower (lower_path m path)))) e) ∙ k in
+        let w : walk m.lower (lower_path m path) ≡ lower = cc in
+        ap (reach_of m path) (sym (first ∙ passage-first m path passage is))
+        ∙ ((λ j. cond ((not (e j) && not (w j).closed) && goes_on_at m inode (w j).found (w j).next) (Some (w j).next) None)
+        ∙ (λ j. cond (not (opened j) && goes_on_at m inode lower.found lower.next) (Some lower.next) None))
+
+-- ---- places
+
+pub base-told : (m : Merge) (place : Place) → IsPlace m place → base_in place ≡ base m place.path
+base-told m place is = λ j. cond (is_some (is.reach j)) (is.reach j) (cond (is.opaque j) None (is.natural j))
+
+pub lower-told : (m : Merge) (path : PathNames) (passage : Passage) → IsPassage m path passage → next_of (Some passage.upper) ≡ cond (walk m.upper path).closed None (Some (lower_path m path))
+lower-told m path passage is = ap (λ (step : Step). cond step.closed None (Some step.next)) is.upper
+
+pub opaque-unshown : (m : Merge) (path : PathNames) (place : Option PathNames) → shows_own_directory m path ≡ false → gets_opaque_at m path place ≡ false
+opaque-unshown m path place none =
+    (λ j. not (is_root path) && none j && is_none (reach m path) && shows_directory_at m.rest place)
+    ∙ ap (λ (b : Bool). b && is_none (reach m path) && shows_directory_at m.rest place) (neither (not (is_root path)))
+  where
+    neither : (a : Bool) → (a && false) ≡ false
+    neither true = refl
+    neither false = refl
+
+-- ---- redirects
+
+pub same-end : (one other : PathNames) (name : PathName) → path_eq (child_path one name) (child_path other name) ≡ path_eq one other
+same-end one other name = by (path_eq (child_path one name) (child_path other name)) refl (path_eq one other) refl
+  where
+    by : (a : Bool) → path_eq (child_path one name) (child_path other name) ≡ a → (b : Bool) → path_eq one other ≡ b → path_eq (child_path one name) (child_path other name) ≡ path_eq one other
+    by true e true f = e ∙ sym f
+    by false e false f = e ∙ sym f
+    by true e false f =
+        let paths : one ≡ other = sym (parent_path-child one name) ∙ (ap parent_path ((pointwise_decides bytes_decides (child_path one name) (child_path other name)).0 e) ∙ parent_path-child other name) in
+        let bad : false ≡ true = sym f ∙ (pointwise_decides bytes_decides one other).1 paths in cc
+    by false e true f =
+        let bad : false ≡ true = sym e ∙ (pointwise_decides bytes_decides (child_path one name) (child_path other name)).1 (ap (λ (p : PathNames). child_path p name) ((pointwise_decides bytes_decides one other).0 f)) in cc
+
+-- the name by which a path lies directly in a directory
+pub name-in : (dir path above : PathNames) (last : PathName) → path ≡ above ++ last ∷ [] → (b : Bool) → path_eq above dir ≡ b → cond b (Some last) None ≡ name_directly_in (Some dir) path
+name-in dir path above last is b same =
+    let own : last_name path ≡ last = ap last_name is ∙ last_name-child above last in
+    sym ((λ j. cond (path_eq (is j) (child_path dir (own j))) (Some (own j)) None) ∙ ap (λ (c : Bool). cond c (Some last) None) (same-end above dir last ∙ same))
+
+module _ (above place : PathNames) (own : PathName) (inode : Inode) where
+  abbrev far : Inode
+  far = with_value inode redirect_name (path_text place)
+
+  abbrev beside : Inode
+  beside = with_value inode redirect_name (last_name place)
+
+  told : (b : Bool) (name : PathName) → Some name ≡ cond b (Some (last_name place)) None → (b ≡ true) × (name ≡ last_name place)
+  told true name e = (refl, cc)
+  told false name e = let bad : Some name ≡ None = e in cc
+
+  untold : (b : Bool) → None ≡ cond b (Some (last_name place)) None → b ≡ false
+  untold true e = let bad : None ≡ Some (last_name place) = e in cc
+  untold false e = refl
+
+  -- another name isn't the entry's own
+  not-own : (last_name place ≡ own → ⊥) → path_eq place (child_path above own) ≡ false
+  not-own other = by (path_eq place (child_path above own)) refl
+    where
+      by : (b : Bool) → path_eq place (child_path above own) ≡ b → path_eq place (child_path above own) ≡ false
+      by true e = absurd (other (ap last_name ((pointwise_decides bytes_decides place (child_path above own)).0 e) ∙ last_name-child above own))
+      by false e = e
+
+  own-above : (name : PathName) → Some name ≡ name_directly_in (Some above) place → name_eq name own ≡ true → inode ≡ redirected_from (Some above) own inode place
+  own-above name e same =
+      let t = told (path_eq place (child_path above (last_name place))) name e in
+      let there : path_eq place (child_path above own) ≡ true = ap (λ (n : PathName). path_eq place (child_path above n)) (sym ((bytes_decides name own).0 same) ∙ t.1) ∙ t.0 in
+      sym (ap (λ (b : Bool). cond b inode (cond (path_eq place (child_path above (last_name place))) beside far)) there)
+
+  beside-above : (name : PathName) → Some name ≡ name_directly_in (Some above) place → name_eq name own ≡ false → with_value inode redirect_name name ≡ redirected_from (Some above) own inode place
+  beside-above name e other =
+      let t = told (path_eq place (child_path above (last_name place))) name e in
+      let never : last_name place ≡ own → ⊥ = λ same. (let bad : false ≡ true = sym other ∙ (bytes_decides name own).1 (t.1 ∙ same) in cc) in
+      ap (with_value inode redirect_name) t.1 ∙ sym (λ j. cond (not-own never j) inode (cond (t.0 j) beside far))
+
+  far-above : None ≡ name_directly_in (Some above) place → far ≡ redirected_from (Some above) own inode place
+  far-above e =
+      let none = untold (path_eq place (child_path above (last_name place))) e in
+      sym (λ j. cond (by (path_eq place (child_path above own)) refl none j) inode (cond (none j) beside far))
+    where
+      by : (b : Bool) → path_eq place (child_path above own) ≡ b → path_eq place (child_path above (last_name place)) ≡ false → path_eq place (child_path above own) ≡ false
+      by false k none = k
+      by true k none =
+          let named : last_name place ≡ own = ap last_name ((pointwise_decides bytes_decides place (child_path above own)).0 k) ∙ last_name-child above own in
+          let bad : false ≡ true = sym none ∙ (ap (λ (n : PathName). path_eq place (child_path above n)) named ∙ k) in cc
+
+module _ (place : PathNames) (own : PathName) (inode : Inode) where
+  pub redirect-own : (above : Option PathNames) (name : PathName) → Some name ≡ name_directly_in above place → name_eq name own ≡ true → inode ≡ redirected_from above own inode place
+  redirect-own None name e same = let bad : Some name ≡ None = e in cc
+  redirect-own (Some above) name e same = own-above above place own inode name e same
+
+  pub redirect-beside : (above : Option PathNames) (name : PathName) → Some name ≡ name_directly_in above place → name_eq name own ≡ false → with_value inode redirect_name name ≡ redirected_from above own inode place
+  redirect-beside None name e other = let bad : Some name ≡ None = e in cc
+  redirect-beside (Some above) name e other = beside-above above place own inode name e other
+
+  pub redirect-far : (above : Option PathNames) → None ≡ name_directly_in above place → with_value inode redirect_name (path_text place) ≡ redirected_from above own inode place
+  redirect-far None e = refl
+  redirect-far (Some above) e = far-above above place own inode e
+
+-- of an entry in a directory, by the reach of that
+pub redirected-child : (m : Merge) (above path : PathNames) (name : PathName) → path ≡ child_path above name → (inode : Inode) (place : PathNames) → redirected_from (reach m above) name inode place ≡ redirected m path inode place
+redirected-child m above path name is inode place =
+    sym (ap (λ (p : PathNames). redirected m p inode place) is
+    ∙ (λ j. cond (length-child above name j) inode (redirected_from (reach m (parent_path-child above name j)) (last_name-child above name j) inode place)))
+
+-- the new inodes of an entry, by the reaches of its directory and its own
+module _ (m : Merge) (above path : PathNames) (name : PathName) (is : path ≡ child_path above name) (inode shown : Inode) (seen : shown ≡ visible inode) (upper own : Option PathNames) (reached : upper ≡ reach m above) where
+  pub directory-told : (place : PathNames) → own ≡ Some place → redirected_from upper name shown place ≡ merged_directory m path inode own
+  directory-told place e =
+      (λ j. redirected_from (reached j) name (seen j) place)
+      ∙ (redirected-child m above path name is (visible inode) place
+      ∙ sym (ap (merged_directory m path inode) e))
+
+  pub metacopy-told : (copied : Inode) → copied ≡ with_value shown metacopy_name [] → (place : PathNames) → own ≡ Some place → redirected_from upper name copied place ≡ merged_metacopy m path inode own
+  metacopy-told copied made place e =
+      (λ j. redirected_from (reached j) name (made j) place)
+      ∙ ((λ j. redirected_from (reach m above) name (with_value (seen j) metacopy_name []) place)
+      ∙ (redirected-child m above path name is (with_value (visible inode) metacopy_name []) place
+      ∙ sym (ap (merged_metacopy m path inode) e)))
+
+pub contents-told : (stack : StackView) → 1 < length stack.layers → (path : PathNames) (inode shown : Inode) → shown ≡ visible inode → (own : Option PathNames) → own ≡ None → (found : Look) → found ≡ look stack path
+    → with_contents shown found ≡ merged_metacopy (merge_of stack) path inode own
+contents-told stack several path inode shown seen own none found e =
+    (λ j. with_contents (seen j) (e j))
+    ∙ (ap (λ (s : StackView). with_contents (visible inode) (look s path)) (sym (merge-whole stack several))
+    ∙ sym (ap (merged_metacopy (merge_of stack) path inode) none))
+
+-- ---- names
+
+pub own-names : (m : Merge) (path : PathNames) (lower : Option PathNames) → lower ≡ cond (walk m.upper path).closed None (Some (lower_path m path))
+    → elim lower [ Some place ↦ put_names (put_names [] (names_below m.upper path)) (names_below m.lower place) | None ↦ put_names [] (names_below m.upper path) ] ≡ put_names [] (own_names_along (two_layers m).layers path)
+own-names m path lower is =
+    ap (λ (o : Option PathNames). elim o as (λ _. List PathName) [ Some place ↦ put_names (put_names [] (names_below m.upper path)) (names_below m.lower place) | None ↦ put_names [] (names_below m.upper path) ]) is
+    ∙ by (walk m.upper path).closed
+  where
+    last : (closed : Bool) → names_below m.lower (lower_path m path) ≡ names_below m.lower (lower_path m path) ++ cond closed [] []
+    last true = sym (append-nil (names_below m.lower (lower_path m path)))
+    last false = sym (append-nil (names_below m.lower (lower_path m path)))
+
+    by : (closed : Bool) → elim (cond closed None (Some (lower_path m path))) as (λ _. List PathName) [ Some place ↦ put_names (put_names [] (names_below m.upper path)) (names_below m.lower place) | None ↦ put_names [] (names_below m.upper path) ]
+        ≡ put_names [] (names_below m.upper path ++ cond closed [] (names_below m.lower (lower_path m path) ++ cond (walk m.lower (lower_path m path)).closed [] []))
+    by true = ap (put_names []) (sym (append-nil (names_below m.upper path)))
+    by false =
+        ap (put_names (put_names [] (names_below m.upper path))) (last (walk m.lower (lower_path m path)).closed)
+        ∙ sym (put_names-append [] (names_below m.upper path) (names_below m.lower (lower_path m path) ++ cond (walk m.lower (lower_path m path)).closed [] []))
+
+-- the names of a directory are the only ones that the merged tree has in it
+pub kids-unique : (stack : StackView) → All IsLayer stack.layers → (path : PathNames) (names : List PathName) → AreKids stack path names → names ≡ kids_along stack path
+kids-unique stack each path names are =
+    rising_same NameBefore never-itself nat_list_cmp_total.trans names (kids_along stack path)
+    (rising-names names are.in_order) (rising-names (kids_along stack path) (kids-ascend stack path))
+    (λ name h. any-In name (kids_along stack path) (kids-same stack each path name ∙ (sym (are.same name) ∙ In-any name names h)))
+    (λ name h. any-In name names (are.same name ∙ (sym (kids-same stack each path name) ∙ In-any name (kids_along stack path) h)))
+  where
+    never-itself : (name : PathName) → NameBefore name name → ⊥
+    never-itself name less = let bad : Less ≡ Equal = sym less ∙ name_cmp-same name in cc
+
+    In-any : (name : PathName) (names : List PathName) → In name names → list_any (name_eq name) names ≡ true
+    In-any name [] h = absurd h
+    In-any name (other ∷ names) (inl same) = ap (λ b. b || list_any (name_eq name) names) ((bytes_decides name other).1 same)
+    In-any name (other ∷ names) (inr h) = by (name_eq name other) (In-any name names h)
+      where
+        by : (b : Bool) → list_any (name_eq name) names ≡ true → (b || list_any (name_eq name) names) ≡ true
+        by true any = refl
+        by false any = any
+
+-- ---- shown directories
+
+module _ (m : Merge) (upper : IsLayer m.upper) (lower : IsLayer m.lower) where
+  -- nothing is entered where no directory is shown
+  pub nothing-in : (path : PathNames) (name : PathName) → shows_own_directory m path ≡ false → merged_entry m (child_path path name) ≡ None
+  nothing-in path name none = by (merged_entry m (child_path path name)) refl
+    where
+      by : (found : Option Inode) → merged_entry m (child_path path name) ≡ found → merged_entry m (child_path path name) ≡ None
+      by None e = e
+      by (Some inode) e = let bad : false ≡ true = sym none ∙ (entry-stands m upper lower path name inode e).0 in cc
+
+  unshown-child : (path : PathNames) (name : PathName) → shows_own_directory m path ≡ false → shows_own_directory m (child_path path name) ≡ false
+  unshown-child path name none = by (first_hit m (child_path path name)) refl
+    where
+      by : (found : Option Inode) → first_hit m (child_path path name) ≡ found → shows_own_directory m (child_path path name) ≡ false
+      by None e = ap (passes is_directory) e
+      by (Some inode) e =
+          let bad : None ≡ Some (merged_inode m (child_path path name) inode) = sym (nothing-in path name none) ∙ ap (merged_entry_of m (child_path path name)) e in cc
+
+  unshown-under : (path rest : PathNames) → shows_own_directory m path ≡ false → shows_own_directory m (path ++ rest) ≡ false
+  unshown-under path [] none = ap (shows_own_directory m) (append-nil path) ∙ none
+  unshown-under path (name ∷ rest) none =
+      ap (shows_own_directory m) (sym (append_assoc path (name ∷ []) rest)) ∙ unshown-under (child_path path name) rest (unshown-child path name none)
+
+  -- nor under one of the paths above
+  pub unshown-from : (dir : PathNames) (i : ℕ) (name : PathName) → i < length dir → name ≡ get_or dir i name → shows_own_directory m (child_path (take i dir) name) ≡ false → shows_own_directory m dir ≡ false
+  unshown-from dir i name inside is none =
+      let next : child_path (take i dir) name ≡ take (i + 1) dir = sym (take_more dir i name inside ∙ ap (λ (n : PathName). take i dir ++ n ∷ []) (sym is)) in
+      ap (shows_own_directory m) (sym (take-append-drop (i + 1) dir))
+      ∙ unshown-under (take (i + 1) dir) (drop (i + 1) dir) (ap (shows_own_directory m) (sym next) ∙ none)
+
+  pub no-entries : (path : PathNames) → shows_own_directory m path ≡ false → entries_in m path ≡ []
+  no-entries path none = by (candidate_names m path)
+    where
+      by : (names : List PathName) → filter_map (named_inode m path) names ≡ []
+      by [] = refl
+      by (name ∷ names) = ap (λ (found : Option Inode). cons_option (option_map (λ inode. (name, inode)) found) (filter_map (named_inode m path) names)) (nothing-in path name none) ∙ by names
+
+-- ---- the entries of a directory, one after another
+
+pub listed-more : (m : Merge) (dir : PathNames) (names : List PathName) (name : PathName) (items : List NamedInode) (found : Option Inode)
+    → items ≡ filter_map (named_inode m dir) names → found ≡ merged_entry m (child_path dir name)
+    → items ++ cons_option (option_map (λ inode. (name, inode)) found) [] ≡ filter_map (named_inode m dir) (names ++ name ∷ [])
+listed-more m dir names name items found are is =
+    (λ j. are j ++ cons_option (option_map (λ inode. (name, inode)) (is j)) [])
+    ∙ sym (filter_map-append (named_inode m dir) names (name ∷ []))
+
+pub not-some : {X : Type 0} → (found : Option X) → ((x : X) → found ≡ Some x → ⊥) → found ≡ None
+not-some None never = refl
+not-some (Some x) never = absurd (never x refl)

@@ -1,0 +1,131 @@
+-- Where the paths of a merge lie in the rest of the stack: the upper layer goes into the lower one, over the rest.
+use Rattle.std.specs.Prelude.{Bool, true, false, ◌&&◌, not, Option, Some, None, List, [], ◌∷◌, if◌then◌else◌, is_some, is_none}
+use Rattle.ovl_names.specs.Names.{PathName}
+use Rattle.ovl_names.specs.Paths.{PathNames, child_path, is_root}
+use Rattle.ovl_inode.specs.declared.inodes.Inode.{Inode}
+use Rattle.ovl_inode.specs.Marks.{is_directory, is_regular, is_metacopy}
+use Rattle.ovl_manifest.specs.Layers.{Entries}
+use Rattle.ovl_lookup.specs.declared.looks.Look.{Look}
+use Rattle.ovl_lookup.specs.declared.looks.Look.TheVariants.{Nothing, Shown, Broken}
+use Rattle.ovl_lookup.specs.Walk.{walk}
+use Rattle.ovl_lookup.specs.Stacks.{StackView, from_layer}
+use Rattle.ovl_lookup.specs.Trace.{trace}
+use Rattle.ovl_lookup.specs.Merged.{look, shows, shows_directory}
+use Rattle.ovl_lookup.specs.Words.{over, top_layer, lower_layers}
+
+-- a merge: the upper layer, the lower layer that it is put into, and the rest under both
+pub record Merge : Type 0 where
+  pub upper : Entries
+  pub lower : Entries
+  pub rest : StackView
+
+-- the whole stack, and the upper and the lower layer alone
+abbrev pub whole : Merge → StackView
+whole m = over m.upper (over m.lower m.rest)
+
+abbrev pub two_layers : Merge → StackView
+two_layers m = record m.rest { layers = m.upper ∷ m.lower ∷ [] }
+
+-- the merge of a stack's topmost layer into the next
+abbrev pub merge_of : StackView → Merge
+merge_of stack = record { upper = top_layer stack; lower = top_layer (lower_layers stack); rest = from_layer 2 stack }
+
+-- where a path goes on in the lower layer, and where in the rest
+abbrev pub lower_path : Merge → PathNames → PathNames
+lower_path m path = (walk m.upper path).next
+
+abbrev pub rest_path : Merge → PathNames → PathNames
+rest_path m path = (walk m.lower (lower_path m path)).next
+
+-- the walks in both layers are open
+abbrev pub is_open : Merge → PathNames → Bool
+is_open m path = not (walk m.upper path).closed && not (walk m.lower (lower_path m path)).closed
+
+-- the first thing that the two layers have in the trace of a path
+abbrev pub first_of : List Inode → Option Inode
+first_of [] = None
+first_of (inode ∷ inodes) = Some inode
+
+abbrev pub first_hit : Merge → PathNames → Option Inode
+first_hit m path = first_of (trace (two_layers m) path)
+
+abbrev pub passes : (Inode → Bool) → Option Inode → Bool
+passes test None = false
+passes test (Some inode) = test inode
+
+-- the two layers show a directory at the path; and they show nothing there, and their walks aren't open
+abbrev pub shows_own_directory : Merge → PathNames → Bool
+shows_own_directory m path = passes is_directory (first_hit m path)
+
+abbrev pub is_hidden : Merge → PathNames → Bool
+is_hidden m path = is_none (first_hit m path) && not (is_open m path)
+
+-- there is nothing, or a thing that passes the test
+abbrev pub is_nothing_or : (Inode → Bool) → Option Inode → Bool
+is_nothing_or test None = true
+is_nothing_or test (Some inode) = test inode
+
+-- a regular file is shown, whole or broken
+abbrev pub is_shown_regular : Look → Bool
+is_shown_regular Nothing = false
+is_shown_regular (Shown inode) = is_regular inode
+is_shown_regular (Broken inode) = is_regular inode
+
+-- an open path goes on through the lower layer to a thing of its own sort: from a shown directory to a directory of the
+-- rest, from a metacopy file to a regular file; overlayfs.rst, "Directories" and "Metadata only copy up"
+abbrev pub goes_on : Merge → PathNames → Inode → Bool
+goes_on m path inode =
+    let passed = (walk m.lower (lower_path m path)).found in
+    is_open m path
+    && (if is_directory inode then is_nothing_or is_directory passed && shows_directory m.rest (rest_path m path)
+    else is_metacopy inode && is_nothing_or is_metacopy passed && is_shown_regular (look m.rest (rest_path m path)))
+
+-- the reach of a path: where what is shown there, a directory or a metacopy file, goes on in the rest
+abbrev pub reach_of : Merge → PathNames → Option Inode → Option PathNames
+reach_of m path None = None
+reach_of m path (Some inode) = if goes_on m path inode then Some (rest_path m path) else None
+
+abbrev pub reach : Merge → PathNames → Option PathNames
+reach m path = reach_of m path (first_hit m path)
+
+-- the rest shows a directory, or anything, at a place
+abbrev pub shows_directory_at : StackView → Option PathNames → Bool
+shows_directory_at rest None = false
+shows_directory_at rest (Some place) = shows_directory rest place
+
+abbrev pub shows_at : StackView → Option PathNames → Bool
+shows_at rest None = false
+shows_at rest (Some place) = shows rest place
+
+-- a shown directory gets `opaque`, its natural place given: it isn't the root, has no reach, and the rest shows a
+-- directory at its natural place; overlayfs.rst, "whiteouts and opaque directories"
+abbrev pub gets_opaque_at : Merge → PathNames → Option PathNames → Bool
+gets_opaque_at m path place =
+    not (is_root path) && shows_own_directory m path && is_none (reach m path) && shows_directory_at m.rest place
+
+-- the base of a shown directory, its natural place given: where the names in it lie in the rest
+abbrev pub base_at : Merge → PathNames → Option PathNames → Option PathNames
+base_at m path place =
+    if is_some (reach m path) then reach m path
+    else if gets_opaque_at m path place then None
+    else place
+
+abbrev pub child_of : Option PathNames → PathName → Option PathNames
+child_of None name = None
+child_of (Some place) name = Some (child_path place name)
+
+-- the natural place of `names` below `above`, whose natural place is given: its own name in the base of its parent
+abbrev pub natural_below : Merge → PathNames → Option PathNames → PathNames → Option PathNames
+natural_below m above place [] = place
+natural_below m above place (name ∷ names) =
+    natural_below m (child_path above name) (child_of (base_at m above place) name) names
+
+-- the natural place of a path; the root's is the root
+abbrev pub natural : Merge → PathNames → Option PathNames
+natural m path = natural_below m [] (Some []) path
+
+abbrev pub base : Merge → PathNames → Option PathNames
+base m path = base_at m path (natural m path)
+
+abbrev pub gets_opaque : Merge → PathNames → Bool
+gets_opaque m path = gets_opaque_at m path (natural m path)

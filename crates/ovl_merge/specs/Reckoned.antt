@@ -1,0 +1,65 @@
+-- Paths of a merge, as the program reckons them.
+use Rattle.std.specs.Prelude.{◌≡◌, ◌&&◌, Bool, true, Option, Some, None, if◌then◌else◌, is_some}
+use Rattle.ovl_names.specs.Names.{PathName}
+use Rattle.ovl_names.specs.Paths.{PathNames, child_path, path_eq}
+use Rattle.ovl_inode.specs.declared.inodes.Inode.{Inode}
+use Rattle.ovl_inode.specs.Marks.{is_directory, is_metacopy}
+use Rattle.ovl_lookup.specs.declared.steps.Step.{Step}
+use Rattle.ovl_lookup.specs.Walk.{walk}
+use Rattle.ovl_lookup.specs.Merged.{look, shows_directory}
+use Rattle.ovl_merge.specs.declared.passages.Passage.{Passage}
+use Rattle.ovl_merge.specs.declared.places.Place.{Place}
+use Rattle.ovl_merge.specs.Places.{Merge, lower_path, first_hit, shows_own_directory, is_hidden, is_nothing_or, is_shown_regular, reach, natural, gets_opaque}
+use Rattle.ovl_merge.specs.MergeDown.{last_name}
+
+-- the walks of a path: that in the upper layer, and where it is open that in the lower one
+pub record IsPassage (m : Merge) (path : PathNames) (passage : Passage) : Type 0 where
+  pub upper : passage.upper ≡ walk m.upper path
+  pub lower : passage.lower ≡ (if (walk m.upper path).closed then None else Some (walk m.lower (lower_path m path)))
+
+-- the first thing that they find
+abbrev pub found_by : Option Step → Option Inode
+found_by None = None
+found_by (Some step) = step.found
+
+abbrev pub first_in : Passage → Option Inode
+first_in passage = if is_some passage.upper.found then passage.upper.found else found_by passage.lower
+
+-- where an open step goes on
+abbrev pub next_of : Option Step → Option PathNames
+next_of None = None
+next_of (Some step) = if step.closed then None else Some step.next
+
+-- a thing goes on at a place of the rest where the lower layer has this: what is shown there is of its own sort
+abbrev pub goes_on_at : Merge → Inode → Option Inode → PathNames → Bool
+goes_on_at m inode passed place =
+    if is_directory inode then is_nothing_or is_directory passed && shows_directory m.rest place
+    else is_metacopy inode && is_nothing_or is_metacopy passed && is_shown_regular (look m.rest place)
+
+-- all that a merge asks of a path
+pub record IsPlace (m : Merge) (place : Place) : Type 0 where
+  pub first : place.first ≡ first_hit m place.path
+  pub hidden : place.hidden ≡ is_hidden m place.path
+  pub lower : place.lower ≡ (if (walk m.upper place.path).closed then None else Some (lower_path m place.path))
+  pub natural : place.natural ≡ natural m place.path
+  pub reach : place.reach ≡ reach m place.path
+  pub opaque : place.opaque ≡ gets_opaque m place.path
+
+-- the base of a shown directory
+abbrev pub base_in : Place → Option PathNames
+base_in place =
+    if is_some place.reach then place.reach
+    else if place.opaque then None
+    else place.natural
+
+-- the name by which a path lies directly in a directory, if there is one
+abbrev pub name_directly_in : Option PathNames → PathNames → Option PathName
+name_directly_in None path = None
+name_directly_in (Some directory) path =
+    if path_eq path (child_path directory (last_name path)) then Some (last_name path) else None
+
+-- the place of a directory of the new lower layer
+pub record IsDirectoryPlace (m : Merge) (dir : PathNames) (place : Place) : Type 0 where
+  pub path : place.path ≡ dir
+  pub shown : shows_own_directory m dir ≡ true
+  pub is : IsPlace m place

@@ -1,0 +1,206 @@
+ghost use Rattle.std.specs.Prelude.{◌≡◌, ◌<◌, IfOk, string_bytes, length};
+ghost use Rattle.std.specs.Option.{option_map};
+ghost use Rattle.ovl_names.specs.Paths.{child_path, path_text as text_of_path};
+ghost use Rattle.ovl_merge.specs.Places.{merge_of};
+ghost use Rattle.ovl_merge.specs.MergeDown.{with_value as the_valued, redirected_from, with_contents as the_filled, new_whiteout as the_whiteout, merged_directory as the_directory, merged_metacopy as the_metacopy, merged_inode as the_inode, merged_entry};
+ghost use Rattle.ovl_merge.specs.Reckoned.{IsPlace, IsDirectoryPlace, name_directly_in};
+
+use crate::passages::is_metacopy;
+use crate::places::Place;
+use crate::rest::shows_at;
+use ovl_inode::{Attrs, Inode, Kind, is_directory, overlay, visible};
+use ovl_lookup::{Look, Stack};
+use ovl_names::{Name, Path};
+use std::alloc::{AllocError, Global};
+
+// What the new lower layer has at a name in a directory of this place.
+pub(crate) fn inode_in(
+    alloc: Global,
+    stack: &Stack,
+    above: &Place,
+    name: &Name,
+) -> Result<Option<Inode>, AllocError>
+    requires several { 1 < length stack.now.layers }
+    requires directory { IsDirectoryPlace (merge_of stack.now) above.now.path above.now }
+    ensures { IfOk result (λ found. found ≡ merged_entry (merge_of stack.now) (child_path above.now.path name.now)) }
+{
+    let place = above.child(alloc, stack, name)?;
+    if let Some(inode) = &place.first {
+        return Ok(Some(merged_inode(alloc, stack, above, name, &place, inode)?));
+    }
+    if !place.hidden {
+        return Ok(None);
+    }
+    if !shows_at(alloc, stack, &place.natural)? {
+        return Ok(None);
+    }
+    Ok(Some(new_whiteout(alloc)))
+}
+
+// A whiteout as a merge writes it. overlayfs.rst: "whiteouts and opaque directories".
+fn new_whiteout(alloc: Global) -> Inode
+    ensures { result ≡ the_whiteout }
+{
+    Inode {
+        kind: Kind::Char { major: 0, minor: 0 },
+        mode: 0,
+        uid: 0,
+        gid: 0,
+        mtime: 0,
+        attrs: Attrs::new(alloc),
+    }
+}
+
+// The new inode of what the two layers show at a name in a directory of the place `above`.
+fn merged_inode(
+    alloc: Global,
+    stack: &Stack,
+    above: &Place,
+    name: &Name,
+    place: &Place,
+    inode: &Inode,
+) -> Result<Inode, AllocError>
+    requires several { 1 < length stack.now.layers }
+    requires above { IsPlace (merge_of stack.now) above.now }
+    requires path { place.now.path ≡ child_path above.now.path name.now }
+    requires is { IsPlace (merge_of stack.now) place.now }
+    ensures { IfOk result (λ new. new ≡ the_inode (merge_of stack.now) place.now.path inode.now) }
+{
+    if is_directory(inode) {
+        return merged_directory(alloc, stack, above, name, place, inode);
+    }
+    if is_metacopy(alloc, inode)? {
+        return merged_metacopy(alloc, stack, above, name, place, inode);
+    }
+    visible(alloc, inode)
+}
+
+// The new inode of a directory: it goes on at its reach, or hides what the rest has. overlayfs.rst: "renaming
+// directories", "whiteouts and opaque directories".
+fn merged_directory(
+    alloc: Global,
+    _stack: &Stack,
+    above: &Place,
+    name: &Name,
+    place: &Place,
+    inode: &Inode,
+) -> Result<Inode, AllocError>
+    requires above { IsPlace (merge_of _stack.now) above.now }
+    requires path { place.now.path ≡ child_path above.now.path name.now }
+    requires is { IsPlace (merge_of _stack.now) place.now }
+    ensures { IfOk result (λ new. new ≡ the_directory (merge_of _stack.now) place.now.path inode.now place.now.reach) }
+{
+    let shown = visible(alloc, inode)?;
+    match &place.reach {
+        Some(reach) => redirected(alloc, above, name, shown, reach),
+        None => if place.opaque {
+            with_value(shown, overlay::OPAQUE, b"y")
+        } else {
+            Ok(shown)
+        },
+    }
+}
+
+// The new inode of a metacopy file: it stays one where it goes on at its reach, and has its contents else.
+// overlayfs.rst: "Metadata only copy up".
+fn merged_metacopy(
+    alloc: Global,
+    stack: &Stack,
+    above: &Place,
+    name: &Name,
+    place: &Place,
+    inode: &Inode,
+) -> Result<Inode, AllocError>
+    requires several { 1 < length stack.now.layers }
+    requires above { IsPlace (merge_of stack.now) above.now }
+    requires path { place.now.path ≡ child_path above.now.path name.now }
+    requires is { IsPlace (merge_of stack.now) place.now }
+    ensures { IfOk result (λ new. new ≡ the_metacopy (merge_of stack.now) place.now.path inode.now place.now.reach) }
+{
+    let shown = visible(alloc, inode)?;
+    match &place.reach {
+        Some(reach) => {
+            let copied = with_value(shown, overlay::METACOPY, b"")?;
+            redirected(alloc, above, name, copied, reach)
+        }
+        None => with_contents(alloc, shown, &stack.look(alloc, 0, &place.path)?),
+    }
+}
+
+// An entry `name` that goes on at `reach`, its directory being at `above`: with no redirect where the reach of the
+// directory has it by this name, with one name where it has it by another, else with the whole path.
+fn redirected(
+    alloc: Global,
+    above: &Place,
+    name: &Name,
+    inode: Inode,
+    reach: &Path,
+) -> Result<Inode, AllocError>
+    ensures { IfOk result (λ new. new ≡ redirected_from above.now.reach name.now inode reach.now) }
+{
+    if let Some(beside) = name_in(&above.reach, reach) {
+        if beside == name {
+            return Ok(inode);
+        }
+        return with_value(inode, overlay::REDIRECT, beside.as_str().as_bytes());
+    }
+    let text = path_text(alloc, reach)?;
+    with_value(inode, overlay::REDIRECT, text.as_bytes())
+}
+
+// The name by which the path lies directly in the directory, if there is one and it does.
+fn name_in<'a>(dir: &Option<Path>, path: &'a Path) -> Option<&'a Name>
+    ensures { option_map (λ name. name.now) result ≡ name_directly_in dir.now path.now }
+{
+    let Some(dir) = dir else {
+        return None;
+    };
+    match path.names().split_last() {
+        Some((last, above)) => if above == dir.names() {
+            Some(last)
+        } else {
+            None
+        },
+        None => None,
+    }
+}
+
+// The inode with this value of an attribute of the overlay's own.
+fn with_value(inode: Inode, name: &str, value: &[u8]) -> Result<Inode, AllocError>
+    ensures { IfOk result (λ new. new ≡ the_valued inode name.now value.now) }
+{
+    let mut inode = inode;
+    match inode.attrs.put(name, value) {
+        Ok(()) => Ok(inode),
+        Err(_) => Err(AllocError),
+    }
+}
+
+// A file with the contents that are shown.
+fn with_contents(alloc: Global, inode: Inode, look: &Look) -> Result<Inode, AllocError>
+    ensures { IfOk result (λ full. full ≡ the_filled inode look.now) }
+{
+    let mut inode = inode;
+    match look {
+        Look::Shown(shown) | Look::Broken(shown) => {
+            inode.kind = shown.kind.copy(alloc)?;
+            Ok(inode)
+        }
+        Look::Nothing => Ok(inode),
+    }
+}
+
+// The text of a path: a separator before each name, and one for the root.
+fn path_text(alloc: Global, path: &Path) -> Result<String, AllocError>
+    ensures { IfOk result (λ text. string_bytes text ≡ text_of_path path.now) }
+{
+    if path.is_empty() {
+        return String::from_str(alloc, "/");
+    }
+    let mut text = String::new(alloc);
+    for name in path.names() {
+        text.push_str("/")?;
+        text.push_str(name.as_str())?;
+    }
+    Ok(text)
+}

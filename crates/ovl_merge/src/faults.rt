@@ -1,0 +1,27 @@
+ghost use Rattle.std.specs.Prelude.{◌≡◌};
+ghost use Rattle.ovl_merge.specs.declared.faults.MergeFault.TheVariants.{Memory};
+
+use std::alloc::AllocError;
+use thiserror::Error;
+
+/// Why layers aren't merged.
+#[derive(Clone, Copy, Debug, PartialEq, Eq, Error)]
+pub enum MergeFault {
+    /// The stack has one layer, so there is none to put it into.
+    #[error("no lower layer")]
+    NoLower,
+    /// The new lower layer has more entries than a manifest may have, or a path with more names or a longer text.
+    #[error("result over the limits")]
+    LimitOut,
+    /// No memory was left.
+    #[error("out of memory")]
+    Memory,
+}
+
+impl From<AllocError> for MergeFault {
+    ghost from_gives = { λ _ fault. fault ≡ Memory };
+
+    fn from(_: AllocError) -> MergeFault {
+        MergeFault::Memory
+    }
+}

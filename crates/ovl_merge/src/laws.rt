@@ -1,0 +1,17 @@
+//! Laws of a merge; the contract of each is its statement.
+ghost use Rattle.ovl_merge.specs.Laws.{MergeGivesLayer, MergeKeepsTree, MergeHasCore};
+
+/// What a merge makes of a sound stack's two topmost layers is a layer, but for the limits.
+pub fn merge_gives_a_layer()
+    ensures { MergeGivesLayer }
+{}
+
+/// Over a sound stack a merge keeps the merged tree.
+pub fn merge_keeps_the_tree()
+    ensures { MergeKeepsTree }
+{}
+
+/// Where the walks of the new lower layer go on.
+pub fn merge_has_its_core()
+    ensures { MergeHasCore }
+{}

@@ -1,0 +1,16 @@
+//! A stack's topmost layer put into the next, as work in pieces.
+#![tactic(auto)]
+
+mod entries;
+mod faults;
+mod finish;
+pub mod laws;
+mod passages;
+mod places;
+mod rest;
+pub mod walks;
+mod works;
+
+pub use faults::MergeFault;
+pub use finish::{MergeDone, finish_merge};
+pub use works::MergeWork;

@@ -1,0 +1,174 @@
+ghost use Rattle.std.specs.Prelude.{◌≡◌, ◌↔◌, ◌<◌, [], Err, IfOk, OnOk, length};
+ghost use Rattle.ovl_lookup.specs.Passes.{own_names_along, put_names};
+ghost use Rattle.ovl_merge.specs.declared.faults.MergeFault.TheVariants.{NoLower};
+ghost use Rattle.ovl_merge.specs.Places.{merge_of, two_layers};
+ghost use Rattle.ovl_merge.specs.Directories.{candidate_names, entries_in, directories_among};
+ghost use Rattle.ovl_merge.specs.Reckoned.{IsPlace, IsDirectoryPlace};
+
+use crate::MergeFault;
+use crate::entries::inode_in;
+use crate::places::{Place, directory_place};
+use crate::rest::names_at;
+use ovl_board::{Piece, Work};
+use ovl_inode::{Inode, is_directory};
+use ovl_lookup::Stack;
+use ovl_names::{DEPTH_LIMIT, Name, Path};
+use std::alloc::{AllocError, Global};
+use std::collections::BTreeSet;
+use std::marker::Model;
+
+/// A stack as work of merge, whose pieces are the directories of its new lower layer, from `/` of space 0. The output
+/// of a directory is each name in it, in order, with its inode in the new layer; its kids are those that are
+/// directories. A kid has the space of its piece.
+#[derive(Drop)]
+pub struct MergeWork<'a> {
+    pub(crate) stack: &'a Stack,
+}
+
+impl<'a> Model for MergeWork<'a> {
+    ghost use Rattle.std.specs.Prelude.{◌<◌, length};
+    ghost use Rattle.ovl_lookup.specs.Stacks.{StackView};
+
+    ghost Value = { StackView };
+
+    ghost view = { λ a. a.stack.now };
+
+    ghost invariant = { λ a. 1 < length a.stack.now.layers };
+}
+
+impl<'a> MergeWork<'a> {
+    /// The work of this stack; refused exactly where it has one layer.
+    pub fn new(stack: &'a Stack) -> Result<MergeWork<'a>, MergeFault>
+        ensures value { IfOk result (λ work. work ≡ stack.now) }
+        ensures refused { (result ≡ Err NoLower) ↔ (length stack.now.layers ≡ 1) }
+    {
+        if stack.layers() == 1 {
+            return Err(MergeFault::NoLower);
+        }
+        Ok(MergeWork { stack })
+    }
+}
+
+impl<'a> Work for MergeWork<'a> {
+    type Out = Vec<(Name, Inode)>;
+
+    ghost use Rattle.std.specs.Prelude.{List};
+    ghost use Rattle.ovl_merge.specs.Directories.{NamedInode, inodes_set, inodes_seen, merge_kids, merge_out, merge_depth};
+
+    ghost Seen = { List NamedInode };
+
+    ghost seen_set = { inodes_set };
+
+    ghost seen = { inodes_seen };
+
+    ghost kids_of = { merge_kids };
+
+    ghost out_of = { merge_out };
+
+    ghost deepest_of = { λ _. merge_depth };
+
+    fn visit(
+        &self,
+        alloc: Global,
+        piece: &Piece,
+    ) -> Result<(Vec<Piece>, Vec<(Name, Inode)>), AllocError> {
+        let inodes = inodes_at(alloc, self.stack, &piece.dir)?;
+        let kids = directories(alloc, piece, &inodes)?;
+        Ok((kids, inodes))
+    }
+
+    fn deepest(&self) -> u32 {
+        // A directory of the new layer is one that two layers show together.
+        let _layers = self.stack.layers();
+        2 * DEPTH_LIMIT as u32
+    }
+}
+
+// The pieces of those entries of a piece's directory that are directories themselves.
+fn directories(
+    alloc: Global,
+    piece: &Piece,
+    inodes: &[(Name, Inode)],
+) -> Result<Vec<Piece>, AllocError>
+    ensures { IfOk result (λ kids. kids.items ≡ directories_among piece.now inodes.now) }
+{
+    let mut kids = Vec::new(alloc);
+    for (name, inode) in inodes {
+        if is_directory(inode) {
+            kids.push(Piece {
+                space: piece.space,
+                dir: piece.dir.child(alloc, name)?,
+            })?;
+        }
+    }
+    Ok(kids)
+}
+
+// The names in a directory of the new layer, each with its inode; none where the two layers show no directory.
+fn inodes_at(alloc: Global, stack: &Stack, dir: &Path) -> Result<Vec<(Name, Inode)>, AllocError>
+    requires { 1 < length stack.now.layers }
+    ensures { IfOk result (λ inodes. inodes.items ≡ entries_in (merge_of stack.now) dir.now) }
+{
+    // Each layer of a stack is one.
+    let _layers = stack.layers();
+    match directory_place(alloc, stack, dir)? {
+        Some(place) => inodes_in(alloc, stack, &place),
+        None => Ok(Vec::new(alloc)),
+    }
+}
+
+// The same, in a directory that they show at this place.
+fn inodes_in(alloc: Global, stack: &Stack, place: &Place) -> Result<Vec<(Name, Inode)>, AllocError>
+    requires several { 1 < length stack.now.layers }
+    requires directory { IsDirectoryPlace (merge_of stack.now) place.now.path place.now }
+    ensures { IfOk result (λ inodes. inodes.items ≡ entries_in (merge_of stack.now) place.now.path) }
+{
+    let names = candidates(alloc, stack, place)?;
+    let mut inodes = Vec::new(alloc);
+    for name in names {
+        if let Some(inode) = inode_in(alloc, stack, place, &name)? {
+            inodes.push((name, inode))?;
+        }
+    }
+    Ok(inodes)
+}
+
+// The names that may have an entry in a directory: those of the two layers, and those of its base.
+fn candidates(alloc: Global, stack: &Stack, place: &Place) -> Result<BTreeSet<Name>, AllocError>
+    requires several { 1 < length stack.now.layers }
+    requires is { IsPlace (merge_of stack.now) place.now }
+    ensures { IfOk result (λ names. names.keys ≡ candidate_names (merge_of stack.now) place.now.path) }
+{
+    let mut names = own_names(alloc, stack, place)?;
+    let shown = names_at(alloc, stack, place.base())?;
+    put_all(&mut names, shown)?;
+    Ok(names)
+}
+
+// The names that the two layers have in a directory.
+fn own_names(alloc: Global, stack: &Stack, place: &Place) -> Result<BTreeSet<Name>, AllocError>
+    requires several { 1 < length stack.now.layers }
+    requires is { IsPlace (merge_of stack.now) place.now }
+    ensures { IfOk result (λ names. names.keys
+        ≡ put_names [] (own_names_along (two_layers (merge_of stack.now)).layers place.now.path)) }
+{
+    let mut names = BTreeSet::new(alloc);
+    let upper = stack.own_names(alloc, 0, &place.path)?;
+    put_all(&mut names, upper)?;
+    let Some(path) = &place.lower else {
+        return Ok(names);
+    };
+    let lower = stack.own_names(alloc, 1, path)?;
+    put_all(&mut names, lower)?;
+    Ok(names)
+}
+
+// Puts the names among those of the set.
+fn put_all(found: &mut BTreeSet<Name>, names: Vec<Name>) -> Result<(), AllocError>
+    ensures { OnOk result (found.new.keys ≡ put_names found.old.keys names.items) }
+{
+    for name in names {
+        found.insert(name)?;
+    }
+    Ok(())
+}
