@@ -10,7 +10,7 @@ ghost use Rattle.ovl_manifest.specs.Manifest.{is_statable};
 ghost use Rattle.ovl_manifest.specs.Sorted.{Spells, HasMember, Adds, with_device, with_contents, IsKindOf};
 
 use crate::fields::put_digits;
-use crate::sorted_members::{next_natural, next_text, read_natural, read_text, take_key};
+use crate::sorted_members::{next_name, next_natural, next_text, read_natural, read_text, take_key};
 use json::{Reader, Token};
 use ovl_inode::{Attrs, Digest, Inode, Kind, MODE_LIMIT, SIZE_LIMIT, Target, sound};
 use ovl_names::Path;
@@ -24,7 +24,8 @@ pub(crate) fn read_entry(alloc: Global, reader: &mut Reader<'_>) -> Option<(Path
     let Some(Token::BeginObject) = reader.next() else {
         return None;
     };
-    let (blob, gid) = read_group(reader)?;
+    let group = read_group(reader)?;
+    let (blob, gid) = group;
     let word = read_text(reader, "kind")?;
     let device = read_device(reader, word)?;
     let mode = read_natural(reader, "mode", MODE_LIMIT as u64)?;
@@ -65,7 +66,9 @@ fn read_group(reader: &mut Reader<'_>) -> Option<(Option<Digest>, u32)>
             Some((None, gid as u32))
         }
         "blob" => {
-            let digest = Digest::parse(next_text(reader)?).ok()?;
+            let Ok(digest) = Digest::parse(next_text(reader)?) else {
+                return None;
+            };
             let gid = read_natural(reader, "gid", u32::MAX as u64)?;
             Some((Some(digest), gid as u32))
         }
@@ -91,7 +94,10 @@ fn read_path(alloc: Global, reader: &mut Reader<'_>) -> Option<Path>
     ensures limits { IfSome result (λ path. IsTrue (is_within_limits path)) }
 {
     let text = read_text(reader, "path")?;
-    Path::parse(alloc, text).ok()
+    match Path::parse(alloc, text) {
+        Ok(path) => Some(path),
+        Err(_) => None,
+    }
 }
 
 // The kind of this word, with the blob and the numbers that were read and the member after `path`.
@@ -113,9 +119,11 @@ fn read_kind(
         }
         ("symlink", None, None) => {
             let text = read_text(reader, "target")?;
-            let text = String::from_str(alloc, text).ok()?;
+            let Ok(own) = String::from_str(alloc, text) else {
+                return None;
+            };
             Some(Kind::Symlink {
-                target: Target::from(text),
+                target: Target::from(own),
             })
         }
         ("char", None, Some((major, minor))) => Some(Kind::Char { major, minor }),
@@ -139,11 +147,11 @@ fn read_attributes(alloc: Global, reader: &mut Reader<'_>) -> Option<Attrs>
         return None;
     };
     let mut attrs = Attrs::new(alloc);
-    while let Some(name) = reader.next_key().ok()? {
+    while let Some(name) = next_name(reader)? {
         let digits = next_text(reader)?;
-        if !put_digits(alloc, &mut attrs, name, digits).ok()? {
+        let Ok(true) = put_digits(alloc, &mut attrs, name, digits) else {
             return None;
-        }
+        };
     }
     Some(attrs)
 }

@@ -20,9 +20,13 @@ use std::alloc::Global;
 pub(crate) fn read_sorted(alloc: Global, bytes: &[u8]) -> Option<Layer>
     ensures { IfSome result (λ layer. layer_stated bytes.now ≡ Ok layer) }
 {
-    let text = from_utf8(bytes).ok()?;
+    let Ok(text) = from_utf8(bytes) else {
+        return None;
+    };
     let mut scratch = Scratch::new(alloc);
-    let mut reader = Reader::new(text, &mut scratch).ok()?;
+    let Ok(mut reader) = Reader::new(text, &mut scratch) else {
+        return None;
+    };
     let layer = read_manifest(alloc, &mut reader)?;
     match reader.next() {
         Some(_) => None,
@@ -58,15 +62,23 @@ fn read_entries(alloc: Global, reader: &mut Reader<'_>) -> Option<Layer>
         return None;
     };
     let root = read_entry(alloc, reader)?;
-    let mut draft = start(alloc, Some(root)).ok()?;
+    let Ok(mut draft) = start(alloc, Some(root)) else {
+        return None;
+    };
     let mut number = 1;
-    while !reader.take_end_array() {
+    'entries: while !reader.take_end_array() {
         if number == ENTRY_LIMIT {
             return None;
         }
         let entry = read_entry(alloc, reader)?;
-        draft = add(alloc, draft, number as u32, Some(entry)).ok()?;
+        draft = match add(alloc, draft, number as u32, Some(entry)) {
+            Ok(more) => more,
+            Err(_) => return None,
+        };
         number += 1;
     }
-    draft.finish().ok()
+    match draft.finish() {
+        Ok(layer) => Some(layer),
+        Err(_) => None,
+    }
 }

@@ -1,7 +1,7 @@
 //! Members of an object as a reader's tokens give them, each wanted by its name.
-ghost use Rattle.std.specs.Prelude.{◌≡◌, ◌≤◌, ◌==◌, ◌∷◌, Some, IfSome, IsTrue, slice_index};
+ghost use Rattle.std.specs.Prelude.{◌≡◌, ◌≤◌, ◌==◌, ◌∷◌, Some, IfSome, IsTrue, MatchOption, slice_index};
 ghost use Rattle.fast_float.specs.Text.{minus};
-ghost use Rattle.json.specs.Token.{key};
+ghost use Rattle.json.specs.Token.{key, end_object};
 ghost use Rattle.serde_json.specs.Data.{unsigned, string};
 ghost use Rattle.serde_json.specs.Read.{number_of};
 ghost use Rattle.ovl_manifest.specs.Text.{whole};
@@ -17,6 +17,18 @@ pub(crate) fn take_key(reader: &mut Reader<'_>, name: &str) -> bool
     match reader.next() {
         Some(Token::Key(own)) => own == name,
         _ => false,
+    }
+}
+
+/// The next member's name, and none at the end of the object.
+pub(crate) fn next_name<'a>(reader: &mut Reader<'a>) -> Option<Option<&'a str>>
+    ensures { IfSome result (λ name. MatchOption name (reader.old ≡ end_object ∷ reader.new)
+        (λ own. reader.old ≡ key own.now ∷ reader.new)) }
+{
+    match reader.next() {
+        Some(Token::Key(own)) => Some(Some(own)),
+        Some(Token::EndObject) => Some(None),
+        _ => None,
     }
 }
 
