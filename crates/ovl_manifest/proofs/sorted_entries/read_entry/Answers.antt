@@ -1,6 +1,8 @@
-use Rattle.std.proofs.Common.{◌≡◌, ◌∙◌, ◌∷◌, ap, subst, arith}
+use Rattle.std.proofs.Common.{◌≡◌, ◌∙◌, ◌∷◌, ℤ, w64, sym, ap, subst, arith}
+use Rattle.std.proofs.lemmas.Int.{to_z_pos}
 use Rattle.json.specs.Reads.{token_of}
 use Rattle.serde_json.specs.Data.{Members, object}
+use Rattle.ovl_manifest.specs.Text.{entry_value}
 use Rattle.ovl_manifest.specs.Sorted.{Spells}
 use Rattle.ovl_manifest.proofs.SortedLemmas.{adds, and_then, spells-object, members_of_entry}
 use Rattle.ovl_manifest.proofs.sorted_entries.read_entry.Goals as goal
@@ -19,4 +21,6 @@ returns-then-sound-clause-value c =
     (and_then (c.in_ok-kind.ensures.contents _)
     (and_then (adds (omega arith) c.in_ok-uid.ensures.member _) (adds (omega arith) c.in_ok-attrs.ensures _)))))))) in
     let same = members_of_entry c.in_ok-path.path c.in_ok-kind.kind c.in_ok-word.word.now c.in_ok-group.group.0 c.in_ok-device.device c.in_ok-mode.mode c.in_ok-uid.uid c.in_ok-group.group.1 c.in_ok-mtime.mtime c.in_ok-attrs.attrs c.in_ok-kind.ensures.kind in
-    subst (λ (members : Members). Spells 2 c.args.reader.now (object members) c.next-2.new.self) same (spells-object opened all closed)
+    let done = subst (λ (members : Members). Spells 2 c.args.reader.now (object members) c.next-2.new.self) same (spells-object opened all closed) in
+    let time = to_z_pos w64 c.in_ok-mtime.mtime (grind (arith, c.in_ok-mtime.ensures.bound)) in
+    subst (λ (mtime : ℤ). Spells 2 c.args.reader.now (entry_value (c.in_ok-path.path, record { kind = c.in_ok-kind.kind; mode = c.in_ok-mode.mode; uid = c.in_ok-uid.uid; gid = c.in_ok-group.group.1; mtime = mtime; attrs = c.in_ok-attrs.attrs })) c.next-2.new.self) (sym time) done
