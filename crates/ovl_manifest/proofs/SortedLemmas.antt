@@ -1,5 +1,5 @@
 -- Tokens that spell values, put together member by member and entry by entry.
-use Rattle.std.proofs.Common.{◌≡◌, ◌∙◌, ℕ, zero, suc, ◌+◌, ◌*◌, ◌/◌, ◌%◌, ◌≤◌, ◌<◌, ◌^◌, pos, List, [], ◌∷◌, ◌++◌, length, length-append, Bool, true, false, Option, Some, None, Result, Ok, Err, IfSome, SomeIff, refl, sym, ap, subst, append_assoc, arith, lt-ltb, ltb-true, eqb-true, eq-eqb}
+use Rattle.std.proofs.Common.{◌≡◌, ◌∙◌, ℕ, zero, suc, ◌+◌, ◌*◌, ◌/◌, ◌%◌, ◌≤◌, ◌<◌, ◌^◌, pos, List, [], ◌∷◌, ◌++◌, length, Bool, true, false, Option, Some, None, Result, Ok, Err, IfSome, SomeIff, refl, sym, ap, subst, append_assoc, arith, lt-ltb, ltb-true, eqb-true, eq-eqb}
 use Rattle.std.specs.Prelude.{◌==◌, not, ◌&&◌, ◌||◌, nat_eq, nat_lt, slice_index, codes, if◌then◌else◌, option_and_then}
 use Rattle.std.specs.Option.{option_map}
 use Rattle.std.specs.List.{list_all}
@@ -47,10 +47,6 @@ spells-text {text} first = record { spelled = json.string text; first = first; s
 pub spells-number : {digits : List ℕ} {n : ℕ} {tokens rest : List Token} → tokens ≡ Token.number digits ∷ rest → number_of digits ≡ Some (unsigned n) → Spells 0 tokens (whole n) rest
 spells-number {digits} first is = record { spelled = json.number digits; first = first; states = ap (option_map Data.number) is; nests = omega arith }
 
-pub spells-shorter : {limit : ℕ} {tokens : List Token} {value : Data} {rest : List Token} → Spells limit tokens value rest → length rest ≤ length tokens
-spells-shorter {limit} {tokens} {value} {rest} spells =
-    omega (arith, ap length spells.first, length-append (json_tokens spells.spelled) rest)
-
 pub natural-read : (digits : List ℕ) (parts : Parts) (number : Option ℕ) → parts ≡ scan digits → (slice_index digits 0 == minus) ≡ false → SomeIff number (IsInteger parts × (digits_of parts < 2 ^ 64)) (digits_of parts) → IfSome number (λ n. number_of digits ≡ Some (unsigned n))
 unfolding number_of
 natural-read digits parts None is plain exact = tt
@@ -70,9 +66,6 @@ adds {limit} {own} {name} {tokens} {value} {later} within has before = record { 
     states = ap (option_and_then (λ d. of_members last (put name d before))) has.member.states;
     nests = omega (arith, has.member.nests, nests, within);
   } }
-
-pub adds-none : (limit : ℕ) (tokens : List Token) (before : Members) → Adds limit tokens before before tokens
-adds-none limit tokens before = record { ends = λ last rest is nests. record { spelled = last; first = is; states = refl; nests = nests } }
 
 pub and_then : {limit : ℕ} {tokens middle later : List Token} {before between after : Members} → Adds limit tokens before between middle → Adds limit middle between after later → Adds limit tokens before after later
 and_then first second = record { ends = λ last rest is nests.
@@ -253,7 +246,7 @@ one_attribute_more attrs more name digits is =
 -- ---- entries
 
 -- the members that were read in turn are those of the entry's value
-pub in_order : (path : PathNames) (kind : Kind) (mode uid gid mtime : ℕ) (attrs : Attributes)
+in_order : (path : PathNames) (kind : Kind) (mode uid gid mtime : ℕ) (attrs : Attributes)
     → put (codes "xattrs") (object (attribute_members attrs)) (put (codes "uid") (whole uid) (with_contents kind (put (codes "path") (string (path_text path)) (put (codes "mtime") (whole mtime) (put (codes "mode") (whole mode) (with_device (device_of_kind kind) (put (codes "kind") (string (kind_word kind)) (put (codes "gid") (whole gid) (with_blob (blob_of_kind kind) no_members)))))))))
     ≡ with_kind kind (common_members (path, record { kind = kind; mode = mode; uid = uid; gid = gid; mtime = pos mtime; attrs = attrs }))
 in_order path Dir mode uid gid mtime attrs = refl
