@@ -58,20 +58,24 @@ natural-read digits parts (Some n) is plain exact =
 -- ---- members
 
 pub adds : {limit own : ℕ} {name : List ℕ} {tokens : List Token} {value : Data} {later : List Token} → own ≤ limit → HasMember own name tokens value later → (before : Members) → Adds limit tokens before (put name value before) later
-adds {limit} {own} {name} {tokens} {value} {later} within has before = record { ends = λ last rest is nests.
-  let own_tokens = json_tokens has.member.spelled in
-  record {
-    spelled = json.member name has.member.spelled last;
-    first = has.key ∙ ap (λ ts. Token.key name ∷ ts) (has.member.first ∙ (ap (λ ts. own_tokens ++ ts) is ∙ sym (append_assoc own_tokens (members_tokens last) rest)));
-    states = ap (option_and_then (λ d. of_members last (put name d before))) has.member.states;
-    nests = omega (arith, has.member.nests, nests, within);
-  } }
+adds {limit} {own} {name} {tokens} {value} {later} within has before = record {
+  ends = λ last rest is nests.
+      let own_tokens = json_tokens has.member.spelled in
+      record {
+        spelled = json.member name has.member.spelled last;
+        first = has.key ∙ ap (λ ts. Token.key name ∷ ts) (has.member.first ∙ (ap (λ ts. own_tokens ++ ts) is ∙ sym (append_assoc own_tokens (members_tokens last) rest)));
+        states = ap (option_and_then (λ d. of_members last (put name d before))) has.member.states;
+        nests = omega (arith, has.member.nests, nests, within);
+      };
+}
 
 pub and_then : {limit : ℕ} {tokens middle later : List Token} {before between after : Members} → Adds limit tokens before between middle → Adds limit middle between after later → Adds limit tokens before after later
-and_then first second = record { ends = λ last rest is nests.
-  let end = second.ends last rest is nests in
-  let whole = first.ends end.spelled rest end.first end.nests in
-  record { spelled = whole.spelled; first = whole.first; states = whole.states ∙ end.states; nests = whole.nests } }
+and_then first second = record {
+  ends = λ last rest is nests.
+      let end = second.ends last rest is nests in
+      let whole = first.ends end.spelled rest end.first end.nests in
+      record { spelled = whole.spelled; first = whole.first; states = whole.states ∙ end.states; nests = whole.nests };
+}
 
 pub spells-object : {limit : ℕ} {all tokens end later : List Token} {members : Members} → all ≡ Token.begin_object ∷ tokens → Adds limit tokens no_members members end → end ≡ Token.end_object ∷ later → Spells (suc limit) all (object members) later
 spells-object {limit} {all} {tokens} {end} {later} begins adds ends =
@@ -112,16 +116,18 @@ pub adds-no_entries : (limit : ℕ) (tokens : List Token) → AddsEntries limit 
 adds-no_entries limit tokens = record { ends = λ last rest is nests. record { spelled = last; first = is; states = no_entries (of_items last); nests = nests } }
 
 pub one_entry_more : {limit : ℕ} {tokens middle later : List Token} {entries : Entries} → AddsEntries limit tokens entries middle → (entry : Entry) → Spells limit middle (entry_value entry) later → AddsEntries limit tokens (entries ++ entry ∷ []) later
-one_entry_more {limit} {tokens} {middle} {later} {entries} done entry next = record { ends = λ last rest is nests.
-  let own = json_tokens next.spelled in
-  let here : middle ≡ items_tokens (json.item next.spelled last) ++ rest = next.first ∙ (ap (λ ts. own ++ ts) is ∙ sym (append_assoc own (items_tokens last) rest)) in
-  let whole = done.ends (json.item next.spelled last) rest here (omega (arith, next.nests, nests)) in
-  record {
-    spelled = whole.spelled;
-    first = whole.first;
-    states = whole.states ∙ (ap (λ o. option_map (entries_onto entries) (option_and_then (λ d. option_map (item d) (of_items last)) o)) next.states ∙ more (of_items last));
-    nests = whole.nests;
-  } }
+one_entry_more {limit} {tokens} {middle} {later} {entries} done entry next = record {
+  ends = λ last rest is nests.
+      let own = json_tokens next.spelled in
+      let here : middle ≡ items_tokens (json.item next.spelled last) ++ rest = next.first ∙ (ap (λ ts. own ++ ts) is ∙ sym (append_assoc own (items_tokens last) rest)) in
+      let whole = done.ends (json.item next.spelled last) rest here (omega (arith, next.nests, nests)) in
+      record {
+        spelled = whole.spelled;
+        first = whole.first;
+        states = whole.states ∙ (ap (λ o. option_map (entries_onto entries) (option_and_then (λ d. option_map (item d) (of_items last)) o)) next.states ∙ more (of_items last));
+        nests = whole.nests;
+      };
+}
   where
     more : (o : Option Items) → option_map (entries_onto entries) (option_map (item (entry_value entry)) o) ≡ option_map (entries_onto (entries ++ entry ∷ [])) o
     more None = refl

@@ -10,7 +10,9 @@ ghost use Rattle.ovl_manifest.specs.Manifest.{is_statable};
 ghost use Rattle.ovl_manifest.specs.Sorted.{Spells, HasMember, Adds, with_device, with_contents, IsKindOf};
 
 use crate::fields::put_digits;
-use crate::sorted_members::{next_name, next_natural, next_text, read_natural, read_text, take_key};
+use crate::sorted_members::{
+    next_name, next_natural, next_text, read_natural, read_text, take_key,
+};
 use json::{Reader, Token};
 use ovl_inode::{Attrs, Digest, Inode, Kind, MODE_LIMIT, SIZE_LIMIT, Target, sound};
 use ovl_names::Path;
