@@ -19,7 +19,7 @@ use Rattle.json.specs.Lex.{tokens}
 use Rattle.json.specs.Tree.{json_tokens, items_tokens, members_tokens, items_depth}
 use Rattle.json.proofs.Printed.Trees.{value-json_tokens}
 use Rattle.serde_json.specs.Data.{Data, unsigned, string, array, object, Items, no_items, item, Members, no_members, member, put}
-use Rattle.serde_json.specs.Read.{is_integer, number_from, number_of, of_json, of_items, of_members, max_depth, read}
+use Rattle.serde_json.specs.Read.{number_from, number_of, of_json, of_items, of_members, max_depth, read}
 use Rattle.ovl_names.specs.Names.{name_cmp}
 use Rattle.ovl_names.specs.Paths.{PathNames, path_text}
 use Rattle.ovl_names.proofs.Ascending.{both}

@@ -3,13 +3,13 @@ use Rattle.std.specs.Prelude.{◌≡◌, ℕ, ◌≤◌, Option, Some, None, Lis
 use Rattle.json.specs.Token.{Token}
 use Rattle.json.specs.Json as json
 use Rattle.json.specs.Tree.{json_tokens, members_tokens, depth, members_depth}
-use Rattle.serde_json.specs.Data.{Data, string, Members, no_members, put}
+use Rattle.serde_json.specs.Data.{Data, string, Members, put}
 use Rattle.serde_json.specs.Read.{of_json, of_members}
 use Rattle.ovl_inode.specs.declared.digests.Digest.{Digest}
 use Rattle.ovl_inode.specs.declared.inodes.Kind.{Kind}
-use Rattle.ovl_inode.specs.declared.inodes.Kind.TheVariants.{Dir, File, Symlink, Char, Block, Fifo, Socket}
+use Rattle.ovl_inode.specs.declared.inodes.Kind.TheVariants.{File, Symlink, Char, Block}
 use Rattle.ovl_inode.specs.Kinds.{kind_word}
-use Rattle.ovl_manifest.specs.Text.{whole, with_blob, with_numbers}
+use Rattle.ovl_manifest.specs.Text.{whole, with_numbers}
 
 -- the tokens begin with those of a value that nests at most so deep, and `rest` follows
 pub record Spells (limit : ℕ) (tokens : List Token) (value : Data) (rest : List Token) : Type 0 where

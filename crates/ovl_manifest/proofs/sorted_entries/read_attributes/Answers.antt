@@ -1,7 +1,7 @@
-use Rattle.std.proofs.Common.{◌≡◌, ◌∙◌, ◌∷◌, List, ℕ, Some, true, sym, ap, subst, arith, rules}
+use Rattle.std.proofs.Common.{◌≡◌, ◌∙◌, ◌∷◌, Some, true, sym, ap, subst, arith, rules}
 use Rattle.json.specs.Reads.{token_of}
 use Rattle.json.specs.Token.{key, end_object}
-use Rattle.serde_json.specs.Data.{Members, object, string, put}
+use Rattle.serde_json.specs.Data.{Members, object, string}
 use Rattle.std.specs.List.{list_all}
 use Rattle.ovl_names.specs.Order.{ascends}
 use Rattle.ovl_names.proofs.Ascending.{both}

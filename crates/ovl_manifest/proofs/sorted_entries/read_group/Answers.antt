@@ -3,7 +3,6 @@ use Rattle.std.specs.Prelude.{codes}
 use Rattle.json.specs.Reads.{token_of}
 use Rattle.json.specs.Token.{key}
 use Rattle.serde_json.specs.Data.{string, no_members, put}
-use Rattle.ovl_manifest.specs.Text.{whole}
 use Rattle.ovl_manifest.specs.Sorted.{Adds}
 use Rattle.ovl_manifest.proofs.SortedLemmas.{adds, and_then, digest-spelled}
 use Rattle.ovl_manifest.proofs.sorted_entries.read_group.Goals as goal

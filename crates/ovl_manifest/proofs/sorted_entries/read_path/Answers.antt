@@ -1,7 +1,7 @@
 use Rattle.std.proofs.Common.{◌≡◌, ◌∙◌, List, ℕ, sym, ap, subst}
 use Rattle.std.specs.Prelude.{codes}
 use Rattle.serde_json.specs.Data.{string}
-use Rattle.ovl_names.specs.Paths.{PathNames, path_text}
+use Rattle.ovl_names.specs.Paths.{path_text}
 use Rattle.ovl_manifest.specs.Layers.{is_within_limits}
 use Rattle.ovl_manifest.specs.Sorted.{HasMember}
 use Rattle.ovl_manifest.proofs.ReadLemmas.{within, path-spelled}

@@ -1,4 +1,4 @@
-use Rattle.std.proofs.Common.{◌≡◌, ◌∙◌, ◌∷◌, ℕ, ap, subst, arith, rules}
+use Rattle.std.proofs.Common.{◌∙◌, ◌∷◌, ℕ, ap, subst, arith, rules}
 use Rattle.std.specs.Prelude.{codes}
 use Rattle.json.specs.Reads.{token_of}
 use Rattle.serde_json.specs.Data.{array, object, no_members, put}

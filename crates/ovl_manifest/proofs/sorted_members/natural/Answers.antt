@@ -1,4 +1,4 @@
-use Rattle.std.proofs.Common.{◌≡◌, ◌∙◌, List, ℕ, sym, ap}
+use Rattle.std.proofs.Common.{◌∙◌, List, ℕ, sym, ap}
 use Rattle.std.specs.Prelude.{◌==◌, slice_index}
 use Rattle.fast_float.specs.Text.{minus, scan}
 use Rattle.ovl_manifest.proofs.SortedLemmas.{natural-read}
