@@ -1,9 +1,7 @@
 //! Entries as a reader's tokens give them, where the members of each object stand in the order of their names.
-ghost use Rattle.std.specs.Prelude.{◌≡◌, ◌≤◌, ◌∷◌, ◌^◌, ◌<◌, Some, None, IfSome, IsTrue, codes};
-ghost use Rattle.json.specs.Token.{end_object};
+ghost use Rattle.std.specs.Prelude.{Some, IfSome, IsTrue, codes};
 ghost use Rattle.serde_json.specs.Data.{string, object, Members, no_members, put};
-ghost use Rattle.ovl_names.specs.Paths.{path_text, has_names};
-ghost use Rattle.ovl_inode.specs.Sound.{is_sound_inode};
+ghost use Rattle.ovl_names.specs.Paths.{path_text};
 ghost use Rattle.ovl_manifest.specs.Layers.{is_within_limits};
 ghost use Rattle.ovl_manifest.specs.Text.{whole, with_blob, attribute_members, entry_value};
 ghost use Rattle.ovl_manifest.specs.Manifest.{is_statable};
