@@ -8,7 +8,7 @@ ghost use Rattle.ovl_merge.specs.Reckoned.{IsPlace, IsDirectoryPlace};
 use crate::MergeFault;
 use crate::entries::inode_in;
 use crate::places::{Place, directory_place};
-use crate::rest::names_at;
+use crate::rest::{Near, names_at};
 use ovl_board::{Piece, Work};
 use ovl_inode::{Inode, is_directory};
 use ovl_lookup::Stack;
@@ -123,10 +123,11 @@ fn inodes_in(alloc: Global, stack: &Stack, place: &Place) -> Result<Vec<(Name, I
     requires directory { IsDirectoryPlace (merge_of stack.now) place.now.path place.now }
     ensures { IfOk result (λ inodes. inodes.items ≡ entries_in (merge_of stack.now) place.now.path) }
 {
+    let near = Near::at(alloc, stack, place.base())?;
     let names = candidates(alloc, stack, place)?;
     let mut inodes = Vec::new(alloc);
     for name in names {
-        if let Some(inode) = inode_in(alloc, stack, place, &name)? {
+        if let Some(inode) = inode_in(alloc, stack, &near, place, &name)? {
             inodes.push((name, inode))?;
         }
     }
