@@ -35,5 +35,5 @@ for word in help version; do
     compare "$word.txt"
 done
 echo "$same same, $other other"
-"$here/../bench/compare.sh" "$program" "$here/moved" "$here/faulty" "$here/copied" || other=$((other + 1))
+"$here/../bench/compare.sh" "$program" "$here/moved" "$here/faulty" "$here/copied" "$here/renamed" || other=$((other + 1))
 ((other == 0 && same > 2))

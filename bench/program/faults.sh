@@ -129,6 +129,34 @@ for ((i = 0; i < 24; i++)); do
     truncate -s 200000000 "flood/$name"
 done
 
+# A metacopy file over its contents; and a moved directory with a chain of directories below its old place, of which the
+# last lies within the limit of names for the shorter chain alone.
+at() {
+    printf ',{"gid":0,"kind":"%s","mode":493,"mtime":0,"path":"%s","uid":0,%s}' "$@"
+}
+layer() {
+    printf '{"entries":[%s' "$root"
+    cat
+    printf '],"overlay-layer":1}\n'
+}
+plain='"xattrs":{}'
+at file /k '"size":3,"xattrs":{"trusted.overlay.metacopy":""}' | sed 's/493/420/' | layer > meta.json
+{
+    at dir /p "$plain"
+    at dir /p/q '"xattrs":{"trusted.overlay.redirect":"2f78"}'
+    at char /x "$plain"',"major":0,"minor":0'
+} | layer > moved.json
+chain() {
+    local deep=/x
+    at dir $deep "$plain"
+    for ((i = 0; i < $1; i++)); do
+        deep+=/d
+        at dir $deep "$plain"
+    done
+}
+chain 62 | layer > deep.json
+chain 63 | layer > deeper.json
+
 # Done.
 prints 0 'dir 0755 0 0 0 - - /\nentries 1\n'
 prints 0 'dir 0755 0 0 0 - - /\nentries 1\n' show root.json
@@ -194,7 +222,7 @@ refuses 2 'words must be UTF-8' show $'\xff'
 # New layers. That of k.json over itself is a root alone.
 mkdir new taken full disk taken/layer-0.json
 ln -s /dev/full full/layer-0.json
-for what in vacuum; do
+for what in vacuum deref; do
     misfits "$what" --blobs blobs k.json
     misfits "$what" --out new k.json
     misfits "$what" --blobs blobs --out new
@@ -227,6 +255,17 @@ prints 0 'removed /k\nremoved 1 kept 1\n' vacuum --blobs blobs --out new k.json 
 gives new root.json
 prints 0 'removed 0 kept 2\n' vacuum --blobs blobs --out new --workers 64 k.json root.json
 gives new k.json
+rm new/layer-0.json
+prints 1 'fault blob-missing 1 /k\nfaults 1 notes 0\n' deref --blobs none --out new meta.json k.json
+refuses 5 'result over the limits' deref --blobs none --out new moved.json deeper.json
+gives new
+prints 0 'leaf /k\nentries 2\n' deref --blobs blobs --out new meta.json k.json
+gives new k.json
+if ends 0 told deref --blobs none --out new/ moved.json deep.json; then
+    tail -n 2 printed > last
+    mv last printed
+    says printed $'whiteout /x\nentries 66\n' deref --blobs none --out new/ moved.json deep.json
+fi
 
 # The output.
 for way in without_output without_room; do
@@ -234,7 +273,7 @@ for way in without_output without_room; do
 done
 
 # Help and the version go to standard output.
-for words in --help -h --version 'show --help' 'fsck --help' 'vacuum --help'; do
+for words in --help -h --version 'show --help' 'fsck --help' 'vacuum --help' 'deref --help'; do
     # shellcheck disable=SC2086
     "$program" $words < input > printed 2> told
     status=$?

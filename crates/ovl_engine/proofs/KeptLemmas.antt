@@ -1,9 +1,11 @@
--- What vacuum leaves keeps the merged tree, where nothing is found to be at fault.
-use Rattle.std.proofs.Common.{◌≡◌, ℕ, ◌<◌, Bool, true, false, cond, Result, Ok, Err, List, [], ◌∷◌, length, map, refl, sym, ap, ◌∙◌, subst, arith}
+-- New layers in place of the topmost keep the merged tree, where nothing is found to be at fault.
+use Rattle.std.proofs.Common.{◌≡◌, ℕ, zero, suc, ◌<◌, Bool, true, false, cond, Result, Ok, Err, List, [], ◌∷◌, ◌++◌, length, drop, map, refl, sym, ap, ◌∙◌, subst, arith}
 use Rattle.std.specs.Prelude.{◌||◌, ◌==◌, not}
 use Rattle.std.specs.List.{All, list_any, list_all}
+use Rattle.std.proofs.lemmas.List.{length-map}
 use Rattle.std.proofs.lemmas.List.Elements.{All-head, All-tail}
 use Rattle.std.proofs.lemmas.List.Folds.{sum_by-zero}
+use Rattle.ovl_names.specs.Paths.{PathNames}
 use Rattle.ovl_names.proofs.Ascending.{both}
 use Rattle.ovl_manifest.specs.Layers.{Entries, IsLayer}
 use Rattle.ovl_manifest.specs.Manifest.{read_layer}
@@ -11,20 +13,22 @@ use Rattle.ovl_manifest.specs.declared.faults.LayerFault.{LayerFault}
 use Rattle.ovl_lookup.specs.Stacks.{StackView}
 use Rattle.ovl_lookup.specs.Merged.{look}
 use Rattle.ovl_lookup.specs.Sound.{IsSoundStack}
+use Rattle.ovl_lookup.specs.Words.{top_layer, lower_layers}
 use Rattle.ovl_check.specs.declared.findings.Finding.{Finding}
 use Rattle.ovl_check.specs.Codes.{is_fault, is_layer_fault, is_blob_fault}
 use Rattle.ovl_check.specs.Blobs.{BlobView}
 use Rattle.ovl_check.specs.Findings.{findings}
 use Rattle.ovl_check.specs.Laws.{FindingsTellSoundness}
-use Rattle.ovl_vacuum.proofs.KeptLemmas.{VacuumKeepsTree-holds}
-use Rattle.ovl_vacuum.proofs.SoundLemmas.{VacuumKeepsSoundness-holds}
+use Rattle.ovl_vacuum.specs.Laws.{VacuumKeepsTree, VacuumKeepsSoundness}
+use Rattle.ovl_deref.specs.Deref.{IsDereferenced}
+use Rattle.ovl_deref.specs.Laws.{DerefKeepsTree, DerefKeepsSoundness}
 use Rattle.ovl_engine.specs.declared.faults.EngineFault.{EngineFault}
 use Rattle.ovl_engine.specs.declared.faults.EngineFault.TheVariants.{Layer}
 use Rattle.ovl_engine.specs.declared.requests.Answer.{Answer}
 use Rattle.ovl_engine.specs.FsckReports.{is_clean}
 use Rattle.ovl_engine.specs.Refusals.{layers_from, under_layer, stated_layers, first_unread}
 use Rattle.ovl_engine.specs.Outcomes.{stack_of, new_manifests, left_by_vacuum}
-use Rattle.ovl_engine.specs.Kept.{KeepsTree, manifests_after}
+use Rattle.ovl_engine.specs.Kept.{KeepsTreeOf, KeepsSoundness, manifests_after}
 
 -- ---- a stack without faults is sound
 
@@ -39,56 +43,120 @@ no_layer_fault (one ∷ found) none = by (no_layer_fault found parts.1) (is_laye
     by later false e = later
     by later true e = let bad : false ≡ true = sym (ap (λ b. cond (b || is_blob_fault one.code) 1 0 == 0) e) ∙ parts.0 in cc
 
-clean-sound : FindingsTellSoundness → (blobs : List BlobView) (stack : StackView) → is_clean (findings blobs stack) ≡ true → IsSoundStack stack
+pub clean-sound : FindingsTellSoundness → (blobs : List BlobView) (stack : StackView) → is_clean (findings blobs stack) ≡ true → IsSoundStack stack
 clean-sound tell blobs stack clean =
     tell blobs stack
     ∙ ap not (no_layer_fault (findings blobs stack) (sym (sum_by-zero (λ (one : Finding). cond (is_fault one.code) 1 0) (findings blobs stack)) ∙ clean))
 
--- ---- the new layer in place of the topmost
+-- ---- new layers in place of the topmost
 
--- the layers of manifests whose first is another
-other_first : (text manifest : List ℕ) (more : List (List ℕ)) (left top : Entries) (rest : List Entries) → read_layer text ≡ Ok left → layers_from 0 (manifest ∷ more) ≡ Ok (top ∷ rest) → layers_from 0 (text ∷ more) ≡ Ok (left ∷ rest)
-other_first text manifest more left top rest new old = rw (new, layers_from) (by (read_layer manifest) refl)
+-- the layers of one more manifest in front
+in_front : (k : ℕ) (manifest : List ℕ) (more : List (List ℕ)) (top : Entries) (rest : List Entries) → read_layer manifest ≡ Ok top → layers_from (suc k) more ≡ Ok rest → layers_from k (manifest ∷ more) ≡ Ok (top ∷ rest)
+in_front k manifest more top rest one others = rw (one, layers_from) (ap (under_layer top) others)
+
+-- a first manifest states a layer where all do
+record IsFirst (k : ℕ) (manifest : List ℕ) (more : List (List ℕ)) (layers : List Entries) : Type 0 where
+  pub top : Entries
+  pub rest : List Entries
+  pub one : read_layer manifest ≡ Ok top
+  pub others : layers_from (suc k) more ≡ Ok rest
+  pub same : layers ≡ top ∷ rest
+
+first_of : (k : ℕ) (manifest : List ℕ) (more : List (List ℕ)) (layers : List Entries) → layers_from k (manifest ∷ more) ≡ Ok layers → IsFirst k manifest more layers
+first_of k manifest more layers all = by (read_layer manifest) refl
   where
-    below : (found : Entries) (r : Result (List Entries) EngineFault) → under_layer found r ≡ Ok (top ∷ rest) → under_layer left r ≡ Ok (left ∷ rest)
-    below found (Ok layers) is = let both_same : found ∷ layers ≡ top ∷ rest = cc in let same : layers ≡ rest = cc in ap (λ (ls : List Entries). Ok (left ∷ ls)) same
-    below found (Err fault) is = let bad : Err fault ≡ Ok (top ∷ rest) = is in cc
+    below : (top : Entries) → read_layer manifest ≡ Ok top → (r : Result (List Entries) EngineFault) → layers_from (suc k) more ≡ r → under_layer top r ≡ Ok layers → IsFirst k manifest more layers
+    below top one (Ok rest) others is = record { top = top; rest = rest; one = one; others = others; same = (let turned : layers ≡ top ∷ rest = cc in turned) }
+    below top one (Err fault) others is = let bad : Err fault ≡ Ok layers = is in cc
 
-    by : (r : Result Entries LayerFault) → read_layer manifest ≡ r → under_layer left (layers_from 1 more) ≡ Ok (left ∷ rest)
-    by (Ok found) e = below found (layers_from 1 more) (rw (e, layers_from) at old)
-    by (Err fault) e = let bad : Err (Layer 0 fault) ≡ Ok (top ∷ rest) = rw (e, layers_from) at old in cc
+    by : (r : Result Entries LayerFault) → read_layer manifest ≡ r → IsFirst k manifest more layers
+    by (Ok top) one = below top one (layers_from (suc k) more) refl (rw (one, layers_from) at all)
+    by (Err fault) one = let bad : Err (Layer k fault) ≡ Ok layers = rw (one, layers_from) at all in cc
 
-stated : (manifests : List (List ℕ)) (layers : List Entries) → layers_from 0 manifests ≡ Ok layers → stated_layers manifests ≡ layers
-stated manifests layers is = rw (is, stated_layers) refl
+-- the layers of the last manifests, counted from another index
+of_last : (j n k : ℕ) (manifests : List (List ℕ)) (layers : List Entries) → layers_from k manifests ≡ Ok layers → layers_from j (drop n manifests) ≡ Ok (drop n layers)
+of_last j zero k [] layers all = all
+of_last j (suc n) k [] layers all =
+    let none : [] ≡ layers = cc in
+    ap (λ (ls : List Entries). Ok (drop (suc n) ls)) none
+of_last j zero k (manifest ∷ more) layers all =
+    let h = first_of k manifest more layers all in
+    in_front j manifest more h.top h.rest h.one (of_last (suc j) zero (suc k) more h.rest h.others) ∙ ap Ok (sym h.same)
+of_last j (suc n) k (manifest ∷ more) layers all =
+    let h = first_of k manifest more layers all in
+    of_last j n (suc k) more h.rest h.others ∙ ap (λ (ls : List Entries). Ok (drop (suc n) ls)) (sym h.same)
 
-module _ (tell : FindingsTellSoundness) (blobs : List BlobView) (top : Entries) (rest : List Entries) (each : All IsLayer (top ∷ rest)) (clean : is_clean (findings blobs (stack_of (top ∷ rest))) ≡ true) where
-  kept : (before after : List (List ℕ)) → layers_from 0 before ≡ Ok (top ∷ rest) → layers_from 0 after ≡ Ok (left_by_vacuum (top ∷ rest) ∷ rest) → KeepsTree before after
-  kept before after old new =
-      let first : IsLayer top = All-head IsLayer top rest each in
-      let others : All IsLayer rest = All-tail IsLayer top rest each in
-      record {
-        read = rw (new, first_unread) refl;
-        same = λ path.
-            ap (λ (layers : List Entries). look (stack_of layers) path) (stated after (left_by_vacuum (top ∷ rest) ∷ rest) new)
-            ∙ (VacuumKeepsTree-holds top (stack_of rest) first others path
-            ∙ ap (λ (layers : List Entries). look (stack_of layers) path) (sym (stated before (top ∷ rest) old)));
-        sound = subst (λ (layers : List Entries). IsSoundStack (stack_of layers)) (sym (stated after (left_by_vacuum (top ∷ rest) ∷ rest) new))
-            (VacuumKeepsSoundness-holds top (stack_of rest) first others (clean-sound tell blobs (stack_of (top ∷ rest)) clean));
-      }
+-- what a manifest of a layer is read as
+abbrev stated_as : Entries → Result Entries LayerFault
+stated_as layer = Ok layer
 
-pub vacuum-keeps : FindingsTellSoundness → (blobs : List BlobView) (layers : List Entries) → 0 < length layers → All IsLayer layers → is_clean (findings blobs (stack_of layers)) ≡ true
-    → (answer : Answer) → map read_layer (new_manifests answer) ≡ Ok (left_by_vacuum layers) ∷ []
-    → (manifests : List (List ℕ)) → layers_from 0 manifests ≡ Ok layers → KeepsTree manifests (manifests_after manifests answer)
-vacuum-keeps tell blobs [] some each clean answer new manifests old = absurd (omega arith)
-vacuum-keeps tell blobs (top ∷ rest) some each clean answer new [] old = let bad : Ok [] ≡ Ok (top ∷ rest) = old in let worse : [] ≡ top ∷ rest = cc in cc
-vacuum-keeps tell blobs (top ∷ rest) some each clean answer new (manifest ∷ more) old = by (new_manifests answer) refl
-  where
-    by : (texts : List (List ℕ)) → new_manifests answer ≡ texts → KeepsTree (manifest ∷ more) (manifests_after (manifest ∷ more) answer)
-    by [] e = let bad : [] ≡ Ok (left_by_vacuum (top ∷ rest)) ∷ [] = sym (ap (map read_layer) e) ∙ new in cc
-    by (text ∷ other ∷ texts) e =
-        let bad : read_layer text ∷ read_layer other ∷ map read_layer texts ≡ Ok (left_by_vacuum (top ∷ rest)) ∷ [] = sym (ap (map read_layer) e) ∙ new in
-        let worse : read_layer other ∷ map read_layer texts ≡ [] = cc in cc
-    by (text ∷ []) e =
-        let one : read_layer text ∷ [] ≡ Ok (left_by_vacuum (top ∷ rest)) ∷ [] = sym (ap (map read_layer) e) ∙ new in
-        let reads : read_layer text ≡ Ok (left_by_vacuum (top ∷ rest)) = cc in
-        rw (e) (kept tell blobs top rest each clean (manifest ∷ more) (text ∷ more) old (other_first text manifest more (left_by_vacuum (top ∷ rest)) top rest reads old))
+-- new manifests in front of others
+of_new : (k : ℕ) (texts : List (List ℕ)) (new : List Entries) (others : List (List ℕ)) (rest : List Entries) → map read_layer texts ≡ map stated_as new
+    → ((j : ℕ) → layers_from j others ≡ Ok rest) → layers_from k (texts ++ others) ≡ Ok (new ++ rest)
+of_new k [] [] others rest reads below = below k
+of_new k [] (layer ∷ new) others rest reads below = let bad : [] ≡ stated_as layer ∷ map stated_as new = reads in cc
+of_new k (text ∷ texts) [] others rest reads below = let bad : read_layer text ∷ map read_layer texts ≡ [] = reads in cc
+of_new k (text ∷ texts) (layer ∷ new) others rest reads below =
+    let each : read_layer text ∷ map read_layer texts ≡ stated_as layer ∷ map stated_as new = reads in
+    let one : read_layer text ≡ stated_as layer = cc in
+    let more : map read_layer texts ≡ map stated_as new = cc in
+    in_front k text (texts ++ others) layer (new ++ rest) one (of_new (suc k) texts new others rest more below)
+
+-- the new layers over those that are left, and what the stack of these is told to keep
+abbrev after : List Entries → List Entries → List Entries
+after new layers = new ++ drop (length new) layers
+
+module _ (answer : Answer) (new layers : List Entries) (reads : map read_layer (new_manifests answer) ≡ map stated_as new) (manifests : List (List ℕ)) (old : layers_from 0 manifests ≡ Ok layers) where
+  count : length (new_manifests answer) ≡ length new
+  count =
+      sym (length-map (new_manifests answer) read_layer)
+      ∙ (ap length reads ∙ length-map new stated_as)
+
+  after_read : layers_from 0 (manifests_after manifests answer) ≡ Ok (after new layers)
+  after_read =
+      of_new 0 (new_manifests answer) new (drop (length (new_manifests answer)) manifests) (drop (length new) layers) reads
+      (λ j. of_last j (length (new_manifests answer)) 0 manifests layers old ∙ ap (λ (n : ℕ). Ok (drop n layers)) count)
+
+  after_stated : stated_layers (manifests_after manifests answer) ≡ after new layers
+  after_stated = rw (after_read, stated_layers) refl
+
+  before_stated : stated_layers manifests ≡ layers
+  before_stated = rw (old, stated_layers) refl
+
+pub keeps_tree : (answer : Answer) (new layers : List Entries) → map read_layer (new_manifests answer) ≡ map stated_as new
+    → ((path : PathNames) → look (stack_of (after new layers)) path ≡ look (stack_of layers) path) → KeepsTreeOf layers answer
+keeps_tree answer new layers reads same manifests old = record {
+  read = rw (after_read answer new layers reads manifests old, first_unread) refl;
+  same = λ path.
+      ap (λ (ls : List Entries). look (stack_of ls) path) (after_stated answer new layers reads manifests old)
+      ∙ (same path ∙ ap (λ (ls : List Entries). look (stack_of ls) path) (sym (before_stated answer new layers reads manifests old)));
+}
+
+pub keeps_soundness : (answer : Answer) (new layers : List Entries) → map read_layer (new_manifests answer) ≡ map stated_as new
+    → IsSoundStack (stack_of (after new layers)) → KeepsSoundness layers answer
+keeps_soundness answer new layers reads sound manifests old =
+    subst (λ (ls : List Entries). IsSoundStack (stack_of ls)) (sym (after_stated answer new layers reads manifests old)) sound
+
+-- ---- the laws of vacuum and deref, of a stack's list of layers
+
+pub vacuum_same : VacuumKeepsTree → (layers : List Entries) → 0 < length layers → All IsLayer layers → (path : PathNames) → look (stack_of (left_by_vacuum layers ∷ drop 1 layers)) path ≡ look (stack_of layers) path
+vacuum_same law [] some each path = absurd (omega (arith, some))
+vacuum_same law (top ∷ rest) some each path = law top (stack_of rest) (All-head IsLayer top rest each) (All-tail IsLayer top rest each) path
+
+pub vacuum_sound : VacuumKeepsSoundness → (layers : List Entries) → 0 < length layers → All IsLayer layers → IsSoundStack (stack_of layers) → IsSoundStack (stack_of (left_by_vacuum layers ∷ drop 1 layers))
+vacuum_sound law [] some each sound = absurd (omega (arith, some))
+vacuum_sound law (top ∷ rest) some each sound = law top (stack_of rest) (All-head IsLayer top rest each) (All-tail IsLayer top rest each) sound
+
+abbrev IsNew : List Entries → Entries → Type 0
+IsNew layers new = IsDereferenced new (top_layer (stack_of layers)) (lower_layers (stack_of layers))
+
+pub deref_same : DerefKeepsTree → (layers : List Entries) → 0 < length layers → All IsLayer layers → IsSoundStack (stack_of layers) → (new : Entries) → IsLayer new → IsNew layers new
+    → (path : PathNames) → look (stack_of (new ∷ drop 1 layers)) path ≡ look (stack_of layers) path
+deref_same law [] some each sound new is_layer is path = absurd (omega (arith, some))
+deref_same law (top ∷ rest) some each sound new is_layer is path =
+    law top (stack_of rest) (All-head IsLayer top rest each) (All-tail IsLayer top rest each) sound new is_layer is path
+
+pub deref_sound : DerefKeepsSoundness → (layers : List Entries) → 0 < length layers → All IsLayer layers → IsSoundStack (stack_of layers) → (new : Entries) → IsLayer new → IsNew layers new → IsSoundStack (stack_of (new ∷ drop 1 layers))
+deref_sound law [] some each sound new is_layer is = absurd (omega (arith, some))
+deref_sound law (top ∷ rest) some each sound new is_layer is =
+    law top (stack_of rest) (All-head IsLayer top rest each) (All-tail IsLayer top rest each) sound new is_layer is

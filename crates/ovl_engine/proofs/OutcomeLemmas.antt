@@ -1,5 +1,5 @@
 -- What a run that fails is told as, and numbers within their limits.
-use Rattle.std.proofs.Common.{◌≡◌, ◌≢◌, ◌⊎◌, inl, inr, ℕ, ◌<◌, ◌≤◌, List, refl, arith}
+use Rattle.std.proofs.Common.{◌≡◌, ◌≢◌, ◌⊎◌, inl, inr, ℕ, ◌<◌, ◌≤◌, true, false, List, refl, arith}
 use Rattle.ovl_manifest.specs.Layers.{Entries}
 use Rattle.ovl_board.specs.declared.pieces.Piece.{Piece}
 use Rattle.ovl_board.specs.declared.assembly.BoardFault.{BoardFault}
@@ -7,11 +7,12 @@ use Rattle.ovl_board.specs.declared.assembly.BoardFault.TheVariants.{Double, Str
 use Rattle.ovl_pool.specs.declared.runs.RunFault.{RunFault}
 use Rattle.ovl_pool.specs.declared.runs.RunFault.TheVariants.{Workers, Gate, Board, Memory}
 use Rattle.ovl_engine.specs.declared.requests.Command.{Command}
-use Rattle.ovl_engine.specs.declared.requests.Command.TheVariants.{Fsck, Vacuum}
+use Rattle.ovl_engine.specs.declared.requests.Command.TheVariants.{Show, Fsck, Vacuum, Deref}
 use Rattle.ovl_engine.specs.declared.faults.EngineFault.{EngineFault}
-use Rattle.ovl_engine.specs.declared.faults.EngineFault.TheVariants.{Workers as NoWorkers, Layers, Layer, BlobOrder, BlobSize, Faulty, Run, Memory as WantsMemory}
+use Rattle.ovl_engine.specs.declared.faults.EngineFault.TheVariants.{Workers as NoWorkers, Layers, Layer, BlobOrder, BlobSize, Faulty, LimitOut, Run, Memory as WantsMemory}
 use Rattle.ovl_engine.specs.Refusals.{failed_run}
 use Rattle.ovl_check.specs.Blobs.{BlobView}
+use Rattle.ovl_engine.specs.Commands.{checks, makes_layers}
 use Rattle.ovl_engine.specs.Outcomes.{MayRefuse, IsFaultOfRun, IsFailure}
 
 module _ (command : Command) (layers : List Entries) (blobs : List BlobView) (may_refuse : Piece → Type 0) where
@@ -29,19 +30,36 @@ module _ (command : Command) (layers : List Entries) (blobs : List BlobView) (ma
   failed (Board fault) workers gate board = board_failed fault board
   failed Memory workers gate board = tt
 
--- what keeps the check from being done keeps vacuum from it
-pub unchecked : (layers : List Entries) (blobs : List BlobView) (may_refuse : Piece → Type 0) (fault : EngineFault) → IsFailure Fsck layers blobs may_refuse fault → IsFailure Vacuum layers blobs may_refuse fault
-unchecked layers blobs may_refuse (Run Workers) is = is
-unchecked layers blobs may_refuse (Run Gate) is = inl is
-unchecked layers blobs may_refuse (Run (Board fault)) is = (is.0, inl is.1)
-unchecked layers blobs may_refuse (Run Memory) is = is
-unchecked layers blobs may_refuse WantsMemory is = tt
-unchecked layers blobs may_refuse NoWorkers is = is
-unchecked layers blobs may_refuse Layers is = is
-unchecked layers blobs may_refuse (Layer index fault) is = is
-unchecked layers blobs may_refuse BlobOrder is = is
-unchecked layers blobs may_refuse BlobSize is = is
-unchecked layers blobs may_refuse (Faulty report) is = absurd is
+-- a command that makes layers checks
+pub checks_first : (command : Command) → makes_layers command ≡ true → checks command ≡ true
+checks_first Show makes = let bad : false ≡ true = makes in cc
+checks_first Fsck makes = refl
+checks_first Vacuum makes = refl
+checks_first Deref makes = refl
+
+-- what keeps the check from being done keeps each command that checks from its work
+module _ (command : Command) (checking : checks command ≡ true) (layers : List Entries) (blobs : List BlobView) (may_refuse : Piece → Type 0) where
+  refused : MayRefuse Fsck layers blobs may_refuse → MayRefuse command layers blobs may_refuse
+  refused (inl is) = inl (checking, is.1)
+  refused (inr none) = absurd none
+
+  fails : (fault : RunFault) → IsFaultOfRun Fsck layers blobs fault → IsFaultOfRun command layers blobs fault
+  fails fault (inl is) = inl (checking, is.1)
+  fails fault (inr none) = absurd none
+
+  pub unchecked : (fault : EngineFault) → IsFailure Fsck layers blobs may_refuse fault → IsFailure command layers blobs may_refuse fault
+  unchecked (Run Workers) is = is
+  unchecked (Run Gate) is = refused is
+  unchecked (Run (Board fault)) is = (is.0, fails (Board fault) is.1)
+  unchecked (Run Memory) is = is
+  unchecked WantsMemory is = tt
+  unchecked NoWorkers is = is
+  unchecked Layers is = is
+  unchecked (Layer index fault) is = is
+  unchecked BlobOrder is = is
+  unchecked BlobSize is = is
+  unchecked (Faulty report) is = let bad : false ≡ true = is.0 in cc
+  unchecked LimitOut is = absurd is.1
 
 -- a number within a limit isn't outside of it
 pub not_beyond : (limit n : ℕ) → 0 < n → n ≤ limit → (n < 1) ⊎ (limit < n) → ⊥

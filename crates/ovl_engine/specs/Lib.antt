@@ -1,6 +1,8 @@
+pub mod Commands
 pub mod Directories
 pub mod FsckReports
 pub mod Kept
+pub mod LayerReports
 pub mod NamedBlobs
 pub mod Outcomes
 pub mod Refusals

@@ -2,11 +2,12 @@
 use Rattle.std.specs.Prelude.{◌≡◌, ◌≢◌, ◌⊎◌, ◌<◌, ⊤, ℕ, true, false, Some, None, Result, Ok, Err, List, [], ◌∷◌, length, map, Vec}
 use Rattle.std.specs.Global.{Global}
 use Rattle.ovl_names.specs.Paths.{PathNames}
-use Rattle.ovl_manifest.specs.Layers.{Entries}
+use Rattle.ovl_manifest.specs.Layers.{Entries, IsLayer}
 use Rattle.ovl_manifest.specs.Text.{manifest_text}
 use Rattle.ovl_lookup.specs.declared.looks.Look.{Look}
 use Rattle.ovl_lookup.specs.Stacks.{StackView}
 use Rattle.ovl_lookup.specs.Merged.{IsMerged}
+use Rattle.ovl_lookup.specs.Words.{top_layer, lower_layers}
 use Rattle.ovl_board.specs.declared.pieces.Piece.{Piece}
 use Rattle.ovl_board.specs.declared.assembly.BoardFault.TheVariants.{Memory as BoardMemory}
 use Rattle.ovl_pool.specs.declared.runs.RunFault.{RunFault}
@@ -16,16 +17,21 @@ use Rattle.ovl_check.specs.Blobs.{BlobView, blob_kids, blob_out, blob_root}
 use Rattle.ovl_check.specs.Checks.{CheckView, check_kids, check_out, check_seen, directory_piece}
 use Rattle.ovl_check.specs.Findings.{findings}
 use Rattle.ovl_vacuum.specs.Vacuum.{vacuumed_layer, removed_paths}
-use Rattle.ovl_vacuum.specs.Directories.{top_layer, lower_layers, vacuum_kids, vacuum_out, vacuum_root, names_seen as idle_seen}
+use Rattle.ovl_vacuum.specs.Directories.{vacuum_kids, vacuum_out, vacuum_root, names_seen as idle_seen}
+use Rattle.ovl_deref.specs.Deref.{IsDereferenced}
+use Rattle.ovl_deref.specs.Directories.{deref_kids, deref_out, deref_root, inodes_seen}
+use Rattle.ovl_deref.specs.Limits.{PassesLimit}
 use Rattle.ovl_engine.specs.Reports.{show_report}
 use Rattle.ovl_engine.specs.FsckReports.{fsck_report, is_clean}
 use Rattle.ovl_engine.specs.VacuumReports.{vacuum_report}
+use Rattle.ovl_engine.specs.LayerReports.{layer_report}
 use Rattle.ovl_engine.specs.Directories.{looks_seen, show_kids, show_out, show_root}
 use Rattle.ovl_engine.specs.declared.requests.Command.{Command}
-use Rattle.ovl_engine.specs.declared.requests.Command.TheVariants.{Show, Fsck, Vacuum}
+use Rattle.ovl_engine.specs.declared.requests.Command.TheVariants.{Show, Fsck, Vacuum, Deref}
 use Rattle.ovl_engine.specs.declared.requests.Answer.{Answer}
 use Rattle.ovl_engine.specs.declared.faults.EngineFault.{EngineFault}
-use Rattle.ovl_engine.specs.declared.faults.EngineFault.TheVariants.{Workers, Layers, Layer, BlobOrder, BlobSize, Faulty, Run, Memory}
+use Rattle.ovl_engine.specs.declared.faults.EngineFault.TheVariants.{Workers, Layers, Layer, BlobOrder, BlobSize, Faulty, LimitOut, Run, Memory}
+use Rattle.ovl_engine.specs.Commands.{checks, makes_layers}
 use Rattle.ovl_engine.specs.Refusals.{stated_layers, first_refusal}
 
 -- what is seen of the names that blobs put out
@@ -53,12 +59,24 @@ removed_by_vacuum layers = removed_paths (top_layer (stack_of layers)) (lower_la
 abbrev pub new_manifests : Answer → List (List ℕ)
 new_manifests answer = map (λ manifest. manifest.items) answer.layers.items
 
--- the answer tells what went of a topmost layer and how much is left, and has that as its one new layer
-abbrev pub IsVacuumed : List PathNames → Entries → Answer → Type 0
-IsVacuumed removed left answer =
-    (answer.report.items ≡ vacuum_report removed (length left))
-    × (new_manifests answer ≡ manifest_text left ∷ [])
-    × (answer.clean ≡ true)
+-- the answer has this report and these new layers
+pub record IsRewritten (report : List ℕ) (layers : List Entries) (answer : Answer) : Type 0 where
+  pub told : answer.report.items ≡ report
+  pub written : new_manifests answer ≡ map manifest_text layers
+  pub clean : answer.clean ≡ true
+
+-- the answer of vacuum tells what goes of the topmost of these layers and how much is left, which is the new layer
+abbrev pub IsVacuumed : List Entries → Answer → Type 0
+IsVacuumed layers answer =
+    IsRewritten (vacuum_report (removed_by_vacuum layers) (length (left_by_vacuum layers))) (left_by_vacuum layers ∷ []) answer
+
+-- the answer of deref has and tells what the topmost of these layers is without redirects and metacopy files
+pub record IsUnfolded (layers : List Entries) (answer : Answer) : Type 0 where
+  pub new : Entries
+  pub is_layer : IsLayer new
+  pub dereferenced : IsDereferenced new (top_layer (stack_of layers)) (lower_layers (stack_of layers))
+  pub within : PassesLimit (stack_of layers) → ⊥
+  pub rewritten : IsRewritten (layer_report new) (new ∷ []) answer
 
 -- the answer of a command over these layers and blobs
 abbrev pub IsAnswer : Command → List Entries → List BlobView → Answer → Type 0
@@ -67,9 +85,8 @@ IsAnswer Fsck layers blobs answer =
     (answer.report.items ≡ fsck_report (findings blobs (stack_of layers)))
     × (answer.layers.items ≡ [])
     × (answer.clean ≡ is_clean (findings blobs (stack_of layers)))
-IsAnswer Vacuum layers blobs answer =
-    (is_clean (findings blobs (stack_of layers)) ≡ true)
-    × IsVacuumed (removed_by_vacuum layers) (left_by_vacuum layers) answer
+IsAnswer Vacuum layers blobs answer = (is_clean (findings blobs (stack_of layers)) ≡ true) × IsVacuumed layers answer
+IsAnswer Deref layers blobs answer = (is_clean (findings blobs (stack_of layers)) ≡ true) × IsUnfolded layers answer
 
 -- what is checked: the stack of these layers, with these blobs
 abbrev pub check_of : List Entries → List BlobView → CheckView
@@ -83,22 +100,23 @@ abbrev pub MayRefuseLayer : List Entries → List BlobView → (Piece → Type 0
 MayRefuseLayer layers blobs may_refuse i =
     (i < length layers) × MayBeRefused (check_kids (check_of layers blobs)) may_refuse (directory_piece i [])
 
--- the same of a directory that vacuum visits
-abbrev pub MayRefuseVacuum : List Entries → (Piece → Type 0) → Type 0
-MayRefuseVacuum layers may_refuse = MayBeRefused (vacuum_kids (stack_of layers)) may_refuse vacuum_root
+-- the same of what is checked, and of the directories that a command's own work visits
+abbrev pub MayRefuseCheck : List Entries → List BlobView → (Piece → Type 0) → Type 0
+MayRefuseCheck layers blobs may_refuse = MayRefuseBlobs blobs may_refuse ⊎ ((i : ℕ) × MayRefuseLayer layers blobs may_refuse i)
+
+abbrev pub MayRefuseOwn : Command → List Entries → (Piece → Type 0) → Type 0
+MayRefuseOwn Show layers may_refuse = MayBeRefused (show_kids (stack_of layers)) may_refuse show_root
+MayRefuseOwn Fsck layers may_refuse = ⊥
+MayRefuseOwn Vacuum layers may_refuse = MayBeRefused (vacuum_kids (stack_of layers)) may_refuse vacuum_root
+MayRefuseOwn Deref layers may_refuse = MayBeRefused (deref_kids (stack_of layers)) may_refuse deref_root
 
 -- the gate may refuse a piece that is reached where the command is run over these layers and blobs
 abbrev pub MayRefuse : Command → List Entries → List BlobView → (Piece → Type 0) → Type 0
-MayRefuse Show layers blobs may_refuse = MayBeRefused (show_kids (stack_of layers)) may_refuse show_root
-MayRefuse Fsck layers blobs may_refuse = MayRefuseBlobs blobs may_refuse ⊎ ((i : ℕ) × MayRefuseLayer layers blobs may_refuse i)
-MayRefuse Vacuum layers blobs may_refuse =
-    (MayRefuseBlobs blobs may_refuse ⊎ ((i : ℕ) × MayRefuseLayer layers blobs may_refuse i)) ⊎ MayRefuseVacuum layers may_refuse
+MayRefuse command layers blobs may_refuse =
+    ((checks command ≡ true) × MayRefuseCheck layers blobs may_refuse) ⊎ MayRefuseOwn command layers may_refuse
 
--- a fault of a run's board is one that some parcels of its work's own have: over the merged tree of layers, over blobs,
--- over layer `i`, and over what vacuum visits
-abbrev pub IsFaultOfShow : List Entries → RunFault → Type 0
-IsFaultOfShow layers = IsFaultOfOwn looks_seen (show_kids (stack_of layers)) (show_out (stack_of layers)) show_root
-
+-- a fault of a run's board is one that some parcels of its work's own have: over blobs, over layer `i`, and over what a
+-- command's own work visits
 abbrev pub IsFaultOfBlobs : List BlobView → RunFault → Type 0
 IsFaultOfBlobs blobs = IsFaultOfOwn names_seen (blob_kids blobs) (blob_out blobs) blob_root
 
@@ -106,16 +124,19 @@ abbrev pub IsFaultOfLayer : List Entries → List BlobView → ℕ → RunFault 
 IsFaultOfLayer layers blobs i =
     IsFaultOfOwn check_seen (check_kids (check_of layers blobs)) (check_out (check_of layers blobs)) (directory_piece i [])
 
-abbrev pub IsFaultOfVacuum : List Entries → RunFault → Type 0
-IsFaultOfVacuum layers = IsFaultOfOwn idle_seen (vacuum_kids (stack_of layers)) (vacuum_out (stack_of layers)) vacuum_root
+abbrev pub IsFaultOfCheck : List Entries → List BlobView → RunFault → Type 0
+IsFaultOfCheck layers blobs fault = IsFaultOfBlobs blobs fault ⊎ ((i : ℕ) × ((i < length layers) × IsFaultOfLayer layers blobs i fault))
+
+abbrev pub IsFaultOfWork : Command → List Entries → RunFault → Type 0
+IsFaultOfWork Show layers fault = IsFaultOfOwn looks_seen (show_kids (stack_of layers)) (show_out (stack_of layers)) show_root fault
+IsFaultOfWork Fsck layers fault = ⊥
+IsFaultOfWork Vacuum layers fault = IsFaultOfOwn idle_seen (vacuum_kids (stack_of layers)) (vacuum_out (stack_of layers)) vacuum_root fault
+IsFaultOfWork Deref layers fault = IsFaultOfOwn inodes_seen (deref_kids (stack_of layers)) (deref_out (stack_of layers)) deref_root fault
 
 -- the same where the command is run over these layers and blobs
 abbrev pub IsFaultOfRun : Command → List Entries → List BlobView → RunFault → Type 0
-IsFaultOfRun Show layers blobs fault = IsFaultOfShow layers fault
-IsFaultOfRun Fsck layers blobs fault =
-    IsFaultOfBlobs blobs fault ⊎ ((i : ℕ) × ((i < length layers) × IsFaultOfLayer layers blobs i fault))
-IsFaultOfRun Vacuum layers blobs fault =
-    (IsFaultOfBlobs blobs fault ⊎ ((i : ℕ) × ((i < length layers) × IsFaultOfLayer layers blobs i fault))) ⊎ IsFaultOfVacuum layers fault
+IsFaultOfRun command layers blobs fault =
+    ((checks command ≡ true) × IsFaultOfCheck layers blobs fault) ⊎ IsFaultOfWork command layers fault
 
 -- a run over these layers and blobs fails by its gate or its board; want of memory is told apart
 abbrev pub IsFailedRun : Command → List Entries → List BlobView → (Piece → Type 0) → RunFault → Type 0
@@ -124,16 +145,27 @@ IsFailedRun command layers blobs may_refuse Gate = MayRefuse command layers blob
 IsFailedRun command layers blobs may_refuse (Board fault) = (fault ≢ BoardMemory) × IsFaultOfRun command layers blobs (Board fault)
 IsFailedRun command layers blobs may_refuse RunMemory = ⊥
 
--- the command is refused for a fault of these layers and blobs, and this is the report that tells it
+-- a command that makes layers is refused for a fault of these layers and blobs, and this is the report that tells it
 abbrev pub IsFoundFaulty : Command → List Entries → List BlobView → List ℕ → Type 0
-IsFoundFaulty Show layers blobs report = ⊥
-IsFoundFaulty Fsck layers blobs report = ⊥
-IsFoundFaulty Vacuum layers blobs report =
-    (is_clean (findings blobs (stack_of layers)) ≡ false) × (report ≡ fsck_report (findings blobs (stack_of layers)))
+IsFoundFaulty command layers blobs report =
+    (makes_layers command ≡ true)
+    × (is_clean (findings blobs (stack_of layers)) ≡ false)
+    × (report ≡ fsck_report (findings blobs (stack_of layers)))
+
+-- the stack has no fault with these blobs, and a new layer passes a limit of manifests
+abbrev pub PassesNewLimit : Command → List Entries → Type 0
+PassesNewLimit Show layers = ⊥
+PassesNewLimit Fsck layers = ⊥
+PassesNewLimit Vacuum layers = ⊥
+PassesNewLimit Deref layers = PassesLimit (stack_of layers)
+
+abbrev pub IsLimitedOut : Command → List Entries → List BlobView → Type 0
+IsLimitedOut command layers blobs = (is_clean (findings blobs (stack_of layers)) ≡ true) × PassesNewLimit command layers
 
 -- why work over these layers and blobs isn't done; want of memory may come at any time
 abbrev pub IsFailure : Command → List Entries → List BlobView → (Piece → Type 0) → EngineFault → Type 0
 IsFailure command layers blobs may_refuse (Faulty report) = IsFoundFaulty command layers blobs report.items
+IsFailure command layers blobs may_refuse LimitOut = IsLimitedOut command layers blobs
 IsFailure command layers blobs may_refuse (Run fault) = IsFailedRun command layers blobs may_refuse fault
 IsFailure command layers blobs may_refuse Memory = ⊤
 IsFailure command layers blobs may_refuse Workers = ⊥
@@ -162,6 +194,8 @@ IsOutcome command manifests blobs workers may_refuse (Ok answer) =
     IsAccepted manifests blobs workers × IsAnswer command (stated_layers manifests) blobs answer
 IsOutcome command manifests blobs workers may_refuse (Err (Faulty report)) =
     IsAccepted manifests blobs workers × IsFoundFaulty command (stated_layers manifests) blobs report.items
+IsOutcome command manifests blobs workers may_refuse (Err LimitOut) =
+    IsAccepted manifests blobs workers × IsLimitedOut command (stated_layers manifests) blobs
 IsOutcome command manifests blobs workers may_refuse (Err (Run fault)) =
     IsAccepted manifests blobs workers × IsFailedRun command (stated_layers manifests) blobs may_refuse fault
 IsOutcome command manifests blobs workers may_refuse (Err Memory) = ⊤

@@ -11,8 +11,10 @@ use Rattle.ovl_pool.specs.declared.runs.RunFault.{RunFault}
 use Rattle.ovl_pool.specs.declared.runs.RunFault.TheVariants.{Board, Memory as RunMemory}
 use Rattle.ovl_lookup.specs.Stacks.{layer_limit}
 use Rattle.ovl_check.specs.Blobs.{BlobView, are_in_order}
+use Rattle.ovl_deref.specs.declared.finish.DerefFault.{DerefFault}
+use Rattle.ovl_deref.specs.declared.finish.DerefFault.TheVariants.{LimitOut as DerefLimit, Memory as DerefMemory}
 use Rattle.ovl_engine.specs.declared.faults.EngineFault.{EngineFault}
-use Rattle.ovl_engine.specs.declared.faults.EngineFault.TheVariants.{Workers, Layers, Layer, BlobOrder, BlobSize, Faulty, Run, Memory}
+use Rattle.ovl_engine.specs.declared.faults.EngineFault.TheVariants.{Workers, Layers, Layer, BlobOrder, BlobSize, Faulty, LimitOut, Run, Memory}
 
 -- a number is none, or over a limit
 abbrev pub is_outside : ℕ → ℕ → Bool
@@ -75,6 +77,11 @@ failed_run RunMemory = Memory
 failed_run (Board BoardMemory) = Memory
 failed_run fault = Run fault
 
+-- the fault where deref gives no layer
+abbrev pub failed_deref : DerefFault → EngineFault
+failed_deref DerefLimit = LimitOut
+failed_deref DerefMemory = Memory
+
 -- why manifests aren't all read; want of memory may come at any time
 abbrev pub IsUnread : Result (List Entries) EngineFault → EngineFault → Type 0
 IsUnread read (Layer index fault) = read ≡ Err (Layer index fault)
@@ -84,4 +91,5 @@ IsUnread read Layers = ⊥
 IsUnread read BlobOrder = ⊥
 IsUnread read BlobSize = ⊥
 IsUnread read (Faulty report) = ⊥
+IsUnread read LimitOut = ⊥
 IsUnread read (Run fault) = ⊥

@@ -2,13 +2,15 @@ ghost use Rattle.std.specs.Prelude.{◌≡◌, ◌↔◌, ◌<◌, ◌≤◌, tr
 ghost use Rattle.ovl_lookup.specs.Stacks.{layer_limit};
 ghost use Rattle.ovl_board.specs.Machine.{worker_limit};
 ghost use Rattle.ovl_check.specs.Blobs.{blob_views, are_in_order};
-ghost use Rattle.ovl_engine.specs.declared.requests.Command.TheVariants.{Show, Fsck, Vacuum};
+ghost use Rattle.ovl_engine.specs.declared.requests.Command.TheVariants.{Show, Fsck};
 ghost use Rattle.ovl_engine.specs.declared.faults.EngineFault.TheVariants.{Workers, Layers};
 ghost use Rattle.ovl_engine.specs.Refusals.{is_outside as outside_test, blob_limit, blob_bytes};
 ghost use Rattle.ovl_engine.specs.Outcomes.{IsOutcome, IsRun};
-ghost use Rattle.ovl_engine.specs.Kept.{KeepsTree, manifests_after};
+ghost use Rattle.ovl_engine.specs.Commands.{makes_layers};
+ghost use Rattle.ovl_engine.specs.Kept.{KeepsTree, IsSoundAfter, manifests_after};
 
 use crate::checks::findings_of;
+use crate::derefs::deref;
 use crate::faults::EngineFault;
 use crate::fsck_reports::{fsck_report_of, is_clean};
 use crate::listings::report_of_walk;
@@ -31,12 +33,13 @@ use std::thread::Threads;
 /// Refused before any worker starts where the workers are outside 1 to [`WORKER_LIMIT`], else where the manifests are
 /// outside 1 to [`LAYER_LIMIT`], else where one states no layer, the first of them, with its fault, else where the names
 /// of the blobs don't ascend strictly, else where the blobs have more than [`BLOB_LIMIT`] bytes in all. A command that
-/// makes new layers first checks as [`Command::Fsck`] does, and is refused with that report where it tells a fault; else
-/// the manifests with the new ones in place of the topmost show the same merged tree, and have no fault of a layer.
-/// `Run` comes where the gate refuses a piece that the command reaches, or the board has a fault, which some parcels of
-/// the command's own runs have; `Memory` can come at any time but before the first two refusals. It waits for its
-/// workers, and returns only where each question to the gate does. The merged tree, what is checked and what vacuum
-/// leaves are those of `docs/PROFILE.md`, the reports those of `docs/FORMATS.md`.
+/// makes new layers first checks as [`Command::Fsck`] does, and is refused with that report where it tells a fault, else
+/// with `LimitOut` where a new layer passes a limit of manifests. Else the manifests with the new ones in place of the
+/// topmost show the same merged tree, and have no fault of a layer. `Run` comes where the gate refuses a piece that the
+/// command reaches, or the board has a fault, which some parcels of the command's own runs have; `Memory` can come at any
+/// time but before the first two refusals. It waits for its workers, and returns only where each question to the gate
+/// does. The merged tree, what is checked and the new layers are those of `docs/PROFILE.md`, the reports those of
+/// `docs/FORMATS.md`.
 pub fn command<G: Gate + Sync, R: Threads + Wait + Sync>(
     rt: &R,
     alloc: Global,
@@ -47,8 +50,10 @@ pub fn command<G: Gate + Sync, R: Threads + Wait + Sync>(
     gate: &G,
 ) -> Result<Answer, EngineFault>
     ensures outcome { IsOutcome what (map (λ manifest. manifest.items) manifests.now) (blob_views blobs.now) workers (G.may_refuse gate.now) result }
-    ensures keeps { IfOk result (λ answer. what ≡ Vacuum
+    ensures keeps { IfOk result (λ answer. makes_layers what ≡ true
         → KeepsTree (map (λ manifest. manifest.items) manifests.now) (manifests_after (map (λ manifest. manifest.items) manifests.now) answer)) }
+    ensures sound { IfOk result (λ answer. makes_layers what ≡ true
+        → IsSoundAfter (manifests_after (map (λ manifest. manifest.items) manifests.now) answer)) }
     ensures workers { (result ≡ Err Workers) ↔ (outside_test worker_limit workers ≡ true) }
     ensures layers { (result ≡ Err Layers)
         ↔ ((outside_test worker_limit workers ≡ false) × (outside_test layer_limit (length manifests.now) ≡ true)) }
@@ -70,6 +75,7 @@ pub fn command<G: Gate + Sync, R: Threads + Wait + Sync>(
         Command::Show => show(rt, alloc, &stack, workers, gate),
         Command::Fsck => fsck(rt, alloc, &stack, blobs, workers, gate),
         Command::Vacuum => vacuum(rt, alloc, &stack, blobs, workers, gate),
+        Command::Deref => deref(rt, alloc, &stack, blobs, workers, gate),
     }
 }
 

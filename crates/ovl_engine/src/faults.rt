@@ -1,9 +1,10 @@
 ghost use Rattle.std.specs.Prelude.{◌≡◌};
 ghost use Rattle.ovl_engine.specs.declared.faults.EngineFault.TheVariants.{Memory};
-ghost use Rattle.ovl_engine.specs.Refusals.{unread_layer, failed_run};
+ghost use Rattle.ovl_engine.specs.Refusals.{unread_layer, failed_run, failed_deref};
 
 use crate::commands::BLOB_LIMIT;
 use ovl_board::{BoardFault, WORKER_LIMIT};
+use ovl_deref::DerefFault;
 use ovl_lookup::LAYER_LIMIT;
 use ovl_manifest::LayerFault;
 use ovl_pool::RunFault;
@@ -12,7 +13,7 @@ use thiserror::Error;
 
 /// Why a command gives no answer. The first of `Workers`, `Layers`, `Layer`, `BlobOrder` and `BlobSize` that holds is
 /// given before any work is done; `Faulty` comes where a command is refused for what [`Command::Fsck`](crate::Command::Fsck)
-/// tells. Layers are counted from 0, the topmost first.
+/// tells, and `LimitOut` after that check. Layers are counted from 0, the topmost first.
 #[derive(Debug, PartialEq, Eq, Drop, Error)]
 pub enum EngineFault {
     /// There is no worker, or there are more than [`WORKER_LIMIT`].
@@ -33,6 +34,9 @@ pub enum EngineFault {
     /// The layers or the blobs have faults, which this report of `fsck` tells.
     #[error("the layers or the blobs have faults")]
     Faulty(Vec<u8>),
+    /// A new layer has more entries than a manifest may have, or a path with more names or a longer text.
+    #[error("result over the limits")]
+    LimitOut,
     /// A run over the layers or the blobs gives no walk, for another reason than memory.
     #[error("{}", run_word(.0))]
     Run(RunFault),
@@ -70,6 +74,17 @@ impl From<RunFault> for EngineFault {
         match fault {
             RunFault::Memory | RunFault::Board(BoardFault::Memory) => EngineFault::Memory,
             _ => EngineFault::Run(fault),
+        }
+    }
+}
+
+impl From<DerefFault> for EngineFault {
+    ghost from_gives = { λ fault told. told ≡ failed_deref fault };
+
+    fn from(fault: DerefFault) -> EngineFault {
+        match fault {
+            DerefFault::LimitOut => EngineFault::LimitOut,
+            DerefFault::Memory => EngineFault::Memory,
         }
     }
 }

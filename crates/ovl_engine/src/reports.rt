@@ -211,7 +211,7 @@ fn push_attribute(
     report.push_str(hex::encode(alloc, value)?.as_str())
 }
 
-fn push_escaped(alloc: Global, report: &mut String, text: &str) -> Result<(), AllocError>
+pub(crate) fn push_escaped(alloc: Global, report: &mut String, text: &str) -> Result<(), AllocError>
     ensures { OnOk result (string_bytes report.new ≡ string_bytes report.old ++ escaped_text text.now) }
 {
     report.push_str(escaped(alloc, text)?.as_str())

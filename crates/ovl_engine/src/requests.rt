@@ -7,6 +7,8 @@ pub enum Command {
     Fsck,
     /// The new layer is the topmost without what changes nothing in the merged tree, and the report lists what went.
     Vacuum,
+    /// The new layer is the topmost without redirects and metacopy files, and the report lists what it has.
+    Deref,
 }
 
 /// What a command gives.

@@ -1,26 +1,22 @@
-ghost use Rattle.std.specs.Prelude.{◌≡◌, ◌<◌, ◌≤◌, ℕ, true, Ok, List, [], ◌∷◌, IfOk, MatchResult, map};
-ghost use Rattle.ovl_manifest.specs.Manifest.{read_layer};
+ghost use Rattle.std.specs.Prelude.{◌≡◌, ◌<◌, ◌≤◌, true, List, IfOk, MatchResult};
 ghost use Rattle.ovl_board.specs.Machine.{worker_limit};
 ghost use Rattle.ovl_check.specs.Blobs.{BlobView, blob_views, are_in_order};
 ghost use Rattle.ovl_engine.specs.declared.requests.Command.TheVariants.{Vacuum};
-ghost use Rattle.ovl_engine.specs.Refusals.{layers_from};
-ghost use Rattle.ovl_engine.specs.Outcomes.{IsFailure, IsRun, IsVacuumed, left_by_vacuum, new_manifests, removed_by_vacuum};
-ghost use Rattle.ovl_engine.specs.Kept.{KeepsTree, manifests_after};
+ghost use Rattle.ovl_engine.specs.Outcomes.{IsFailure, IsRun, left_by_vacuum, removed_by_vacuum};
+ghost use Rattle.ovl_engine.specs.Kept.{KeepsTreeOf, KeepsSoundness};
 
-use crate::checks::findings_of;
 use crate::faults::EngineFault;
-use crate::fsck_reports::{fsck_report_of, is_clean};
 use crate::requests::Answer;
+use crate::rewrites::{expect_clean, rewritten};
 use crate::vacuum_reports::vacuum_report_of;
 use ovl_board::Piece;
 use ovl_check::Blob;
-use ovl_check::laws::findings_tell_soundness;
 use ovl_lookup::Stack;
-use ovl_manifest::write_layer;
 use ovl_names::Path;
 use ovl_pool::{Gate, run};
+use ovl_vacuum::laws::{vacuum_keeps_soundness, vacuum_keeps_the_tree};
 use ovl_vacuum::{VacuumDone, VacuumWork, finish_vacuum};
-use std::alloc::{AllocError, Global};
+use std::alloc::Global;
 use std::sync::Wait;
 use std::thread::Threads;
 
@@ -37,18 +33,17 @@ pub(crate) fn vacuum<G: Gate + Sync, R: Threads + Wait + Sync>(
     requires number { (0 < workers) × (workers ≤ worker_limit) }
     requires ascend { are_in_order (blob_views blobs.now) ≡ true }
     ensures outcome { IsRun Vacuum stack.now.layers (blob_views blobs.now) (G.may_refuse gate.now) result }
-    ensures keeps { IfOk result (λ answer. (manifests : List (List ℕ)) → layers_from 0 manifests ≡ Ok stack.now.layers
-        → KeepsTree manifests (manifests_after manifests answer)) }
+    ensures tree { IfOk result (KeepsTreeOf stack.now.layers) }
+    ensures sound { IfOk result (KeepsSoundness stack.now.layers) }
 {
     let _layers = stack.layers();
-    // Where no fault is found, the stack is sound.
-    findings_tell_soundness();
-    let found = findings_of(rt, alloc, stack, blobs, workers, gate)?;
-    if !is_clean(&found) {
-        return Err(EngineFault::Faulty(fsck_report_of(alloc, &found)?));
-    }
+    vacuum_keeps_the_tree();
+    vacuum_keeps_soundness();
+    expect_clean(rt, alloc, stack, blobs, workers, gate)?;
     let done = vacuumed(rt, alloc, stack, workers, gate)?;
-    Ok(answer_of(alloc, &done)?)
+    let kept = done.layer.entries(alloc)?.len() as u64;
+    let report = vacuum_report_of(alloc, &done.removed, kept)?;
+    Ok(rewritten(alloc, report, &[&done.layer])?)
 }
 
 // What vacuum leaves of the topmost layer, and what went, whatever the blobs.
@@ -71,19 +66,4 @@ fn vacuumed<G: Gate + Sync, R: Threads + Wait + Sync>(
     };
     let (parcels, _) = run(rt, alloc, &work, root, workers, gate)?;
     Ok(finish_vacuum(alloc, &work, parcels)?)
-}
-
-// The answer of what vacuum gives.
-fn answer_of(alloc: Global, done: &VacuumDone) -> Result<Answer, AllocError>
-    ensures answer { IfOk result (IsVacuumed done.now.removed.items done.now.layer) }
-    ensures back { IfOk result (λ answer. map read_layer (new_manifests answer) ≡ Ok done.now.layer ∷ []) }
-{
-    let kept = done.layer.entries(alloc)?.len() as u64;
-    let mut layers = Vec::new(alloc);
-    layers.push(write_layer(alloc, &done.layer)?)?;
-    Ok(Answer {
-        report: vacuum_report_of(alloc, &done.removed, kept)?,
-        layers,
-        clean: true,
-    })
 }

@@ -18,10 +18,11 @@ use Rattle.clap.specs.declared.builder.value_parser.Reading.{Reading}
 use Rattle.clap.specs.declared.builder.value_parser.Reading.TheVariants.{AsWritten}
 use Rattle.clap.specs.declared.builder.value_parser.ValueParser.TheVariants.{Unsigned}
 use Rattle.clap.proofs.ValueTestLemmas.{accepts-Accepts}
-use Rattle.ovl_layers.specs.Grammar.{blobs_rule, fsck_shape, out_rule, show_shape, tool_app, vacuum_shape, workers_rule}
+use Rattle.ovl_layers.specs.Grammar.{blobs_rule, fsck_shape, out_rule, show_shape, rewriting_shape, tool_app, workers_rule}
 use Rattle.ovl_layers.specs.Lines.{IsGiven, name_of}
 use Rattle.ovl_engine.specs.declared.requests.Command.{Command}
-use Rattle.ovl_engine.specs.declared.requests.Command.TheVariants.{Show, Fsck, Vacuum}
+use Rattle.ovl_engine.specs.Commands.{checks, makes_layers}
+use Rattle.ovl_engine.specs.declared.requests.Command.TheVariants.{Show, Fsck, Vacuum, Deref}
 use Rattle.ovl_layers.proofs.Taken.{AllFit, AllPass, Each, Fits, IsOwn, each_find, no_kinds, values_fit, walk_fits, settled_fits}
 
 -- ---- searches
@@ -206,8 +207,8 @@ one_wanted : (a : Bool) → check_kinds false false (not a || false) ≡ [] → 
 one_wanted true e = refl
 one_wanted false e = cc
 
-own_vacuum : Each (IsOwn (leaf vacuum_shape).rules) (leaf vacuum_shape).rules
-own_vacuum = ((refl, inl (inl refl, refl), tt), ((refl, inl (inl refl, refl), tt), ((refl, inl (inl refl, refl), (refl, tt)), ((refl, inl (inr refl, refl), tt), ((refl, inr refl, tt), tt)))))
+own_rewriting : (name : Text) → Each (IsOwn (leaf (rewriting_shape name)).rules) (leaf (rewriting_shape name)).rules
+own_rewriting name = ((refl, inl (inl refl, refl), tt), ((refl, inl (inl refl, refl), tt), ((refl, inl (inl refl, refl), (refl, tt)), ((refl, inl (inr refl, refl), tt), ((refl, inr refl, tt), tt)))))
 
 two_wanted : (a b : Bool) → check_kinds false false (not a || (not b || false)) ≡ [] → (a ≡ true) × (b ≡ true)
 two_wanted true true e = (refl, refl)
@@ -253,11 +254,13 @@ fsck_given words e =
       layers = files_given rules (codes "layers") _ rows fit refl wanted.1;
     }
 
-vacuum_given : (words : List Text) → level_fault (leaf vacuum_shape) [] nothing_held words false [] ≡ [] → IsGiven Vacuum (rows_after (leaf vacuum_shape).rules [] words)
-vacuum_given words e =
-    let rules = (leaf vacuum_shape).rules in
-    let fit = level_fits (leaf vacuum_shape) words own_vacuum e in
-    let check = (level_parts (leaf vacuum_shape) [] words false [] e).3 in
+-- the options of a command that makes new layers
+rewriting_given : (what : Command) → checks what ≡ true → makes_layers what ≡ true → (name : Text) (words : List Text) → level_fault (leaf (rewriting_shape name)) [] nothing_held words false [] ≡ []
+    → IsGiven what (rows_after (leaf (rewriting_shape name)).rules [] words)
+rewriting_given what checking making name words e =
+    let rules = (leaf (rewriting_shape name)).rules in
+    let fit = level_fits (leaf (rewriting_shape name)) words (own_rewriting name) e in
+    let check = (level_parts (leaf (rewriting_shape name)) [] words false [] e).3 in
     let rows = rows_after rules [] words in
     let before = with_default (with_default (settled rules (walk rules [] nothing_held words).held).rows (filled blobs_rule)) (filled out_rule) in
     let there : has_row (codes "workers") rows ≡ true =
@@ -265,8 +268,8 @@ vacuum_given words e =
     let wanted = three_wanted _ _ _ check in
     record {
       workers = workers_given rules rows fit refl there;
-      blobs = first_given rules (codes "blobs") (filled blobs_rule) rows fit refl wanted.0;
-      out = first_given rules (codes "out") (filled out_rule) rows fit refl wanted.1;
+      blobs = first_given rules (codes "blobs") (filled blobs_rule) rows fit refl wanted.0 ∙ sym checking;
+      out = first_given rules (codes "out") (filled out_rule) rows fit refl wanted.1 ∙ sym making;
       layers = files_given rules (codes "layers") _ rows fit refl wanted.2;
     }
 
@@ -280,12 +283,16 @@ IsCommandOf found = (what : Command) × (rows : List Row) × (found ≡ Some (na
 abbrev MakesCommand : Shape → Type 0
 MakesCommand s = (words : List Text) → level_fault s [] nothing_held words false [] ≡ [] → IsCommandOf (Some (rows_at s words))
 
+rewrites : (what : Command) → checks what ≡ true → makes_layers what ≡ true → MakesCommand (leaf (rewriting_shape (name_of what)))
+rewrites what checking making words e =
+    (what, rows_after (leaf (rewriting_shape (name_of what))).rules [] words, refl, rewriting_given what checking making (name_of what) words e)
+
 makes : Each MakesCommand (built tool_app).subs
 makes = (
   (λ words e. (Show, rows_after (leaf show_shape).rules [] words, refl, show_given words e)),
   (
     (λ words e. (Fsck, rows_after (leaf fsck_shape).rules [] words, refl, fsck_given words e)),
-    ((λ words e. (Vacuum, rows_after (leaf vacuum_shape).rules [] words, refl, vacuum_given words e)), tt),
+    (rewrites Vacuum refl refl, (rewrites Deref refl refl, tt)),
   ),
 )
 

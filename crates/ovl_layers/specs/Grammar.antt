@@ -54,12 +54,24 @@ show_shape = record (new_shape (codes "show")) { rules = workers_rule ∷ layers
 abbrev pub fsck_shape : Shape
 fsck_shape = record (new_shape (codes "fsck")) { rules = blobs_rule ∷ workers_rule ∷ layers_rule ∷ [] }
 
--- `vacuum` with the options for its folders, and with all
-abbrev pub vacuum_folders_shape : Shape
-vacuum_folders_shape = record (new_shape (codes "vacuum")) { rules = blobs_rule ∷ out_rule ∷ [] }
+-- a command that makes new layers, with the options for its folders, and with all
+abbrev pub folders_shape : List ℕ → Shape
+folders_shape name = record (new_shape name) { rules = blobs_rule ∷ out_rule ∷ [] }
 
-abbrev pub vacuum_shape : Shape
-vacuum_shape = record (new_shape (codes "vacuum")) { rules = blobs_rule ∷ out_rule ∷ workers_rule ∷ layers_rule ∷ [] }
+abbrev pub rewriting_shape : List ℕ → Shape
+rewriting_shape name = record (new_shape name) { rules = blobs_rule ∷ out_rule ∷ workers_rule ∷ layers_rule ∷ [] }
+
+-- the program's own level, without its commands
+abbrev pub bare_app : App
+bare_app = record {
+  top = record (new_shape (codes "ovl_layers")) {
+    has_version = true;
+    no_binary_name = true;
+    disable_help_subcommand = true;
+    subcommand_required = true;
+  };
+  subs = [];
+}
 
 -- the words after the program's name, of which the first names a command, or asks for help or the version
 abbrev pub tool_app : App
@@ -71,5 +83,5 @@ tool_app = record {
     disable_help_subcommand = true;
     subcommand_required = true;
   };
-  subs = show_shape ∷ fsck_shape ∷ vacuum_shape ∷ [];
+  subs = show_shape ∷ fsck_shape ∷ rewriting_shape (codes "vacuum") ∷ rewriting_shape (codes "deref") ∷ [];
 }

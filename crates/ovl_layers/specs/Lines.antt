@@ -11,7 +11,8 @@ use Rattle.clap.specs.declared.error.kind.ErrorKind.TheVariants.{DisplayHelp, Di
 use Rattle.ovl_board.specs.Machine.{worker_limit}
 use Rattle.ovl_layers.specs.Grammar.{tool_app}
 use Rattle.ovl_engine.specs.declared.requests.Command.{Command}
-use Rattle.ovl_engine.specs.declared.requests.Command.TheVariants.{Show, Fsck, Vacuum}
+use Rattle.ovl_engine.specs.declared.requests.Command.TheVariants.{Show, Fsck, Vacuum, Deref}
+use Rattle.ovl_engine.specs.Commands.{checks, makes_layers}
 use Rattle.ovl_layers.specs.declared.lines.Line.{Line}
 use Rattle.ovl_layers.specs.declared.lines.LineFault.{LineFault}
 use Rattle.ovl_layers.specs.declared.lines.LineFault.TheVariants.{Help, Usage, Memory}
@@ -21,29 +22,18 @@ abbrev pub name_of : Command → Text
 name_of Show = codes "show"
 name_of Fsck = codes "fsck"
 name_of Vacuum = codes "vacuum"
+name_of Deref = codes "deref"
 
 -- the name is a command's
 abbrev pub NamesCommand : Text → Type 0
 NamesCommand name = (what : Command) × (name ≡ name_of what)
 
--- the command reads the contents of files
-abbrev pub takes_blobs : Command → Bool
-takes_blobs Show = false
-takes_blobs Fsck = true
-takes_blobs Vacuum = true
-
--- the command makes new layers
-abbrev pub makes_layers : Command → Bool
-makes_layers Show = false
-makes_layers Fsck = false
-makes_layers Vacuum = true
-
--- what every line keeps to
+-- what every line keeps to: the contents of files are read for what is checked, and new layers need a folder
 pub record IsSound (line : Line) : Type 0 where
   pub some_worker : 1 ≤ line.workers
   pub few_workers : line.workers ≤ worker_limit
   pub some_layer : 0 < length line.layers.items
-  pub blobs : is_some line.blobs ≡ takes_blobs line.what
+  pub blobs : is_some line.blobs ≡ checks line.what
   pub out : is_some line.out ≡ makes_layers line.what
 
 -- the number that a text spells in decimal digits
@@ -53,7 +43,7 @@ number_in text = digits_value 10 (without_leading_plus text)
 -- the values of the options make a line of the command
 pub record IsGiven (what : Command) (rows : List Row) : Type 0 where
   pub workers : (text : Text) × (one_of (codes "workers") rows ≡ Some text) × IsUnsignedIn 1 worker_limit text
-  pub blobs : is_some (first_of (codes "blobs") rows) ≡ takes_blobs what
+  pub blobs : is_some (first_of (codes "blobs") rows) ≡ checks what
   pub out : is_some (first_of (codes "out") rows) ≡ makes_layers what
   pub layers : (files : List Text) × (all_of (codes "layers") rows ≡ Some files) × (0 < length files)
 

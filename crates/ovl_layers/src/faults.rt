@@ -73,7 +73,8 @@ fn engine_status(fault: &EngineFault) -> u8
         | EngineFault::Layer(..)
         | EngineFault::BlobOrder
         | EngineFault::BlobSize => 3,
-        EngineFault::Workers | EngineFault::Run(_) | EngineFault::Memory => 5,
+        EngineFault::Workers | EngineFault::LimitOut | EngineFault::Run(_) | EngineFault::Memory =>
+            5,
     }
 }
 

@@ -2,7 +2,7 @@
 ghost use Rattle.std.specs.Prelude.{◌≡◌, IfOk, false};
 ghost use Rattle.clap.specs.Words.{app_of, rule_of};
 ghost use Rattle.clap.specs.declared.builder.command.Command.TheViews.{out-Command as fields_of};
-ghost use Rattle.ovl_layers.specs.Grammar.{blobs_rule, default_word, default_workers, fsck_shape, layers_rule, out_rule, show_shape, tool_app, vacuum_folders_shape, vacuum_shape, workers_rule};
+ghost use Rattle.ovl_layers.specs.Grammar.{bare_app, blobs_rule, default_word, default_workers, folders_shape, fsck_shape, layers_rule, out_rule, rewriting_shape, show_shape, tool_app, workers_rule};
 ghost use Rattle.ovl_layers.specs.Lines.{number_in};
 ghost use Rattle.clap.specs.Simple.{shape_of};
 
@@ -21,8 +21,8 @@ const NAME: &str = "ovl_layers";
 const VERSION: &str = "0.1.0";
 
 const ABOUT: &str = "\
-Tells what a stack of overlay layers shows and what is wrong with it, and takes out of a layer what changes nothing,
-all by their JSON manifests. Nothing is mounted.
+Tells what a stack of overlay layers shows and what is wrong with it, and makes a topmost layer that shows the same:
+without what changes nothing, or without redirects and metacopy files. All by JSON manifests; nothing is mounted.
 Without words it shows the layer whose manifest is on standard input.";
 
 const SHOW: &str = "Lists each path that the overlay of the layers shows, with what is there";
@@ -32,6 +32,9 @@ const FSCK: &str =
 
 const VACUUM: &str =
     "Takes out of the topmost layer what changes nothing in what the overlay shows";
+
+const DEREF: &str =
+    "Unfolds moved directories and metacopy files of the topmost layer; the overlay shows the same";
 
 const WORKERS: &str = "How many workers share the directories, 1 to 64";
 
@@ -46,8 +49,8 @@ const MORE: &str = "\
 What the commands take:
   <LAYER>...     Manifest of a layer, the topmost layer first
   --workers <N>  How many workers share the directories, 1 to 64 [default: 4]
-  --blobs <DIR>  For fsck and vacuum: folder with the contents of the layers' files, each file named by its SHA-256 digest
-  --out <DIR>    For vacuum: folder for the new topmost layer, which is written there as layer-0.json
+  --blobs <DIR>  For all but show: folder with the contents of the layers' files, each file named by its SHA-256 digest
+  --out <DIR>    For vacuum and deref: folder for the new topmost layer, which is written there as layer-0.json
 
 fsck is for a stack that is to be mounted or shipped: it tells faults, as directories moved from a place that is lost or
 not hidden, and files whose contents are missing or wrong, and it notes marks that do nothing. It ends with status 1
@@ -57,11 +60,16 @@ vacuum is for an upper layer that is to be kept or shipped: it takes out each fi
 the layers below show there, and tells which. With the new layer the overlay shows the same as before. It first checks as
 fsck does; where there is a fault it tells that in place of all else, writes no layer, and ends with status 1.
 
+deref is for an upper layer that is to be read where redirects and metacopy files mean nothing: a directory that was moved
+becomes a new one with all that the overlay shows in it, and a metacopy file gets the contents that it shows. It tells
+what the new layer has, and what each entry is to the overlay. It first checks, as vacuum does.
+
 Examples:
   ovl_layers < layer.json
   ovl_layers show upper.json lower.json
   ovl_layers fsck --blobs contents --workers 8 upper.json lower.json
-  ovl_layers vacuum --blobs contents --out new upper.json lower.json";
+  ovl_layers vacuum --blobs contents --out new upper.json lower.json
+  ovl_layers deref --blobs contents --out new upper.json lower.json";
 
 const SHOW_EXAMPLE: &str = "\
 Example:
@@ -75,21 +83,33 @@ const VACUUM_EXAMPLE: &str = "\
 Example:
   ovl_layers vacuum --blobs contents --out new upper.json lower.json";
 
+const DEREF_EXAMPLE: &str = "\
+Example:
+  ovl_layers deref --blobs contents --out new upper.json lower.json";
+
 /// The whole command line after the program's name.
 pub fn tool<'a>(alloc: Global) -> Result<Command<'a>, AllocError>
     ensures { IfOk result (λ command. app_of command ≡ tool_app) }
 {
-    Command::new(alloc, NAME)
+    bare(alloc)?
+        .subcommand(show(alloc)?)?
+        .subcommand(fsck(alloc)?)?
+        .subcommand(rewriting(alloc, "vacuum", VACUUM, VACUUM_EXAMPLE)?)?
+        .subcommand(rewriting(alloc, "deref", DEREF, DEREF_EXAMPLE)?)
+}
+
+// The program's own level, without its commands.
+fn bare<'a>(alloc: Global) -> Result<Command<'a>, AllocError>
+    ensures { IfOk result (λ command. app_of command ≡ bare_app) }
+{
+    Ok(Command::new(alloc, NAME)
         .bin_name(NAME)?
         .version(VERSION)
         .no_binary_name(true)
         .subcommand_required(true)
         .disable_help_subcommand(true)
         .about(ABOUT)
-        .after_help(MORE)
-        .subcommand(show(alloc)?)?
-        .subcommand(fsck(alloc)?)?
-        .subcommand(vacuum(alloc)?)
+        .after_help(MORE))
 }
 
 fn show<'a>(alloc: Global) -> Result<Command<'a>, AllocError>
@@ -113,21 +133,32 @@ fn fsck<'a>(alloc: Global) -> Result<Command<'a>, AllocError>
         .arg(layers(alloc))
 }
 
-fn vacuum<'a>(alloc: Global) -> Result<Command<'a>, AllocError>
-    ensures { IfOk result (λ command. (shape_of command ≡ vacuum_shape) × ((fields_of command).has_globals ≡ false)) }
+// A command that makes new layers.
+fn rewriting<'a>(
+    alloc: Global,
+    name: &'a str,
+    about: &'a str,
+    example: &'a str,
+) -> Result<Command<'a>, AllocError>
+    ensures { IfOk result (λ command. (shape_of command ≡ rewriting_shape name.now) × ((fields_of command).has_globals ≡ false)) }
 {
-    vacuum_folders(alloc)?
+    with_folders(alloc, name, about, example)?
         .arg(workers(alloc))?
         .arg(layers(alloc))
 }
 
-// The command `vacuum` with the options for its folders.
-fn vacuum_folders<'a>(alloc: Global) -> Result<Command<'a>, AllocError>
-    ensures { IfOk result (λ command. (shape_of command ≡ vacuum_folders_shape) × ((fields_of command).has_globals ≡ false)) }
+// The same with the options for its folders alone.
+fn with_folders<'a>(
+    alloc: Global,
+    name: &'a str,
+    about: &'a str,
+    example: &'a str,
+) -> Result<Command<'a>, AllocError>
+    ensures { IfOk result (λ command. (shape_of command ≡ folders_shape name.now) × ((fields_of command).has_globals ≡ false)) }
 {
-    Command::new(alloc, "vacuum")
-        .about(VACUUM)
-        .after_help(VACUUM_EXAMPLE)
+    Command::new(alloc, name)
+        .about(about)
+        .after_help(example)
         .arg(blobs(alloc))?
         .arg(out(alloc))
 }

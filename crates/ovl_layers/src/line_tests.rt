@@ -27,6 +27,10 @@ fn words_make_a_line(rt: HostRuntime) -> Result<(), Fail> {
             "Line { what: Vacuum, workers: 4, blobs: Some(\"b\"), out: Some(\"o\"), layers: [\"a\", \"c\"] }",
         ),
         (
+            ["deref", "a", "--blobs", "b", "--workers=2", "--out=o"].as_slice(),
+            "Line { what: Deref, workers: 2, blobs: Some(\"b\"), out: Some(\"o\"), layers: [\"a\"] }",
+        ),
+        (
             ["show", "--", "--workers", "-"].as_slice(),
             "Line { what: Show, workers: 4, blobs: None, out: None, layers: [\"--workers\", \"-\"] }",
         ),
@@ -77,6 +81,11 @@ fn words_that_no_command_takes_are_a_usage_fault(rt: HostRuntime) -> Result<(), 
             "Usage: ovl_layers vacuum --blobs <DIR> --out <DIR> <LAYER>...\n\n",
         ),
         (
+            ["deref", "--out", "o", "a.json"].as_slice(),
+            "the following required arguments were not provided:\n  --blobs <DIR>",
+            "Usage: ovl_layers deref --blobs <DIR> --out <DIR> <LAYER>...\n\n",
+        ),
+        (
             ["fsck", "--blobs", "b", "--out", "o", "a.json"].as_slice(),
             "unexpected argument '--out' found\n\n  tip: to pass '--out' as a value, use '-- --out'",
             "Usage: ovl_layers fsck --blobs <DIR> <LAYER>...\n\n",
@@ -98,7 +107,7 @@ fn words_that_no_command_takes_are_a_usage_fault(rt: HostRuntime) -> Result<(), 
         ),
         (
             [].as_slice(),
-            "'ovl_layers' requires a subcommand but one was not provided\n  [subcommands: show, fsck, vacuum]",
+            "'ovl_layers' requires a subcommand but one was not provided\n  [subcommands: show, fsck, vacuum, deref]",
             "Usage: ovl_layers <COMMAND>\n\n",
         ),
     ] {
@@ -115,8 +124,8 @@ fn words_that_no_command_takes_are_a_usage_fault(rt: HostRuntime) -> Result<(), 
 }
 
 const HELP: &str = "\
-Tells what a stack of overlay layers shows and what is wrong with it, and takes out of a layer what changes nothing,
-all by their JSON manifests. Nothing is mounted.
+Tells what a stack of overlay layers shows and what is wrong with it, and makes a topmost layer that shows the same:
+without what changes nothing, or without redirects and metacopy files. All by JSON manifests; nothing is mounted.
 Without words it shows the layer whose manifest is on standard input.
 
 Usage: ovl_layers <COMMAND>
@@ -125,6 +134,7 @@ Commands:
   show    Lists each path that the overlay of the layers shows, with what is there
   fsck    Checks that the layers fit one another and that the contents of their files are whole
   vacuum  Takes out of the topmost layer what changes nothing in what the overlay shows
+  deref   Unfolds moved directories and metacopy files of the topmost layer; the overlay shows the same
 
 Options:
   -h, --help     Print help
@@ -133,8 +143,8 @@ Options:
 What the commands take:
   <LAYER>...     Manifest of a layer, the topmost layer first
   --workers <N>  How many workers share the directories, 1 to 64 [default: 4]
-  --blobs <DIR>  For fsck and vacuum: folder with the contents of the layers' files, each file named by its SHA-256 digest
-  --out <DIR>    For vacuum: folder for the new topmost layer, which is written there as layer-0.json
+  --blobs <DIR>  For all but show: folder with the contents of the layers' files, each file named by its SHA-256 digest
+  --out <DIR>    For vacuum and deref: folder for the new topmost layer, which is written there as layer-0.json
 
 fsck is for a stack that is to be mounted or shipped: it tells faults, as directories moved from a place that is lost or
 not hidden, and files whose contents are missing or wrong, and it notes marks that do nothing. It ends with status 1
@@ -144,11 +154,16 @@ vacuum is for an upper layer that is to be kept or shipped: it takes out each fi
 the layers below show there, and tells which. With the new layer the overlay shows the same as before. It first checks as
 fsck does; where there is a fault it tells that in place of all else, writes no layer, and ends with status 1.
 
+deref is for an upper layer that is to be read where redirects and metacopy files mean nothing: a directory that was moved
+becomes a new one with all that the overlay shows in it, and a metacopy file gets the contents that it shows. It tells
+what the new layer has, and what each entry is to the overlay. It first checks, as vacuum does.
+
 Examples:
   ovl_layers < layer.json
   ovl_layers show upper.json lower.json
   ovl_layers fsck --blobs contents --workers 8 upper.json lower.json
   ovl_layers vacuum --blobs contents --out new upper.json lower.json
+  ovl_layers deref --blobs contents --out new upper.json lower.json
 ";
 
 const SHOW_HELP: &str = "\
@@ -202,6 +217,24 @@ Example:
   ovl_layers vacuum --blobs contents --out new upper.json lower.json
 ";
 
+const DEREF_HELP: &str = "\
+Unfolds moved directories and metacopy files of the topmost layer; the overlay shows the same
+
+Usage: ovl_layers deref [OPTIONS] --blobs <DIR> --out <DIR> <LAYER>...
+
+Arguments:
+  <LAYER>...  Manifest of a layer, the topmost layer first
+
+Options:
+      --blobs <DIR>  Folder with the contents of the layers' files, each file named by its SHA-256 digest
+      --out <DIR>    Folder for the new topmost layer, which is written there as layer-0.json
+      --workers <N>  How many workers share the directories, 1 to 64 [default: 4]
+  -h, --help         Print help
+
+Example:
+  ovl_layers deref --blobs contents --out new upper.json lower.json
+";
+
 #[test]
 fn help_or_the_version_is_given_where_it_is_asked_for(rt: HostRuntime) -> Result<(), Fail> {
     let alloc = rt.alloc();
@@ -212,6 +245,7 @@ fn help_or_the_version_is_given_where_it_is_asked_for(rt: HostRuntime) -> Result
         (["show", "a.json", "-h"].as_slice(), SHOW_HELP),
         (["fsck", "--help"].as_slice(), FSCK_HELP),
         (["vacuum", "--help"].as_slice(), VACUUM_HELP),
+        (["deref", "--help"].as_slice(), DEREF_HELP),
         (["--version"].as_slice(), "ovl_layers 0.1.0\n"),
         (["-V"].as_slice(), "ovl_layers 0.1.0\n"),
     ] {

@@ -27,6 +27,18 @@ const KEPT: &[u8] = b"{\"entries\":[\
     {\"blob\":\"ba7816bf8f01cfea414140de5dae2223b00361a396177a9cb410ff61f20015ad\",\"gid\":0,\"kind\":\"file\",\
     \"mode\":420,\"mtime\":0,\"path\":\"/k\",\"size\":3,\"uid\":0,\"xattrs\":{}}],\"overlay-layer\":1}";
 
+// The same as it is written.
+const KEPT_WRITTEN: &[u8] = b"{\"entries\":[\
+    {\"gid\":0,\"kind\":\"dir\",\"mode\":493,\"mtime\":0,\"path\":\"/\",\"uid\":0,\"xattrs\":{}},\
+    {\"blob\":\"ba7816bf8f01cfea414140de5dae2223b00361a396177a9cb410ff61f20015ad\",\"gid\":0,\"kind\":\"file\",\
+    \"mode\":420,\"mtime\":0,\"path\":\"/k\",\"size\":3,\"uid\":0,\"xattrs\":{}}],\"overlay-layer\":1}\n";
+
+// The same as a metacopy file, whose contents lie below.
+const META: &[u8] = b"{\"entries\":[\
+    {\"gid\":0,\"kind\":\"dir\",\"mode\":493,\"mtime\":0,\"path\":\"/\",\"uid\":0,\"xattrs\":{}},\
+    {\"gid\":0,\"kind\":\"file\",\"mode\":420,\"mtime\":0,\"path\":\"/k\",\"size\":3,\"uid\":0,\
+    \"xattrs\":{\"trusted.overlay.metacopy\":\"\"}}],\"overlay-layer\":1}";
+
 // The same with mode 0600 in place of 0644.
 const CLOSED: &[u8] = b"{\"entries\":[\
     {\"gid\":0,\"kind\":\"dir\",\"mode\":493,\"mtime\":0,\"path\":\"/\",\"uid\":0,\"xattrs\":{}},\
@@ -66,10 +78,16 @@ fn line(alloc: Global, blobs: Option<&str>, layers: &[&str]) -> Result<Line, All
     })
 }
 
-// A `vacuum` of these layers, with a folder of blobs and one for the new layer.
-fn vacuum_line(alloc: Global, blobs: &str, out: &str, layers: &[&str]) -> Result<Line, AllocError> {
+// A command that makes a new layer of these, with a folder of blobs and one for the new layer.
+fn rewriting_line(
+    alloc: Global,
+    what: Command,
+    blobs: &str,
+    out: &str,
+    layers: &[&str],
+) -> Result<Line, AllocError> {
     let mut asked = line(alloc, Some(blobs), layers)?;
-    asked.what = Command::Vacuum;
+    asked.what = what;
     asked.out = Some(String::from_str(alloc, out)?);
     Ok(asked)
 }
@@ -202,7 +220,7 @@ fn a_report_that_cannot_be_written_is_told(rt: HostRuntime) -> Result<(), Fail> 
 }
 
 #[test]
-fn layers_with_faults_are_not_vacuumed(rt: HostRuntime) -> Result<(), Fail> {
+fn layers_with_faults_are_not_rewritten(rt: HostRuntime) -> Result<(), Fail> {
     let alloc = rt.alloc();
     // Without its blob both layers have a fault, and nothing is written to the file that is there, which takes nothing.
     let things: [(&'static str, Thing); 3] = [
@@ -214,13 +232,15 @@ fn layers_with_faults_are_not_vacuumed(rt: HostRuntime) -> Result<(), Fail> {
         rt: &rt,
         things: &things,
     };
-    let mut output = Vec::new(alloc);
-    let asked = vacuum_line(alloc, "b", "o", &["low", "low"])?;
-    assert_eq!(rt; perform(&disk, &asked, &mut output)?, Ending::Faulty);
-    assert_eq!(rt;
-        output.as_slice(),
-        b"fault blob-missing 0 /k\nfault blob-missing 1 /k\nfaults 2 notes 0\n".as_slice()
-    );
+    for what in [Command::Vacuum, Command::Deref] {
+        let mut output = Vec::new(alloc);
+        let asked = rewriting_line(alloc, what, "b", "o", &["low", "low"])?;
+        assert_eq!(rt; perform(&disk, &asked, &mut output)?, Ending::Faulty);
+        assert_eq!(rt;
+            output.as_slice(),
+            b"fault blob-missing 0 /k\nfault blob-missing 1 /k\nfaults 2 notes 0\n".as_slice()
+        );
+    }
     Ok(())
 }
 
@@ -243,7 +263,7 @@ fn a_new_layer_that_cannot_be_written_is_told(rt: HostRuntime) -> Result<(), Fai
         ("o", "o/layer-0.json"),
         ("missing/", "missing//layer-0.json"),
     ] {
-        let asked = vacuum_line(alloc, "b", folder, &["low", "low"])?;
+        let asked = rewriting_line(alloc, Command::Vacuum, "b", folder, &["low", "low"])?;
         let fault = ProgramFault::Unwritten(String::from_str(alloc, path)?);
         assert_eq!(rt; perform(&disk, &asked, &mut output).err(), Some(fault));
         assert!(rt; output.is_empty());
@@ -292,25 +312,31 @@ fn a_stack_in_files_of_the_system_is_checked(rt: HostRuntime) -> Result<(), Fail
 }
 
 #[test]
-fn a_layer_in_files_of_the_system_is_vacuumed(rt: HostRuntime) -> Result<(), Fail> {
+fn a_layer_in_files_of_the_system_is_rewritten(rt: HostRuntime) -> Result<(), Fail> {
     let alloc = rt.alloc();
-    let folder = new_folder(&rt, process::id(rt.process()), "vacuum")?;
-    let layer = new_file(&rt, folder.as_str(), "k.json", KEPT)?;
+    let folder = new_folder(&rt, process::id(rt.process()), "rewritten")?;
+    let top = new_file(&rt, folder.as_str(), "top.json", META)?;
+    let low = new_file(&rt, folder.as_str(), "low.json", KEPT)?;
     // What is there already is overwritten.
     let new = new_file(&rt, folder.as_str(), "layer-0.json", CLOSED)?;
     new_file(&rt, folder.as_str(), ABC, b"abc")?;
-    let mut output = Vec::new(alloc);
-    let layers = [layer.as_str(), layer.as_str()];
-    let asked = vacuum_line(alloc, folder.as_str(), folder.as_str(), &layers)?;
-    let ending = perform(&rt, &asked, &mut output);
-    let written = read_file(&rt, new.as_str());
+    let mut told = Vec::new(alloc);
+    for what in [Command::Vacuum, Command::Deref] {
+        let layers = [top.as_str(), low.as_str()];
+        let asked = rewriting_line(alloc, what, folder.as_str(), folder.as_str(), &layers)?;
+        let mut output = Vec::new(alloc);
+        let ending = perform(&rt, &asked, &mut output);
+        told.push((ending, output, read_file(&rt, new.as_str())))?;
+    }
     fs::remove_dir_all(&rt, folder.as_str())?;
-    assert_eq!(rt; ending?, Ending::Clean);
-    assert_eq!(rt;
-        output.as_slice(),
-        b"removed /k\nremoved 1 kept 1\n".as_slice()
-    );
-    assert_eq!(rt; written?.as_slice(), ROOT_WRITTEN);
+    for ((ending, output, written), (report, layer)) in told.into_iter().zip([
+        ("removed /k\nremoved 1 kept 1\n", ROOT_WRITTEN),
+        ("leaf /k\nentries 2\n", KEPT_WRITTEN),
+    ]) {
+        assert_eq!(rt; ending?, Ending::Clean);
+        assert_eq!(rt; output.as_slice(), report.as_bytes());
+        assert_eq!(rt; written?.as_slice(), layer);
+    }
     Ok(())
 }
 
@@ -322,7 +348,13 @@ fn a_folder_of_the_system_in_place_of_a_new_layer_is_told(rt: HostRuntime) -> Re
     let inner = format!(in alloc; "{folder}/layer-0.json")?;
     fs::create_dir(&rt, inner.as_str())?;
     let mut output = Vec::new(alloc);
-    let asked = vacuum_line(alloc, folder.as_str(), folder.as_str(), &[layer.as_str()])?;
+    let asked = rewriting_line(
+        alloc,
+        Command::Vacuum,
+        folder.as_str(),
+        folder.as_str(),
+        &[layer.as_str()],
+    )?;
     let fault = perform(&rt, &asked, &mut output).err();
     fs::remove_dir_all(&rt, folder.as_str())?;
     assert_eq!(rt; fault, Some(ProgramFault::Unwritten(inner)));

@@ -34,6 +34,7 @@ fn command_of(name: &str) -> Command
         "show" => Command::Show,
         "fsck" => Command::Fsck,
         "vacuum" => Command::Vacuum,
+        "deref" => Command::Deref,
         _ => unreachable!(),
     }
 }

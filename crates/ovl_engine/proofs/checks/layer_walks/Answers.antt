@@ -1,4 +1,4 @@
-use Rattle.std.proofs.Common.{◌<◌, Err, [], ◌∷◌, inr, ap, subst, length, arith, length-append}
+use Rattle.std.proofs.Common.{◌<◌, Err, [], ◌∷◌, inl, inr, refl, ap, subst, length, arith, length-append}
 use Rattle.std.proofs.lemmas.Result.{err_from_is_err_and}
 use Rattle.ovl_lookup.specs.Stacks.{StackView}
 use Rattle.ovl_board.specs.Parcels.{parcel_views}
@@ -21,8 +21,8 @@ returns-in_err-parcels g c =
     (λ e. not_beyond worker_limit c.args.workers c.requires.number.0 c.requires.number.1 (c.in_err-parcels.ensures.workers.0 (ap Err e)))
     (λ e.
     let refused = rw (c.root.ensures) at (c.in_err-parcels.ensures.gate (ap Err e)) in
-    inr (c.loop-i.i, (inside, subst (λ (stack : StackView). MayBeRefused (check_kids (record { stack = stack; blobs = view.blobs })) (g.G.Gate.may_refuse c.args.gate.now) (directory_piece c.loop-i.i [])) c.requires.same refused)))
-    (inr (c.loop-i.i, (inside, subst (λ (stack : StackView). IsFaultOfLayer stack.layers view.blobs c.loop-i.i c.in_err-parcels.field-0.0) c.requires.same (rw (c.root.ensures) at c.in_err-parcels.ensures.board)))))
+    inl (refl, inr (c.loop-i.i, (inside, subst (λ (stack : StackView). MayBeRefused (check_kids (record { stack = stack; blobs = view.blobs })) (g.G.Gate.may_refuse c.args.gate.now) (directory_piece c.loop-i.i [])) c.requires.same refused))))
+    (inl (refl, inr (c.loop-i.i, (inside, subst (λ (stack : StackView). IsFaultOfLayer stack.layers view.blobs c.loop-i.i c.in_err-parcels.field-0.0) c.requires.same (rw (c.root.ensures) at c.in_err-parcels.ensures.board))))))
 
 pub loop-i-preserved : goal.loop-i-preserved
 loop-i-preserved g c =

@@ -1,4 +1,4 @@
-use Rattle.std.proofs.Common.{ap, Err, []}
+use Rattle.std.proofs.Common.{ap, Err, inr, []}
 use Rattle.std.proofs.lemmas.Result.{err_from_is_err_and}
 use Rattle.ovl_engine.specs.declared.requests.Command.TheVariants.{Show}
 use Rattle.ovl_board.specs.Machine.{worker_limit}
@@ -11,5 +11,5 @@ returns-in_err-parcels g c =
     let fault = c.in_err-parcels.field-0.0 in
     rw (out.1, out.2) (failed Show c.args.stack.now.layers [] (g.G.Gate.may_refuse c.args.gate.now) fault
     (λ e. not_beyond worker_limit c.args.workers c.requires.0 c.requires.1 (c.in_err-parcels.ensures.workers.0 (ap Err e)))
-    (λ e. rw (c.new-work.ensures.value, c.root.ensures) at (c.in_err-parcels.ensures.gate (ap Err e)))
-    (rw (c.new-work.ensures.value, c.root.ensures) at c.in_err-parcels.ensures.board))
+    (λ e. inr (rw (c.new-work.ensures.value, c.root.ensures) at (c.in_err-parcels.ensures.gate (ap Err e))))
+    (inr (rw (c.new-work.ensures.value, c.root.ensures) at c.in_err-parcels.ensures.board)))

@@ -1,0 +1,69 @@
+//! What the commands that make new layers share.
+ghost use Rattle.std.specs.Prelude.{◌≡◌, ◌<◌, ◌≤◌, true, Ok, IfOk, IfErr, map};
+ghost use Rattle.ovl_manifest.specs.Manifest.{read_layer};
+ghost use Rattle.ovl_lookup.specs.Sound.{IsSoundStack};
+ghost use Rattle.ovl_board.specs.Machine.{worker_limit};
+ghost use Rattle.ovl_check.specs.Blobs.{blob_views, are_in_order};
+ghost use Rattle.ovl_check.specs.Findings.{findings};
+ghost use Rattle.ovl_engine.specs.declared.requests.Command.{Command};
+ghost use Rattle.ovl_engine.specs.Commands.{makes_layers};
+ghost use Rattle.ovl_engine.specs.FsckReports.{is_clean as clean_test};
+ghost use Rattle.ovl_engine.specs.Outcomes.{IsFailure, IsRewritten, new_manifests};
+
+use crate::checks::findings_of;
+use crate::faults::EngineFault;
+use crate::fsck_reports::{fsck_report_of, is_clean};
+use crate::requests::Answer;
+use ovl_check::Blob;
+use ovl_check::laws::findings_tell_soundness;
+use ovl_lookup::Stack;
+use ovl_manifest::{Layer, write_layer};
+use ovl_pool::Gate;
+use std::alloc::{AllocError, Global};
+use std::sync::Wait;
+use std::thread::Threads;
+
+/// Comes before new layers are made: a stack that has a fault with these blobs is refused with the report of `fsck`.
+pub(crate) fn expect_clean<G: Gate + Sync, R: Threads + Wait + Sync>(
+    rt: &R,
+    alloc: Global,
+    stack: &Stack,
+    blobs: &[Blob],
+    workers: usize,
+    gate: &G,
+) -> Result<(), EngineFault>
+    requires number { (0 < workers) × (workers ≤ worker_limit) }
+    requires ascend { are_in_order (blob_views blobs.now) ≡ true }
+    ensures clean { IfOk result (λ _. clean_test (findings (blob_views blobs.now) stack.now) ≡ true) }
+    ensures sound { IfOk result (λ _. IsSoundStack stack.now) }
+    ensures refused { IfErr result (λ fault. (what : Command) → makes_layers what ≡ true
+        → IsFailure what stack.now.layers (blob_views blobs.now) (G.may_refuse gate.now) fault) }
+{
+    // Where no fault is found, the stack is sound.
+    findings_tell_soundness();
+    let found = findings_of(rt, alloc, stack, blobs, workers, gate)?;
+    if is_clean(&found) {
+        return Ok(());
+    }
+    Err(EngineFault::Faulty(fsck_report_of(alloc, &found)?))
+}
+
+/// The answer with this report and these new layers.
+pub(crate) fn rewritten(
+    alloc: Global,
+    report: Vec<u8>,
+    layers: &[&Layer],
+) -> Result<Answer, AllocError>
+    ensures answer { IfOk result (IsRewritten report.items (map (λ layer. layer.now) layers.now)) }
+    ensures back { IfOk result (λ answer. map read_layer (new_manifests answer) ≡ map (λ layer. Ok layer.now) layers.now) }
+{
+    let mut manifests = Vec::with_capacity(alloc, layers.len())?;
+    for layer in layers {
+        manifests.push(write_layer(alloc, layer)?)?;
+    }
+    Ok(Answer {
+        report,
+        layers: manifests,
+        clean: true,
+    })
+}
