@@ -73,6 +73,40 @@ fn commands_report_and_give_new_layers(rt: HostRuntime) -> Result<(), Fail> {
             "removed /k\nremoved 1 kept 2\n",
             ["dir /d opaque=y redirect=/x"].as_slice(),
         ),
+        (
+            Command::Deref,
+            [""].as_slice(),
+            "entries 1\n",
+            [""].as_slice(),
+        ),
+        // A directory that was moved is filled with what it shows, and so is all in it; its old place stays hidden.
+        (
+            Command::Deref,
+            [
+                "dir /p redirect=/x, dir /p/q redirect=r, whiteout /p/r, whiteout /x",
+                "dir /x, dir /x/r, file /x/r/k",
+            ]
+            .as_slice(),
+            "opaque /p\nplain /p/q\nleaf /p/q/k\nwhiteout /x\nentries 5\n",
+            ["dir /p opaque=y, dir /p/q, file /p/q/k, whiteout /x"].as_slice(),
+        ),
+        (
+            Command::Deref,
+            [
+                "dir /n opaque=y, dir /n/d redirect=/x, whiteout /x",
+                "dir /n, file /n/z, dir /x, file /x/k",
+            ]
+            .as_slice(),
+            "opaque /n\nopaque /n/d\nleaf /n/d/k\nwhiteout /x\nentries 5\n",
+            ["dir /n opaque=y, dir /n/d opaque=y, file /n/d/k, whiteout /x"].as_slice(),
+        ),
+        // A metacopy file gets its data.
+        (
+            Command::Deref,
+            ["bare /f metacopy=", "bare /f metacopy=", "file /f"].as_slice(),
+            "leaf /f\nentries 2\n",
+            ["file /f"].as_slice(),
+        ),
     ] {
         let told = rewritten(&rt, alloc, what, layers, &blobs)?;
         let wanted = told_of(alloc, report, &manifests_of(alloc, new)?)?;
@@ -88,7 +122,7 @@ fn a_stack_with_faults_gives_their_report_and_no_layer(rt: HostRuntime) -> Resul
     let report = "fault redirect-form 0 /a\nfault redirect-form 0 /b\nfault redirect-form 0 /c\n\
         fault redirect-form 0 /e\nfaults 4 notes 0\n";
     let manifests = manifests_of(alloc, &[upper, ""])?;
-    for what in [Command::Vacuum] {
+    for what in [Command::Vacuum, Command::Deref] {
         for workers in [1, 4] {
             let answer = command(&rt, alloc, what, &manifests, &[], workers, &OpenGate);
             let Err(EngineFault::Faulty(told)) = answer else {
@@ -155,5 +189,36 @@ fn any_number_of_workers_gives_the_same_new_layer(rt: HostRuntime) -> Result<(),
         );
         assert_eq!(rt; answer.err(), Some(EngineFault::Workers), "by {workers}");
     }
+    Ok(())
+}
+
+// The entries of a directory `/x` and so many in each other below it.
+fn chain(alloc: Global, directories: u32) -> Result<String, Fail> {
+    let mut entries = String::from_str(alloc, "dir /x")?;
+    let mut path = String::from_str(alloc, "/x")?;
+    for _ in 0..directories {
+        path.push_str("/d")?;
+        entries.push_str(", dir ")?;
+        entries.push_str(path.as_str())?;
+    }
+    Ok(entries)
+}
+
+#[test]
+fn a_new_layer_is_within_the_limits(rt: HostRuntime) -> Result<(), Fail> {
+    let alloc = rt.alloc();
+    let upper = "dir /p, dir /p/q redirect=/x, whiteout /x";
+    // In `/p/q` the shorter chain ends 64 names deep, the longer one 65.
+    let told = rewritten(
+        &rt,
+        alloc,
+        Command::Deref,
+        &[upper, chain(alloc, 62)?.as_str()],
+        &[],
+    )?;
+    assert!(rt; told.as_str().contains("\nwhiteout /x\nentries 66\n"));
+    let manifests = manifests_of(alloc, &[upper, chain(alloc, 63)?.as_str()])?;
+    let answer = command(&rt, alloc, Command::Deref, &manifests, &[], 4, &OpenGate);
+    assert_eq!(rt; answer.err(), Some(EngineFault::LimitOut));
     Ok(())
 }
