@@ -1,4 +1,4 @@
-ghost use Rattle.std.specs.Prelude.{◌≡◌, ◌↔◌, ◌<◌, [], Err, IfOk, OnOk, length};
+ghost use Rattle.std.specs.Prelude.{◌≡◌, ◌↔◌, ◌<◌, [], Err, IfOk, IfErr, OnOk, length};
 ghost use Rattle.ovl_lookup.specs.Passes.{own_names_along, put_names};
 ghost use Rattle.ovl_merge.specs.declared.faults.MergeFault.TheVariants.{NoLower};
 ghost use Rattle.ovl_merge.specs.Places.{merge_of, two_layers};
@@ -41,6 +41,7 @@ impl<'a> MergeWork<'a> {
     pub fn new(stack: &'a Stack) -> Result<MergeWork<'a>, MergeFault>
         ensures value { IfOk result (λ work. work ≡ stack.now) }
         ensures refused { (result ≡ Err NoLower) ↔ (length stack.now.layers ≡ 1) }
+        ensures other { IfErr result (λ fault. fault ≡ NoLower) }
     {
         if stack.layers() == 1 {
             return Err(MergeFault::NoLower);
