@@ -209,15 +209,12 @@ fn a_new_layer_is_within_the_limits(rt: HostRuntime) -> Result<(), Fail> {
     let alloc = rt.alloc();
     let upper = "dir /p, dir /p/q redirect=/x, whiteout /x";
     // In `/p/q` the shorter chain ends 64 names deep, the longer one 65.
-    let told = rewritten(
-        &rt,
-        alloc,
-        Command::Deref,
-        &[upper, chain(alloc, 62)?.as_str()],
-        &[],
-    )?;
+    let chained = chain(alloc, 62)?;
+    let layers = [upper, chained.as_str()];
+    let told = rewritten(&rt, alloc, Command::Deref, &layers, &[])?;
     assert!(rt; told.as_str().contains("\nwhiteout /x\nentries 66\n"));
-    let manifests = manifests_of(alloc, &[upper, chain(alloc, 63)?.as_str()])?;
+    let deeper = chain(alloc, 63)?;
+    let manifests = manifests_of(alloc, &[upper, deeper.as_str()])?;
     let answer = command(&rt, alloc, Command::Deref, &manifests, &[], 4, &OpenGate);
     assert_eq!(rt; answer.err(), Some(EngineFault::LimitOut));
     Ok(())
