@@ -280,6 +280,7 @@ fn two_workers_of_a_command_meet_and_one_is_refused(rt: HostRuntime) -> Result<(
         (Command::Fsck, ["", ""].as_slice(), 128, blobs),
         (Command::Vacuum, [TWO, ""].as_slice(), 0, two),
         (Command::Deref, [TWO, ""].as_slice(), 0, two),
+        (Command::Merge, [TWO, ""].as_slice(), 0, two),
     ] {
         let met = is_met(&rt, rt.alloc(), what, layers, space, pieces)?;
         assert!(rt; met, "at {what:?} in space {space}");

@@ -218,6 +218,7 @@ fn blobs_must_ascend_whatever_the_command(rt: HostRuntime) -> Result<(), Fail> {
         Command::Fsck,
         Command::Vacuum,
         Command::Deref,
+        Command::Merge,
     ] {
         let answer = command(&rt, alloc, what, &manifests, &falling, 4, &OpenGate);
         assert_eq!(rt; answer.err(), Some(EngineFault::BlobOrder), "at {what:?}");

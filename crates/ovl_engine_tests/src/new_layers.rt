@@ -2,6 +2,7 @@
 
 use crate::command_samples::{contents_of, manifest_of, manifests_of, rewritten, told_of};
 use ovl_engine::{Blob, Command, EngineFault, command, named_blobs};
+use ovl_manifest::LayerFault;
 use ovl_pool::OpenGate;
 use std::alloc::Global;
 use std::test::Fail;
@@ -116,13 +117,93 @@ fn commands_report_and_give_new_layers(rt: HostRuntime) -> Result<(), Fail> {
 }
 
 #[test]
+fn merge_gives_a_root_over_both_layers_as_one(rt: HostRuntime) -> Result<(), Fail> {
+    let alloc = rt.alloc();
+    let blobs = blob_of_a(alloc)?;
+    let moved = "dir /n opaque=y, dir /n/d redirect=/x, whiteout /x";
+    let old = "dir /n, file /n/z, dir /x, file /x/k";
+    let renamed = "dir /b redirect=/a, whiteout /a";
+    let full = "dir /a, file /a/k";
+    for (layers, report, lower) in [
+        // The lower layer has all that is shown; and with one between, nothing of it.
+        (
+            [moved, old].as_slice(),
+            "plain /n\nplain /n/d\nleaf /n/d/k\nentries 4\n",
+            "dir /n, dir /n/d, file /n/d/k",
+        ),
+        (
+            [moved, "", old].as_slice(),
+            "opaque /n\nmoved /n/d /x\nwhiteout /x\nentries 4\n",
+            "dir /n opaque=y, dir /n/d redirect=/x, whiteout /x",
+        ),
+        // A metacopy file whose contents lie in the rest.
+        (
+            ["bare /f metacopy=", "bare /f metacopy=", "file /f"].as_slice(),
+            "meta /f\nentries 2\n",
+            "bare /f metacopy=",
+        ),
+        // A directory whose old place was in the lower layer alone hides what the rest has at its new place, if that is a
+        // directory; and a whiteout stays where the rest has something.
+        (
+            [renamed, full, "dir /b, file /b/z"].as_slice(),
+            "opaque /b\nleaf /b/k\nentries 3\n",
+            "dir /b opaque=y, file /b/k",
+        ),
+        (
+            [renamed, full, ""].as_slice(),
+            "plain /b\nleaf /b/k\nentries 3\n",
+            "dir /b, file /b/k",
+        ),
+        (
+            [renamed, full, "file /b"].as_slice(),
+            "plain /b\nleaf /b/k\nentries 3\n",
+            "dir /b, file /b/k",
+        ),
+        (
+            [renamed, full, "dir /a"].as_slice(),
+            "whiteout /a\nmoved /b a\nleaf /b/k\nentries 4\n",
+            "whiteout /a, dir /b redirect=a, file /b/k",
+        ),
+        // Moved twice: the one redirect leads to where the lower layer's led.
+        (
+            [
+                renamed,
+                "dir /a redirect=/x, whiteout /x",
+                "dir /x, file /x/k",
+            ]
+            .as_slice(),
+            "moved /b x\nwhiteout /x\nentries 3\n",
+            "dir /b redirect=x, whiteout /x",
+        ),
+    ] {
+        let told = rewritten(&rt, alloc, Command::Merge, layers, &blobs)?;
+        let wanted = told_of(alloc, report, &manifests_of(alloc, &["", lower])?)?;
+        assert_eq!(rt; told, wanted, "{layers:?}");
+    }
+    Ok(())
+}
+
+#[test]
+fn merge_wants_a_lower_layer(rt: HostRuntime) -> Result<(), Fail> {
+    let alloc = rt.alloc();
+    let mut manifests = manifests_of(alloc, &[""])?;
+    let answer = command(&rt, alloc, Command::Merge, &manifests, &[], 4, &OpenGate);
+    assert_eq!(rt; answer.err(), Some(EngineFault::NoLower));
+    // What can't be read is told before.
+    manifests[0].clear();
+    let answer = command(&rt, alloc, Command::Merge, &manifests, &[], 4, &OpenGate);
+    assert_eq!(rt; answer.err(), Some(EngineFault::Layer(0, LayerFault::NotJson)));
+    Ok(())
+}
+
+#[test]
 fn a_stack_with_faults_gives_their_report_and_no_layer(rt: HostRuntime) -> Result<(), Fail> {
     let alloc = rt.alloc();
     let upper = "dir /a redirect=/, dir /b redirect=/a/, dir /c redirect=a/b, dir /e redirect=";
     let report = "fault redirect-form 0 /a\nfault redirect-form 0 /b\nfault redirect-form 0 /c\n\
         fault redirect-form 0 /e\nfaults 4 notes 0\n";
     let manifests = manifests_of(alloc, &[upper, ""])?;
-    for what in [Command::Vacuum, Command::Deref] {
+    for what in [Command::Vacuum, Command::Deref, Command::Merge] {
         for workers in [1, 4] {
             let answer = command(&rt, alloc, what, &manifests, &[], workers, &OpenGate);
             let Err(EngineFault::Faulty(told)) = answer else {

@@ -83,5 +83,5 @@ tool_app = record {
     disable_help_subcommand = true;
     subcommand_required = true;
   };
-  subs = show_shape ∷ fsck_shape ∷ rewriting_shape (codes "vacuum") ∷ rewriting_shape (codes "deref") ∷ [];
+  subs = show_shape ∷ fsck_shape ∷ rewriting_shape (codes "vacuum") ∷ rewriting_shape (codes "deref") ∷ rewriting_shape (codes "merge") ∷ [];
 }
