@@ -1,9 +1,9 @@
 #!/usr/bin/env bash
 # Compares what PROGRAM makes of each folder's layers (l0.json, the topmost, l1.json and so on) by 1, 2, 7 and 64
 # workers with the files there, byte for byte: `show` with expected.show, and where there is a folder of blobs, `fsck`
-# with expected.fsck, or with a report that finds nothing where there is no such file. Where there is expected.vacuum or
-# expected.deref, the report of that command is compared with it, the new layer with expected.vacuum.layer-0.json or
-# expected.deref.layer-0.json, and what the stack with the new layer shows with expected.show.
+# with expected.fsck, or with a report that finds nothing where there is no such file. Where there is expected.vacuum,
+# expected.deref or expected.merge, the report of that command is compared with it, the new layers with
+# expected.vacuum.layer-0.json and so on, and what the stack with the new layers shows with expected.show.
 set -uo pipefail
 
 if (($# < 2)); then
@@ -43,12 +43,16 @@ for folder in "$@"; do
         if [[ -d $folder/blobs ]]; then
             compare "$found" fsck --blobs "$folder/blobs" --workers "$workers" "${layers[@]}"
         fi
-        for command in vacuum deref; do
+        for command in vacuum deref merge; do
             [[ -f $folder/expected.$command ]] || continue
             words=(--blobs "$folder/blobs" --out "$new" --workers "$workers")
             compare "$folder/expected.$command" "$command" "${words[@]}" "${layers[@]}"
-            cmp -- "$new/layer-0.json" "$folder/expected.$command.layer-0.json" || other=$((other + 1))
-            compare "$folder/expected.show" show "$new/layer-0.json" "${layers[@]:1}"
+            made=()
+            while [[ -f $folder/expected.$command.layer-${#made[@]}.json ]]; do
+                cmp -- "$new/layer-${#made[@]}.json" "$folder/expected.$command.layer-${#made[@]}.json" || other=$((other + 1))
+                made+=("$new/layer-${#made[@]}.json")
+            done
+            compare "$folder/expected.show" show "${made[@]}" "${layers[@]:${#made[@]}}"
         done
     done
     echo "$folder: ${#layers[@]} layers compared"

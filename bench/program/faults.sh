@@ -266,13 +266,27 @@ if ends 0 told deref --blobs none --out new/ moved.json deep.json; then
     printf 'whiteout /x\nentries 66\n' | cmp -s - last && same=$((same + 1)) || differs 'another end' deref moved.json deep.json
 fi
 
+rm -f new/layer-0.json
+refuses 3 'no lower layer' merge --blobs blobs --out missing k.json
+refuses 3 'layer 0: wrong shape' merge --blobs blobs --out missing shape.json
+prints 1 'fault blob-missing 1 /k\nfaults 1 notes 0\n' merge --blobs none --out new meta.json k.json
+refuses 5 'result over the limits' merge --blobs none --out new moved.json deeper.json
+refuses 4 'cannot write missing/layer-0.json' merge --blobs blobs --out missing meta.json k.json
+gives new
+mkdir taken/second && mkdir taken/second/layer-1.json
+refuses 4 'cannot write taken/second/layer-1.json' merge --blobs blobs --out taken/second meta.json k.json
+prints 0 'leaf /k\nentries 2\n' merge --blobs blobs --out new meta.json k.json
+gives new root.json
+mv new/layer-1.json new/layer-0.json
+gives new k.json
+
 # The output.
 for way in without_output without_room; do
     over=$way refuses 4 'cannot write standard output' show root.json
 done
 
 # Help and the version go to standard output.
-for words in --help -h --version 'show --help' 'fsck --help' 'vacuum --help' 'deref --help'; do
+for words in --help -h --version 'show --help' 'fsck --help' 'vacuum --help' 'deref --help' 'merge --help'; do
     # shellcheck disable=SC2086
     "$program" $words < input > printed 2> told
     status=$?

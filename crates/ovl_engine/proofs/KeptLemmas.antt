@@ -22,6 +22,9 @@ use Rattle.ovl_check.specs.Laws.{FindingsTellSoundness}
 use Rattle.ovl_vacuum.specs.Laws.{VacuumKeepsTree, VacuumKeepsSoundness}
 use Rattle.ovl_deref.specs.Deref.{IsDereferenced}
 use Rattle.ovl_deref.specs.Laws.{DerefKeepsTree, DerefKeepsSoundness}
+use Rattle.ovl_merge.specs.Places.{merge_of}
+use Rattle.ovl_merge.specs.MergeDown.{IsMergedDown, merged_top}
+use Rattle.ovl_merge.specs.Laws.{MergeKeepsTree}
 use Rattle.ovl_engine.specs.declared.faults.EngineFault.{EngineFault}
 use Rattle.ovl_engine.specs.declared.faults.EngineFault.TheVariants.{Layer}
 use Rattle.ovl_engine.specs.declared.requests.Answer.{Answer}
@@ -137,7 +140,7 @@ pub keeps_soundness : (answer : Answer) (new layers : List Entries) → map read
 keeps_soundness answer new layers reads sound manifests old =
     subst (λ (ls : List Entries). IsSoundStack (stack_of ls)) (sym (after_stated answer new layers reads manifests old)) sound
 
--- ---- the laws of vacuum and deref, of a stack's list of layers
+-- ---- the laws of vacuum, deref and merge, of a stack's list of layers
 
 pub vacuum_same : VacuumKeepsTree → (layers : List Entries) → 0 < length layers → All IsLayer layers → (path : PathNames) → look (stack_of (left_by_vacuum layers ∷ drop 1 layers)) path ≡ look (stack_of layers) path
 vacuum_same law [] some each path = absurd (omega (arith, some))
@@ -160,3 +163,10 @@ pub deref_sound : DerefKeepsSoundness → (layers : List Entries) → 0 < length
 deref_sound law [] some each sound new is_layer is = absurd (omega (arith, some))
 deref_sound law (top ∷ rest) some each sound new is_layer is =
     law top (stack_of rest) (All-head IsLayer top rest each) (All-tail IsLayer top rest each) sound new is_layer is
+
+pub merge_same : MergeKeepsTree → (layers : List Entries) → 1 < length layers → All IsLayer layers → IsSoundStack (stack_of layers) → (lower : Entries) → IsLayer lower → IsMergedDown (merge_of (stack_of layers)) lower
+    → (path : PathNames) → look (stack_of (merged_top (merge_of (stack_of layers)) ∷ lower ∷ drop 2 layers)) path ≡ look (stack_of layers) path
+merge_same law [] several each sound lower is_layer is path = absurd (omega (arith, several))
+merge_same law (top ∷ []) several each sound lower is_layer is path = absurd (omega (arith, several))
+merge_same law (top ∷ next ∷ rest) several each sound lower is_layer is path =
+    law (merge_of (stack_of (top ∷ next ∷ rest))) lower each sound is_layer is path

@@ -7,9 +7,9 @@ use Rattle.ovl_board.specs.declared.assembly.BoardFault.TheVariants.{Double, Str
 use Rattle.ovl_pool.specs.declared.runs.RunFault.{RunFault}
 use Rattle.ovl_pool.specs.declared.runs.RunFault.TheVariants.{Workers, Gate, Board, Memory}
 use Rattle.ovl_engine.specs.declared.requests.Command.{Command}
-use Rattle.ovl_engine.specs.declared.requests.Command.TheVariants.{Show, Fsck, Vacuum, Deref}
+use Rattle.ovl_engine.specs.declared.requests.Command.TheVariants.{Show, Fsck, Vacuum, Deref, Merge}
 use Rattle.ovl_engine.specs.declared.faults.EngineFault.{EngineFault}
-use Rattle.ovl_engine.specs.declared.faults.EngineFault.TheVariants.{Workers as NoWorkers, Layers, Layer, BlobOrder, BlobSize, Faulty, LimitOut, Run, Memory as WantsMemory}
+use Rattle.ovl_engine.specs.declared.faults.EngineFault.TheVariants.{Workers as NoWorkers, Layers, Layer, BlobOrder, BlobSize, NoLower, Faulty, LimitOut, Run, Memory as WantsMemory}
 use Rattle.ovl_engine.specs.Refusals.{failed_run}
 use Rattle.ovl_check.specs.Blobs.{BlobView}
 use Rattle.ovl_engine.specs.Commands.{checks, makes_layers}
@@ -36,6 +36,7 @@ checks_first Show makes = let bad : false ≡ true = makes in cc
 checks_first Fsck makes = refl
 checks_first Vacuum makes = refl
 checks_first Deref makes = refl
+checks_first Merge makes = refl
 
 -- what keeps the check from being done keeps each command that checks from its work
 module _ (command : Command) (checking : checks command ≡ true) (layers : List Entries) (blobs : List BlobView) (may_refuse : Piece → Type 0) where
@@ -58,6 +59,7 @@ module _ (command : Command) (checking : checks command ≡ true) (layers : List
   unchecked (Layer index fault) is = is
   unchecked BlobOrder is = is
   unchecked BlobSize is = is
+  unchecked NoLower is = is
   unchecked (Faulty report) is = let bad : false ≡ true = is.0 in cc
   unchecked LimitOut is = absurd is.1
 

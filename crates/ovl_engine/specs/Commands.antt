@@ -1,7 +1,7 @@
 -- What commands do.
 use Rattle.std.specs.Prelude.{Bool, true, false}
 use Rattle.ovl_engine.specs.declared.requests.Command.{Command}
-use Rattle.ovl_engine.specs.declared.requests.Command.TheVariants.{Show, Fsck, Vacuum, Deref}
+use Rattle.ovl_engine.specs.declared.requests.Command.TheVariants.{Show, Fsck, Vacuum, Deref, Merge}
 
 -- the layers are checked with the contents of their files
 abbrev pub checks : Command → Bool
@@ -9,6 +9,7 @@ checks Show = false
 checks Fsck = true
 checks Vacuum = true
 checks Deref = true
+checks Merge = true
 
 -- there are new layers
 abbrev pub makes_layers : Command → Bool
@@ -16,3 +17,20 @@ makes_layers Show = false
 makes_layers Fsck = false
 makes_layers Vacuum = true
 makes_layers Deref = true
+makes_layers Merge = true
+
+-- what is said of the stack with these is that it is sound, too
+abbrev pub stays_sound : Command → Bool
+stays_sound Show = false
+stays_sound Fsck = false
+stays_sound Vacuum = true
+stays_sound Deref = true
+stays_sound Merge = false
+
+-- a layer is wanted under the topmost
+abbrev pub wants_lower : Command → Bool
+wants_lower Show = false
+wants_lower Fsck = false
+wants_lower Vacuum = false
+wants_lower Deref = false
+wants_lower Merge = true

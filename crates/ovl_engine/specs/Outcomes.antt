@@ -21,16 +21,20 @@ use Rattle.ovl_vacuum.specs.Directories.{vacuum_kids, vacuum_out, vacuum_root, n
 use Rattle.ovl_deref.specs.Deref.{IsDereferenced}
 use Rattle.ovl_deref.specs.Directories.{deref_kids, deref_out, deref_root, inodes_seen}
 use Rattle.ovl_deref.specs.Limits.{PassesLimit}
+use Rattle.ovl_merge.specs.Places.{merge_of}
+use Rattle.ovl_merge.specs.MergeDown.{IsMergedDown, merged_top}
+use Rattle.ovl_merge.specs.Directories.{merge_kids, merge_out, merge_root, inodes_seen as merged_seen}
+use Rattle.ovl_merge.specs.Limits.{PassesLimit as PassesLimitMerged}
 use Rattle.ovl_engine.specs.Reports.{show_report}
 use Rattle.ovl_engine.specs.FsckReports.{fsck_report, is_clean}
 use Rattle.ovl_engine.specs.VacuumReports.{vacuum_report}
 use Rattle.ovl_engine.specs.LayerReports.{layer_report}
 use Rattle.ovl_engine.specs.Directories.{looks_seen, show_kids, show_out, show_root}
 use Rattle.ovl_engine.specs.declared.requests.Command.{Command}
-use Rattle.ovl_engine.specs.declared.requests.Command.TheVariants.{Show, Fsck, Vacuum, Deref}
+use Rattle.ovl_engine.specs.declared.requests.Command.TheVariants.{Show, Fsck, Vacuum, Deref, Merge}
 use Rattle.ovl_engine.specs.declared.requests.Answer.{Answer}
 use Rattle.ovl_engine.specs.declared.faults.EngineFault.{EngineFault}
-use Rattle.ovl_engine.specs.declared.faults.EngineFault.TheVariants.{Workers, Layers, Layer, BlobOrder, BlobSize, Faulty, LimitOut, Run, Memory}
+use Rattle.ovl_engine.specs.declared.faults.EngineFault.TheVariants.{Workers, Layers, Layer, BlobOrder, BlobSize, NoLower, Faulty, LimitOut, Run, Memory}
 use Rattle.ovl_engine.specs.Commands.{checks, makes_layers}
 use Rattle.ovl_engine.specs.Refusals.{stated_layers, first_refusal}
 
@@ -78,6 +82,14 @@ pub record IsUnfolded (layers : List Entries) (answer : Answer) : Type 0 where
   pub within : PassesLimit (stack_of layers) → ⊥
   pub rewritten : IsRewritten (layer_report new) (new ∷ []) answer
 
+-- the answer of merge has and tells what the two topmost of these layers are as one, under the root of the first
+pub record IsMergedInto (layers : List Entries) (answer : Answer) : Type 0 where
+  pub lower : Entries
+  pub is_layer : IsLayer lower
+  pub merged : IsMergedDown (merge_of (stack_of layers)) lower
+  pub within : PassesLimitMerged (merge_of (stack_of layers)) → ⊥
+  pub rewritten : IsRewritten (layer_report lower) (merged_top (merge_of (stack_of layers)) ∷ lower ∷ []) answer
+
 -- the answer of a command over these layers and blobs
 abbrev pub IsAnswer : Command → List Entries → List BlobView → Answer → Type 0
 IsAnswer Show layers blobs answer = IsShowReport layers answer.report.items × (answer.layers.items ≡ []) × (answer.clean ≡ true)
@@ -87,6 +99,7 @@ IsAnswer Fsck layers blobs answer =
     × (answer.clean ≡ is_clean (findings blobs (stack_of layers)))
 IsAnswer Vacuum layers blobs answer = (is_clean (findings blobs (stack_of layers)) ≡ true) × IsVacuumed layers answer
 IsAnswer Deref layers blobs answer = (is_clean (findings blobs (stack_of layers)) ≡ true) × IsUnfolded layers answer
+IsAnswer Merge layers blobs answer = (is_clean (findings blobs (stack_of layers)) ≡ true) × IsMergedInto layers answer
 
 -- what is checked: the stack of these layers, with these blobs
 abbrev pub check_of : List Entries → List BlobView → CheckView
@@ -109,6 +122,7 @@ MayRefuseOwn Show layers may_refuse = MayBeRefused (show_kids (stack_of layers))
 MayRefuseOwn Fsck layers may_refuse = ⊥
 MayRefuseOwn Vacuum layers may_refuse = MayBeRefused (vacuum_kids (stack_of layers)) may_refuse vacuum_root
 MayRefuseOwn Deref layers may_refuse = MayBeRefused (deref_kids (stack_of layers)) may_refuse deref_root
+MayRefuseOwn Merge layers may_refuse = MayBeRefused (merge_kids (stack_of layers)) may_refuse merge_root
 
 -- the gate may refuse a piece that is reached where the command is run over these layers and blobs
 abbrev pub MayRefuse : Command → List Entries → List BlobView → (Piece → Type 0) → Type 0
@@ -132,6 +146,7 @@ IsFaultOfWork Show layers fault = IsFaultOfOwn looks_seen (show_kids (stack_of l
 IsFaultOfWork Fsck layers fault = ⊥
 IsFaultOfWork Vacuum layers fault = IsFaultOfOwn idle_seen (vacuum_kids (stack_of layers)) (vacuum_out (stack_of layers)) vacuum_root fault
 IsFaultOfWork Deref layers fault = IsFaultOfOwn inodes_seen (deref_kids (stack_of layers)) (deref_out (stack_of layers)) deref_root fault
+IsFaultOfWork Merge layers fault = IsFaultOfOwn merged_seen (merge_kids (stack_of layers)) (merge_out (stack_of layers)) merge_root fault
 
 -- the same where the command is run over these layers and blobs
 abbrev pub IsFaultOfRun : Command → List Entries → List BlobView → RunFault → Type 0
@@ -158,6 +173,7 @@ PassesNewLimit Show layers = ⊥
 PassesNewLimit Fsck layers = ⊥
 PassesNewLimit Vacuum layers = ⊥
 PassesNewLimit Deref layers = PassesLimit (stack_of layers)
+PassesNewLimit Merge layers = PassesLimitMerged (merge_of (stack_of layers))
 
 abbrev pub IsLimitedOut : Command → List Entries → List BlobView → Type 0
 IsLimitedOut command layers blobs = (is_clean (findings blobs (stack_of layers)) ≡ true) × PassesNewLimit command layers
@@ -173,6 +189,7 @@ IsFailure command layers blobs may_refuse Layers = ⊥
 IsFailure command layers blobs may_refuse (Layer index fault) = ⊥
 IsFailure command layers blobs may_refuse BlobOrder = ⊥
 IsFailure command layers blobs may_refuse BlobSize = ⊥
+IsFailure command layers blobs may_refuse NoLower = ⊥
 
 -- what comes of a command over layers and blobs
 abbrev pub IsRun : Command → List Entries → List BlobView → (Piece → Type 0) → Result Answer EngineFault → Type 0
@@ -180,27 +197,28 @@ IsRun command layers blobs may_refuse (Ok answer) = IsAnswer command layers blob
 IsRun command layers blobs may_refuse (Err fault) = IsFailure command layers blobs may_refuse fault
 
 -- nothing refuses the command
-abbrev pub IsAccepted : List (List ℕ) → List BlobView → ℕ → Type 0
-IsAccepted manifests blobs workers = first_refusal manifests blobs workers ≡ None
+abbrev pub IsAccepted : Command → List (List ℕ) → List BlobView → ℕ → Type 0
+IsAccepted command manifests blobs workers = first_refusal command manifests blobs workers ≡ None
 
 -- the command is refused for this fault
-abbrev pub IsRefused : List (List ℕ) → List BlobView → ℕ → EngineFault → Type 0
-IsRefused manifests blobs workers fault = first_refusal manifests blobs workers ≡ Some fault
+abbrev pub IsRefused : Command → List (List ℕ) → List BlobView → ℕ → EngineFault → Type 0
+IsRefused command manifests blobs workers fault = first_refusal command manifests blobs workers ≡ Some fault
 
 -- what comes of a command, by these manifests and blobs, this number of workers and a gate that may refuse these
 -- pieces; want of memory may come at any time
 abbrev pub IsOutcome : Command → List (List ℕ) → List BlobView → ℕ → (Piece → Type 0) → Result Answer EngineFault → Type 0
 IsOutcome command manifests blobs workers may_refuse (Ok answer) =
-    IsAccepted manifests blobs workers × IsAnswer command (stated_layers manifests) blobs answer
+    IsAccepted command manifests blobs workers × IsAnswer command (stated_layers manifests) blobs answer
 IsOutcome command manifests blobs workers may_refuse (Err (Faulty report)) =
-    IsAccepted manifests blobs workers × IsFoundFaulty command (stated_layers manifests) blobs report.items
+    IsAccepted command manifests blobs workers × IsFoundFaulty command (stated_layers manifests) blobs report.items
 IsOutcome command manifests blobs workers may_refuse (Err LimitOut) =
-    IsAccepted manifests blobs workers × IsLimitedOut command (stated_layers manifests) blobs
+    IsAccepted command manifests blobs workers × IsLimitedOut command (stated_layers manifests) blobs
 IsOutcome command manifests blobs workers may_refuse (Err (Run fault)) =
-    IsAccepted manifests blobs workers × IsFailedRun command (stated_layers manifests) blobs may_refuse fault
+    IsAccepted command manifests blobs workers × IsFailedRun command (stated_layers manifests) blobs may_refuse fault
 IsOutcome command manifests blobs workers may_refuse (Err Memory) = ⊤
-IsOutcome command manifests blobs workers may_refuse (Err Workers) = IsRefused manifests blobs workers Workers
-IsOutcome command manifests blobs workers may_refuse (Err Layers) = IsRefused manifests blobs workers Layers
-IsOutcome command manifests blobs workers may_refuse (Err (Layer index fault)) = IsRefused manifests blobs workers (Layer index fault)
-IsOutcome command manifests blobs workers may_refuse (Err BlobOrder) = IsRefused manifests blobs workers BlobOrder
-IsOutcome command manifests blobs workers may_refuse (Err BlobSize) = IsRefused manifests blobs workers BlobSize
+IsOutcome command manifests blobs workers may_refuse (Err Workers) = IsRefused command manifests blobs workers Workers
+IsOutcome command manifests blobs workers may_refuse (Err Layers) = IsRefused command manifests blobs workers Layers
+IsOutcome command manifests blobs workers may_refuse (Err (Layer index fault)) = IsRefused command manifests blobs workers (Layer index fault)
+IsOutcome command manifests blobs workers may_refuse (Err BlobOrder) = IsRefused command manifests blobs workers BlobOrder
+IsOutcome command manifests blobs workers may_refuse (Err BlobSize) = IsRefused command manifests blobs workers BlobSize
+IsOutcome command manifests blobs workers may_refuse (Err NoLower) = IsRefused command manifests blobs workers NoLower

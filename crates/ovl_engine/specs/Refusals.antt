@@ -1,5 +1,5 @@
 -- Why a command is refused before any work is done.
-use Rattle.std.specs.Prelude.{◌≡◌, ⊤, ℕ, suc, Bool, ◌||◌, ◌==◌, not, Option, Some, None, Result, Ok, Err, List, [], ◌∷◌, if◌then◌else◌, length, nat_lt}
+use Rattle.std.specs.Prelude.{◌≡◌, ⊤, ℕ, suc, Bool, ◌||◌, ◌&&◌, ◌==◌, not, Option, Some, None, Result, Ok, Err, List, [], ◌∷◌, if◌then◌else◌, length, nat_lt}
 use Rattle.std.specs.List.{sum_by}
 use Rattle.ovl_manifest.specs.Layers.{Entries}
 use Rattle.ovl_manifest.specs.Manifest.{read_layer}
@@ -13,8 +13,12 @@ use Rattle.ovl_lookup.specs.Stacks.{layer_limit}
 use Rattle.ovl_check.specs.Blobs.{BlobView, are_in_order}
 use Rattle.ovl_deref.specs.declared.finish.DerefFault.{DerefFault}
 use Rattle.ovl_deref.specs.declared.finish.DerefFault.TheVariants.{LimitOut as DerefLimit, Memory as DerefMemory}
+use Rattle.ovl_merge.specs.declared.faults.MergeFault.{MergeFault}
+use Rattle.ovl_merge.specs.declared.faults.MergeFault.TheVariants.{NoLower as MergeLower, LimitOut as MergeLimit, Memory as MergeMemory}
 use Rattle.ovl_engine.specs.declared.faults.EngineFault.{EngineFault}
-use Rattle.ovl_engine.specs.declared.faults.EngineFault.TheVariants.{Workers, Layers, Layer, BlobOrder, BlobSize, Faulty, LimitOut, Run, Memory}
+use Rattle.ovl_engine.specs.declared.faults.EngineFault.TheVariants.{Workers, Layers, Layer, BlobOrder, BlobSize, NoLower, Faulty, LimitOut, Run, Memory}
+use Rattle.ovl_engine.specs.declared.requests.Command.{Command}
+use Rattle.ovl_engine.specs.Commands.{wants_lower}
 
 -- a number is none, or over a limit
 abbrev pub is_outside : ℕ → ℕ → Bool
@@ -59,12 +63,16 @@ blob_refusal blobs =
 abbrev pub input_refusal : List (List ℕ) → List BlobView → Option EngineFault
 input_refusal manifests blobs = elim (first_unread manifests) [ Some fault ↦ Some fault | None ↦ blob_refusal blobs ]
 
--- what a command is refused for, by these manifests, blobs and number of workers: the first of five that holds
-abbrev pub first_refusal : List (List ℕ) → List BlobView → ℕ → Option EngineFault
-first_refusal manifests blobs workers =
+-- the fault of one manifest, where a command wants a layer under the topmost
+abbrev pub lower_refusal : Command → List (List ℕ) → Option EngineFault
+lower_refusal command manifests = if wants_lower command && length manifests == 1 then Some NoLower else None
+
+-- what a command is refused for, by these manifests, blobs and number of workers: the first of six that holds
+abbrev pub first_refusal : Command → List (List ℕ) → List BlobView → ℕ → Option EngineFault
+first_refusal command manifests blobs workers =
     if is_outside worker_limit workers then Some Workers
     else if is_outside layer_limit (length manifests) then Some Layers
-    else input_refusal manifests blobs
+    else elim (input_refusal manifests blobs) [ Some fault ↦ Some fault | None ↦ lower_refusal command manifests ]
 
 -- the fault where the manifest of this index isn't read: want of memory is told as such
 abbrev pub unread_layer : ℕ → LayerFault → EngineFault
@@ -82,6 +90,12 @@ abbrev pub failed_deref : DerefFault → EngineFault
 failed_deref DerefLimit = LimitOut
 failed_deref DerefMemory = Memory
 
+-- the fault where merge gives no layers
+abbrev pub failed_merge : MergeFault → EngineFault
+failed_merge MergeLower = NoLower
+failed_merge MergeLimit = LimitOut
+failed_merge MergeMemory = Memory
+
 -- why manifests aren't all read; want of memory may come at any time
 abbrev pub IsUnread : Result (List Entries) EngineFault → EngineFault → Type 0
 IsUnread read (Layer index fault) = read ≡ Err (Layer index fault)
@@ -90,6 +104,7 @@ IsUnread read Workers = ⊥
 IsUnread read Layers = ⊥
 IsUnread read BlobOrder = ⊥
 IsUnread read BlobSize = ⊥
+IsUnread read NoLower = ⊥
 IsUnread read (Faulty report) = ⊥
 IsUnread read LimitOut = ⊥
 IsUnread read (Run fault) = ⊥

@@ -6,7 +6,7 @@ ghost use Rattle.ovl_engine.specs.declared.requests.Command.TheVariants.{Show, F
 ghost use Rattle.ovl_engine.specs.declared.faults.EngineFault.TheVariants.{Workers, Layers};
 ghost use Rattle.ovl_engine.specs.Refusals.{is_outside as outside_test, blob_limit, blob_bytes};
 ghost use Rattle.ovl_engine.specs.Outcomes.{IsOutcome, IsRun};
-ghost use Rattle.ovl_engine.specs.Commands.{makes_layers};
+ghost use Rattle.ovl_engine.specs.Commands.{makes_layers, stays_sound, wants_lower as lower_test};
 ghost use Rattle.ovl_engine.specs.Kept.{KeepsTree, IsSoundAfter, manifests_after};
 
 use crate::checks::findings_of;
@@ -14,6 +14,7 @@ use crate::derefs::deref;
 use crate::faults::EngineFault;
 use crate::fsck_reports::{fsck_report_of, is_clean};
 use crate::listings::report_of_walk;
+use crate::merges::merge;
 use crate::requests::{Answer, Command};
 use crate::stacks::read_stack;
 use crate::vacuums::vacuum;
@@ -32,10 +33,11 @@ use std::thread::Threads;
 ///
 /// Refused before any worker starts where the workers are outside 1 to [`WORKER_LIMIT`], else where the manifests are
 /// outside 1 to [`LAYER_LIMIT`], else where one states no layer, the first of them, with its fault, else where the names
-/// of the blobs don't ascend strictly, else where the blobs have more than [`BLOB_LIMIT`] bytes in all. A command that
-/// makes new layers first checks as [`Command::Fsck`] does, and is refused with that report where it tells a fault, else
-/// with `LimitOut` where a new layer passes a limit of manifests. Else the manifests with the new ones in place of the
-/// topmost show the same merged tree, and have no fault of a layer. `Run` comes where the gate refuses a piece that the
+/// of the blobs don't ascend strictly, else where the blobs have more than [`BLOB_LIMIT`] bytes in all, else where one
+/// layer is to be merged. A command that makes new layers first checks as [`Command::Fsck`] does, and is refused with that
+/// report where it tells a fault, else with `LimitOut` where a new layer passes a limit of manifests. Else the manifests
+/// with the new ones in place of the topmost show the same merged tree, and after vacuum and deref have no fault of a
+/// layer. `Run` comes where the gate refuses a piece that the
 /// command reaches, or the board has a fault, which some parcels of the command's own runs have; `Memory` can come at any
 /// time but before the first two refusals. It waits for its workers, and returns only where each question to the gate
 /// does. The merged tree, what is checked and the new layers are those of `docs/PROFILE.md`, the reports those of
@@ -52,7 +54,7 @@ pub fn command<G: Gate + Sync, R: Threads + Wait + Sync>(
     ensures outcome { IsOutcome what (map (λ manifest. manifest.items) manifests.now) (blob_views blobs.now) workers (G.may_refuse gate.now) result }
     ensures keeps { IfOk result (λ answer. makes_layers what ≡ true
         → KeepsTree (map (λ manifest. manifest.items) manifests.now) (manifests_after (map (λ manifest. manifest.items) manifests.now) answer)) }
-    ensures sound { IfOk result (λ answer. makes_layers what ≡ true
+    ensures sound { IfOk result (λ answer. stays_sound what ≡ true
         → IsSoundAfter (manifests_after (map (λ manifest. manifest.items) manifests.now) answer)) }
     ensures workers { (result ≡ Err Workers) ↔ (outside_test worker_limit workers ≡ true) }
     ensures layers { (result ≡ Err Layers)
@@ -71,11 +73,15 @@ pub fn command<G: Gate + Sync, R: Threads + Wait + Sync>(
     if are_over_limit(blobs) {
         return Err(EngineFault::BlobSize);
     }
+    if wants_lower(what) && manifests.len() == 1 {
+        return Err(EngineFault::NoLower);
+    }
     match what {
         Command::Show => show(rt, alloc, &stack, workers, gate),
         Command::Fsck => fsck(rt, alloc, &stack, blobs, workers, gate),
         Command::Vacuum => vacuum(rt, alloc, &stack, blobs, workers, gate),
         Command::Deref => deref(rt, alloc, &stack, blobs, workers, gate),
+        Command::Merge => merge(rt, alloc, &stack, blobs, workers, gate),
     }
 }
 
@@ -84,6 +90,16 @@ fn is_outside(limit: usize, number: usize) -> bool
     ensures { result ≡ outside_test limit number }
 {
     number == 0 || number > limit
+}
+
+// Whether a command wants a layer under the topmost.
+fn wants_lower(what: Command) -> bool
+    ensures { result ≡ lower_test what }
+{
+    match what {
+        Command::Show | Command::Fsck | Command::Vacuum | Command::Deref => false,
+        Command::Merge => true,
+    }
 }
 
 /// The most bytes that all blobs of a command have together.

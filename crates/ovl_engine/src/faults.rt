@@ -1,18 +1,19 @@
 ghost use Rattle.std.specs.Prelude.{◌≡◌};
 ghost use Rattle.ovl_engine.specs.declared.faults.EngineFault.TheVariants.{Memory};
-ghost use Rattle.ovl_engine.specs.Refusals.{unread_layer, failed_run, failed_deref};
+ghost use Rattle.ovl_engine.specs.Refusals.{unread_layer, failed_run, failed_deref, failed_merge};
 
 use crate::commands::BLOB_LIMIT;
 use ovl_board::{BoardFault, WORKER_LIMIT};
 use ovl_deref::DerefFault;
 use ovl_lookup::LAYER_LIMIT;
 use ovl_manifest::LayerFault;
+use ovl_merge::MergeFault;
 use ovl_pool::RunFault;
 use std::alloc::{AllocError, AllocFailed};
 use thiserror::Error;
 
-/// Why a command gives no answer. The first of `Workers`, `Layers`, `Layer`, `BlobOrder` and `BlobSize` that holds is
-/// given before any work is done; `Faulty` comes where a command is refused for what [`Command::Fsck`](crate::Command::Fsck)
+/// Why a command gives no answer. The first of `Workers`, `Layers`, `Layer`, `BlobOrder`, `BlobSize` and `NoLower` that
+/// holds is given before any work is done; `Faulty` comes where a command is refused for what [`Command::Fsck`](crate::Command::Fsck)
 /// tells, and `LimitOut` after that check. Layers are counted from 0, the topmost first.
 #[derive(Debug, PartialEq, Eq, Drop, Error)]
 pub enum EngineFault {
@@ -31,6 +32,9 @@ pub enum EngineFault {
     /// The blobs have more than [`BLOB_LIMIT`] bytes in all.
     #[error("blobs over {max} bytes", max = BLOB_LIMIT)]
     BlobSize,
+    /// A command that wants a layer under the topmost one has none.
+    #[error("no lower layer")]
+    NoLower,
     /// The layers or the blobs have faults, which this report of `fsck` tells.
     #[error("the layers or the blobs have faults")]
     Faulty(Vec<u8>),
@@ -85,6 +89,18 @@ impl From<DerefFault> for EngineFault {
         match fault {
             DerefFault::LimitOut => EngineFault::LimitOut,
             DerefFault::Memory => EngineFault::Memory,
+        }
+    }
+}
+
+impl From<MergeFault> for EngineFault {
+    ghost from_gives = { λ fault told. told ≡ failed_merge fault };
+
+    fn from(fault: MergeFault) -> EngineFault {
+        match fault {
+            MergeFault::NoLower => EngineFault::NoLower,
+            MergeFault::LimitOut => EngineFault::LimitOut,
+            MergeFault::Memory => EngineFault::Memory,
         }
     }
 }

@@ -10,6 +10,7 @@ mod faults;
 mod fsck_reports;
 mod layer_reports;
 mod listings;
+mod merges;
 mod reports;
 mod requests;
 mod rewrites;

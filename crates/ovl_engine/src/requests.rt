@@ -9,6 +9,9 @@ pub enum Command {
     Vacuum,
     /// The new layer is the topmost without redirects and metacopy files, and the report lists what it has.
     Deref,
+    /// The new layers are a topmost one that has its root alone, and under it the two topmost ones as one; the report
+    /// lists what that has.
+    Merge,
 }
 
 /// What a command gives.

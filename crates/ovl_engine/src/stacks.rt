@@ -1,4 +1,4 @@
-ghost use Rattle.std.specs.Prelude.{◌≡◌, ◌<◌, ◌≤◌, Ok, MatchResult, length, map};
+ghost use Rattle.std.specs.Prelude.{◌≡◌, ◌<◌, ◌≤◌, Ok, IfOk, MatchResult, length, map};
 ghost use Rattle.ovl_lookup.specs.Stacks.{layer_limit};
 ghost use Rattle.ovl_engine.specs.Refusals.{layers_from, IsUnread};
 
@@ -10,9 +10,10 @@ use std::alloc::Global;
 /// The stack of the layers that 1 to [`LAYER_LIMIT`](ovl_lookup::LAYER_LIMIT) manifests state, the topmost first.
 pub(crate) fn read_stack(alloc: Global, manifests: &[Vec<u8>]) -> Result<Stack, EngineFault>
     requires { (0 < length manifests.now) × (length manifests.now ≤ layer_limit) }
-    ensures { MatchResult result
+    ensures read { MatchResult result
         (λ stack. layers_from 0 (map (λ manifest. manifest.items) manifests.now) ≡ Ok stack.layers)
         (λ fault. IsUnread (layers_from 0 (map (λ manifest. manifest.items) manifests.now)) fault) }
+    ensures count { IfOk result (λ stack. length stack.layers ≡ length manifests.now) }
 {
     let layers = read_layers(alloc, manifests)?;
     match Stack::of(alloc, layers) {

@@ -182,7 +182,8 @@ fn answered<R: Threads + Wait + Sync>(
     }
     let new_layers = match what {
         Command::Show | Command::Fsck => 0,
-        Command::Vacuum => 1,
+        Command::Vacuum | Command::Deref => 1,
+        Command::Merge => 2,
     };
     if alone.layers.len() != new_layers {
         return Err(Fail::new("there are other new layers than the command makes"));

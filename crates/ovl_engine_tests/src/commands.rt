@@ -106,6 +106,7 @@ fn a_fault_has_its_text(rt: HostRuntime) -> Result<(), Fail> {
         ),
         (EngineFault::BlobOrder, "blobs out of order"),
         (EngineFault::BlobSize, "blobs over 268435456 bytes"),
+        (EngineFault::LimitOut, "result over the limits"),
         (EngineFault::from(RunFault::Gate), "gate"),
         (EngineFault::from(RunFault::Memory), "out of memory"),
     ] {
@@ -278,6 +279,8 @@ fn two_workers_of_a_command_meet_and_one_is_refused(rt: HostRuntime) -> Result<(
         (Command::Fsck, ["", TWO].as_slice(), 1, two),
         (Command::Fsck, ["", ""].as_slice(), 128, blobs),
         (Command::Vacuum, [TWO, ""].as_slice(), 0, two),
+        (Command::Deref, [TWO, ""].as_slice(), 0, two),
+        (Command::Merge, [TWO, ""].as_slice(), 0, two),
     ] {
         let met = is_met(&rt, rt.alloc(), what, layers, space, pieces)?;
         assert!(rt; met, "at {what:?} in space {space}");

@@ -213,7 +213,13 @@ fn blobs_must_ascend_whatever_the_command(rt: HostRuntime) -> Result<(), Fail> {
     let manifests = [manifest_of(alloc, WITH_THREE_FILES)?];
     let falling = [blob(alloc, OF_AB, "ab")?, blob(alloc, OF_ABC, "abd")?];
     let twice = [blob(alloc, OF_AB, "ab")?, blob(alloc, OF_AB, "ab")?];
-    for what in [Command::Show, Command::Fsck, Command::Vacuum] {
+    for what in [
+        Command::Show,
+        Command::Fsck,
+        Command::Vacuum,
+        Command::Deref,
+        Command::Merge,
+    ] {
         let answer = command(&rt, alloc, what, &manifests, &falling, 4, &OpenGate);
         assert_eq!(rt; answer.err(), Some(EngineFault::BlobOrder), "at {what:?}");
         let answer = command(&rt, alloc, what, &manifests, &twice, 4, &OpenGate);

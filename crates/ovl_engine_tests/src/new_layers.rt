@@ -2,6 +2,7 @@
 
 use crate::command_samples::{contents_of, manifest_of, manifests_of, rewritten, told_of};
 use ovl_engine::{Blob, Command, EngineFault, command, named_blobs};
+use ovl_manifest::LayerFault;
 use ovl_pool::OpenGate;
 use std::alloc::Global;
 use std::test::Fail;
@@ -73,11 +74,125 @@ fn commands_report_and_give_new_layers(rt: HostRuntime) -> Result<(), Fail> {
             "removed /k\nremoved 1 kept 2\n",
             ["dir /d opaque=y redirect=/x"].as_slice(),
         ),
+        (
+            Command::Deref,
+            [""].as_slice(),
+            "entries 1\n",
+            [""].as_slice(),
+        ),
+        // A directory that was moved is filled with what it shows, and so is all in it; its old place stays hidden.
+        (
+            Command::Deref,
+            [
+                "dir /p redirect=/x, dir /p/q redirect=r, whiteout /p/r, whiteout /x",
+                "dir /x, dir /x/r, file /x/r/k",
+            ]
+            .as_slice(),
+            "opaque /p\nplain /p/q\nleaf /p/q/k\nwhiteout /x\nentries 5\n",
+            ["dir /p opaque=y, dir /p/q, file /p/q/k, whiteout /x"].as_slice(),
+        ),
+        (
+            Command::Deref,
+            [
+                "dir /n opaque=y, dir /n/d redirect=/x, whiteout /x",
+                "dir /n, file /n/z, dir /x, file /x/k",
+            ]
+            .as_slice(),
+            "opaque /n\nopaque /n/d\nleaf /n/d/k\nwhiteout /x\nentries 5\n",
+            ["dir /n opaque=y, dir /n/d opaque=y, file /n/d/k, whiteout /x"].as_slice(),
+        ),
+        // A metacopy file gets its data.
+        (
+            Command::Deref,
+            ["bare /f metacopy=", "bare /f metacopy=", "file /f"].as_slice(),
+            "leaf /f\nentries 2\n",
+            ["file /f"].as_slice(),
+        ),
     ] {
         let told = rewritten(&rt, alloc, what, layers, &blobs)?;
         let wanted = told_of(alloc, report, &manifests_of(alloc, new)?)?;
         assert_eq!(rt; told, wanted, "{what:?} of {layers:?}");
     }
+    Ok(())
+}
+
+#[test]
+fn merge_gives_a_root_over_both_layers_as_one(rt: HostRuntime) -> Result<(), Fail> {
+    let alloc = rt.alloc();
+    let blobs = blob_of_a(alloc)?;
+    let moved = "dir /n opaque=y, dir /n/d redirect=/x, whiteout /x";
+    let old = "dir /n, file /n/z, dir /x, file /x/k";
+    let renamed = "dir /b redirect=/a, whiteout /a";
+    let full = "dir /a, file /a/k";
+    for (layers, report, lower) in [
+        // The lower layer has all that is shown; and with one between, nothing of it.
+        (
+            [moved, old].as_slice(),
+            "plain /n\nplain /n/d\nleaf /n/d/k\nentries 4\n",
+            "dir /n, dir /n/d, file /n/d/k",
+        ),
+        (
+            [moved, "", old].as_slice(),
+            "opaque /n\nmoved /n/d /x\nwhiteout /x\nentries 4\n",
+            "dir /n opaque=y, dir /n/d redirect=/x, whiteout /x",
+        ),
+        // A metacopy file whose contents lie in the rest.
+        (
+            ["bare /f metacopy=", "bare /f metacopy=", "file /f"].as_slice(),
+            "meta /f\nentries 2\n",
+            "bare /f metacopy=",
+        ),
+        // A directory whose old place was in the lower layer alone hides what the rest has at its new place, if that is a
+        // directory; and a whiteout stays where the rest has something.
+        (
+            [renamed, full, "dir /b, file /b/z"].as_slice(),
+            "opaque /b\nleaf /b/k\nentries 3\n",
+            "dir /b opaque=y, file /b/k",
+        ),
+        (
+            [renamed, full, ""].as_slice(),
+            "plain /b\nleaf /b/k\nentries 3\n",
+            "dir /b, file /b/k",
+        ),
+        (
+            [renamed, full, "file /b"].as_slice(),
+            "plain /b\nleaf /b/k\nentries 3\n",
+            "dir /b, file /b/k",
+        ),
+        (
+            [renamed, full, "dir /a"].as_slice(),
+            "whiteout /a\nmoved /b a\nleaf /b/k\nentries 4\n",
+            "whiteout /a, dir /b redirect=a, file /b/k",
+        ),
+        // Moved twice: the one redirect leads to where the lower layer's led.
+        (
+            [
+                renamed,
+                "dir /a redirect=/x, whiteout /x",
+                "dir /x, file /x/k",
+            ]
+            .as_slice(),
+            "moved /b x\nwhiteout /x\nentries 3\n",
+            "dir /b redirect=x, whiteout /x",
+        ),
+    ] {
+        let told = rewritten(&rt, alloc, Command::Merge, layers, &blobs)?;
+        let wanted = told_of(alloc, report, &manifests_of(alloc, &["", lower])?)?;
+        assert_eq!(rt; told, wanted, "{layers:?}");
+    }
+    Ok(())
+}
+
+#[test]
+fn merge_wants_a_lower_layer(rt: HostRuntime) -> Result<(), Fail> {
+    let alloc = rt.alloc();
+    let mut manifests = manifests_of(alloc, &[""])?;
+    let answer = command(&rt, alloc, Command::Merge, &manifests, &[], 4, &OpenGate);
+    assert_eq!(rt; answer.err(), Some(EngineFault::NoLower));
+    // What can't be read is told before.
+    manifests[0].clear();
+    let answer = command(&rt, alloc, Command::Merge, &manifests, &[], 4, &OpenGate);
+    assert_eq!(rt; answer.err(), Some(EngineFault::Layer(0, LayerFault::NotJson)));
     Ok(())
 }
 
@@ -88,7 +203,7 @@ fn a_stack_with_faults_gives_their_report_and_no_layer(rt: HostRuntime) -> Resul
     let report = "fault redirect-form 0 /a\nfault redirect-form 0 /b\nfault redirect-form 0 /c\n\
         fault redirect-form 0 /e\nfaults 4 notes 0\n";
     let manifests = manifests_of(alloc, &[upper, ""])?;
-    for what in [Command::Vacuum] {
+    for what in [Command::Vacuum, Command::Deref, Command::Merge] {
         for workers in [1, 4] {
             let answer = command(&rt, alloc, what, &manifests, &[], workers, &OpenGate);
             let Err(EngineFault::Faulty(told)) = answer else {
@@ -155,5 +270,33 @@ fn any_number_of_workers_gives_the_same_new_layer(rt: HostRuntime) -> Result<(),
         );
         assert_eq!(rt; answer.err(), Some(EngineFault::Workers), "by {workers}");
     }
+    Ok(())
+}
+
+// The entries of a directory `/x` and so many in each other below it.
+fn chain(alloc: Global, directories: u32) -> Result<String, Fail> {
+    let mut entries = String::from_str(alloc, "dir /x")?;
+    let mut path = String::from_str(alloc, "/x")?;
+    for _ in 0..directories {
+        path.push_str("/d")?;
+        entries.push_str(", dir ")?;
+        entries.push_str(path.as_str())?;
+    }
+    Ok(entries)
+}
+
+#[test]
+fn a_new_layer_is_within_the_limits(rt: HostRuntime) -> Result<(), Fail> {
+    let alloc = rt.alloc();
+    let upper = "dir /p, dir /p/q redirect=/x, whiteout /x";
+    // In `/p/q` the shorter chain ends 64 names deep, the longer one 65.
+    let chained = chain(alloc, 62)?;
+    let layers = [upper, chained.as_str()];
+    let told = rewritten(&rt, alloc, Command::Deref, &layers, &[])?;
+    assert!(rt; told.as_str().contains("\nwhiteout /x\nentries 66\n"));
+    let deeper = chain(alloc, 63)?;
+    let manifests = manifests_of(alloc, &[upper, deeper.as_str()])?;
+    let answer = command(&rt, alloc, Command::Deref, &manifests, &[], 4, &OpenGate);
+    assert_eq!(rt; answer.err(), Some(EngineFault::LimitOut));
     Ok(())
 }

@@ -1,6 +1,8 @@
-ghost use Rattle.std.specs.Prelude.{◌≡◌, IsTrue, MatchResult};
+ghost use Rattle.std.specs.Prelude.{◌≡◌, ◌<◌, true, false, Some, IsTrue, MatchResult};
 ghost use Rattle.std.specs.List.{list_all};
+ghost use Rattle.hex.specs.Hex.{hex_digit_value};
 ghost use Rattle.ovl_inode.specs.Bytes.{is_digest};
+ghost use Rattle.ovl_inode.specs.declared.digests.DigestFault.TheVariants.{Digit};
 ghost use Rattle.ovl_inode.specs.Hexadecimal.{digest_fault, digest_of_text, is_lower_digit as lower_digit_test};
 
 use std::marker::Model;
@@ -43,17 +45,17 @@ impl Digest {
             (λ digest. digest_of_text text.now ≡ Some digest)
             (λ fault. digest_fault text.now ≡ Some fault) }
     {
-        if text.len() != 64 {
+        let digits = text.as_bytes();
+        if digits.len() != 64 {
             return Err(DigestFault::Length);
         }
-        if !are_lower_digits(text.as_bytes()) {
-            return Err(DigestFault::Digit);
-        }
         let mut bytes = [0; 32];
-        match hex::decode_to_slice(text, &mut bytes) {
-            Ok(()) => Ok(Digest { bytes }),
-            Err(_) => Err(DigestFault::Digit),
+        for i in 0..32 {
+            let high = digit_value(digits[2 * i])?;
+            let low = digit_value(digits[2 * i + 1])?;
+            bytes[i] = high * 16 + low;
         }
+        Ok(Digest { bytes })
     }
 
     /// The 32 bytes.
@@ -62,6 +64,19 @@ impl Digest {
         ensures digest { IsTrue (is_digest self.now) }
     {
         &self.bytes
+    }
+}
+
+// The value of a lower-case hexadecimal digit.
+fn digit_value(digit: u8) -> Result<u8, DigestFault>
+    ensures { MatchResult result
+        (λ value. (lower_digit_test digit ≡ true) × (hex_digit_value digit ≡ Some value) × (value < 16))
+        (λ fault. (lower_digit_test digit ≡ false) × (fault ≡ Digit)) }
+{
+    match digit {
+        b'0'..=b'9' => Ok(digit - b'0'),
+        b'a'..=b'f' => Ok(digit - b'a' + 10),
+        _ => Err(DigestFault::Digit),
     }
 }
 

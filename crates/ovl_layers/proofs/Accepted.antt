@@ -22,7 +22,7 @@ use Rattle.ovl_layers.specs.Grammar.{blobs_rule, fsck_shape, out_rule, show_shap
 use Rattle.ovl_layers.specs.Lines.{IsGiven, name_of}
 use Rattle.ovl_engine.specs.declared.requests.Command.{Command}
 use Rattle.ovl_engine.specs.Commands.{checks, makes_layers}
-use Rattle.ovl_engine.specs.declared.requests.Command.TheVariants.{Show, Fsck, Vacuum, Deref}
+use Rattle.ovl_engine.specs.declared.requests.Command.TheVariants.{Show, Fsck, Vacuum, Deref, Merge}
 use Rattle.ovl_layers.proofs.Taken.{AllFit, AllPass, Each, Fits, IsOwn, each_find, no_kinds, values_fit, walk_fits, settled_fits}
 
 -- ---- searches
@@ -292,7 +292,7 @@ makes = (
   (λ words e. (Show, rows_after (leaf show_shape).rules [] words, refl, show_given words e)),
   (
     (λ words e. (Fsck, rows_after (leaf fsck_shape).rules [] words, refl, fsck_given words e)),
-    (rewrites Vacuum refl refl, (rewrites Deref refl refl, tt)),
+    (rewrites Vacuum refl refl, (rewrites Deref refl refl, (rewrites Merge refl refl, tt))),
   ),
 )
 

@@ -13,7 +13,7 @@ use Rattle.clap.proofs.OnLiterals.{clap_on_literals}
 use Rattle.ovl_layers.specs.Grammar.{tool_app}
 use Rattle.ovl_layers.specs.Lines.{IsFaultBy, IsFaultOf, IsGiven, name_of}
 use Rattle.ovl_engine.specs.declared.requests.Command.{Command}
-use Rattle.ovl_engine.specs.declared.requests.Command.TheVariants.{Show, Fsck, Vacuum, Deref}
+use Rattle.ovl_engine.specs.declared.requests.Command.TheVariants.{Show, Fsck, Vacuum, Deref, Merge}
 use Rattle.ovl_layers.specs.declared.lines.LineFault.{LineFault}
 use Rattle.ovl_layers.specs.declared.lines.LineFault.TheVariants.{Help, Usage, Memory}
 use Rattle.ovl_layers.proofs.Accepted.{accepted}
@@ -37,13 +37,14 @@ fault_by kinds error Memory has is = tt
 
 -- the command whose name begins with this letter
 abbrev by_letter : ℕ → Command
-by_letter letter = if letter == 115 then Show else if letter == 118 then Vacuum else if letter == 100 then Deref else Fsck
+by_letter letter = if letter == 115 then Show else if letter == 118 then Vacuum else if letter == 100 then Deref else if letter == 109 then Merge else Fsck
 
 by_its_letter : (what : Command) → by_letter (slice_index (name_of what) 0) ≡ what
 by_its_letter Show = refl
 by_its_letter Fsck = refl
 by_its_letter Vacuum = refl
 by_its_letter Deref = refl
+by_its_letter Merge = refl
 
 -- two commands of one name are one
 pub same_name : (a b : Command) → name_of a ≡ name_of b → a ≡ b

@@ -5,7 +5,7 @@ use Rattle.ovl_check.specs.Blobs.{BlobView}
 use Rattle.ovl_engine.specs.declared.requests.Command.{Command}
 use Rattle.ovl_engine.specs.declared.requests.Answer.{Answer}
 use Rattle.ovl_engine.specs.declared.faults.EngineFault.{EngineFault}
-use Rattle.ovl_engine.specs.declared.faults.EngineFault.TheVariants.{Memory, Workers, Layers, Layer, BlobOrder, BlobSize, Faulty, LimitOut, Run}
+use Rattle.ovl_engine.specs.declared.faults.EngineFault.TheVariants.{Memory, Workers, Layers, Layer, BlobOrder, BlobSize, NoLower, Faulty, LimitOut, Run}
 use Rattle.ovl_layers.specs.declared.lines.Line.{Line}
 use Rattle.ovl_layers.specs.declared.endings.Ending.{Ending}
 use Rattle.ovl_layers.specs.declared.faults.ProgramFault.{ProgramFault}
@@ -77,6 +77,7 @@ module _ (what : Command) (out : Option (String Global)) (manifests : List (List
   of_memory (Layer index fault) is kept = elim is [ ]
   of_memory BlobOrder is kept = elim is [ ]
   of_memory BlobSize is kept = elim is [ ]
+  of_memory NoLower is kept = elim is [ ]
   of_memory (Faulty report) is kept = elim is [ ]
   of_memory LimitOut is kept = elim is [ ]
   of_memory (Run fault) is kept = elim is [ ]

@@ -1,7 +1,7 @@
 -- The faults of the program, and the exit status of each.
 use Rattle.std.specs.Prelude.{⊤, ℕ, List, string_bytes}
 use Rattle.ovl_engine.specs.declared.faults.EngineFault.{EngineFault}
-use Rattle.ovl_engine.specs.declared.faults.EngineFault.TheVariants.{Workers, Layers, Layer, BlobOrder, BlobSize, Faulty, LimitOut, Run, Memory}
+use Rattle.ovl_engine.specs.declared.faults.EngineFault.TheVariants.{Workers, Layers, Layer, BlobOrder, BlobSize, NoLower, Faulty, LimitOut, Run, Memory}
 use Rattle.ovl_layers.specs.declared.inputs.InputFault.{InputFault}
 use Rattle.ovl_layers.specs.declared.inputs.InputFault.TheVariants.{Device, TooLong, Memory as InputMemory}
 use Rattle.ovl_layers.specs.declared.faults.ProgramFault.{ProgramFault}
@@ -21,6 +21,7 @@ IsMemory Layers = ⊥
 IsMemory (Layer index fault) = ⊥
 IsMemory BlobOrder = ⊥
 IsMemory BlobSize = ⊥
+IsMemory NoLower = ⊥
 IsMemory (Faulty report) = ⊥
 IsMemory LimitOut = ⊥
 IsMemory (Run fault) = ⊥
@@ -52,6 +53,7 @@ engine_status Layers = 3
 engine_status (Layer index fault) = 3
 engine_status BlobOrder = 3
 engine_status BlobSize = 3
+engine_status NoLower = 3
 engine_status Workers = 5
 engine_status LimitOut = 5
 engine_status (Run fault) = 5

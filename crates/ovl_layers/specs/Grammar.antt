@@ -61,6 +61,18 @@ folders_shape name = record (new_shape name) { rules = blobs_rule ∷ out_rule �
 abbrev pub rewriting_shape : List ℕ → Shape
 rewriting_shape name = record (new_shape name) { rules = blobs_rule ∷ out_rule ∷ workers_rule ∷ layers_rule ∷ [] }
 
+-- the program's own level, without its commands
+abbrev pub bare_app : App
+bare_app = record {
+  top = record (new_shape (codes "ovl_layers")) {
+    has_version = true;
+    no_binary_name = true;
+    disable_help_subcommand = true;
+    subcommand_required = true;
+  };
+  subs = [];
+}
+
 -- the words after the program's name, of which the first names a command, or asks for help or the version
 abbrev pub tool_app : App
 tool_app = record {
@@ -71,5 +83,5 @@ tool_app = record {
     disable_help_subcommand = true;
     subcommand_required = true;
   };
-  subs = show_shape ∷ fsck_shape ∷ rewriting_shape (codes "vacuum") ∷ rewriting_shape (codes "deref") ∷ [];
+  subs = show_shape ∷ fsck_shape ∷ rewriting_shape (codes "vacuum") ∷ rewriting_shape (codes "deref") ∷ rewriting_shape (codes "merge") ∷ [];
 }

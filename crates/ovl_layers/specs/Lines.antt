@@ -11,7 +11,7 @@ use Rattle.clap.specs.declared.error.kind.ErrorKind.TheVariants.{DisplayHelp, Di
 use Rattle.ovl_board.specs.Machine.{worker_limit}
 use Rattle.ovl_layers.specs.Grammar.{tool_app}
 use Rattle.ovl_engine.specs.declared.requests.Command.{Command}
-use Rattle.ovl_engine.specs.declared.requests.Command.TheVariants.{Show, Fsck, Vacuum, Deref}
+use Rattle.ovl_engine.specs.declared.requests.Command.TheVariants.{Show, Fsck, Vacuum, Deref, Merge}
 use Rattle.ovl_engine.specs.Commands.{checks, makes_layers}
 use Rattle.ovl_layers.specs.declared.lines.Line.{Line}
 use Rattle.ovl_layers.specs.declared.lines.LineFault.{LineFault}
@@ -23,6 +23,7 @@ name_of Show = codes "show"
 name_of Fsck = codes "fsck"
 name_of Vacuum = codes "vacuum"
 name_of Deref = codes "deref"
+name_of Merge = codes "merge"
 
 -- the name is a command's
 abbrev pub NamesCommand : Text → Type 0

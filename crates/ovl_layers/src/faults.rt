@@ -72,7 +72,8 @@ fn engine_status(fault: &EngineFault) -> u8
         EngineFault::Layers
         | EngineFault::Layer(..)
         | EngineFault::BlobOrder
-        | EngineFault::BlobSize => 3,
+        | EngineFault::BlobSize
+        | EngineFault::NoLower => 3,
         EngineFault::Workers | EngineFault::LimitOut | EngineFault::Run(_) | EngineFault::Memory =>
             5,
     }

@@ -2,7 +2,7 @@
 ghost use Rattle.std.specs.Prelude.{◌≡◌, IfOk, false};
 ghost use Rattle.clap.specs.Words.{app_of, rule_of};
 ghost use Rattle.clap.specs.declared.builder.command.Command.TheViews.{out-Command as fields_of};
-ghost use Rattle.ovl_layers.specs.Grammar.{blobs_rule, default_word, default_workers, folders_shape, fsck_shape, layers_rule, out_rule, rewriting_shape, show_shape, tool_app, workers_rule};
+ghost use Rattle.ovl_layers.specs.Grammar.{bare_app, blobs_rule, default_word, default_workers, folders_shape, fsck_shape, layers_rule, out_rule, rewriting_shape, show_shape, tool_app, workers_rule};
 ghost use Rattle.ovl_layers.specs.Lines.{number_in};
 ghost use Rattle.clap.specs.Simple.{shape_of};
 
@@ -21,8 +21,8 @@ const NAME: &str = "ovl_layers";
 const VERSION: &str = "0.1.0";
 
 const ABOUT: &str = "\
-Tells what a stack of overlay layers shows and what is wrong with it, and makes a topmost layer that shows the same:
-without what changes nothing, or without redirects and metacopy files. All by JSON manifests; nothing is mounted.
+Tells what a stack of overlay layers shows and what is wrong with it, and makes layers that show the same: without what
+changes nothing, without redirects and metacopy files, or two as one. All by JSON manifests; nothing is mounted.
 Without words it shows the layer whose manifest is on standard input.";
 
 const SHOW: &str = "Lists each path that the overlay of the layers shows, with what is there";
@@ -36,12 +36,14 @@ const VACUUM: &str =
 const DEREF: &str =
     "Unfolds moved directories and metacopy files of the topmost layer; the overlay shows the same";
 
+const MERGE: &str = "Puts the topmost layer into the one below it; the overlay shows the same";
+
 const WORKERS: &str = "How many workers share the directories, 1 to 64";
 
 const BLOBS: &str =
     "Folder with the contents of the layers' files, each file named by its SHA-256 digest";
 
-const OUT: &str = "Folder for the new topmost layer, which is written there as layer-0.json";
+const OUT: &str = "Folder for the new layers, written there as layer-0.json and so on";
 
 const LAYERS: &str = "Manifest of a layer, the topmost layer first";
 
@@ -50,7 +52,7 @@ What the commands take:
   <LAYER>...     Manifest of a layer, the topmost layer first
   --workers <N>  How many workers share the directories, 1 to 64 [default: 4]
   --blobs <DIR>  For all but show: folder with the contents of the layers' files, each file named by its SHA-256 digest
-  --out <DIR>    For vacuum and deref: folder for the new topmost layer, which is written there as layer-0.json
+  --out <DIR>    For vacuum, deref and merge: folder for the new layers, written there as layer-0.json and so on
 
 fsck is for a stack that is to be mounted or shipped: it tells faults, as directories moved from a place that is lost or
 not hidden, and files whose contents are missing or wrong, and it notes marks that do nothing. It ends with status 1
@@ -64,12 +66,17 @@ deref is for an upper layer that is to be read where redirects and metacopy file
 becomes a new one with all that the overlay shows in it, and a metacopy file gets the contents that it shows. It tells
 what the new layer has, and what each entry is to the overlay. It first checks, as vacuum does.
 
+merge is for an upper layer that is to be taken into the layer below it: it writes the two as one, layer-1.json, and a
+layer of a root alone to go over it, layer-0.json. With these in place of the two the overlay shows the same as before. It
+tells what the one layer has, as deref does, and first checks, as vacuum does.
+
 Examples:
   ovl_layers < layer.json
   ovl_layers show upper.json lower.json
   ovl_layers fsck --blobs contents --workers 8 upper.json lower.json
   ovl_layers vacuum --blobs contents --out new upper.json lower.json
-  ovl_layers deref --blobs contents --out new upper.json lower.json";
+  ovl_layers deref --blobs contents --out new upper.json lower.json
+  ovl_layers merge --blobs contents --out new upper.json lower.json";
 
 const SHOW_EXAMPLE: &str = "\
 Example:
@@ -87,22 +94,34 @@ const DEREF_EXAMPLE: &str = "\
 Example:
   ovl_layers deref --blobs contents --out new upper.json lower.json";
 
+const MERGE_EXAMPLE: &str = "\
+Example:
+  ovl_layers merge --blobs contents --out new upper.json lower.json";
+
 /// The whole command line after the program's name.
 pub fn tool<'a>(alloc: Global) -> Result<Command<'a>, AllocError>
     ensures { IfOk result (λ command. app_of command ≡ tool_app) }
 {
-    Command::new(alloc, NAME)
+    bare(alloc)?
+        .subcommand(show(alloc)?)?
+        .subcommand(fsck(alloc)?)?
+        .subcommand(rewriting(alloc, "vacuum", VACUUM, VACUUM_EXAMPLE)?)?
+        .subcommand(rewriting(alloc, "deref", DEREF, DEREF_EXAMPLE)?)?
+        .subcommand(rewriting(alloc, "merge", MERGE, MERGE_EXAMPLE)?)
+}
+
+// The program's own level, without its commands.
+fn bare<'a>(alloc: Global) -> Result<Command<'a>, AllocError>
+    ensures { IfOk result (λ command. app_of command ≡ bare_app) }
+{
+    Ok(Command::new(alloc, NAME)
         .bin_name(NAME)?
         .version(VERSION)
         .no_binary_name(true)
         .subcommand_required(true)
         .disable_help_subcommand(true)
         .about(ABOUT)
-        .after_help(MORE)
-        .subcommand(show(alloc)?)?
-        .subcommand(fsck(alloc)?)?
-        .subcommand(rewriting(alloc, "vacuum", VACUUM, VACUUM_EXAMPLE)?)?
-        .subcommand(rewriting(alloc, "deref", DEREF, DEREF_EXAMPLE)?)
+        .after_help(MORE))
 }
 
 fn show<'a>(alloc: Global) -> Result<Command<'a>, AllocError>

@@ -31,6 +31,10 @@ fn words_make_a_line(rt: HostRuntime) -> Result<(), Fail> {
             "Line { what: Deref, workers: 2, blobs: Some(\"b\"), out: Some(\"o\"), layers: [\"a\"] }",
         ),
         (
+            ["merge", "--blobs=b", "--out=o", "a", "c"].as_slice(),
+            "Line { what: Merge, workers: 4, blobs: Some(\"b\"), out: Some(\"o\"), layers: [\"a\", \"c\"] }",
+        ),
+        (
             ["show", "--", "--workers", "-"].as_slice(),
             "Line { what: Show, workers: 4, blobs: None, out: None, layers: [\"--workers\", \"-\"] }",
         ),
@@ -107,7 +111,7 @@ fn words_that_no_command_takes_are_a_usage_fault(rt: HostRuntime) -> Result<(), 
         ),
         (
             [].as_slice(),
-            "'ovl_layers' requires a subcommand but one was not provided\n  [subcommands: show, fsck, vacuum, deref]",
+            "'ovl_layers' requires a subcommand but one was not provided\n  [subcommands: show, fsck, vacuum, deref, merge]",
             "Usage: ovl_layers <COMMAND>\n\n",
         ),
     ] {
@@ -124,8 +128,8 @@ fn words_that_no_command_takes_are_a_usage_fault(rt: HostRuntime) -> Result<(), 
 }
 
 const HELP: &str = "\
-Tells what a stack of overlay layers shows and what is wrong with it, and makes a topmost layer that shows the same:
-without what changes nothing, or without redirects and metacopy files. All by JSON manifests; nothing is mounted.
+Tells what a stack of overlay layers shows and what is wrong with it, and makes layers that show the same: without what
+changes nothing, without redirects and metacopy files, or two as one. All by JSON manifests; nothing is mounted.
 Without words it shows the layer whose manifest is on standard input.
 
 Usage: ovl_layers <COMMAND>
@@ -135,6 +139,7 @@ Commands:
   fsck    Checks that the layers fit one another and that the contents of their files are whole
   vacuum  Takes out of the topmost layer what changes nothing in what the overlay shows
   deref   Unfolds moved directories and metacopy files of the topmost layer; the overlay shows the same
+  merge   Puts the topmost layer into the one below it; the overlay shows the same
 
 Options:
   -h, --help     Print help
@@ -144,7 +149,7 @@ What the commands take:
   <LAYER>...     Manifest of a layer, the topmost layer first
   --workers <N>  How many workers share the directories, 1 to 64 [default: 4]
   --blobs <DIR>  For all but show: folder with the contents of the layers' files, each file named by its SHA-256 digest
-  --out <DIR>    For vacuum and deref: folder for the new topmost layer, which is written there as layer-0.json
+  --out <DIR>    For vacuum, deref and merge: folder for the new layers, written there as layer-0.json and so on
 
 fsck is for a stack that is to be mounted or shipped: it tells faults, as directories moved from a place that is lost or
 not hidden, and files whose contents are missing or wrong, and it notes marks that do nothing. It ends with status 1
@@ -158,12 +163,17 @@ deref is for an upper layer that is to be read where redirects and metacopy file
 becomes a new one with all that the overlay shows in it, and a metacopy file gets the contents that it shows. It tells
 what the new layer has, and what each entry is to the overlay. It first checks, as vacuum does.
 
+merge is for an upper layer that is to be taken into the layer below it: it writes the two as one, layer-1.json, and a
+layer of a root alone to go over it, layer-0.json. With these in place of the two the overlay shows the same as before. It
+tells what the one layer has, as deref does, and first checks, as vacuum does.
+
 Examples:
   ovl_layers < layer.json
   ovl_layers show upper.json lower.json
   ovl_layers fsck --blobs contents --workers 8 upper.json lower.json
   ovl_layers vacuum --blobs contents --out new upper.json lower.json
   ovl_layers deref --blobs contents --out new upper.json lower.json
+  ovl_layers merge --blobs contents --out new upper.json lower.json
 ";
 
 const SHOW_HELP: &str = "\
@@ -209,7 +219,7 @@ Arguments:
 
 Options:
       --blobs <DIR>  Folder with the contents of the layers' files, each file named by its SHA-256 digest
-      --out <DIR>    Folder for the new topmost layer, which is written there as layer-0.json
+      --out <DIR>    Folder for the new layers, written there as layer-0.json and so on
       --workers <N>  How many workers share the directories, 1 to 64 [default: 4]
   -h, --help         Print help
 
@@ -227,12 +237,30 @@ Arguments:
 
 Options:
       --blobs <DIR>  Folder with the contents of the layers' files, each file named by its SHA-256 digest
-      --out <DIR>    Folder for the new topmost layer, which is written there as layer-0.json
+      --out <DIR>    Folder for the new layers, written there as layer-0.json and so on
       --workers <N>  How many workers share the directories, 1 to 64 [default: 4]
   -h, --help         Print help
 
 Example:
   ovl_layers deref --blobs contents --out new upper.json lower.json
+";
+
+const MERGE_HELP: &str = "\
+Puts the topmost layer into the one below it; the overlay shows the same
+
+Usage: ovl_layers merge [OPTIONS] --blobs <DIR> --out <DIR> <LAYER>...
+
+Arguments:
+  <LAYER>...  Manifest of a layer, the topmost layer first
+
+Options:
+      --blobs <DIR>  Folder with the contents of the layers' files, each file named by its SHA-256 digest
+      --out <DIR>    Folder for the new layers, written there as layer-0.json and so on
+      --workers <N>  How many workers share the directories, 1 to 64 [default: 4]
+  -h, --help         Print help
+
+Example:
+  ovl_layers merge --blobs contents --out new upper.json lower.json
 ";
 
 #[test]
@@ -246,6 +274,7 @@ fn help_or_the_version_is_given_where_it_is_asked_for(rt: HostRuntime) -> Result
         (["fsck", "--help"].as_slice(), FSCK_HELP),
         (["vacuum", "--help"].as_slice(), VACUUM_HELP),
         (["deref", "--help"].as_slice(), DEREF_HELP),
+        (["merge", "--help"].as_slice(), MERGE_HELP),
         (["--version"].as_slice(), "ovl_layers 0.1.0\n"),
         (["-V"].as_slice(), "ovl_layers 0.1.0\n"),
     ] {

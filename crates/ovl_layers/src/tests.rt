@@ -27,6 +27,7 @@ fn a_fault_of_the_engine_has_its_text_and_its_status(rt: HostRuntime) -> Result<
             "the layers or the blobs have faults",
             1,
         ),
+        (EngineFault::NoLower, "no lower layer", 3),
         (EngineFault::LimitOut, "result over the limits", 5),
         (EngineFault::Run(RunFault::Gate), "gate", 5),
         (EngineFault::Memory, "out of memory", 5),

@@ -35,6 +35,7 @@ fn command_of(name: &str) -> Command
         "fsck" => Command::Fsck,
         "vacuum" => Command::Vacuum,
         "deref" => Command::Deref,
+        "merge" => Command::Merge,
         _ => unreachable!(),
     }
 }

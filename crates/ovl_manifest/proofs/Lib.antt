@@ -12,5 +12,6 @@ pub mod TailLemmas
 pub mod ValueLemmas
 pub mod StatedLemmas
 pub mod BackLemmas
+pub mod SortedLemmas
 pub mod SheetLemmas
 pub mod SheetPassLemmas

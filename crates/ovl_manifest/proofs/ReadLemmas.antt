@@ -68,7 +68,11 @@ none_of true false false false false none = (refl, refl, refl)
 not_past : (limit n : ℕ) → nat_lt limit n ≡ false → nat_le n limit ≡ true
 not_past limit n past = grind (arith, nat_tests)
 
-within : (text : List ℕ) → path_fault depth_limit text ≡ None → is_within_limits (text_parts text) ≡ true
+pub path-spelled : (text : List ℕ) → path_fault depth_limit text ≡ None → path_text (text_parts text) ≡ text
+path-spelled text none =
+    text_of_parts text (none_of (starts_with nat_eq text (slash ∷ [])) (list_any (λ part. length part == 0) (text_parts text)) (list_any (λ part. is_some (name_fault part)) (text_parts text)) (nat_lt depth_limit (length (text_parts text))) (nat_lt text_limit (length text)) none).0
+
+pub within : (text : List ℕ) → path_fault depth_limit text ≡ None → is_within_limits (text_parts text) ≡ true
 within text none =
     let tests = none_of (starts_with nat_eq text (slash ∷ [])) (list_any (λ part. length part == 0) (text_parts text)) (list_any (λ part. is_some (name_fault part)) (text_parts text)) (nat_lt depth_limit (length (text_parts text))) (nat_lt text_limit (length text)) none in
     let short : nat_le (length (path_text (text_parts text))) text_limit ≡ true = ap (λ (t : List ℕ). nat_le (length t) text_limit) (text_of_parts text tests.0) ∙ not_past text_limit (length text) tests.2 in
@@ -76,7 +80,7 @@ within text none =
 
 -- ---- a stated entry is sound and keeps the limits
 
-if-Some : {X : Type 0} (b : Bool) (x y : X) → (if b then Some x else None) ≡ Some y → (b ≡ true) × (x ≡ y)
+pub if-Some : {X : Type 0} (b : Bool) (x y : X) → (if b then Some x else None) ≡ Some y → (b ≡ true) × (x ≡ y)
 if-Some true x y is = (refl, cc)
 if-Some false x y is = let bad : None ≡ Some y = is in cc
 

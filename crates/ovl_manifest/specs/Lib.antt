@@ -7,3 +7,4 @@ pub mod Text
 pub mod Drafts
 pub mod Sheets
 pub mod SheetPasses
+pub mod Sorted

@@ -1,6 +1,7 @@
 ghost use Rattle.std.specs.Prelude.{◌≡◌, ◌≤◌, false, Some, None, IfOk, IfSome, MatchBool, [], codes, map};
 ghost use Rattle.std.specs.Option.{option_map};
 ghost use Rattle.std.specs.Str.{bytes_eq};
+ghost use Rattle.serde_json.specs.Data.{string};
 ghost use Rattle.serde_json.specs.View.{view, members_view};
 ghost use Rattle.ovl_manifest.specs.Fields.{has_exactly, kind_members, text_field, natural_field, seconds_field, path_field, attribute_after, attributes_after, attributes_field, blob_field, file_kind, kind_named, kind_field, inode_with, inode_field, entry_of};
 
@@ -205,9 +206,23 @@ fn put_attribute(
         (attribute_after attrs.old name.now (view value.now) ≡ Some attrs.new)
         (attribute_after attrs.old name.now (view value.now) ≡ None)) }
 {
-    let Some(digits) = value.as_str() else {
-        return Ok(false);
-    };
+    match value.as_str() {
+        Some(digits) => put_digits(alloc, attrs, name, digits),
+        None => Ok(false),
+    }
+}
+
+/// Puts the attribute of this name and of the value that digits spell, and answers false where they state none.
+pub(crate) fn put_digits(
+    alloc: Global,
+    attrs: &mut Attrs,
+    name: &str,
+    digits: &str,
+) -> Result<bool, AllocError>
+    ensures { IfOk result (λ put. MatchBool put
+        (attribute_after attrs.old name.now (string digits.now) ≡ Some attrs.new)
+        (attribute_after attrs.old name.now (string digits.now) ≡ None)) }
+{
     if !are_lower_digits(digits.as_bytes()) {
         return Ok(false);
     }

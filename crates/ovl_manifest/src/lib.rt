@@ -7,6 +7,9 @@ mod faults;
 mod fields;
 mod reading;
 mod sheets;
+mod sorted_entries;
+mod sorted_layers;
+mod sorted_members;
 mod trees;
 mod writing;
 

@@ -6,6 +6,7 @@ ghost use Rattle.ovl_manifest.specs.Manifest.{entries_after, stated_entries, lay
 use crate::entries::{ENTRY_LIMIT, add, start};
 use crate::faults::LayerFault;
 use crate::fields::{is_made_of, read_entry};
+use crate::sorted_layers::read_sorted;
 use crate::trees::Layer;
 use serde_json::{Category, Value};
 use std::alloc::Global;
@@ -18,6 +19,9 @@ pub fn read_layer(alloc: Global, bytes: &[u8]) -> Result<Layer, LayerFault>
         (λ layer. layer_stated bytes.now ≡ Ok layer)
         (λ fault. IsFaultOf (layer_stated bytes.now) fault) }
 {
+    if let Some(layer) = read_sorted(alloc, bytes) {
+        return Ok(layer);
+    }
     match Value::from_slice(alloc, bytes) {
         Ok(value) => read_value(alloc, &value),
         Err(fault) if fault.classify() == Category::Memory => Err(LayerFault::Memory),

@@ -17,8 +17,12 @@ use Rattle.ovl_manifest.specs.Layers.{Entries, IsLayer, names_below}
 use Rattle.ovl_manifest.proofs.OpenLemmas.{name_cmp-same}
 use Rattle.ovl_lookup.specs.declared.steps.Step.{Step}
 use Rattle.ovl_lookup.specs.declared.looks.Look.{Look}
+use Rattle.ovl_lookup.specs.declared.looks.Look.TheVariants.{Nothing}
+use Rattle.ovl_lookup.specs.declared.views.DirView.{DirView}
+use Rattle.ovl_lookup.specs.DirViews.{IsViewOf}
+use Rattle.ovl_lookup.proofs.LookLaws.{nothing-under}
 use Rattle.ovl_lookup.specs.Walk.{walk}
-use Rattle.ovl_lookup.specs.Stacks.{StackView}
+use Rattle.ovl_lookup.specs.Stacks.{StackView, from_layer}
 use Rattle.ovl_lookup.specs.Passes.{own_names_along, put_names, kids_along}
 use Rattle.ovl_lookup.specs.Merged.{look, AreKids}
 use Rattle.ovl_lookup.specs.Words.{top_layer, lower_layers}
@@ -27,10 +31,11 @@ use Rattle.ovl_lookup.proofs.KidLemmas.{put_names-append, kids-ascend, kids-same
 use Rattle.ovl_board.proofs.Members.{In, rising_same}
 use Rattle.ovl_merge.specs.declared.passages.Passage.{Passage}
 use Rattle.ovl_merge.specs.declared.places.Place.{Place}
+use Rattle.ovl_merge.specs.declared.rest.Near.{Near}
 use Rattle.ovl_merge.specs.Places.{Merge, whole, two_layers, merge_of, lower_path, first_hit, passes, shows_own_directory, is_hidden, reach, reach_of, shows_directory_at, shows_at, gets_opaque_at, natural, base}
 use Rattle.ovl_merge.specs.MergeDown.{with_value, with_contents, last_name, redirected, redirected_from, merged_directory, merged_metacopy, merged_inode, new_whiteout, merged_entry, merged_entry_of}
 use Rattle.ovl_merge.specs.Directories.{NamedInode, named_inode, candidate_names, entries_in}
-use Rattle.ovl_merge.specs.Reckoned.{IsPassage, IsPlace, found_by, first_in, next_of, goes_on_at, base_in, name_directly_in}
+use Rattle.ovl_merge.specs.Reckoned.{IsPassage, IsPlace, IsViewIn, IsNear, found_by, first_in, next_of, goes_on_at, base_in, name_directly_in}
 use Rattle.ovl_merge.proofs.Firsts.{first_step, first_hit-steps}
 use Rattle.ovl_merge.proofs.Core.{last_name-child}
 use Rattle.ovl_merge.proofs.MergedEntries.{entry-stands}
@@ -209,6 +214,38 @@ contents-told stack several path inode shown seen own none found e =
     (λ j. with_contents (seen j) (e j))
     ∙ (ap (λ (s : StackView). with_contents (visible inode) (look s path)) (sym (merge-whole stack several))
     ∙ sym (ap (merged_metacopy (merge_of stack) path inode) none))
+
+-- ---- looks near a directory of the rest
+
+-- a path that lies directly in a directory is that with a name
+directly-in : (base : Option PathNames) (path : PathNames) (name : PathName) → Some name ≡ name_directly_in base path → (directory : PathNames) × (base ≡ Some directory) × (path ≡ child_path directory name)
+directly-in None path name e = let bad : Some name ≡ None = e in cc
+directly-in (Some directory) path name e = by (path_eq path (child_path directory (last_name path))) refl e
+  where
+    by : (b : Bool) → path_eq path (child_path directory (last_name path)) ≡ b → Some name ≡ cond b (Some (last_name path)) None → (other : PathNames) × (Some directory ≡ Some other) × (path ≡ child_path other name)
+    by true is e =
+        let last : name ≡ last_name path = cc in
+        (directory, refl, (pointwise_decides bytes_decides path (child_path directory (last_name path))).0 is ∙ ap (child_path directory) (sym last))
+    by false is e = let bad : Some name ≡ None = e in cc
+
+module _ (stack : StackView) (near : Near) (is : IsNear stack near) (path : PathNames) (name : PathName) (here : Some name ≡ name_directly_in near.base path) where
+  pub near-directory : (directory : PathNames) × (near.base ≡ Some directory) × (path ≡ child_path directory name)
+  near-directory = directly-in near.base path name here
+
+  viewed : IsViewIn stack near-directory.0 near.view
+  viewed = subst (λ (base : Option PathNames). IfSome base (λ d. IsViewIn stack d near.view)) near-directory.1 is
+
+  pub near-view : (view : DirView) → near.view ≡ Some view → IsViewOf stack 2 near-directory.0 view
+  near-view view there = subst (IsViewIn stack near-directory.0) there viewed
+
+  pub near-look : (view : DirView) → near.view ≡ Some view → look (from_layer view.from stack) (child_path view.path name) ≡ look (from_layer 2 stack) path
+  near-look view there =
+      let of = near-view view there in
+      (λ j. look (from_layer (of.starts j) stack) (child_path (of.stands j) name)) ∙ ap (look (from_layer 2 stack)) (sym near-directory.2)
+
+  pub near-nothing : All IsLayer (from_layer 2 stack).layers → near.view ≡ None → Nothing ≡ look (from_layer 2 stack) path
+  near-nothing each none =
+      sym (ap (look (from_layer 2 stack)) near-directory.2 ∙ nothing-under (from_layer 2 stack) each near-directory.0 name [] (subst (IsViewIn stack near-directory.0) none viewed))
 
 -- ---- names
 

@@ -1,14 +1,18 @@
 -- Paths of a merge, as the program reckons them.
-use Rattle.std.specs.Prelude.{◌≡◌, ◌&&◌, Bool, true, Option, Some, None, if◌then◌else◌, is_some}
+use Rattle.std.specs.Prelude.{◌≡◌, ◌&&◌, Bool, true, false, IfSome, MatchOption, Option, Some, None, if◌then◌else◌, is_some}
 use Rattle.ovl_names.specs.Names.{PathName}
 use Rattle.ovl_names.specs.Paths.{PathNames, child_path, path_eq}
 use Rattle.ovl_inode.specs.declared.inodes.Inode.{Inode}
 use Rattle.ovl_inode.specs.Marks.{is_directory, is_metacopy}
 use Rattle.ovl_lookup.specs.declared.steps.Step.{Step}
+use Rattle.ovl_lookup.specs.declared.views.DirView.{DirView}
+use Rattle.ovl_lookup.specs.Stacks.{StackView, from_layer}
+use Rattle.ovl_lookup.specs.DirViews.{IsViewOf}
 use Rattle.ovl_lookup.specs.Walk.{walk}
 use Rattle.ovl_lookup.specs.Merged.{look, shows_directory}
 use Rattle.ovl_merge.specs.declared.passages.Passage.{Passage}
 use Rattle.ovl_merge.specs.declared.places.Place.{Place}
+use Rattle.ovl_merge.specs.declared.rest.Near.{Near}
 use Rattle.ovl_merge.specs.Places.{Merge, lower_path, first_hit, shows_own_directory, is_hidden, is_nothing_or, is_shown_regular, reach, natural, gets_opaque}
 use Rattle.ovl_merge.specs.MergeDown.{last_name}
 
@@ -63,3 +67,11 @@ pub record IsDirectoryPlace (m : Merge) (dir : PathNames) (place : Place) : Type
   pub path : place.path ≡ dir
   pub shown : shows_own_directory m dir ≡ true
   pub is : IsPlace m place
+
+-- a directory of the rest of a stack: its view, and none where no directory is shown there
+abbrev pub IsViewIn : StackView → PathNames → Option DirView → Type 0
+IsViewIn stack directory found =
+    MatchOption found (shows_directory (from_layer 2 stack) directory ≡ false) (λ view. IsViewOf stack 2 directory view)
+
+abbrev pub IsNear : StackView → Near → Type 0
+IsNear stack near = IfSome near.base (λ directory. IsViewIn stack directory near.view)

@@ -1,13 +1,12 @@
 ghost use Rattle.std.specs.Prelude.{◌≡◌, ◌<◌, IfOk, string_bytes, length};
-ghost use Rattle.std.specs.Option.{option_map};
 ghost use Rattle.ovl_names.specs.Paths.{child_path, path_text as text_of_path};
 ghost use Rattle.ovl_merge.specs.Places.{merge_of};
 ghost use Rattle.ovl_merge.specs.MergeDown.{with_value as the_valued, redirected_from, with_contents as the_filled, new_whiteout as the_whiteout, merged_directory as the_directory, merged_metacopy as the_metacopy, merged_inode as the_inode, merged_entry};
-ghost use Rattle.ovl_merge.specs.Reckoned.{IsPlace, IsDirectoryPlace, name_directly_in};
+ghost use Rattle.ovl_merge.specs.Reckoned.{IsNear, IsPlace, IsDirectoryPlace};
 
 use crate::passages::is_metacopy;
 use crate::places::Place;
-use crate::rest::shows_at;
+use crate::rest::{Near, name_in, shows_at};
 use ovl_inode::{Attrs, Inode, Kind, is_directory, overlay, visible};
 use ovl_lookup::{Look, Stack};
 use ovl_names::{Name, Path};
@@ -17,21 +16,23 @@ use std::alloc::{AllocError, Global};
 pub(crate) fn inode_in(
     alloc: Global,
     stack: &Stack,
+    near: &Near,
     above: &Place,
     name: &Name,
 ) -> Result<Option<Inode>, AllocError>
     requires several { 1 < length stack.now.layers }
+    requires near { IsNear stack.now near.now }
     requires directory { IsDirectoryPlace (merge_of stack.now) above.now.path above.now }
     ensures { IfOk result (λ found. found ≡ merged_entry (merge_of stack.now) (child_path above.now.path name.now)) }
 {
-    let place = above.child(alloc, stack, name)?;
+    let place = above.child(alloc, stack, near, name)?;
     if let Some(inode) = &place.first {
         return Ok(Some(merged_inode(alloc, stack, above, name, &place, inode)?));
     }
     if !place.hidden {
         return Ok(None);
     }
-    if !shows_at(alloc, stack, &place.natural)? {
+    if !shows_at(alloc, stack, near, &place.natural)? {
         return Ok(None);
     }
     Ok(Some(new_whiteout(alloc)))
@@ -146,23 +147,6 @@ fn redirected(
     }
     let text = path_text(alloc, reach)?;
     with_value(inode, overlay::REDIRECT, text.as_bytes())
-}
-
-// The name by which the path lies directly in the directory, if there is one and it does.
-fn name_in<'a>(dir: &Option<Path>, path: &'a Path) -> Option<&'a Name>
-    ensures { option_map (λ name. name.now) result ≡ name_directly_in dir.now path.now }
-{
-    let Some(dir) = dir else {
-        return None;
-    };
-    match path.names().split_last() {
-        Some((last, above)) => if above == dir.names() {
-            Some(last)
-        } else {
-            None
-        },
-        None => None,
-    }
 }
 
 // The inode with this value of an attribute of the overlay's own.

@@ -2,9 +2,9 @@ ghost use Rattle.std.specs.Prelude.{◌≡◌, ◌<◌, Some, length, IfOk};
 ghost use Rattle.std.specs.Option.{option_map};
 ghost use Rattle.ovl_inode.specs.Marks.{is_directory as directory_test, is_metacopy as metacopy_test};
 ghost use Rattle.ovl_merge.specs.Places.{merge_of, is_hidden as hidden_test, is_nothing_or, passes, is_shown_regular as regular_look, reach as the_reach};
-ghost use Rattle.ovl_merge.specs.Reckoned.{IsPassage, first_in, next_of, goes_on_at};
+ghost use Rattle.ovl_merge.specs.Reckoned.{IsNear, IsPassage, first_in, next_of, goes_on_at};
 
-use crate::rest::look_in_rest;
+use crate::rest::{Near, look_in_rest};
 use ovl_inode::{Inode, Kind, Mark, is_directory, mark_of};
 use ovl_lookup::{Look, Stack, Step};
 use ovl_names::Path;
@@ -105,9 +105,11 @@ impl Passage {
         &self,
         alloc: Global,
         stack: &Stack,
+        near: &Near,
         _path: &Path,
     ) -> Result<Option<Path>, AllocError>
         requires several { 1 < length stack.now.layers }
+        requires near { IsNear stack.now near.now }
         requires walked { IsPassage (merge_of stack.now) _path.now self.now }
         ensures { IfOk result (λ reach. reach ≡ the_reach (merge_of stack.now) _path.now) }
     {
@@ -120,7 +122,7 @@ impl Passage {
         if lower.closed {
             return Ok(None);
         }
-        if goes_on(alloc, stack, inode, lower)? {
+        if goes_on(alloc, stack, near, inode, lower)? {
             return Ok(Some(lower.next.copy(alloc)?));
         }
         Ok(None)
@@ -128,15 +130,22 @@ impl Passage {
 }
 
 // Whether a thing goes on where this walk of the lower layer does.
-fn goes_on(alloc: Global, stack: &Stack, inode: &Inode, lower: &Step) -> Result<bool, AllocError>
-    requires { 1 < length stack.now.layers }
+fn goes_on(
+    alloc: Global,
+    stack: &Stack,
+    near: &Near,
+    inode: &Inode,
+    lower: &Step,
+) -> Result<bool, AllocError>
+    requires several { 1 < length stack.now.layers }
+    requires near { IsNear stack.now near.now }
     ensures { IfOk result (λ answer. answer ≡ goes_on_at (merge_of stack.now) inode.now lower.now.found lower.now.next) }
 {
     if is_directory(inode) {
         if !is_nothing_or_directory(&lower.found) {
             return Ok(false);
         }
-        let shown = look_in_rest(alloc, stack, &lower.next)?;
+        let shown = look_in_rest(alloc, stack, near, &lower.next)?;
         return Ok(shown.is_shown_directory());
     }
     if !is_metacopy(alloc, inode)? {
@@ -145,7 +154,7 @@ fn goes_on(alloc: Global, stack: &Stack, inode: &Inode, lower: &Step) -> Result<
     if !is_nothing_or_metacopy(alloc, &lower.found)? {
         return Ok(false);
     }
-    let shown = look_in_rest(alloc, stack, &lower.next)?;
+    let shown = look_in_rest(alloc, stack, near, &lower.next)?;
     Ok(is_shown_regular(&shown))
 }
 

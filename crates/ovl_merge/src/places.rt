@@ -3,10 +3,10 @@ ghost use Rattle.std.specs.Option.{option_map};
 ghost use Rattle.ovl_names.specs.Paths.{child_path};
 ghost use Rattle.ovl_inode.specs.Marks.{is_directory as directory_test};
 ghost use Rattle.ovl_merge.specs.Places.{merge_of, passes, shows_own_directory, child_of, gets_opaque_at, natural as the_natural, reach as the_reach};
-ghost use Rattle.ovl_merge.specs.Reckoned.{IsPassage, IsPlace, IsDirectoryPlace, base_in};
+ghost use Rattle.ovl_merge.specs.Reckoned.{IsNear, IsPassage, IsPlace, IsDirectoryPlace, base_in};
 
 use crate::passages::Passage;
-use crate::rest::shows_directory_at;
+use crate::rest::{Near, shows_directory_at};
 use ovl_inode::{Inode, is_directory};
 use ovl_lookup::Stack;
 use ovl_names::{Name, Path};
@@ -38,7 +38,7 @@ impl Place {
         ensures is { IfOk result (λ place. IsPlace (merge_of stack.now) place) }
     {
         let natural = Some(Path::root(alloc));
-        Place::of(alloc, stack, Path::root(alloc), natural)
+        Place::of(alloc, stack, &Near::nowhere(), Path::root(alloc), natural)
     }
 
     // The place of a name in the directory of this one.
@@ -46,35 +46,39 @@ impl Place {
         &self,
         alloc: Global,
         stack: &Stack,
+        near: &Near,
         name: &Name,
     ) -> Result<Place, AllocError>
         requires several { 1 < length stack.now.layers }
+        requires near { IsNear stack.now near.now }
         requires is { IsPlace (merge_of stack.now) self.now }
         ensures path { IfOk result (λ place. place.path ≡ child_path self.now.path name.now) }
         ensures is { IfOk result (λ place. IsPlace (merge_of stack.now) place) }
     {
         let path = self.path.child(alloc, name)?;
         let natural = self.natural_place(alloc, name)?;
-        Place::of(alloc, stack, path, natural)
+        Place::of(alloc, stack, near, path, natural)
     }
 
     // The place of a path whose natural place this is.
     fn of(
         alloc: Global,
         stack: &Stack,
+        near: &Near,
         path: Path,
         natural: Option<Path>,
     ) -> Result<Place, AllocError>
         requires several { 1 < length stack.now.layers }
+        requires near { IsNear stack.now near.now }
         requires natural { natural ≡ the_natural (merge_of stack.now) path }
         ensures path { IfOk result (λ place. place.path ≡ path) }
         ensures is { IfOk result (λ place. IsPlace (merge_of stack.now) place) }
     {
         let passage = Passage::of(alloc, stack, &path)?;
         let hidden = passage.is_hidden(stack, &path);
-        let reach = passage.reach(alloc, stack, &path)?;
+        let reach = passage.reach(alloc, stack, near, &path)?;
         let lower = passage.lower_path(alloc)?;
-        let opaque = gets_opaque(alloc, stack, &path, &passage, &reach, &natural)?;
+        let opaque = gets_opaque(alloc, stack, near, &path, &passage, &reach, &natural)?;
         Ok(Place {
             path,
             first: passage.into_first(),
@@ -124,12 +128,14 @@ impl Place {
 fn gets_opaque(
     alloc: Global,
     stack: &Stack,
+    near: &Near,
     path: &Path,
     passage: &Passage,
     reach: &Option<Path>,
     natural: &Option<Path>,
 ) -> Result<bool, AllocError>
     requires several { 1 < length stack.now.layers }
+    requires near { IsNear stack.now near.now }
     requires walked { IsPassage (merge_of stack.now) path.now passage.now }
     requires reach { reach.now ≡ the_reach (merge_of stack.now) path.now }
     ensures { IfOk result (λ answer. answer ≡ gets_opaque_at (merge_of stack.now) path.now natural.now) }
@@ -143,7 +149,7 @@ fn gets_opaque(
     if reach.is_some() {
         return Ok(false);
     }
-    shows_directory_at(alloc, stack, natural)
+    shows_directory_at(alloc, stack, near, natural)
 }
 
 // The place of a directory that the two topmost layers show, and `None` where they show none there.
@@ -159,9 +165,10 @@ pub(crate) fn directory_place(
 {
     // Each layer of a stack has a root.
     let _layers = stack.layers();
+    let near = Near::nowhere();
     let mut place = Place::of_root(alloc, stack)?;
     for name in dir.names() {
-        place = place.child(alloc, stack, name)?;
+        place = place.child(alloc, stack, &near, name)?;
         if !place.is_shown_directory() {
             return Ok(None);
         }

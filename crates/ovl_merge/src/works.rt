@@ -1,4 +1,4 @@
-ghost use Rattle.std.specs.Prelude.{◌≡◌, ◌↔◌, ◌<◌, [], Err, IfOk, OnOk, length};
+ghost use Rattle.std.specs.Prelude.{◌≡◌, ◌↔◌, ◌<◌, [], Err, IfOk, IfErr, OnOk, length};
 ghost use Rattle.ovl_lookup.specs.Passes.{own_names_along, put_names};
 ghost use Rattle.ovl_merge.specs.declared.faults.MergeFault.TheVariants.{NoLower};
 ghost use Rattle.ovl_merge.specs.Places.{merge_of, two_layers};
@@ -8,7 +8,7 @@ ghost use Rattle.ovl_merge.specs.Reckoned.{IsPlace, IsDirectoryPlace};
 use crate::MergeFault;
 use crate::entries::inode_in;
 use crate::places::{Place, directory_place};
-use crate::rest::names_at;
+use crate::rest::{Near, names_at};
 use ovl_board::{Piece, Work};
 use ovl_inode::{Inode, is_directory};
 use ovl_lookup::Stack;
@@ -41,6 +41,7 @@ impl<'a> MergeWork<'a> {
     pub fn new(stack: &'a Stack) -> Result<MergeWork<'a>, MergeFault>
         ensures value { IfOk result (λ work. work ≡ stack.now) }
         ensures refused { (result ≡ Err NoLower) ↔ (length stack.now.layers ≡ 1) }
+        ensures other { IfErr result (λ fault. fault ≡ NoLower) }
     {
         if stack.layers() == 1 {
             return Err(MergeFault::NoLower);
@@ -123,10 +124,11 @@ fn inodes_in(alloc: Global, stack: &Stack, place: &Place) -> Result<Vec<(Name, I
     requires directory { IsDirectoryPlace (merge_of stack.now) place.now.path place.now }
     ensures { IfOk result (λ inodes. inodes.items ≡ entries_in (merge_of stack.now) place.now.path) }
 {
+    let near = Near::at(alloc, stack, place.base())?;
     let names = candidates(alloc, stack, place)?;
     let mut inodes = Vec::new(alloc);
     for name in names {
-        if let Some(inode) = inode_in(alloc, stack, place, &name)? {
+        if let Some(inode) = inode_in(alloc, stack, &near, place, &name)? {
             inodes.push((name, inode))?;
         }
     }

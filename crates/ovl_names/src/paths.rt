@@ -141,7 +141,14 @@ impl Path {
     pub fn copy(&self, alloc: Global) -> Result<Path, AllocError>
         ensures { IfOk result (λ path. path ≡ self.now) }
     {
-        let mut names = Vec::with_capacity(alloc, self.names.len())?;
+        self.copy_with_room(alloc, 0)
+    }
+
+    // A copy with room for so many names more.
+    fn copy_with_room(&self, alloc: Global, room: usize) -> Result<Path, AllocError>
+        ensures { IfOk result (λ path. path ≡ self.now) }
+    {
+        let mut names = Vec::with_capacity(alloc, self.names.len().saturating_add(room))?;
         for name in &self.names {
             let copied = name.copy(alloc)?;
             names.push(copied)?;
@@ -153,7 +160,7 @@ impl Path {
     pub fn child(&self, alloc: Global, name: &Name) -> Result<Path, AllocError>
         ensures { IfOk result (λ path. path ≡ child_path self.now name.now) }
     {
-        let mut path = self.copy(alloc)?;
+        let mut path = self.copy_with_room(alloc, 1)?;
         path.names.push(name.copy(alloc)?)?;
         Ok(path)
     }
@@ -162,7 +169,7 @@ impl Path {
     pub fn joined(&self, alloc: Global, names: &[Name]) -> Result<Path, AllocError>
         ensures { IfOk result (λ path. path ≡ self.now ++ names.now) }
     {
-        let mut path = self.copy(alloc)?;
+        let mut path = self.copy_with_room(alloc, names.len())?;
         for name in names {
             path.push(name.copy(alloc)?)?;
         }

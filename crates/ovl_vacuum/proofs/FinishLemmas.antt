@@ -18,11 +18,12 @@ use Rattle.ovl_board.specs.declared.works.Parcel.{Parcel}
 use Rattle.ovl_board.specs.Parcels.{parcel_view, parcel_views}
 use Rattle.ovl_board.proofs.Members.{In, Every, Every-All, In-right}
 use Rattle.ovl_vacuum.specs.Vacuum.{is_idle, vacuumed_layer, removed_paths}
-use Rattle.ovl_vacuum.specs.Directories.{IdleName, names_seen, top_layer, lower_layers, is_idle_at, vacuum_root, IsVacuumWalk}
+use Rattle.ovl_lookup.specs.Words.{top_layer, lower_layers}
+use Rattle.ovl_vacuum.specs.Directories.{IdleName, names_seen, is_idle_at, vacuum_root, IsVacuumWalk}
 use Rattle.ovl_vacuum.specs.Passes.{View, IdlePath, idle_path, IsDirectoryView, begins_at, views_under, paths_under, WalksUnder, left_after_pass, gone_after_pass, entries_at}
 use Rattle.ovl_vacuum.proofs.VacuumLemmas.{entry-left}
 use Rattle.ovl_vacuum.proofs.KeptLemmas.{IsLayer-vacuumed}
-use Rattle.ovl_vacuum.proofs.VisitLemmas.{top-layer}
+use Rattle.ovl_lookup.proofs.TopLaws.{top-layer}
 use Rattle.ovl_vacuum.proofs.DirectoryLemmas.{all-paths}
 use Rattle.ovl_vacuum.proofs.UnderLemmas.{views-first, walk-whole}
 use Rattle.ovl_vacuum.proofs.FoldLemmas.{marks, pass-left, pass-gone}
@@ -62,7 +63,7 @@ module _ (stack : StackView) (each : All IsLayer stack.layers) (some : 0 < lengt
   whole_paths = map (λ (entry : Entry). idle_path stack entry.0) (top_layer stack)
 
   is_layer : IsLayer (top_layer stack)
-  is_layer = top-layer stack each some
+  is_layer = top-layer stack some each
 
   -- a path's mark is that of its entry
   marked : (entries : Entries) → ascends entry_cmp entries ≡ true → ((path : PathNames) (inode : Inode) → entry_at entries path ≡ Some inode → entry_at (top_layer stack) path ≡ Some inode)

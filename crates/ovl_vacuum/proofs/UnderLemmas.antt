@@ -18,7 +18,8 @@ use Rattle.ovl_board.proofs.Members.{In, Every, All-Every, Every-All, In-map, In
 use Rattle.std.proofs.Math.ListN.{drop_of_length-le}
 use Rattle.ovl_board.proofs.WalkLemmas.{preorder_step, IsPlain-from_preorder}
 use Rattle.ovl_board.proofs.LawLemmas.{HasReachedPieces-holds}
-use Rattle.ovl_vacuum.specs.Directories.{IdleName, top_layer, is_idle_at, idle_name, piece_in, vacuum_kids, vacuum_out, vacuum_root, IsVacuumWalk}
+use Rattle.ovl_lookup.specs.Words.{top_layer}
+use Rattle.ovl_vacuum.specs.Directories.{IdleName, is_idle_at, idle_name, piece_in, vacuum_kids, vacuum_out, vacuum_root, IsVacuumWalk}
 use Rattle.ovl_vacuum.specs.Passes.{View, IdlePath, idle_path, IsDirectoryView, begins_at, views_under, paths_under, WalksUnder}
 use Rattle.ovl_vacuum.proofs.DirectoryLemmas.{name-In, path-entry, kid-path, kids-lawful}
 

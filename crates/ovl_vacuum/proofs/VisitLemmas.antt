@@ -1,6 +1,6 @@
 -- What a visit finds in its directory, and whether an entry is idle, by the walk of its directory.
 use Rattle.std.proofs.Common.{◌≡◌, ℕ, ◌<◌, Bool, true, false, Option, Some, None, List, [], ◌∷◌, length, drop, refl, sym, ap, ◌∙◌, arith}
-use Rattle.std.specs.Prelude.{◌&&◌, not, slice_get, unwrap_or, All}
+use Rattle.std.specs.Prelude.{◌&&◌, not, All}
 use Rattle.std.proofs.lemmas.List.Elements.{All-drop}
 use Rattle.ovl_names.specs.Names.{PathName}
 use Rattle.ovl_names.specs.Paths.{PathNames, child_path}
@@ -16,31 +16,15 @@ use Rattle.ovl_lookup.specs.declared.views.DirView.{DirView}
 use Rattle.ovl_lookup.specs.Walk.{walk}
 use Rattle.ovl_lookup.specs.Stacks.{StackView, from_layer}
 use Rattle.ovl_lookup.specs.Merged.{look}
-use Rattle.ovl_lookup.specs.Words.{over}
+use Rattle.ovl_lookup.specs.Words.{over, top_layer, lower_layers}
 use Rattle.ovl_lookup.specs.Equal.{look_eq}
-use Rattle.ovl_lookup.proofs.ChildLemmas.{all-first}
 use Rattle.ovl_lookup.proofs.LookLaws.{nothing-under}
+use Rattle.ovl_lookup.proofs.TopLaws.{top-over}
 use Rattle.ovl_lookup.proofs.WalkFacts.{length-child, parent_path-child}
 use Rattle.ovl_lookup.proofs.PathLemmas.{natural_path-child}
 use Rattle.ovl_vacuum.specs.Vacuum.{may_be_idle, is_idle}
-use Rattle.ovl_vacuum.specs.Directories.{top_layer, lower_layers, is_idle_at}
+use Rattle.ovl_vacuum.specs.Directories.{is_idle_at}
 use Rattle.ovl_vacuum.specs.Visits.{IsSought, look_by}
-
--- a stack is its topmost layer over the others
-pub top-over : (stack : StackView) → 0 < length stack.layers → over (top_layer stack) (lower_layers stack) ≡ stack
-top-over stack some = ap (λ (layers : List Entries). record stack { layers = layers }) (by stack.layers some)
-  where
-    by : (layers : List Entries) → 0 < length layers → unwrap_or (slice_get layers 0) [] ∷ drop 1 layers ≡ layers
-    by [] none = absurd (omega (arith, none))
-    by (layer ∷ layers) some = refl
-
--- which is a layer
-pub top-layer : (stack : StackView) → All IsLayer stack.layers → 0 < length stack.layers → IsLayer (top_layer stack)
-top-layer stack each some = by stack.layers each some
-  where
-    by : (layers : List Entries) → All IsLayer layers → 0 < length layers → IsLayer (unwrap_or (slice_get layers 0) [])
-    by [] each none = absurd (omega (arith, none))
-    by (layer ∷ layers) each some = all-first IsLayer layer layers each
 
 -- ---- what is sought once in a directory
 

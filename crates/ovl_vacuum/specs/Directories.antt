@@ -1,22 +1,16 @@
 -- The directories of the topmost layer as work: a piece is a directory, its kids are the directories in it, and its
 -- output is each name in it with whether its entry is idle.
-use Rattle.std.specs.Prelude.{ℕ, Bool, false, Some, None, List, [], map, filter, slice_get, unwrap_or, Vec}
+use Rattle.std.specs.Prelude.{ℕ, Bool, false, Some, None, List, [], map, filter, Vec}
 use Rattle.std.specs.Global.{Global}
 use Rattle.std.specs.Coded.{Coded-set, codes}
 use Rattle.ovl_names.specs.Names.{PathName}
 use Rattle.ovl_names.specs.Paths.{PathNames, child_path}
-use Rattle.ovl_manifest.specs.Layers.{Entries, entry_at, is_directory_at, names_below}
-use Rattle.ovl_lookup.specs.Stacks.{StackView, from_layer}
+use Rattle.ovl_manifest.specs.Layers.{entry_at, is_directory_at, names_below}
+use Rattle.ovl_lookup.specs.Stacks.{StackView}
+pub use Rattle.ovl_lookup.specs.Words.{top_layer, lower_layers}
 use Rattle.ovl_board.specs.declared.pieces.Piece.{Piece}
 use Rattle.ovl_board.specs.Parcels.{ParcelView, IsPlain}
 use Rattle.ovl_vacuum.specs.Vacuum.{is_idle}
-
--- the topmost layer of a stack, and the stack of those below it
-abbrev pub top_layer : StackView → Entries
-top_layer stack = unwrap_or (slice_get stack.layers 0) []
-
-abbrev pub lower_layers : StackView → StackView
-lower_layers stack = from_layer 1 stack
 
 -- the entry at a path of the topmost layer is idle
 abbrev pub is_idle_at : StackView → PathNames → Bool

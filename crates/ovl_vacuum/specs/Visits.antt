@@ -12,7 +12,7 @@ use Rattle.ovl_lookup.specs.Merged.{look, shows_directory}
 use Rattle.ovl_lookup.specs.DirViews.{IsViewOver, IsViewOf}
 use Rattle.ovl_vacuum.specs.declared.directories.Directory.{Directory}
 use Rattle.ovl_vacuum.specs.declared.directories.Views.{Views}
-use Rattle.ovl_vacuum.specs.Directories.{top_layer}
+use Rattle.ovl_lookup.specs.Words.{top_layer}
 
 -- the view of a directory of the layers from one on, and none where they show no directory there
 abbrev pub IsSought : StackView → ℕ → PathNames → Option DirView → Type 0

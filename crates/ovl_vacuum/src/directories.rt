@@ -4,7 +4,8 @@ ghost use Rattle.ovl_names.specs.Paths.{child_path};
 ghost use Rattle.ovl_inode.specs.Marks.{mark_of as the_mark};
 ghost use Rattle.ovl_manifest.specs.Layers.{entry_at, is_directory_at as directory_test, names_below};
 ghost use Rattle.ovl_vacuum.specs.Vacuum.{may_be_idle as idle_mark};
-ghost use Rattle.ovl_vacuum.specs.Directories.{top_layer, is_idle_at, idle_name, directory_piece, piece_in};
+ghost use Rattle.ovl_lookup.specs.Words.{top_layer};
+ghost use Rattle.ovl_vacuum.specs.Directories.{is_idle_at, idle_name, directory_piece, piece_in};
 ghost use Rattle.ovl_vacuum.specs.Visits.{IsTopDirectory, AreViews, IsOver, look_by};
 
 use crate::places::step_of;

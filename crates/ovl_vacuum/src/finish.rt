@@ -3,7 +3,8 @@ ghost use Rattle.std.specs.List.{All};
 ghost use Rattle.ovl_manifest.specs.Layers.{IsLayer};
 ghost use Rattle.ovl_board.specs.Parcels.{parcel_views};
 ghost use Rattle.ovl_vacuum.specs.Vacuum.{vacuumed_layer, removed_paths};
-ghost use Rattle.ovl_vacuum.specs.Directories.{top_layer, lower_layers, names_seen, IsVacuumWalk};
+ghost use Rattle.ovl_lookup.specs.Words.{top_layer, lower_layers};
+ghost use Rattle.ovl_vacuum.specs.Directories.{names_seen, IsVacuumWalk};
 ghost use Rattle.ovl_vacuum.specs.Passes.{idle_path, begins_under as begins_test, left_after_pass, gone_after_pass, begins_at, IsDirectoryView, WalksUnder, entries_at};
 
 use crate::places::inode_at;

@@ -2,7 +2,7 @@ ghost use Rattle.std.specs.Prelude.{◌≡◌, IfOk};
 ghost use Rattle.std.specs.Option.{option_map};
 ghost use Rattle.ovl_manifest.specs.Layers.{entry_at};
 ghost use Rattle.ovl_lookup.specs.Walk.{walk};
-ghost use Rattle.ovl_vacuum.specs.Directories.{top_layer};
+ghost use Rattle.ovl_lookup.specs.Words.{top_layer};
 
 use ovl_inode::Inode;
 use ovl_lookup::{Stack, Step};

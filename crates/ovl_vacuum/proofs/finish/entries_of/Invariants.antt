@@ -1,5 +1,5 @@
 use Rattle.std.proofs.Common.{◌≡◌}
-use Rattle.ovl_vacuum.specs.Directories.{top_layer}
+use Rattle.ovl_lookup.specs.Words.{top_layer}
 use Rattle.ovl_vacuum.specs.Passes.{entries_at}
 use Rattle.ovl_vacuum.proofs.finish.entries_of.Given as goal
 

@@ -3,7 +3,7 @@ use Rattle.std.specs.Prelude.{All}
 use Rattle.ovl_manifest.specs.Layers.{IsLayer, Entry}
 use Rattle.ovl_lookup.specs.Stacks.{StackView}
 use Rattle.ovl_vacuum.specs.Vacuum.{vacuumed_layer}
-use Rattle.ovl_vacuum.specs.Directories.{top_layer, lower_layers}
+use Rattle.ovl_lookup.specs.Words.{top_layer, lower_layers}
 use Rattle.ovl_vacuum.proofs.FinishLemmas.{left-paths, gone-paths}
 use Rattle.ovl_vacuum.proofs.finish.finish_vacuum.Goals as goal
 

@@ -6,7 +6,7 @@ use Rattle.ovl_lookup.specs.Stacks.{StackView}
 use Rattle.ovl_board.specs.Parcels.{parcel_view, parcel_views}
 use Rattle.ovl_vacuum.specs.Directories.{names_seen}
 use Rattle.ovl_vacuum.specs.Passes.{IdlePath, WalksUnder}
-use Rattle.ovl_vacuum.proofs.VisitLemmas.{top-layer}
+use Rattle.ovl_lookup.proofs.TopLaws.{top-layer}
 use Rattle.ovl_vacuum.proofs.UnderLemmas.{walk-directories}
 use Rattle.ovl_vacuum.proofs.FinishLemmas.{parcels-some, paths-whole}
 use Rattle.ovl_vacuum.proofs.finish.idle_paths.Goals as goal
@@ -14,8 +14,8 @@ use Rattle.ovl_vacuum.proofs.finish.idle_paths.Goals as goal
 pub push_under-requires-clause-layer : goal.push_under-requires-clause-layer
 push_under-requires-clause-layer c =
     top-layer c.args.work.now
-    (subst (λ (s : StackView). All IsLayer s.layers) c.work.view_is c.layers-layers.ensures.each)
     (subst (λ (s : StackView). 0 < length s.layers) c.work.view_is (subst (λ (n : ℕ). 0 < n) c.layers-layers.ensures.value c.layers-layers.ensures.some))
+    (subst (λ (s : StackView). All IsLayer s.layers) c.work.view_is c.layers-layers.ensures.each)
 
 pub push_under-requires-clause-inside : goal.push_under-requires-clause-inside
 push_under-requires-clause-inside c = omega (

@@ -1,6 +1,6 @@
 use Rattle.std.proofs.Common.{◌∙◌, [], sym, ap}
 use Rattle.ovl_manifest.specs.Layers.{Entries, entry_at}
-use Rattle.ovl_vacuum.specs.Directories.{top_layer}
+use Rattle.ovl_lookup.specs.Words.{top_layer}
 use Rattle.ovl_vacuum.proofs.VisitLemmas.{entry-in}
 use Rattle.ovl_vacuum.proofs.directories.Directory.inode.Goals as goal
 

@@ -2,7 +2,7 @@ use Rattle.std.proofs.Common.{◌∙◌, ℕ, ◌<◌, Some, sym, subst}
 use Rattle.ovl_names.specs.Paths.{PathNames}
 use Rattle.ovl_lookup.specs.Walk.{walk}
 use Rattle.ovl_lookup.specs.Stacks.{StackView}
-use Rattle.ovl_vacuum.specs.Directories.{top_layer}
+use Rattle.ovl_lookup.specs.Words.{top_layer}
 use Rattle.ovl_vacuum.specs.Visits.{AreViews}
 use Rattle.ovl_vacuum.proofs.VisitLemmas.{sought-look, compared}
 use Rattle.ovl_vacuum.proofs.directories.Directory.is_idle.Goals as goal

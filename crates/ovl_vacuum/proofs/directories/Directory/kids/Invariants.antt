@@ -2,7 +2,8 @@ use Rattle.std.proofs.Common.{◌≡◌, map, take}
 use Rattle.std.specs.Prelude.{filter}
 use Rattle.ovl_names.specs.Paths.{child_path}
 use Rattle.ovl_manifest.specs.Layers.{is_directory_at}
-use Rattle.ovl_vacuum.specs.Directories.{top_layer, directory_piece, piece_in}
+use Rattle.ovl_lookup.specs.Words.{top_layer}
+use Rattle.ovl_vacuum.specs.Directories.{directory_piece, piece_in}
 use Rattle.ovl_vacuum.proofs.directories.Directory.kids.Given as goal
 
 abbrev pub invariant-loop-name : goal.invariant-loop-name

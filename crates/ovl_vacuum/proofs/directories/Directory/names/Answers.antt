@@ -1,7 +1,7 @@
 use Rattle.std.proofs.Common.{◌≡◌, ◌∙◌, [], sym, ap}
 use Rattle.ovl_manifest.specs.Layers.{Entries, names_below}
 use Rattle.ovl_manifest.proofs.NodeLemmas.{names_below-under}
-use Rattle.ovl_vacuum.specs.Directories.{top_layer}
+use Rattle.ovl_lookup.specs.Words.{top_layer}
 use Rattle.ovl_vacuum.proofs.directories.Directory.names.Goals as goal
 
 pub returns : goal.returns

@@ -3,7 +3,7 @@ use Rattle.std.specs.Prelude.{unwrap_or, Option}
 use Rattle.ovl_manifest.specs.Layers.{Entries, names_below}
 use Rattle.ovl_manifest.specs.LayerTrees.{entries_under}
 use Rattle.ovl_manifest.proofs.NodeLemmas.{names_below-under}
-use Rattle.ovl_vacuum.specs.Directories.{top_layer}
+use Rattle.ovl_lookup.specs.Words.{top_layer}
 use Rattle.ovl_vacuum.proofs.directories.Directory.of.Goals as goal
 
 pub returns-in_default : goal.returns-in_default

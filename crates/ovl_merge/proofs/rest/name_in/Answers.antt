@@ -2,7 +2,7 @@ use Rattle.std.proofs.Common.{◌∙◌, Option, true, false, sym, ap}
 use Rattle.ovl_names.specs.Paths.{PathNames, path_eq}
 use Rattle.ovl_merge.specs.Reckoned.{name_directly_in}
 use Rattle.ovl_merge.proofs.VisitLemmas.{name-in}
-use Rattle.ovl_merge.proofs.entries.name_in.Goals as goal
+use Rattle.ovl_merge.proofs.rest.name_in.Goals as goal
 
 pub returns-then-eq : goal.returns-then-eq
 returns-then-eq c =

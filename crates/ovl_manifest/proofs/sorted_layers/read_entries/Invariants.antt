@@ -1,0 +1,18 @@
+use Rattle.std.proofs.Common.{◌≡◌, ◌-◌, ◌≤◌, ◌∷◌, List, length}
+use Rattle.json.specs.Token.{Token}
+use Rattle.ovl_manifest.specs.Layers.{entry_limit}
+use Rattle.ovl_manifest.specs.Drafts.{draft_entries, IsDraft}
+use Rattle.ovl_manifest.proofs.SortedLemmas.{AddsEntries}
+use Rattle.ovl_manifest.proofs.sorted_layers.read_entries.Given as goal
+
+-- the draft has the entries so far
+abbrev pub invariant-entries : goal.invariant-entries
+invariant-entries l = record {
+  draft : IsDraft l.draft;
+  spelled : (inside : List Token) × (l.fn.reader ≡ Token.begin_array ∷ inside) × AddsEntries 2 inside (draft_entries l.draft) l.reader;
+  count : length (draft_entries l.draft) ≡ l.number;
+  limit : l.number ≤ entry_limit;
+}
+
+abbrev pub decreases-entries : goal.decreases-entries
+decreases-entries l = entry_limit - l.number

@@ -1,0 +1,93 @@
+//! Members of an object as a reader's tokens give them, each wanted by its name.
+ghost use Rattle.std.specs.Prelude.{◌≡◌, ◌≤◌, ◌==◌, ◌∷◌, Some, IfSome, IsTrue, MatchOption, slice_index};
+ghost use Rattle.fast_float.specs.Text.{minus};
+ghost use Rattle.json.specs.Token.{key, end_object};
+ghost use Rattle.serde_json.specs.Data.{unsigned, string};
+ghost use Rattle.serde_json.specs.Read.{number_of};
+ghost use Rattle.ovl_manifest.specs.Text.{whole};
+ghost use Rattle.ovl_manifest.specs.Sorted.{Spells, HasMember};
+
+use fast_float::Numeral;
+use json::{Reader, Token};
+
+/// Takes the next token, and answers whether it is a key of this name.
+pub(crate) fn take_key(reader: &mut Reader<'_>, name: &str) -> bool
+    ensures { IsTrue result → reader.old ≡ key name.now ∷ reader.new }
+{
+    match reader.next() {
+        Some(Token::Key(own)) => own == name,
+        _ => false,
+    }
+}
+
+/// The next member's name, and none at the end of the object.
+pub(crate) fn next_name<'a>(reader: &mut Reader<'a>) -> Option<Option<&'a str>>
+    ensures { IfSome result (λ name. MatchOption name (reader.old ≡ end_object ∷ reader.new)
+        (λ own. reader.old ≡ key own.now ∷ reader.new)) }
+{
+    match reader.next() {
+        Some(Token::Key(own)) => Some(Some(own)),
+        Some(Token::EndObject) => Some(None),
+        _ => None,
+    }
+}
+
+/// The text that the next member states, if it has this name.
+pub(crate) fn read_text<'a>(reader: &mut Reader<'a>, name: &str) -> Option<&'a str>
+    ensures { IfSome result (λ text. HasMember 0 name.now reader.old (string text.now) reader.new) }
+{
+    if !take_key(reader, name) {
+        return None;
+    }
+    next_text(reader)
+}
+
+/// The whole number from 0 to a limit that the next member states, if it has this name.
+pub(crate) fn read_natural(reader: &mut Reader<'_>, name: &str, limit: u64) -> Option<u64>
+    ensures member { IfSome result (λ number. HasMember 0 name.now reader.old (whole number) reader.new) }
+    ensures bound { IfSome result (λ number. number ≤ limit) }
+{
+    if !take_key(reader, name) {
+        return None;
+    }
+    next_natural(reader, limit)
+}
+
+/// The text that comes next.
+pub(crate) fn next_text<'a>(reader: &mut Reader<'a>) -> Option<&'a str>
+    ensures { IfSome result (λ text. Spells 0 reader.old (string text.now) reader.new) }
+{
+    match reader.next() {
+        Some(Token::String(text)) => Some(text),
+        _ => None,
+    }
+}
+
+/// The whole number from 0 to a limit that comes next.
+pub(crate) fn next_natural(reader: &mut Reader<'_>, limit: u64) -> Option<u64>
+    ensures value { IfSome result (λ number. Spells 0 reader.old (whole number) reader.new) }
+    ensures bound { IfSome result (λ number. number ≤ limit) }
+{
+    let Some(Token::Number(digits)) = reader.next() else {
+        return None;
+    };
+    let number = natural(digits)?;
+    if number <= limit { Some(number) } else { None }
+}
+
+// The whole number that digits without a sign write.
+fn natural(digits: &str) -> Option<u64>
+    ensures { IfSome result (λ number. number_of digits.now ≡ Some (unsigned number)) }
+{
+    let digits = digits.as_bytes();
+    if has_minus(digits) {
+        return None;
+    }
+    Numeral::scan(digits).to_u64()
+}
+
+fn has_minus(digits: &[u8]) -> bool
+    ensures { result ≡ (slice_index digits.now 0 == minus) }
+{
+    !digits.is_empty() && digits[0] == b'-'
+}
