@@ -24,7 +24,7 @@ import run
 
 WORKERS = (1, 2, 4)
 # The commands that make new layers.
-REWRITING = ("vacuum", "deref")
+REWRITING = ("vacuum", "deref", "merge")
 
 
 def measure(command, statuses, repeats):

@@ -285,17 +285,19 @@ fn chain(alloc: Global, directories: u32) -> Result<String, Fail> {
     Ok(entries)
 }
 
+// A directory that was moved from where the chain begins.
+const FROM_THE_CHAIN: &str = "dir /p, dir /p/q redirect=/x, whiteout /x";
+
 #[test]
 fn a_new_layer_is_within_the_limits(rt: HostRuntime) -> Result<(), Fail> {
     let alloc = rt.alloc();
-    let upper = "dir /p, dir /p/q redirect=/x, whiteout /x";
     // In `/p/q` the shorter chain ends 64 names deep, the longer one 65.
     let chained = chain(alloc, 62)?;
-    let layers = [upper, chained.as_str()];
+    let layers = [FROM_THE_CHAIN, chained.as_str()];
     let told = rewritten(&rt, alloc, Command::Deref, &layers, &[])?;
     assert!(rt; told.as_str().contains("\nwhiteout /x\nentries 66\n"));
     let deeper = chain(alloc, 63)?;
-    let manifests = manifests_of(alloc, &[upper, deeper.as_str()])?;
+    let manifests = manifests_of(alloc, &[FROM_THE_CHAIN, deeper.as_str()])?;
     let answer = command(&rt, alloc, Command::Deref, &manifests, &[], 4, &OpenGate);
     assert_eq!(rt; answer.err(), Some(EngineFault::LimitOut));
     Ok(())
