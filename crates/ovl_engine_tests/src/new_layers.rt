@@ -122,7 +122,7 @@ fn merge_gives_a_root_over_both_layers_as_one(rt: HostRuntime) -> Result<(), Fai
     let blobs = blob_of_a(alloc)?;
     let moved = "dir /n opaque=y, dir /n/d redirect=/x, whiteout /x";
     let old = "dir /n, file /n/z, dir /x, file /x/k";
-    let renamed = "dir /b redirect=/a, whiteout /a";
+    let renamed = "whiteout /a, dir /b redirect=/a";
     let full = "dir /a, file /a/k";
     for (layers, report, lower) in [
         // The lower layer has all that is shown; and with one between, nothing of it.
@@ -192,7 +192,10 @@ fn merge_wants_a_lower_layer(rt: HostRuntime) -> Result<(), Fail> {
     // What can't be read is told before.
     manifests[0].clear();
     let answer = command(&rt, alloc, Command::Merge, &manifests, &[], 4, &OpenGate);
-    assert_eq!(rt; answer.err(), Some(EngineFault::Layer(0, LayerFault::NotJson)));
+    assert_eq!(rt;
+        answer.err(),
+        Some(EngineFault::Layer(0, LayerFault::NotJson))
+    );
     Ok(())
 }
 

@@ -114,14 +114,16 @@ pub fn tool<'a>(alloc: Global) -> Result<Command<'a>, AllocError>
 fn bare<'a>(alloc: Global) -> Result<Command<'a>, AllocError>
     ensures { IfOk result (λ command. app_of command ≡ bare_app) }
 {
-    Ok(Command::new(alloc, NAME)
-        .bin_name(NAME)?
-        .version(VERSION)
-        .no_binary_name(true)
-        .subcommand_required(true)
-        .disable_help_subcommand(true)
-        .about(ABOUT)
-        .after_help(MORE))
+    Ok(
+        Command::new(alloc, NAME)
+            .bin_name(NAME)?
+            .version(VERSION)
+            .no_binary_name(true)
+            .subcommand_required(true)
+            .disable_help_subcommand(true)
+            .about(ABOUT)
+            .after_help(MORE),
+    )
 }
 
 fn show<'a>(alloc: Global) -> Result<Command<'a>, AllocError>
