@@ -23,6 +23,8 @@ import tempfile
 import run
 
 WORKERS = (1, 2, 4)
+# How many layers a stack has.
+LAYERS = 3
 # The commands that make new layers.
 REWRITING = ("vacuum", "deref", "merge")
 
@@ -39,9 +41,9 @@ def measure(command, statuses, repeats):
 
 
 def make_layers(folder, entries, empty=False):
-    """Three layers of other names; where it is asked for, with files that are all empty."""
+    """Layers of other names; where it is asked for, with files that are all empty."""
     files = []
-    for n in (1, 2, 3):
+    for n in range(1, LAYERS + 1):
         files.append(os.path.join(folder, "%s-%d.json" % ("empty" if empty else "layer", n)))
         subprocess.run([sys.executable, run.GENERATE, "--entries", str(entries), "--seed", str(n),
                         "--out", files[-1]] + ["--empty"] * empty, check=True)
@@ -55,7 +57,22 @@ def rewriting(program, folder, none, entries):
     for what in REWRITING:
         command = [program, what, "--blobs", none, "--out", new]
         yield what + ", other names", command + layers
-        yield what + ", the same names", command + layers[:1] * 3
+        yield what + ", the same names", command + layers[:1] * LAYERS
+
+
+def on_layers(program, folder, entries):
+    """A name, a command and the statuses that it may end with, for each command over three layers."""
+    layers, none = make_layers(folder, entries), os.path.join(folder, "none")
+    os.mkdir(none)
+    yield "show", [program, "show"] + layers, (0,)
+    # The generated layers name blobs that aren't there: faults, and status 1.
+    yield "fsck", [program, "fsck", "--blobs", none] + layers, (0, 1)
+    for name, command in rewriting(program, folder, none, entries):
+        yield name, command, (0,)
+
+
+def with_workers(command, workers):
+    return command[:2] + ["--workers", str(workers)] + command[2:]
 
 
 def make_blobs(folder, count, size):
@@ -89,8 +106,7 @@ def by_workers(name, command, statuses, repeats):
     """Rows of one command, each with how many times as fast as one worker it is."""
     rows, alone = [], None
     for workers in WORKERS:
-        words = command[:2] + ["--workers", str(workers)] + command[2:]
-        seconds, peak = measure(words, statuses, repeats)
+        seconds, peak = measure(with_workers(command, workers), statuses, repeats)
         alone = alone or seconds
         rows.append([name, str(workers), "%.2f" % seconds, "%.2f" % (alone / seconds), "{:,}".format(peak)])
         print("commands.py: %s by %d workers done" % (name, workers), file=sys.stderr)
@@ -109,21 +125,15 @@ def main():
     head = ["Command", "Workers", "Wall time, s", "Times as fast as one", "Peak, bytes"]
 
     with tempfile.TemporaryDirectory(prefix="ovl-bench-") as folder:
-        layers = make_layers(folder, given.entries)
-        none = os.path.join(folder, "none")
-        os.mkdir(none)
-        shows = by_workers("show", [program, "show"] + layers, (0,), given.repeats)
-        # The generated layers name blobs that aren't there: faults, and status 1.
-        checks = by_workers("fsck", [program, "fsck", "--blobs", none] + layers, (0, 1), given.repeats)
-        made = []
-        for name, command in rewriting(program, folder, none, given.entries):
-            made += by_workers(name, command, (0,), given.repeats)
+        rows = []
+        for name, command, statuses in on_layers(program, folder, given.entries):
+            rows += by_workers(name, command, statuses, given.repeats)
         blobs, layer = make_blobs(folder, given.blobs, given.size)
         digests = by_workers("fsck of blobs", [program, "fsck", "--blobs", blobs, layer], (0,), given.repeats)
 
     print("Machine: %s. Least time of %d runs.\n" % (run.machine(), given.repeats))
     print("Three layers of {:,} entries each:\n".format(given.entries))
-    table(head, shows + checks + made)
+    table(head, rows)
     print("{:,} blobs of {:,} bytes each:\n".format(given.blobs, given.size))
     table(head, digests)
 

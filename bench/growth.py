@@ -123,11 +123,12 @@ class Case:
     allowed: float = ALLOWED
 
 
+CHAINS = Case("N layers of 64 directories in each other, the deepest redirected to the first", "show", chained_redirects,
+              (4, 8, 16, 32, 64, 128))
 CASES = [
     Case("a directory with a redirect of N names, and N files in it", "show", long_redirect, (500, 1_000, 2_000, 4_000)),
     Case("a directory with N attributes and N files", "show", many_attributes, (8_000, 16_000, 32_000)),
-    Case("N layers of 64 directories in each other, the deepest redirected to the first", "show", chained_redirects,
-         (4, 8, 16, 32, 64, 128)),
+    CHAINS,
     Case("N layers of 20,000 other names each", "show", other_names, (1, 3, 16, 64)),
     Case("N - 1 layers of a root alone over one of 20,000 files", "show", empty_over_full, (1, 16, 64, 128)),
     Case("20,000 files under N directories in each other", "show", under_a_chain, (0, 15, 30, 60)),

@@ -20,8 +20,8 @@ import tempfile
 import commands
 import run
 
-# The statuses of a command that is done, where the layers' blobs aren't there, and of one that can't read a manifest.
-DONE, UNREAD = (0, 1), (3,)
+# The statuses of a command that can't read a manifest.
+UNREAD = (3,)
 
 
 def instructions(command, statuses, out=os.devnull):
@@ -51,15 +51,12 @@ def main():
     print(run.row(["Command", "Instructions", "of reading", "of an entry, beside reading"]))
     print(run.row(["---", "---:", "---:", "---:"]))
     with tempfile.TemporaryDirectory(prefix="ovl-bench-") as folder:
-        layers, none = commands.make_layers(folder, given.entries), os.path.join(folder, "none")
-        os.mkdir(none)
         unread, out = os.path.join(folder, "unread.json"), os.path.join(folder, "callgrind")
         open(unread, "wb").close()
-        counted = [("show", [program, "show", *layers]), ("fsck", [program, "fsck", "--blobs", none, *layers])]
-        for name, command in [*counted, *commands.rewriting(program, folder, none, given.entries)]:
-            command = [*command[:2], "--workers", "1", *command[2:]]
-            total, reading = instructions(command, DONE, out), instructions([*command, unread], UNREAD)
-            each = (total - reading) / (3 * given.entries)
+        for name, command, statuses in commands.on_layers(program, folder, given.entries):
+            command = commands.with_workers(command, 1)
+            total, reading = instructions(command, statuses, out), instructions([*command, unread], UNREAD)
+            each = (total - reading) / (commands.LAYERS * given.entries)
             print(run.row([name, f"{total:,}", f"{reading:,}", f"{each:,.0f}"]), flush=True)
             if given.dearest:
                 listed += ["", f"{name}:", *dearest(out, given.dearest)]
