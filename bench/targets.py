@@ -117,17 +117,15 @@ def main():
     words.add_argument("--repeats", type=int, default=3, help="runs of each command (default 3)")
     given = words.parse_args()
 
-    targets = []
+    print(f"Machine: {run.machine()}. Least time of {given.repeats} runs; three layers of {given.entries:,} entries each.\n")
+    print(run.row(["What", "Program", "Reader; or bytes of manifests, and of a chain's report", "Quotient", "At most", "Met"]))
+    print(run.row(["---"] + ["---:"] * 4 + ["---"]))
+    met = []
     for target in measured(os.path.abspath(given.program), given.entries, given.repeats):
-        targets.append(target)
-        print(f"targets.py: {target.name} done", file=sys.stderr)
-    met = sum(target.met() for target in targets)
-    print(f"Machine: {run.machine()}, at a load of {os.getloadavg()[2]:.1f} at the end. Least time of {given.repeats} runs; "
-          f"three layers of {given.entries:,} entries each.\n")
-    head = ["What", "Program", "Reader; or bytes of manifests, and of a chain's report", "Quotient", "At most", "Met"]
-    commands.table(head, [target.cells() for target in targets])
-    print(f"{met} of {len(targets)} targets are met.")
-    sys.exit(0 if met == len(targets) else 1)
+        print(run.row(target.cells()), flush=True)
+        met.append(target.met())
+    print(f"\n{sum(met)} of {len(met)} targets are met. Load at the end: {os.getloadavg()[2]:.1f}.")
+    sys.exit(0 if all(met) else 1)
 
 
 if __name__ == "__main__":
