@@ -1,24 +1,18 @@
 -- What a dereferenced layer has at each path is what a layer may have, but for the limits.
-use Rattle.std.proofs.Common.{◌≡◌, ℕ, Bool, true, false, cond, Option, Some, None, List, [], ◌∷◌, length, refl, sym, ap, ◌∙◌, inl, inr, ◌⊎◌}
+use Rattle.std.proofs.Common.{◌≡◌, Bool, true, false, cond, Option, Some, None, [], length, refl, sym, ap, ◌∙◌, inl, inr, ◌⊎◌}
 use Rattle.std.specs.Prelude.{◌||◌, ◌&&◌, not, is_some, codes, nat_le}
 use Rattle.std.specs.Option.{option_map}
 use Rattle.std.specs.List.{list_all, All}
-use Rattle.std.specs.BTreeMap.{insert_entry}
-use Rattle.std.specs.Ordering.{match_ordering}
-use Rattle.std.specs.declared.cmp.Ordering.{Ordering}
-use Rattle.std.specs.declared.cmp.Ordering.TheVariants.{Less, Equal, Greater}
-use Rattle.ovl_names.specs.Names.{PathName, name_cmp, name_eq}
+use Rattle.ovl_names.specs.Names.{PathName, name_eq}
 use Rattle.ovl_names.specs.Order.{ascends}
 use Rattle.ovl_names.specs.Paths.{PathNames, child_path, has_names}
 use Rattle.ovl_names.proofs.Ascending.{both, not_true, list_all-filter, ascends-filter}
 use Rattle.ovl_inode.specs.declared.inodes.Inode.{Inode}
 use Rattle.ovl_inode.specs.declared.inodes.Kind.{Kind}
-use Rattle.ovl_inode.specs.declared.inodes.Kind.TheVariants.{Dir, File, Symlink, Char, Block, Fifo, Socket}
-use Rattle.ovl_inode.specs.Attributes.{Attributes, attribute, attribute_cmp, is_attribute, is_attribute_name, visible_attributes, with_attribute, has_escaped_name, is_escaped_name, is_overlay_name, opaque_name, redirect_name, metacopy_name}
+use Rattle.ovl_inode.specs.Attributes.{attribute, attribute_cmp, is_attribute, visible_attributes, with_attribute, has_escaped_name, is_overlay_name, opaque_name, redirect_name, metacopy_name}
 use Rattle.ovl_inode.specs.Marks.{is_directory, is_metacopy}
 use Rattle.ovl_inode.specs.Sound.{is_sound_inode, is_sound_kind}
 use Rattle.ovl_inode.proofs.AttributeLemmas.{are_attributes-visible, are_attributes-with}
-use Rattle.ovl_inode.proofs.OnLiterals.{inode_on_literals}
 use Rattle.ovl_manifest.specs.Layers.{Entries, Entry, entry_at, entry_cmp, entry_limit, is_directory_at, is_within_limits, has_parent, IsLayer}
 use Rattle.ovl_lookup.specs.declared.looks.Look.{Look}
 use Rattle.ovl_lookup.specs.declared.looks.Look.TheVariants.{Nothing, Shown, Broken}
@@ -35,34 +29,10 @@ use Rattle.ovl_lookup.proofs.PathLemmas.{last-name, all-entries}
 use Rattle.ovl_lookup.proofs.ShownLaws.{shown-visible, attribute-hidden, is_broken, never-broken, all-over}
 use Rattle.ovl_lookup.proofs.StatedLaws.{shown-sound, shown-unescaped, shown-named, sound-with, sound-kind, sound-attributes, unescaped-filter}
 use Rattle.ovl_lookup.proofs.WalkLaws.{directory_found, mark-child}
+use Rattle.ovl_rewrite.proofs.InodeLemmas.{opaque_named, unescaped-with, directory-flag}
 use Rattle.ovl_deref.specs.Deref.{any_prefix, is_in_moved, inode_shown, unfolded, full_attributes, filled, dereferenced_inode, dereferenced_at, IsDereferenced}
 use Rattle.ovl_deref.specs.Laws.{DerefGivesLayer}
 use Rattle.ovl_deref.proofs.DerefLemmas.{neither, any_prefix-child, moved-directory, full-attribute}
-
--- ---- attributes of an unfolded directory
-
-unescaped-with : (attrs : Attributes) (name value : List ℕ) → is_escaped_name name ≡ false → has_escaped_name attrs ≡ false → has_escaped_name (with_attribute attrs name value) ≡ false
-unescaped-with [] name value own none = ap (λ b. b || false) own
-unescaped-with (attr ∷ attrs) name value own none = by (name_cmp name attr.0) (is_escaped_name attr.0) refl none (unescaped-with attrs name value own)
-  where
-    by : (o : Ordering) (b : Bool) → is_escaped_name attr.0 ≡ b → (b || has_escaped_name attrs) ≡ false → (has_escaped_name attrs ≡ false → has_escaped_name (with_attribute attrs name value) ≡ false) → has_escaped_name (match_ordering o ((name, value) ∷ attr ∷ attrs) ((attr.0, value) ∷ attrs) (attr ∷ insert_entry name_cmp attrs name value)) ≡ false
-    by o true e n later = let bad : true ≡ false = n in cc
-    by Less false e n later = (λ j. own j || (e j || n j))
-    by Equal false e n later = (λ j. e j || n j)
-    by Greater false e n later = (λ j. e j || later n j)
-
-opaque_named : is_attribute_name opaque_name ≡ true
-unfolding inode_on_literals
-opaque_named = refl
-
-directory-kind : (kind : Kind) (had : Bool) → elim kind as (λ _. Bool) [ Dir ↦ true | _ ↦ false ] ≡ true → is_sound_kind kind had ≡ true
-directory-kind Dir had is = refl
-directory-kind (File size blob) had is = let bad : false ≡ true = is in cc
-directory-kind (Symlink target) had is = let bad : false ≡ true = is in cc
-directory-kind (Char major minor) had is = let bad : false ≡ true = is in cc
-directory-kind (Block major minor) had is = let bad : false ≡ true = is in cc
-directory-kind Fifo had is = let bad : false ≡ true = is in cc
-directory-kind Socket had is = let bad : false ≡ true = is in cc
 
 -- ---- which paths are in a moved directory
 
@@ -178,7 +148,7 @@ module _ (top : Entries) (below : StackView) (is : IsLayer top) (each : All IsLa
     unfolded_well : (inode : Inode) → is_directory inode ≡ true → is_sound_inode inode ≡ true → is_sound_inode (unfolded inode) ≡ true
     unfolded_well inode directory well =
         sound-with inode inode.kind (with_attribute (visible_attributes inode.attrs) opaque_name (codes "y")) well
-        (directory-kind inode.kind (is_some (attribute (with_attribute (visible_attributes inode.attrs) opaque_name (codes "y")) metacopy_name)) directory)
+        (directory-flag inode.kind (is_some (attribute (with_attribute (visible_attributes inode.attrs) opaque_name (codes "y")) metacopy_name)) directory)
         (are_attributes-with (visible_attributes inode.attrs) opaque_name (codes "y") (are_attributes-visible inode.attrs (sound-attributes inode well)) opaque_named refl)
 
     full_well : (inode : Inode) (kind : Kind) → is_sound_inode inode ≡ true → is_sound_kind kind false ≡ true → is_sound_inode (record inode { kind = kind; attrs = full_attributes inode.attrs }) ≡ true

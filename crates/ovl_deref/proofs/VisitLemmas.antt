@@ -34,8 +34,9 @@ use Rattle.ovl_lookup.proofs.ChildLemmas.{all-first, all-rest}
 use Rattle.ovl_lookup.proofs.LookLaws.{nothing-under}
 use Rattle.ovl_lookup.proofs.TopLaws.{top-over}
 use Rattle.ovl_lookup.proofs.WalkLaws.{mark-child}
+use Rattle.ovl_rewrite.specs.Directories.{NamedInode}
 use Rattle.ovl_deref.specs.Deref.{inode_shown, unfolded, full_attributes, filled, dereferenced_inode}
-use Rattle.ovl_deref.specs.Directories.{is_at_moved, new_at, names_in, NamedInode, named_inode, inodes_in}
+use Rattle.ovl_deref.specs.Directories.{is_at_moved, new_at, names_in, named_inode, inodes_in}
 use Rattle.ovl_deref.specs.Visits.{IsSought, look_by, shown_inode}
 use Rattle.ovl_deref.proofs.DerefLemmas.{any_prefix-child, any_prefix-under}
 use Rattle.ovl_deref.proofs.DirectoryLemmas.{kids-unique, new-moved}

@@ -1,14 +1,11 @@
 -- The directories of the dereferenced layer as work: a piece is a directory, its kids are the directories in it, and its
 -- output is each name in it with its inode.
-use Rattle.std.specs.Prelude.{◌*◌, ℕ, Bool, Option, List, [], if◌then◌else◌, map, filter, length, Vec}
-use Rattle.std.specs.Global.{Global}
-use Rattle.std.specs.Coded.{Coded-set, codes}
+use Rattle.std.specs.Prelude.{◌*◌, ℕ, Bool, Option, List, [], if◌then◌else◌, length}
 use Rattle.std.specs.List.{filter_map}
 use Rattle.std.specs.Option.{option_map}
 use Rattle.ovl_names.specs.Names.{PathName}
 use Rattle.ovl_names.specs.Paths.{PathNames, child_path, depth_limit}
 use Rattle.ovl_inode.specs.declared.inodes.Inode.{Inode}
-use Rattle.ovl_inode.specs.Marks.{is_directory}
 use Rattle.ovl_manifest.specs.Layers.{Entries, names_below}
 use Rattle.ovl_lookup.specs.Walk.{mark_at}
 use Rattle.ovl_lookup.specs.Stacks.{StackView}
@@ -17,6 +14,7 @@ use Rattle.ovl_lookup.specs.Sound.{is_moved}
 use Rattle.ovl_lookup.specs.Words.{top_layer, lower_layers}
 use Rattle.ovl_board.specs.declared.pieces.Piece.{Piece}
 use Rattle.ovl_board.specs.Parcels.{ParcelView, IsPlain}
+use Rattle.ovl_rewrite.specs.Directories.{NamedInode, directories_among}
 use Rattle.ovl_deref.specs.Deref.{any_prefix, dereferenced_at}
 
 -- the path or a directory above it is moved
@@ -32,24 +30,15 @@ abbrev pub names_in : StackView → PathNames → List PathName
 names_in stack directory =
     if is_at_moved (top_layer stack) directory then kids_along stack directory else names_below (top_layer stack) directory
 
--- an entry of a directory: its name and its inode
-abbrev pub NamedInode : Type 0
-NamedInode = PathName × Inode
-
+-- a name of a directory with its inode, if it has one
 abbrev pub named_inode : StackView → PathNames → PathName → Option NamedInode
 named_inode stack directory name = option_map (λ inode. (name, inode)) (new_at stack (child_path directory name))
 
+-- the entries of a directory, in order
 abbrev pub inodes_in : StackView → PathNames → List NamedInode
 inodes_in stack directory = filter_map (named_inode stack directory) (names_in stack directory)
 
--- an entry of a piece's directory as a piece
-abbrev pub piece_in : Piece → NamedInode → Piece
-piece_in piece entry = record { space = piece.space; dir = child_path piece.dir entry.0 }
-
 -- the kids of a directory are the directories in it, and its output is each name in it, in order, with its inode
-abbrev pub directories_among : Piece → List NamedInode → List Piece
-directories_among piece entries = map (piece_in piece) (filter (λ entry. is_directory entry.1) entries)
-
 abbrev pub deref_kids : StackView → Piece → List Piece
 deref_kids stack piece = directories_among piece (inodes_in stack piece.dir)
 
@@ -67,11 +56,3 @@ deref_root = record { space = 0; dir = [] }
 -- the parcels of the plain walk over the whole new layer
 abbrev pub IsDerefWalk : StackView → List (ParcelView (List NamedInode)) → Type 0
 IsDerefWalk stack parcels = IsPlain (deref_kids stack) (deref_out stack) deref_root parcels
-
--- what is seen of the entries that a directory puts out
-abbrev pub inodes_seen : Vec NamedInode Global → List NamedInode
-inodes_seen inodes = inodes.items
-
--- such lists are plain data
-pub inodes_set : IsSet (List NamedInode)
-inodes_set = Coded-set (hlevel codes)

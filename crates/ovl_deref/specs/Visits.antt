@@ -1,5 +1,5 @@
 -- What a visit of deref knows of its directory.
-use Rattle.std.specs.Prelude.{◌≡◌, ℕ, false, Option, Some, None, MatchOption, ⊤}
+use Rattle.std.specs.Prelude.{◌≡◌, false, Option, Some, None, MatchOption, ⊤}
 use Rattle.std.specs.Option.{option_map}
 use Rattle.ovl_names.specs.Names.{PathName}
 use Rattle.ovl_names.specs.Paths.{PathNames, child_path}
@@ -11,9 +11,9 @@ use Rattle.ovl_lookup.specs.Stacks.{StackView, from_layer}
 use Rattle.ovl_lookup.specs.Merged.{look, shows_directory}
 use Rattle.ovl_lookup.specs.DirViews.{IsViewOver, IsViewOf}
 use Rattle.ovl_lookup.specs.Words.{top_layer}
+use Rattle.ovl_rewrite.specs.Directories.{NamedInode}
 use Rattle.ovl_deref.specs.declared.directories.Directory.{Directory}
 use Rattle.ovl_deref.specs.Deref.{inode_shown}
-use Rattle.ovl_deref.specs.Directories.{NamedInode}
 
 -- the view of a directory of the merged tree, and none where no directory is shown there
 abbrev pub IsSought : StackView → PathNames → Option DirView → Type 0

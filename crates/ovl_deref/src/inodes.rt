@@ -1,24 +1,11 @@
 ghost use Rattle.std.specs.Prelude.{◌≡◌, ◌||◌, IfOk};
-ghost use Rattle.std.specs.Option.{option_map};
 ghost use Rattle.ovl_names.specs.Names.{name_eq};
 ghost use Rattle.ovl_inode.specs.Attributes.{redirect_name, metacopy_name};
-ghost use Rattle.ovl_manifest.specs.Layers.{entry_at};
-ghost use Rattle.ovl_lookup.specs.Words.{top_layer};
 ghost use Rattle.ovl_deref.specs.Deref.{unfolded as the_unfolded, filled as the_filled, full_attributes};
 
 use ovl_inode::{Attrs, Inode, overlay, visible};
-use ovl_lookup::{Look, Stack};
-use ovl_names::Path;
+use ovl_lookup::Look;
 use std::alloc::{AllocError, Global};
-
-// The inode that the topmost layer has at a path.
-pub(crate) fn own_inode<'a>(stack: &'a Stack, path: &Path) -> Option<&'a Inode>
-    ensures { option_map (λ inode. inode.now) result ≡ entry_at (top_layer stack.now) path.now }
-{
-    // A stack has a topmost layer.
-    let _layers = stack.layers();
-    stack.own_at(0, path)
-}
 
 // A moved directory unfolded: its visible inode, opaque. overlayfs.rst: "whiteouts and opaque directories".
 pub(crate) fn unfolded(alloc: Global, inode: &Inode) -> Result<Inode, AllocError>

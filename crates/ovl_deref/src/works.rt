@@ -1,11 +1,11 @@
-ghost use Rattle.std.specs.Prelude.{◌≡◌, IfOk};
-ghost use Rattle.ovl_deref.specs.Directories.{directories_among};
+ghost use Rattle.std.specs.Prelude.{◌≡◌};
 
 use crate::directories::inodes_in;
 use ovl_board::{Piece, Work};
-use ovl_inode::{Inode, is_directory};
+use ovl_inode::Inode;
 use ovl_lookup::Stack;
 use ovl_names::{DEPTH_LIMIT, Name};
+use ovl_rewrite::directories;
 use std::alloc::{AllocError, Global};
 use std::marker::Model;
 
@@ -38,7 +38,8 @@ impl<'a> Work for DerefWork<'a> {
     type Out = Vec<(Name, Inode)>;
 
     ghost use Rattle.std.specs.Prelude.{List};
-    ghost use Rattle.ovl_deref.specs.Directories.{NamedInode, inodes_set, inodes_seen, deref_kids, deref_out, deref_depth};
+    ghost use Rattle.ovl_rewrite.specs.Directories.{NamedInode, inodes_set, inodes_seen};
+    ghost use Rattle.ovl_deref.specs.Directories.{deref_kids, deref_out, deref_depth};
 
     ghost Seen = { List NamedInode };
 
@@ -65,24 +66,4 @@ impl<'a> Work for DerefWork<'a> {
     fn deepest(&self) -> u32 {
         (DEPTH_LIMIT * self.stack.layers()) as u32
     }
-}
-
-// The pieces of those entries of a piece's directory that are directories themselves.
-fn directories(
-    alloc: Global,
-    piece: &Piece,
-    inodes: &[(Name, Inode)],
-) -> Result<Vec<Piece>, AllocError>
-    ensures { IfOk result (λ kids. kids.items ≡ directories_among piece.now inodes.now) }
-{
-    let mut kids = Vec::new(alloc);
-    for (name, inode) in inodes {
-        if is_directory(inode) {
-            kids.push(Piece {
-                space: piece.space,
-                dir: piece.dir.child(alloc, name)?,
-            })?;
-        }
-    }
-    Ok(kids)
 }

@@ -18,12 +18,13 @@ use Rattle.ovl_check.specs.Checks.{CheckView, check_kids, check_out, check_seen,
 use Rattle.ovl_check.specs.Findings.{findings}
 use Rattle.ovl_vacuum.specs.Vacuum.{vacuumed_layer, removed_paths}
 use Rattle.ovl_vacuum.specs.Directories.{vacuum_kids, vacuum_out, vacuum_root, names_seen as idle_seen}
+use Rattle.ovl_rewrite.specs.Directories.{inodes_seen}
 use Rattle.ovl_deref.specs.Deref.{IsDereferenced}
-use Rattle.ovl_deref.specs.Directories.{deref_kids, deref_out, deref_root, inodes_seen}
+use Rattle.ovl_deref.specs.Directories.{deref_kids, deref_out, deref_root}
 use Rattle.ovl_deref.specs.Limits.{PassesLimit}
 use Rattle.ovl_merge.specs.Places.{merge_of}
 use Rattle.ovl_merge.specs.MergeDown.{IsMergedDown, merged_top}
-use Rattle.ovl_merge.specs.Directories.{merge_kids, merge_out, merge_root, inodes_seen as merged_seen}
+use Rattle.ovl_merge.specs.Directories.{merge_kids, merge_out, merge_root}
 use Rattle.ovl_merge.specs.Limits.{PassesLimit as PassesLimitMerged}
 use Rattle.ovl_engine.specs.Reports.{show_report}
 use Rattle.ovl_engine.specs.FsckReports.{fsck_report, is_clean}
@@ -146,7 +147,7 @@ IsFaultOfWork Show layers fault = IsFaultOfOwn looks_seen (show_kids (stack_of l
 IsFaultOfWork Fsck layers fault = ⊥
 IsFaultOfWork Vacuum layers fault = IsFaultOfOwn idle_seen (vacuum_kids (stack_of layers)) (vacuum_out (stack_of layers)) vacuum_root fault
 IsFaultOfWork Deref layers fault = IsFaultOfOwn inodes_seen (deref_kids (stack_of layers)) (deref_out (stack_of layers)) deref_root fault
-IsFaultOfWork Merge layers fault = IsFaultOfOwn merged_seen (merge_kids (stack_of layers)) (merge_out (stack_of layers)) merge_root fault
+IsFaultOfWork Merge layers fault = IsFaultOfOwn inodes_seen (merge_kids (stack_of layers)) (merge_out (stack_of layers)) merge_root fault
 
 -- the same where the command is run over these layers and blobs
 abbrev pub IsFaultOfRun : Command → List Entries → List BlobView → RunFault → Type 0

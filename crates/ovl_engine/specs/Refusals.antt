@@ -11,8 +11,8 @@ use Rattle.ovl_pool.specs.declared.runs.RunFault.{RunFault}
 use Rattle.ovl_pool.specs.declared.runs.RunFault.TheVariants.{Board, Memory as RunMemory}
 use Rattle.ovl_lookup.specs.Stacks.{layer_limit}
 use Rattle.ovl_check.specs.Blobs.{BlobView, are_in_order}
-use Rattle.ovl_deref.specs.declared.finish.DerefFault.{DerefFault}
-use Rattle.ovl_deref.specs.declared.finish.DerefFault.TheVariants.{LimitOut as DerefLimit, Memory as DerefMemory}
+use Rattle.ovl_rewrite.specs.declared.faults.RewriteFault.{RewriteFault}
+use Rattle.ovl_rewrite.specs.declared.faults.RewriteFault.TheVariants.{LimitOut as DerefLimit, Memory as DerefMemory}
 use Rattle.ovl_merge.specs.declared.faults.MergeFault.{MergeFault}
 use Rattle.ovl_merge.specs.declared.faults.MergeFault.TheVariants.{NoLower as MergeLower, LimitOut as MergeLimit, Memory as MergeMemory}
 use Rattle.ovl_engine.specs.declared.faults.EngineFault.{EngineFault}
@@ -86,7 +86,7 @@ failed_run (Board BoardMemory) = Memory
 failed_run fault = Run fault
 
 -- the fault where deref gives no layer
-abbrev pub failed_deref : DerefFault → EngineFault
+abbrev pub failed_deref : RewriteFault → EngineFault
 failed_deref DerefLimit = LimitOut
 failed_deref DerefMemory = Memory
 

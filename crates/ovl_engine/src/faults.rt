@@ -4,11 +4,11 @@ ghost use Rattle.ovl_engine.specs.Refusals.{unread_layer, failed_run, failed_der
 
 use crate::commands::BLOB_LIMIT;
 use ovl_board::{BoardFault, WORKER_LIMIT};
-use ovl_deref::DerefFault;
 use ovl_lookup::LAYER_LIMIT;
 use ovl_manifest::LayerFault;
 use ovl_merge::MergeFault;
 use ovl_pool::RunFault;
+use ovl_rewrite::RewriteFault;
 use std::alloc::{AllocError, AllocFailed};
 use thiserror::Error;
 
@@ -82,13 +82,13 @@ impl From<RunFault> for EngineFault {
     }
 }
 
-impl From<DerefFault> for EngineFault {
+impl From<RewriteFault> for EngineFault {
     ghost from_gives = { λ fault told. told ≡ failed_deref fault };
 
-    fn from(fault: DerefFault) -> EngineFault {
+    fn from(fault: RewriteFault) -> EngineFault {
         match fault {
-            DerefFault::LimitOut => EngineFault::LimitOut,
-            DerefFault::Memory => EngineFault::Memory,
+            RewriteFault::LimitOut => EngineFault::LimitOut,
+            RewriteFault::Memory => EngineFault::Memory,
         }
     }
 }

@@ -14,6 +14,7 @@ pub mod PathLemmas
 pub mod EntryLaws
 pub mod SoundLaws
 pub mod ChildLaws
+pub mod OwnLemmas
 pub mod ViewLemmas
 pub mod PlaceLemmas
 pub mod TopLemmas

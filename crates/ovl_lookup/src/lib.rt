@@ -4,6 +4,7 @@
 pub mod laws;
 mod lists;
 mod looks;
+mod own_directories;
 mod stacks;
 mod steps;
 mod view_looks;

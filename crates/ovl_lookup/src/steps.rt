@@ -219,7 +219,7 @@ pub(crate) fn arrive(alloc: Global, sheet: &Sheet, trail: &Trail<'_>) -> Result<
 }
 
 // The row of the directory `name` in the directory of a row, and `None` where there is none.
-fn directory_below(sheet: &Sheet, row: u32, name: &Name) -> Option<u32>
+pub(crate) fn directory_below(sheet: &Sheet, row: u32, name: &Name) -> Option<u32>
     requires { row < length sheet.now }
     ensures { MatchOption result
         (is_directory_at sheet.now (child_path (path_at sheet.now row) name.now) ≡ false)
@@ -287,7 +287,7 @@ fn missing(alloc: Global, next: Path, closed: bool, rest: &[Name]) -> Result<Ste
 }
 
 // The walk's end at `name`, which is no directory, with `rest` after it.
-fn beyond(
+pub(crate) fn beyond(
     alloc: Global,
     inode: &Inode,
     mark: &Mark,

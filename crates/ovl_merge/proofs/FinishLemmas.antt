@@ -1,87 +1,53 @@
 -- From the parcels to the new layer.
-use Rattle.std.proofs.Common.{◌≡◌, ℕ, suc, ◌+◌, ◌<◌, Bool, true, false, cond, Option, Some, None, List, [], ◌∷◌, ◌++◌, length, map, get_or, drop, refl, sym, ap, ◌∙◌, subst, append_assoc, arith}
-use Rattle.std.specs.Prelude.{◌&&◌, not, Vec, Result, Ok, Err, All, nat_le, slice_get, unwrap_or}
-use Rattle.std.specs.Global.{Global}
+use Rattle.std.proofs.Common.{◌≡◌, ◌<◌, Bool, true, false, Option, Some, None, List, [], ◌∷◌, length, drop, refl, sym, ap, ◌∙◌, subst, arith}
+use Rattle.std.specs.Prelude.{◌&&◌, not, All, nat_le, slice_get, unwrap_or}
 use Rattle.std.specs.List.{list_all, cons_option}
 use Rattle.std.specs.Option.{option_map}
-use Rattle.std.proofs.lemmas.List.{append-nil, drop-map, drop_more}
+use Rattle.ovl_names.specs.Order.{ascends}
+use Rattle.ovl_names.specs.Paths.{PathNames}
 use Rattle.ovl_names.proofs.Ascending.{both, not_true}
 use Rattle.ovl_inode.specs.declared.inodes.Inode.{Inode}
 use Rattle.ovl_inode.specs.Attributes.{has_escaped_name, is_overlay_name}
 use Rattle.ovl_inode.specs.Marks.{is_directory}
 use Rattle.ovl_inode.specs.Inodes.{visible}
 use Rattle.ovl_inode.specs.Sound.{is_sound_inode}
-use Rattle.ovl_manifest.specs.Layers.{Entries, Entry, entry_at, entry_limit, is_within_limits, IsLayer}
-use Rattle.ovl_manifest.specs.Manifest.{entry_fault, entries_after, is_miscounted, is_statable, stated_pair, layer_of_pairs, IsFaultOf}
-use Rattle.ovl_manifest.specs.declared.faults.LayerFault.{LayerFault}
-use Rattle.ovl_manifest.specs.declared.faults.LayerFault.TheVariants.{NotJson, Shape, Version, Count, Entry as WrongEntry, Order, NoParent, Root, Escaped, Memory}
-use Rattle.ovl_manifest.proofs.BackLemmas.{pairs-back}
+use Rattle.ovl_manifest.specs.Layers.{Entries, Entry, entry_at, entry_cmp, entry_limit, is_directory_at, is_within_limits, IsLayer}
+use Rattle.ovl_lookup.specs.declared.steps.Step.{Step}
+use Rattle.ovl_lookup.specs.Walk.{walk}
 use Rattle.ovl_lookup.specs.Stacks.{StackView}
 use Rattle.ovl_lookup.specs.Sound.{IsSoundStack}
-use Rattle.ovl_lookup.proofs.WalkFacts.{lookup-all}
+use Rattle.ovl_lookup.proofs.WalkFacts.{lookup-all, walk-whole}
 use Rattle.ovl_lookup.proofs.WalkLaws.{directory_found}
 use Rattle.ovl_lookup.proofs.EntryLaws.{directory-entry}
 use Rattle.ovl_lookup.proofs.MapLaws.{entries-unique}
 use Rattle.ovl_lookup.proofs.StatedLaws.{sound-visible, unescaped-filter}
 use Rattle.ovl_board.specs.declared.pieces.Piece.{Piece}
-use Rattle.ovl_board.specs.declared.works.Parcel.{Parcel}
-use Rattle.ovl_board.specs.Parcels.{parcel_view, parcel_views, IsPlain}
-use Rattle.ovl_board.proofs.WalkLemmas.{IsPlain-from_preorder}
-use Rattle.ovl_board.proofs.LawLemmas.{HasReachedPieces-holds}
-use Rattle.ovl_merge.specs.Places.{Merge, whole, merge_of}
-use Rattle.ovl_merge.specs.MergeDown.{merged_top, IsMergedDown}
-use Rattle.ovl_merge.specs.Directories.{NamedInode, entries_in, inodes_seen, directories_among, merge_depth, merge_root}
-use Rattle.ovl_merge.specs.Passes.{View, views_under, WalksUnder, new_entries}
-use Rattle.ovl_merge.specs.Limits.{keeps_limits, PassesLimit}
-use Rattle.ovl_merge.proofs.LayerLemmas.{upper, directory-flag, MergeGivesLayer-holds}
-use Rattle.ovl_merge.proofs.TreeLemmas.{new_entries-are, is-tree}
+use Rattle.ovl_board.specs.Parcels.{IsPlain}
+use Rattle.ovl_rewrite.specs.Directories.{NamedInode, directories_among}
+use Rattle.ovl_rewrite.specs.Passes.{View}
+use Rattle.ovl_rewrite.specs.NewLayers.{IsToldBy}
+use Rattle.ovl_rewrite.specs.Limits.{keeps_limits}
+use Rattle.ovl_rewrite.specs.declared.faults.RewriteFault.{RewriteFault}
+use Rattle.ovl_rewrite.specs.declared.faults.RewriteFault.TheVariants.{LimitOut as LimitPassed, Memory as NoMemory}
+use Rattle.ovl_rewrite.proofs.InodeLemmas.{directory-flag}
+use Rattle.ovl_merge.specs.Places.{Merge, whole, merge_of, lower_path, first_hit, reach}
+use Rattle.ovl_merge.specs.MergeDown.{merged_directory, merged_entry, merged_entry_of, merged_top, IsMergedDown}
+use Rattle.ovl_merge.specs.Directories.{entries_in, candidate_names, merge_depth, merge_root}
+use Rattle.ovl_merge.specs.declared.faults.MergeFault.TheVariants.{NoLower, LimitOut, Memory}
+use Rattle.ovl_merge.specs.Limits.{PassesLimit, refused}
+use Rattle.ovl_merge.proofs.Firsts.{first_hit-steps, first_step}
+use Rattle.ovl_merge.proofs.Inodes.{merged-directory}
+use Rattle.ovl_merge.proofs.LayerLemmas.{upper, MergeGivesLayer-holds}
+use Rattle.ovl_merge.proofs.DirectoryLemmas.{told}
 
--- the parcels from a place on begin with the one there
-pub first-view : (parcels : List (Parcel (Vec NamedInode Global))) (place : ℕ) (parcel : Parcel (Vec NamedInode Global)) → place < length parcels → parcel ≡ get_or parcels place parcel
-    → drop place (parcel_views inodes_seen parcels) ≡ parcel_view inodes_seen parcel ∷ drop (place + 1) (parcel_views inodes_seen parcels)
-first-view parcels place parcel inside is =
-    drop-map (parcel_view inodes_seen) place parcels
-    ∙ (ap (map (parcel_view inodes_seen)) (drop_more parcels place parcel inside)
-    ∙ (λ j. parcel_view inodes_seen (sym is j) ∷ sym (drop-map (parcel_view inodes_seen) (place + 1) parcels) j))
+-- a limit is told where a new layer passes one, and no want of a lower layer
+pub refused-limit : (fault : RewriteFault) → refused fault ≡ LimitOut → fault ≡ LimitPassed
+refused-limit LimitPassed told = refl
+refused-limit NoMemory told = let bad : Memory ≡ LimitOut = told in cc
 
--- ---- pairs that are a layer are its entries
-
-pairs-given : (before pairs layer : Entries) → entries_after before (map stated_pair pairs) ≡ Ok layer → before ++ pairs ≡ layer
-pairs-given before [] layer e = let same : before ≡ layer = cc in append-nil before ∙ same
-pairs-given before (pair ∷ pairs) layer e = by (λ more. pairs-given (before ++ pair ∷ []) pairs layer more) (is_statable pair) (entry_fault before pair) refl e
-  where
-    after : Option LayerFault → Result Entries LayerFault
-    after o = elim (elim o as (λ _. Result Entries LayerFault) [ Some found ↦ Err found | None ↦ Ok (before ++ pair ∷ []) ]) as (λ _. Result Entries LayerFault) [ Ok entries ↦ entries_after entries (map stated_pair pairs) | Err found ↦ Err found ]
-
-    by : (entries_after (before ++ pair ∷ []) (map stated_pair pairs) ≡ Ok layer → (before ++ pair ∷ []) ++ pairs ≡ layer)
-        → (b : Bool) (fault : Option LayerFault) → entry_fault before pair ≡ fault → entries_after before (cond b (Some pair) None ∷ map stated_pair pairs) ≡ Ok layer → before ++ pair ∷ pairs ≡ layer
-    by later false fault f e = let bad : Err (WrongEntry (length before)) ≡ Ok layer = e in cc
-    by later true (Some fault) f e = let bad : Err fault ≡ Ok layer = sym (ap after f) ∙ e in cc
-    by later true None f e = sym (append_assoc before (pair ∷ []) pairs) ∙ later (sym (ap after f) ∙ e)
-
-pub pairs-are : (pairs layer : Entries) → layer_of_pairs pairs ≡ Ok layer → pairs ≡ layer
-pairs-are pairs layer e = by (is_miscounted (length (map stated_pair pairs))) e
-  where
-    by : (b : Bool) → cond b (Err Count) (entries_after [] (map stated_pair pairs)) ≡ Ok layer → pairs ≡ layer
-    by true e = let bad : Err Count ≡ Ok layer = e in cc
-    by false e = pairs-given [] pairs layer e
-
--- no fault but want of memory is told of a layer
-told-memory : (layer : Entries) (fault : LayerFault) → IsFaultOf (Ok layer) fault → fault ≡ Memory
-told-memory layer Memory told = refl
-told-memory layer NotJson told = let bad : Ok layer ≡ Err NotJson = told in cc
-told-memory layer Shape told = let bad : Ok layer ≡ Err Shape = told in cc
-told-memory layer Version told = let bad : Ok layer ≡ Err Version = told in cc
-told-memory layer Count told = let bad : Ok layer ≡ Err Count = told in cc
-told-memory layer (WrongEntry n) told = let bad : Ok layer ≡ Err (WrongEntry n) = told in cc
-told-memory layer (Order n) told = let bad : Ok layer ≡ Err (Order n) = told in cc
-told-memory layer (NoParent n) told = let bad : Ok layer ≡ Err (NoParent n) = told in cc
-told-memory layer Root told = let bad : Ok layer ≡ Err Root = told in cc
-told-memory layer (Escaped n) told = let bad : Ok layer ≡ Err (Escaped n) = told in cc
-
--- entries that are a layer's are refused for want of memory alone
-pub layer-refused : (entries : Entries) (fault : LayerFault) → IsLayer entries → IsFaultOf (layer_of_pairs entries) fault → fault ≡ Memory
-layer-refused entries fault is told = told-memory entries fault (subst (λ (r : Result Entries LayerFault). IsFaultOf r fault) (pairs-back entries is) told)
+pub refused-lower : (fault : RewriteFault) → refused fault ≡ NoLower → ⊥
+refused-lower LimitPassed told = let bad : LimitOut ≡ NoLower = told in cc
+refused-lower NoMemory told = let bad : Memory ≡ NoLower = told in cc
 
 -- a stack of at least two layers is the whole of its merge
 pub merge-whole : (stack : StackView) → 1 < length stack.layers → whole (merge_of stack) ≡ stack
@@ -122,32 +88,55 @@ module _ (m : Merge) (each : All IsLayer (whole m).layers) where
             counted = refl;
           }
 
+  -- the root is the visible one of the upper layer
+  root-made : (inode : Inode) → entry_at m.upper [] ≡ Some inode → merged_entry m [] ≡ Some (visible inode)
+  root-made inode here =
+      let rooted : is_directory_at m.upper [] ≡ true = (upper m each).rooted in
+      let found : (walk m.upper []).found ≡ Some inode = ap (λ (s : Step). s.found) (walk-whole m.upper [] rooted) ∙ here in
+      let hit : first_hit m [] ≡ Some inode =
+      first_hit-steps m [] ∙ ap (λ o. first_step o (walk m.upper []).closed (first_step (walk m.lower (lower_path m [])).found (walk m.lower (lower_path m [])).closed None)) found in
+      ap (merged_entry_of m []) hit
+      ∙ ap (λ (i : Inode). Some i) (merged-directory m [] inode (ap directory_found (sym here) ∙ rooted) ∙ by (reach m []))
+    where
+      by : (place : Option PathNames) → merged_directory m [] inode place ≡ visible inode
+      by None = refl
+      by (Some place) = refl
+
+  -- both new layers have the same root
+  pub root-alone : (root : Inode) → option_map visible (entry_at m.upper []) ≡ Some root → merged_top m ≡ ([], root) ∷ []
+  root-alone root = by (entry_at m.upper [])
+    where
+      by : (found : Option Inode) → option_map visible found ≡ Some root → cons_option {X = Entry} (option_map (λ inode. ([], visible inode)) found) [] ≡ ([], root) ∷ []
+      by None e = let bad : None ≡ Some root = e in cc
+      by (Some inode) e = let same : visible inode ≡ root = cc in ap (λ (i : Inode). ([], i) ∷ []) same
+
   abbrev kids : Piece → List Piece
   kids piece = directories_among piece (entries_in m piece.dir)
 
   abbrev out : Piece → List NamedInode
   out piece = entries_in m piece.dir
 
-  -- the plain walk has the parcels under the root
-  walk-under : (views : List View) → IsPlain kids out merge_root views → views ≡ views_under (entries_in m) (suc merge_depth) merge_root
-  walk-under views plain =
-      let nodes : List View = views_under (entries_in m) (suc merge_depth) merge_root in
-      let other = IsPlain-from_preorder kids out (suc merge_depth) (is-tree m each).lawful merge_root nodes refl in
-      sym ((HasReachedPieces-holds kids out merge_root views plain).3 nodes other)
+  -- the plain walk tells the new lower layer
+  pub walk-tells : (root : Inode) (views : List View) → option_map visible (entry_at m.upper []) ≡ Some root → IsPlain kids out merge_root views → IsToldBy (merged_entry m) root views
+  walk-tells root views is walk =
+      let own = directory-entry m.upper [] (upper m each).rooted in
+      record {
+        names = candidate_names m;
+        deepest = merge_depth;
+        told = told m each;
+        rooted = root-made own.0 own.1 ∙ (ap (option_map visible) (sym own.1) ∙ is);
+        walk = walk;
+      }
 
-  pub entries-whole : (views after : List View) (entries : Entries) → IsPlain kids out merge_root views → WalksUnder views after (merged_top m) entries → entries ≡ new_entries m
-  entries-whole views after entries plain under =
-      (under (entries_in m) (suc merge_depth) (is-tree m each) merge_root [] (walk-under views plain ∙ sym (append-nil (views_under (entries_in m) (suc merge_depth) merge_root)))).1
-
-  -- over a sound stack the entries are a layer, or pass a limit
-  pub limit-passed : IsSoundStack (whole m) → (IsLayer (new_entries m) → ⊥) → PassesLimit m
-  limit-passed sound refused = by (keeps_limits (new_entries m)) refl
+  -- over a sound stack its entries are a layer, or pass a limit
+  pub limit-passed : IsSoundStack (whole m) → (entries : Entries) → ascends entry_cmp entries ≡ true → IsMergedDown m entries → (IsLayer entries → ⊥) → PassesLimit m
+  limit-passed sound entries up new refused = by (keeps_limits entries) refl
     where
-      by : (b : Bool) → keeps_limits (new_entries m) ≡ b → PassesLimit m
-      by false e = (new_entries m, (new_entries-are m each).0, (new_entries-are m each).1, e)
+      by : (b : Bool) → keeps_limits entries ≡ b → PassesLimit m
+      by false e = (entries, up, new, e)
       by true e =
-          let parts = both {a = list_all (λ (entry : Entry). is_within_limits entry.0) (new_entries m)} {b = nat_le (length (new_entries m)) entry_limit} e in
-          absurd (refused (MergeGivesLayer-holds m each sound (new_entries m) (new_entries-are m each).0 (new_entries-are m each).1 parts.0 parts.1))
+          let parts = both {a = list_all (λ (entry : Entry). is_within_limits entry.0) entries} {b = nat_le (length entries) entry_limit} e in
+          absurd (refused (MergeGivesLayer-holds m each sound entries up new parts.0 parts.1))
 
 -- a layer that is given keeps the limits
 pub limit-kept : (m : Merge) (layer : Entries) → IsLayer layer → IsMergedDown m layer → PassesLimit m → ⊥

@@ -1,13 +1,9 @@
 -- The entries of a merge of a sound stack are a layer, but for the limits of a manifest.
 use Rattle.std.proofs.Common.{◌≡◌, ℕ, Bool, true, false, cond, Option, Some, None, is_some, List, [], ◌∷◌, length, refl, sym, ap, ◌∙◌, subst, inl, inr, ◌⊎◌}
-use Rattle.std.specs.Prelude.{not, ◌&&◌, ◌||◌, nat_le, codes}
+use Rattle.std.specs.Prelude.{not, ◌&&◌, nat_le, codes}
 use Rattle.std.specs.List.{list_all, All}
-use Rattle.std.specs.BTreeMap.{insert_entry}
-use Rattle.std.specs.Ordering.{match_ordering}
-use Rattle.std.specs.declared.cmp.Ordering.{Ordering}
-use Rattle.std.specs.declared.cmp.Ordering.TheVariants.{Less, Equal, Greater}
 use Rattle.std.proofs.lemmas.List.Folds.{list_all-append}
-use Rattle.ovl_names.specs.Names.{PathName, is_name, name_cmp}
+use Rattle.ovl_names.specs.Names.{PathName, is_name}
 use Rattle.ovl_names.specs.Order.{ascends}
 use Rattle.ovl_names.specs.Paths.{PathNames, path_text, child_path, parent_path, has_names}
 use Rattle.ovl_names.proofs.Ascending.{both, not_true}
@@ -35,6 +31,7 @@ use Rattle.ovl_lookup.proofs.WalkLaws.{directory_found}
 use Rattle.ovl_lookup.proofs.LookLaws.{data-regular}
 use Rattle.ovl_lookup.proofs.AttributeLaws.{attribute-with}
 use Rattle.ovl_lookup.proofs.StatedLaws.{found-all, data-all, data-kind, sound-with, sound-kind, sound-visible, sound-attributes, unescaped-filter, shown-named}
+use Rattle.ovl_rewrite.proofs.InodeLemmas.{opaque_named, unescaped-with, directory-flag}
 use Rattle.ovl_merge.specs.Places.{Merge, whole, two_layers, lower_path, first_hit, passes, shows_own_directory, is_hidden, reach, gets_opaque, natural, base, child_of, shows_at}
 use Rattle.ovl_merge.specs.MergeDown.{with_value, last_name, with_contents, merged_directory, merged_metacopy, merged_inode, merged_entry, merged_entry_of, needs_whiteout, new_whiteout, IsMergedDown}
 use Rattle.ovl_merge.specs.Laws.{MergeGivesLayer}
@@ -50,10 +47,6 @@ use Rattle.ovl_merge.proofs.Core.{natural-child, reach-is}
 use Rattle.ovl_merge.proofs.MergedEntries.{entry-directory, entry-stands, root-entry, two}
 
 -- ---- the values that are written
-
-opaque_named : is_attribute_name opaque_name ≡ true
-unfolding inode_on_literals
-opaque_named = refl
 
 redirect_named : is_attribute_name redirect_name ≡ true
 unfolding inode_on_literals
@@ -71,25 +64,6 @@ last-bytes : (place : PathNames) → has_names place ≡ true → are_bytes (las
 last-bytes [] named = refl
 last-bytes (name ∷ []) named = utf8-bytes name (name_facts name (both {a = is_name name} named).0).utf8
 last-bytes (name ∷ other ∷ names) named = last-bytes (other ∷ names) (both {a = is_name name} {b = has_names (other ∷ names)} named).1
-
-unescaped-with : (attrs : Attributes) (name value : List ℕ) → is_escaped_name name ≡ false → has_escaped_name attrs ≡ false → has_escaped_name (with_attribute attrs name value) ≡ false
-unescaped-with [] name value own none = ap (λ b. b || false) own
-unescaped-with (attr ∷ attrs) name value own none = by (name_cmp name attr.0) (is_escaped_name attr.0) refl none (unescaped-with attrs name value own)
-  where
-    by : (o : Ordering) (b : Bool) → is_escaped_name attr.0 ≡ b → (b || has_escaped_name attrs) ≡ false → (has_escaped_name attrs ≡ false → has_escaped_name (with_attribute attrs name value) ≡ false) → has_escaped_name (match_ordering o ((name, value) ∷ attr ∷ attrs) ((attr.0, value) ∷ attrs) (attr ∷ insert_entry name_cmp attrs name value)) ≡ false
-    by o true e n later = let bad : true ≡ false = n in cc
-    by Less false e n later = (λ j. own j || (e j || n j))
-    by Equal false e n later = (λ j. e j || n j)
-    by Greater false e n later = (λ j. e j || later n j)
-
-pub directory-flag : (kind : Kind) (had : Bool) → elim kind as (λ _. Bool) [ Dir ↦ true | _ ↦ false ] ≡ true → is_sound_kind kind had ≡ true
-directory-flag Dir had is = refl
-directory-flag (File size blob) had is = let bad : false ≡ true = is in cc
-directory-flag (Symlink target) had is = let bad : false ≡ true = is in cc
-directory-flag (Char major minor) had is = let bad : false ≡ true = is in cc
-directory-flag (Block major minor) had is = let bad : false ≡ true = is in cc
-directory-flag Fifo had is = let bad : false ≡ true = is in cc
-directory-flag Socket had is = let bad : false ≡ true = is in cc
 
 -- a kind that is sound with this flag is sound without it, where it counts for nothing
 flag-none : (kind : Kind) (had : Bool) → (elim kind as (λ _. Bool) [ File size blob ↦ true | _ ↦ false ] && had) ≡ false → is_sound_kind kind had ≡ true → is_sound_kind kind false ≡ true

@@ -11,7 +11,6 @@ pub mod MergedEntries
 pub mod LayerLemmas
 pub mod DirectoryLemmas
 pub mod VisitLemmas
-pub mod UnderLemmas
-pub mod TreeLemmas
+pub mod WalkedLemmas
 pub mod FinishLemmas
 mod Rows

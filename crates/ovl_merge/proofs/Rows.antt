@@ -1,13 +1,19 @@
 -- Worked examples of a merge, by computation.
-use Rattle.std.specs.Prelude.{◌≡◌, ◌∷◌, [], codes, Some, None, refl}
+use Rattle.std.specs.Prelude.{◌≡◌, suc, ◌∷◌, ◌++◌, [], codes, Some, None, refl}
 use Rattle.ovl_inode.specs.declared.inodes.Inode.{Inode}
 use Rattle.ovl_inode.proofs.OnLiterals.{inode_on_literals}
 use Rattle.ovl_manifest.specs.Layers.{Entries}
 use Rattle.ovl_lookup.proofs.Notation.{directory, opaque, moved, file_a, metacopy, path, layer_of, whiteout}
 use Rattle.ovl_lookup.proofs.RowStacks.{stack_of, moved_in_opaque, top_of_moved_in_opaque, metacopies_over}
 use Rattle.ovl_merge.specs.Places.{Merge, merge_of, natural, reach}
-use Rattle.ovl_merge.specs.MergeDown.{merged_entry, new_whiteout}
-use Rattle.ovl_merge.specs.Passes.{new_entries}
+use Rattle.ovl_rewrite.specs.Passes.{entries_under}
+use Rattle.ovl_merge.specs.MergeDown.{merged_entry, merged_top, new_whiteout}
+use Rattle.ovl_merge.specs.Directories.{entries_in, merge_depth}
+
+-- the entries of the new lower layer: the same root as in the new upper one, and what lies under it; an entry may lie one
+-- name below the deepest directory
+abbrev new_entries : Merge → Entries
+new_entries m = merged_top m ++ entries_under (entries_in m) (suc merge_depth) []
 
 -- a redirect in an opaque directory, to the layer below, and to one under that
 in_opaque : new_entries (merge_of moved_in_opaque) ≡ layer_of (

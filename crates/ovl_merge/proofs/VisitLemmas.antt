@@ -1,6 +1,6 @@
 -- What a visit of a merge reckons.
 use Rattle.std.proofs.Common.{◌≡◌, ℕ, ◌+◌, ◌<◌, inl, inr, get_or, subst, Bool, true, false, cond, Option, Some, None, is_some, List, [], ◌∷◌, ◌++◌, length, take, drop, refl, sym, ap, ◌∙◌, append_assoc, arith}
-use Rattle.std.specs.Prelude.{◌&&◌, ◌||◌, not, is_none, slice_get, unwrap_or, IfSome}
+use Rattle.std.specs.Prelude.{◌&&◌, ◌||◌, not, is_none, slice_get, unwrap_or, IfSome, MatchOption}
 use Rattle.std.specs.Option.{option_map}
 use Rattle.std.specs.List.{cons_option, filter_map, list_any, All}
 use Rattle.std.specs.declared.cmp.Ordering.TheVariants.{Less, Equal}
@@ -24,22 +24,23 @@ use Rattle.ovl_lookup.proofs.LookLaws.{nothing-under}
 use Rattle.ovl_lookup.specs.Walk.{walk}
 use Rattle.ovl_lookup.specs.Stacks.{StackView, from_layer}
 use Rattle.ovl_lookup.specs.Passes.{own_names_along, put_names, kids_along}
-use Rattle.ovl_lookup.specs.Merged.{look, AreKids}
+use Rattle.ovl_lookup.specs.Merged.{look, is_nothing, shows_directory, AreKids}
 use Rattle.ovl_lookup.specs.Words.{top_layer, lower_layers}
 use Rattle.ovl_lookup.proofs.WalkFacts.{length-child, parent_path-child}
 use Rattle.ovl_lookup.proofs.KidLemmas.{put_names-append, kids-ascend, kids-same}
 use Rattle.ovl_board.proofs.Members.{In, rising_same}
+use Rattle.ovl_rewrite.specs.Directories.{NamedInode}
+use Rattle.ovl_rewrite.proofs.Ascents.{NameBefore, rising-names, any-In}
 use Rattle.ovl_merge.specs.declared.passages.Passage.{Passage}
 use Rattle.ovl_merge.specs.declared.places.Place.{Place}
-use Rattle.ovl_merge.specs.declared.rest.Near.{Near}
-use Rattle.ovl_merge.specs.Places.{Merge, whole, two_layers, merge_of, lower_path, first_hit, passes, shows_own_directory, is_hidden, reach, reach_of, shows_directory_at, shows_at, gets_opaque_at, natural, base}
-use Rattle.ovl_merge.specs.MergeDown.{with_value, with_contents, last_name, redirected, redirected_from, merged_directory, merged_metacopy, merged_inode, new_whiteout, merged_entry, merged_entry_of}
-use Rattle.ovl_merge.specs.Directories.{NamedInode, named_inode, candidate_names, entries_in}
+use Rattle.ovl_merge.specs.declared.near.Near.{Near}
+use Rattle.ovl_merge.specs.Places.{Merge, two_layers, merge_of, lower_path, first_hit, passes, shows_own_directory, reach, reach_of, shows_directory_at, gets_opaque_at, base}
+use Rattle.ovl_merge.specs.MergeDown.{with_value, with_contents, last_name, redirected, redirected_from, merged_directory, merged_metacopy, merged_inode, merged_entry, merged_entry_of}
+use Rattle.ovl_merge.specs.Directories.{named_inode, candidate_names, entries_in}
 use Rattle.ovl_merge.specs.Reckoned.{IsPassage, IsPlace, IsViewIn, IsNear, found_by, first_in, next_of, goes_on_at, base_in, name_directly_in}
 use Rattle.ovl_merge.proofs.Firsts.{first_step, first_hit-steps}
 use Rattle.ovl_merge.proofs.Core.{last_name-child}
 use Rattle.ovl_merge.proofs.MergedEntries.{entry-stands}
-use Rattle.ovl_merge.proofs.DirectoryLemmas.{NameBefore, rising-names, any-In}
 use Rattle.ovl_merge.proofs.FinishLemmas.{merge-whole}
 
 -- ---- the stack
@@ -218,7 +219,7 @@ contents-told stack several path inode shown seen own none found e =
 -- ---- looks near a directory of the rest
 
 -- a path that lies directly in a directory is that with a name
-directly-in : (base : Option PathNames) (path : PathNames) (name : PathName) → Some name ≡ name_directly_in base path → (directory : PathNames) × (base ≡ Some directory) × (path ≡ child_path directory name)
+pub directly-in : (base : Option PathNames) (path : PathNames) (name : PathName) → Some name ≡ name_directly_in base path → (directory : PathNames) × (base ≡ Some directory) × (path ≡ child_path directory name)
 directly-in None path name e = let bad : Some name ≡ None = e in cc
 directly-in (Some directory) path name e = by (path_eq path (child_path directory (last_name path))) refl e
   where
@@ -228,12 +229,17 @@ directly-in (Some directory) path name e = by (path_eq path (child_path director
         (directory, refl, (pointwise_decides bytes_decides path (child_path directory (last_name path))).0 is ∙ ap (child_path directory) (sym last))
     by false is e = let bad : Some name ≡ None = e in cc
 
+pub below-named : (dir path : PathNames) (name : PathName) → Some name ≡ name_directly_in (Some dir) path → path ≡ child_path dir name
+below-named dir path name e =
+    let found = directly-in (Some dir) path name e in
+    found.2 ∙ ap (λ (d : PathNames). child_path d name) (sym (ap (λ (o : Option PathNames). unwrap_or o dir) found.1))
+
 module _ (stack : StackView) (near : Near) (is : IsNear stack near) (path : PathNames) (name : PathName) (here : Some name ≡ name_directly_in near.base path) where
   pub near-directory : (directory : PathNames) × (near.base ≡ Some directory) × (path ≡ child_path directory name)
   near-directory = directly-in near.base path name here
 
   viewed : IsViewIn stack near-directory.0 near.view
-  viewed = subst (λ (base : Option PathNames). IfSome base (λ d. IsViewIn stack d near.view)) near-directory.1 is
+  viewed = subst (λ (base : Option PathNames). IfSome base (λ d. IsViewIn stack d near.view)) near-directory.1 is.base
 
   pub near-view : (view : DirView) → near.view ≡ Some view → IsViewOf stack 2 near-directory.0 view
   near-view view there = subst (IsViewIn stack near-directory.0) there viewed
@@ -246,6 +252,13 @@ module _ (stack : StackView) (near : Near) (is : IsNear stack near) (path : Path
   pub near-nothing : All IsLayer (from_layer 2 stack).layers → near.view ≡ None → Nothing ≡ look (from_layer 2 stack) path
   near-nothing each none =
       sym (ap (look (from_layer 2 stack)) near-directory.2 ∙ nothing-under (from_layer 2 stack) each near-directory.0 name [] (subst (IsViewIn stack near-directory.0) none viewed))
+
+  pub near-child : (view : DirView) → near.view ≡ Some view → (found : Option DirView)
+      → MatchOption found (shows_directory (from_layer view.from stack) (child_path view.path name) ≡ false) (λ below. IsViewOf stack view.from (child_path view.path name) below) → IsViewIn stack path found
+  near-child view there found below =
+      let of = near-view view there in
+      subst (λ (p : PathNames). IsViewIn stack p found) (ap (λ (d : PathNames). child_path d name) of.stands ∙ sym near-directory.2)
+      (subst (λ (n : ℕ). MatchOption found (shows_directory (from_layer n stack) (child_path view.path name) ≡ false) (λ own. IsViewOf stack n (child_path view.path name) own)) of.starts below)
 
 -- ---- names
 
@@ -285,6 +298,21 @@ kids-unique stack each path names are =
         by : (b : Bool) → list_any (name_eq name) names ≡ true → (b || list_any (name_eq name) names) ≡ true
         by true any = refl
         by false any = any
+
+-- those in a base, by its view, and where no directory is shown there
+pub view-kids : (stack : StackView) → All IsLayer (from_layer 2 stack).layers → (dir : PathNames) (view : DirView) → IsViewOf stack 2 dir view → (names : List PathName) → AreKids (from_layer view.from stack) view.path names
+    → names ≡ kids_along (from_layer 2 stack) dir
+view-kids stack each dir view of names are =
+    kids-unique (from_layer 2 stack) each dir names
+    (subst (λ (d : PathNames). AreKids (from_layer 2 stack) d names) of.stands
+    (subst (λ (n : ℕ). AreKids (from_layer n stack) view.path names) of.starts are))
+
+pub no-kids : (stack : StackView) → All IsLayer stack.layers → (dir : PathNames) → shows_directory stack dir ≡ false → [] ≡ kids_along stack dir
+no-kids stack each dir none =
+    kids-unique stack each dir [] (record {
+      in_order = refl;
+      same = λ name. sym (ap (λ (found : Look). not (is_nothing found)) (nothing-under stack each dir name [] none));
+    })
 
 -- ---- shown directories
 

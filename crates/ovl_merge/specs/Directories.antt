@@ -1,25 +1,19 @@
 -- The directories of the new lower layer as work: a piece is a directory, its kids are the directories in it, and its
 -- output is each name in it with its inode.
-use Rattle.std.specs.Prelude.{◌*◌, ℕ, Option, Some, None, List, [], map, filter, Vec}
-use Rattle.std.specs.Global.{Global}
-use Rattle.std.specs.Coded.{Coded-set, codes}
+use Rattle.std.specs.Prelude.{◌*◌, ℕ, Option, Some, None, List, []}
 use Rattle.std.specs.List.{filter_map}
 use Rattle.std.specs.Option.{option_map}
 use Rattle.ovl_names.specs.Names.{PathName}
 use Rattle.ovl_names.specs.Paths.{PathNames, child_path, depth_limit}
-use Rattle.ovl_inode.specs.declared.inodes.Inode.{Inode}
-use Rattle.ovl_inode.specs.Marks.{is_directory}
 use Rattle.ovl_lookup.specs.Stacks.{StackView}
 use Rattle.ovl_lookup.specs.Passes.{own_names_along, put_names, kids_along}
 use Rattle.ovl_board.specs.declared.pieces.Piece.{Piece}
 use Rattle.ovl_board.specs.Parcels.{ParcelView, IsPlain}
+use Rattle.ovl_rewrite.specs.Directories.{NamedInode, directories_among}
 use Rattle.ovl_merge.specs.Places.{Merge, merge_of, two_layers, base}
 use Rattle.ovl_merge.specs.MergeDown.{merged_entry}
 
--- an entry of a directory: its name and its inode
-abbrev pub NamedInode : Type 0
-NamedInode = PathName × Inode
-
+-- a name of a directory with its inode, if it has one
 abbrev pub named_inode : Merge → PathNames → PathName → Option NamedInode
 named_inode m directory name = option_map (λ inode. (name, inode)) (merged_entry m (child_path directory name))
 
@@ -38,14 +32,7 @@ candidate_names m directory =
 abbrev pub entries_in : Merge → PathNames → List NamedInode
 entries_in m directory = filter_map (named_inode m directory) (candidate_names m directory)
 
--- an entry of a piece's directory as a piece
-abbrev pub piece_in : Piece → NamedInode → Piece
-piece_in piece entry = record { space = piece.space; dir = child_path piece.dir entry.0 }
-
 -- the kids of a directory are the directories in it, and its output is each name in it, in order, with its inode
-abbrev pub directories_among : Piece → List NamedInode → List Piece
-directories_among piece entries = map (piece_in piece) (filter (λ entry. is_directory entry.1) entries)
-
 abbrev pub merge_kids : StackView → Piece → List Piece
 merge_kids stack piece = directories_among piece (entries_in (merge_of stack) piece.dir)
 
@@ -63,11 +50,3 @@ merge_root = record { space = 0; dir = [] }
 -- the parcels of the plain walk over the whole new lower layer
 abbrev pub IsMergeWalk : StackView → List (ParcelView (List NamedInode)) → Type 0
 IsMergeWalk stack parcels = IsPlain (merge_kids stack) (merge_out stack) merge_root parcels
-
--- what is seen of the entries that a directory puts out
-abbrev pub inodes_seen : Vec NamedInode Global → List NamedInode
-inodes_seen inodes = inodes.items
-
--- such lists are plain data
-pub inodes_set : IsSet (List NamedInode)
-inodes_set = Coded-set (hlevel codes)

@@ -2,6 +2,5 @@ pub mod Places
 pub mod MergeDown
 pub mod Laws
 pub mod Directories
-pub mod Passes
 pub mod Limits
 pub mod Reckoned

@@ -1,15 +1,20 @@
 -- When the new lower layer of a merge passes the limits of a manifest.
-use Rattle.std.specs.Prelude.{◌≡◌, Bool, true, false, ◌&&◌, length, nat_le}
-use Rattle.std.specs.List.{list_all}
+use Rattle.std.specs.Prelude.{◌≡◌, true, false}
 use Rattle.ovl_names.specs.Order.{ascends}
-use Rattle.ovl_manifest.specs.Layers.{Entries, entry_cmp, entry_limit, is_within_limits}
+use Rattle.ovl_manifest.specs.Layers.{Entries, entry_cmp}
+use Rattle.ovl_rewrite.specs.Limits.{keeps_limits}
+use Rattle.ovl_rewrite.specs.declared.faults.RewriteFault.{RewriteFault}
+use Rattle.ovl_rewrite.specs.declared.faults.RewriteFault.TheVariants.{LimitOut as LimitPassed, Memory as NoMemory}
+use Rattle.ovl_merge.specs.declared.faults.MergeFault.{MergeFault}
+use Rattle.ovl_merge.specs.declared.faults.MergeFault.TheVariants.{LimitOut, Memory}
 use Rattle.ovl_merge.specs.Places.{Merge}
 use Rattle.ovl_merge.specs.MergeDown.{IsMergedDown}
-
--- no more entries than a manifest may have, and no path with more names or a longer text
-abbrev pub keeps_limits : Entries → Bool
-keeps_limits entries = list_all (λ entry. is_within_limits entry.0) entries && nat_le (length entries) entry_limit
 
 -- the entries of the new lower layer, in path order, don't keep them
 abbrev pub PassesLimit : Merge → Type 0
 PassesLimit m = (entries : Entries) × (ascends entry_cmp entries ≡ true) × IsMergedDown m entries × (keeps_limits entries ≡ false)
+
+-- why there is no merge where a new layer isn't given
+abbrev pub refused : RewriteFault → MergeFault
+refused LimitPassed = LimitOut
+refused NoMemory = Memory

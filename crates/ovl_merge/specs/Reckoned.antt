@@ -1,19 +1,25 @@
 -- Paths of a merge, as the program reckons them.
-use Rattle.std.specs.Prelude.{◌≡◌, ◌&&◌, Bool, true, false, IfSome, MatchOption, Option, Some, None, if◌then◌else◌, is_some}
+use Rattle.std.specs.Prelude.{◌≡◌, ℕ, ◌&&◌, Bool, true, false, IfSome, MatchOption, Option, Some, None, ◌∷◌, ◌++◌, if◌then◌else◌, is_some}
 use Rattle.ovl_names.specs.Names.{PathName}
 use Rattle.ovl_names.specs.Paths.{PathNames, child_path, path_eq}
 use Rattle.ovl_inode.specs.declared.inodes.Inode.{Inode}
 use Rattle.ovl_inode.specs.Marks.{is_directory, is_metacopy}
+use Rattle.ovl_manifest.specs.Layers.{Entries}
 use Rattle.ovl_lookup.specs.declared.steps.Step.{Step}
 use Rattle.ovl_lookup.specs.declared.views.DirView.{DirView}
 use Rattle.ovl_lookup.specs.Stacks.{StackView, from_layer}
 use Rattle.ovl_lookup.specs.DirViews.{IsViewOf}
-use Rattle.ovl_lookup.specs.Walk.{walk}
+use Rattle.ovl_lookup.specs.Walk.{walk, nothing_found}
+use Rattle.ovl_lookup.specs.Passes.{IsOwnDirectory}
 use Rattle.ovl_lookup.specs.Merged.{look, shows_directory}
 use Rattle.ovl_merge.specs.declared.passages.Passage.{Passage}
 use Rattle.ovl_merge.specs.declared.places.Place.{Place}
-use Rattle.ovl_merge.specs.declared.rest.Near.{Near}
-use Rattle.ovl_merge.specs.Places.{Merge, lower_path, first_hit, shows_own_directory, is_hidden, is_nothing_or, is_shown_regular, reach, natural, gets_opaque}
+use Rattle.ovl_merge.specs.declared.walked.Walked.{Walked}
+use Rattle.ovl_merge.specs.declared.walked.Stand.{Stand}
+use Rattle.ovl_merge.specs.declared.walked.Stand.TheVariants.{Inside, Past}
+use Rattle.ovl_merge.specs.declared.near.Near.{Near}
+use Rattle.ovl_merge.specs.declared.directories.Directory.{Directory}
+use Rattle.ovl_merge.specs.Places.{Merge, merge_of, lower_path, first_hit, shows_own_directory, is_hidden, is_nothing_or, is_shown_regular, reach, natural, gets_opaque}
 use Rattle.ovl_merge.specs.MergeDown.{last_name}
 
 -- the walks of a path: that in the upper layer, and where it is open that in the lower one
@@ -68,10 +74,33 @@ pub record IsDirectoryPlace (m : Merge) (dir : PathNames) (place : Place) : Type
   pub shown : shows_own_directory m dir ≡ true
   pub is : IsPlace m place
 
--- a directory of the rest of a stack: its view, and none where no directory is shown there
-abbrev pub IsViewIn : StackView → PathNames → Option DirView → Type 0
-IsViewIn stack directory found =
-    MatchOption found (shows_directory (from_layer 2 stack) directory ≡ false) (λ view. IsViewOf stack 2 directory view)
+-- a directory of a stack's layers from one on: its view, and none where no directory is shown there
+abbrev pub IsViewFrom : ℕ → StackView → PathNames → Option DirView → Type 0
+IsViewFrom from stack directory found =
+    MatchOption found (shows_directory (from_layer from stack) directory ≡ false) (λ view. IsViewOf stack from directory view)
 
-abbrev pub IsNear : StackView → Near → Type 0
-IsNear stack near = IfSome near.base (λ directory. IsViewIn stack directory near.view)
+-- the same in the rest of a stack
+abbrev pub IsViewIn : StackView → PathNames → Option DirView → Type 0
+IsViewIn stack directory found = IsViewFrom 2 stack directory found
+
+-- where the walk of a directory's path stands in a layer: in a directory of it, or past what it has, where nothing is
+-- found at any path below, and the layers below know that by the same names
+abbrev pub IsStand : Entries → PathNames → Stand → Type 0
+IsStand layer path (Inside own) = IsOwnDirectory layer path own
+IsStand layer path (Past next closed) =
+    (name : PathName) (names : PathNames) → walk layer (path ++ name ∷ names) ≡ nothing_found (next ++ name ∷ names) closed
+
+abbrev pub IsWalked : Entries → Walked → Type 0
+IsWalked layer walked = IsStand layer walked.path walked.stand
+
+-- what is kept of a directory for the names in it
+pub record IsNear (stack : StackView) (near : Near) : Type 0 where
+  pub upper : IfSome near.upper (IsWalked (merge_of stack).upper)
+  pub lower : IfSome near.lower (IsWalked (merge_of stack).lower)
+  pub base : IfSome near.base (λ directory. IsViewIn stack directory near.view)
+
+-- a directory of the new lower layer, with what is kept of it
+pub record IsVisited (stack : StackView) (dir : PathNames) (directory : Directory) : Type 0 where
+  pub place : IsDirectoryPlace (merge_of stack) dir directory.place
+  pub near : IsNear stack directory.near
+  pub base : directory.near.base ≡ base_in directory.place

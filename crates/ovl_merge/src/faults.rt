@@ -1,6 +1,8 @@
 ghost use Rattle.std.specs.Prelude.{◌≡◌};
 ghost use Rattle.ovl_merge.specs.declared.faults.MergeFault.TheVariants.{Memory};
+ghost use Rattle.ovl_merge.specs.Limits.{refused};
 
+use ovl_rewrite::RewriteFault;
 use std::alloc::AllocError;
 use thiserror::Error;
 
@@ -23,5 +25,16 @@ impl From<AllocError> for MergeFault {
 
     fn from(_: AllocError) -> MergeFault {
         MergeFault::Memory
+    }
+}
+
+impl From<RewriteFault> for MergeFault {
+    ghost from_gives = { λ fault told. told ≡ refused fault };
+
+    fn from(fault: RewriteFault) -> MergeFault {
+        match fault {
+            RewriteFault::LimitOut => MergeFault::LimitOut,
+            RewriteFault::Memory => MergeFault::Memory,
+        }
     }
 }

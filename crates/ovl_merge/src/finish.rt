@@ -1,20 +1,22 @@
-ghost use Rattle.std.specs.Prelude.{◌≡◌, ◌≤◌, Err, IfOk, drop};
-ghost use Rattle.ovl_manifest.specs.declared.faults.LayerFault.TheVariants.{Memory as NoMemory};
-ghost use Rattle.ovl_manifest.specs.Layers.{IsLayer};
+ghost use Rattle.std.specs.Prelude.{◌≡◌, Err, Some, IfOk, [], ◌∷◌};
+ghost use Rattle.std.specs.Option.{option_map};
+ghost use Rattle.ovl_inode.specs.Inodes.{visible as the_visible};
+ghost use Rattle.ovl_manifest.specs.Layers.{entry_at};
 ghost use Rattle.ovl_lookup.specs.Sound.{IsSoundStack};
 ghost use Rattle.ovl_board.specs.Parcels.{parcel_views};
+ghost use Rattle.ovl_rewrite.specs.Directories.{inodes_seen};
 ghost use Rattle.ovl_merge.specs.declared.faults.MergeFault.TheVariants.{NoLower, LimitOut};
 ghost use Rattle.ovl_merge.specs.Places.{merge_of};
 ghost use Rattle.ovl_merge.specs.MergeDown.{merged_top, IsMergedDown};
-ghost use Rattle.ovl_merge.specs.Directories.{inodes_seen, IsMergeWalk};
-ghost use Rattle.ovl_merge.specs.Passes.{WalksUnder, new_entries};
+ghost use Rattle.ovl_merge.specs.Directories.{IsMergeWalk};
 ghost use Rattle.ovl_merge.specs.Limits.{PassesLimit};
 
 use crate::{MergeFault, MergeWork};
 use ovl_board::Parcel;
-use ovl_inode::{Inode, is_directory, visible};
-use ovl_manifest::{Layer, LayerFault, from_entries};
+use ovl_inode::{Inode, visible};
+use ovl_manifest::Layer;
 use ovl_names::{Name, Path};
+use ovl_rewrite::{layer_of, layer_told};
 use std::alloc::{AllocError, Global};
 
 /// The layers that a merge makes of the two topmost ones of a stack.
@@ -43,90 +45,26 @@ pub fn finish_merge(
 {
     // Each layer of a stack is one.
     let _layers = work.stack.layers();
-    let top = layer_of(alloc, root_of(alloc, work)?)?;
-    let lower = layer_of(alloc, entries_of(alloc, work, &parcels)?)?;
+    let root = root_of(alloc, work)?;
+    let top = layer_of(alloc, root_alone(alloc, root.copy(alloc)?)?)?;
+    let lower = layer_told(alloc, root, &parcels)?;
     Ok(MergeDone { top, lower })
 }
 
-// The layer of these entries, which must be one but for the limits.
-fn layer_of(alloc: Global, entries: Vec<(Path, Inode)>) -> Result<Layer, MergeFault>
-    ensures layer { IfOk result (λ layer. (layer ≡ entries.items) × IsLayer layer) }
-    ensures limit { result ≡ Err LimitOut → IsLayer entries.items → ⊥ }
-    ensures two { result ≡ Err NoLower → ⊥ }
-{
-    match from_entries(alloc, entries) {
-        Ok(layer) => {
-            // The type keeps that it is a layer.
-            let _root = layer.root();
-            Ok(layer)
-        }
-        Err(fault) => Err(refusal(fault)),
-    }
-}
-
-// What a fault of entries that are a layer, but for the limits, says.
-fn refusal(fault: LayerFault) -> MergeFault
-    ensures limit { result ≡ LimitOut → fault ≡ NoMemory → ⊥ }
-    ensures two { result ≡ NoLower → ⊥ }
-{
-    match fault {
-        LayerFault::Memory => MergeFault::Memory,
-        _ => MergeFault::LimitOut,
-    }
-}
-
 // The root of both new layers.
-fn root_of(alloc: Global, work: &MergeWork<'_>) -> Result<Vec<(Path, Inode)>, AllocError>
-    ensures { IfOk result (λ entries. entries.items ≡ merged_top (merge_of work.now)) }
+fn root_of(alloc: Global, work: &MergeWork<'_>) -> Result<Inode, AllocError>
+    ensures { IfOk result (λ root. option_map the_visible (entry_at (merge_of work.now).upper []) ≡ Some root) }
 {
     // A stack has a topmost layer.
     let _layers = work.stack.layers();
+    visible(alloc, work.stack.sheet(0).root().inode())
+}
+
+// The entries of a layer that has this root alone.
+fn root_alone(alloc: Global, root: Inode) -> Result<Vec<(Path, Inode)>, AllocError>
+    ensures { IfOk result (λ entries. entries.items ≡ ([], root) ∷ []) }
+{
     let mut entries = Vec::new(alloc);
-    let root = Path::root(alloc);
-    if let Some(inode) = work.stack.own_at(0, &root) {
-        let inode = visible(alloc, inode)?;
-        entries.push((root, inode))?;
-    }
+    entries.push((Path::root(alloc), root))?;
     Ok(entries)
-}
-
-// All entries of the new lower layer, in path order.
-fn entries_of(
-    alloc: Global,
-    work: &MergeWork<'_>,
-    parcels: &[Parcel<Vec<(Name, Inode)>>],
-) -> Result<Vec<(Path, Inode)>, AllocError>
-    requires { IsMergeWalk work.now (parcel_views inodes_seen parcels.now) }
-    ensures { IfOk result (λ entries. entries.items ≡ new_entries (merge_of work.now)) }
-{
-    // Each layer of a stack is one.
-    let _layers = work.stack.layers();
-    let mut entries = root_of(alloc, work)?;
-    push_under(alloc, parcels, 0, &mut entries)?;
-    Ok(entries)
-}
-
-// Adds the entries under the directory of the parcel at `place`, and gives the place of the first parcel after those of
-// this directory and of what lies under it.
-fn push_under(
-    alloc: Global,
-    parcels: &[Parcel<Vec<(Name, Inode)>>],
-    place: usize,
-    entries: &mut Vec<(Path, Inode)>,
-) -> Result<usize, AllocError>
-    ensures after { IfOk result (λ next. place ≤ next) }
-    ensures entries { IfOk result (λ next. WalksUnder (drop place (parcel_views inodes_seen parcels.now)) (drop next (parcel_views inodes_seen parcels.now)) entries.old.items entries.new.items) }
-{
-    let Some(parcel) = parcels.get(place) else {
-        return Ok(place);
-    };
-    let mut next = place + 1;
-    for (name, inode) in &parcel.out {
-        let path = parcel.piece.dir.child(alloc, name)?;
-        entries.push((path, inode.copy(alloc)?))?;
-        if is_directory(inode) {
-            next = push_under(alloc, parcels, next, entries)?;
-        }
-    }
-    Ok(next)
 }

@@ -1,13 +1,16 @@
 //! A stack's topmost layer put into the next, as work in pieces.
 #![tactic(auto)]
 
+mod directories;
 mod entries;
 mod faults;
 mod finish;
 pub mod laws;
+mod near;
 mod passages;
 mod places;
 mod rest;
+mod walked;
 mod works;
 
 pub use faults::MergeFault;

@@ -4,7 +4,9 @@ ghost use Rattle.ovl_inode.specs.Marks.{is_directory as directory_test, is_metac
 ghost use Rattle.ovl_merge.specs.Places.{merge_of, is_hidden as hidden_test, is_nothing_or, passes, is_shown_regular as regular_look, reach as the_reach};
 ghost use Rattle.ovl_merge.specs.Reckoned.{IsNear, IsPassage, first_in, next_of, goes_on_at};
 
-use crate::rest::{Near, look_in_rest};
+use crate::near::Near;
+use crate::rest::look_in_rest;
+use crate::walked::walk_near;
 use ovl_inode::{Inode, Kind, Mark, is_directory, mark_of};
 use ovl_lookup::{Look, Stack, Step};
 use ovl_names::Path;
@@ -19,15 +21,21 @@ pub(crate) struct Passage {
 
 impl Passage {
     // The walks of a path in the two topmost layers of a stack.
-    pub(crate) fn of(alloc: Global, stack: &Stack, path: &Path) -> Result<Passage, AllocError>
-        requires { 1 < length stack.now.layers }
+    pub(crate) fn of(
+        alloc: Global,
+        stack: &Stack,
+        near: &Near,
+        path: &Path,
+    ) -> Result<Passage, AllocError>
+        requires several { 1 < length stack.now.layers }
+        requires near { IsNear stack.now near.now }
         ensures { IfOk result (λ passage. IsPassage (merge_of stack.now) path.now passage) }
     {
-        let upper = stack.own_walk(alloc, 0, path)?;
+        let upper = walk_near(alloc, stack.sheet(0), &near.upper, path)?;
         if upper.closed {
             return Ok(Passage { upper, lower: None });
         }
-        let lower = stack.own_walk(alloc, 1, &upper.next)?;
+        let lower = walk_near(alloc, stack.sheet(1), &near.lower, &upper.next)?;
         Ok(Passage {
             upper,
             lower: Some(lower),

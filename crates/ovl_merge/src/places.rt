@@ -1,12 +1,13 @@
-ghost use Rattle.std.specs.Prelude.{◌≡◌, ◌<◌, [], false, length, IfOk, MatchOption};
+ghost use Rattle.std.specs.Prelude.{◌≡◌, ◌<◌, [], length, IfOk};
 ghost use Rattle.std.specs.Option.{option_map};
 ghost use Rattle.ovl_names.specs.Paths.{child_path};
 ghost use Rattle.ovl_inode.specs.Marks.{is_directory as directory_test};
-ghost use Rattle.ovl_merge.specs.Places.{merge_of, passes, shows_own_directory, child_of, gets_opaque_at, natural as the_natural, reach as the_reach};
-ghost use Rattle.ovl_merge.specs.Reckoned.{IsNear, IsPassage, IsPlace, IsDirectoryPlace, base_in};
+ghost use Rattle.ovl_merge.specs.Places.{merge_of, passes, child_of, gets_opaque_at, natural as the_natural, reach as the_reach};
+ghost use Rattle.ovl_merge.specs.Reckoned.{IsNear, IsPassage, IsPlace, base_in};
 
+use crate::near::Near;
 use crate::passages::Passage;
-use crate::rest::{Near, shows_directory_at};
+use crate::rest::shows_directory_at;
 use ovl_inode::{Inode, is_directory};
 use ovl_lookup::Stack;
 use ovl_names::{Name, Path};
@@ -32,13 +33,14 @@ pub(crate) struct Place {
 
 impl Place {
     // The place of the root.
-    fn of_root(alloc: Global, stack: &Stack) -> Result<Place, AllocError>
-        requires { 1 < length stack.now.layers }
+    pub(crate) fn of_root(alloc: Global, stack: &Stack, near: &Near) -> Result<Place, AllocError>
+        requires several { 1 < length stack.now.layers }
+        requires near { IsNear stack.now near.now }
         ensures path { IfOk result (λ place. place.path ≡ []) }
         ensures is { IfOk result (λ place. IsPlace (merge_of stack.now) place) }
     {
         let natural = Some(Path::root(alloc));
-        Place::of(alloc, stack, &Near::nowhere(), Path::root(alloc), natural)
+        Place::of(alloc, stack, near, Path::root(alloc), natural)
     }
 
     // The place of a name in the directory of this one.
@@ -74,7 +76,7 @@ impl Place {
         ensures path { IfOk result (λ place. place.path ≡ path) }
         ensures is { IfOk result (λ place. IsPlace (merge_of stack.now) place) }
     {
-        let passage = Passage::of(alloc, stack, &path)?;
+        let passage = Passage::of(alloc, stack, near, &path)?;
         let hidden = passage.is_hidden(stack, &path);
         let reach = passage.reach(alloc, stack, near, &path)?;
         let lower = passage.lower_path(alloc)?;
@@ -114,7 +116,8 @@ impl Place {
         }
     }
 
-    fn is_shown_directory(&self) -> bool
+    // Whether they show a directory there.
+    pub(crate) fn is_shown_directory(&self) -> bool
         ensures { result ≡ passes directory_test self.now.first }
     {
         match &self.first {
@@ -150,28 +153,4 @@ fn gets_opaque(
         return Ok(false);
     }
     shows_directory_at(alloc, stack, near, natural)
-}
-
-// The place of a directory that the two topmost layers show, and `None` where they show none there.
-pub(crate) fn directory_place(
-    alloc: Global,
-    stack: &Stack,
-    dir: &Path,
-) -> Result<Option<Place>, AllocError>
-    requires { 1 < length stack.now.layers }
-    ensures { IfOk result (λ found. MatchOption found
-        (shows_own_directory (merge_of stack.now) dir.now ≡ false)
-        (λ place. IsDirectoryPlace (merge_of stack.now) dir.now place)) }
-{
-    // Each layer of a stack has a root.
-    let _layers = stack.layers();
-    let near = Near::nowhere();
-    let mut place = Place::of_root(alloc, stack)?;
-    for name in dir.names() {
-        place = place.child(alloc, stack, &near, name)?;
-        if !place.is_shown_directory() {
-            return Ok(None);
-        }
-    }
-    Ok(Some(place))
 }

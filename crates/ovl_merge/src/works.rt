@@ -2,17 +2,19 @@ ghost use Rattle.std.specs.Prelude.{◌≡◌, ◌↔◌, ◌<◌, [], Err, IfOk
 ghost use Rattle.ovl_lookup.specs.Passes.{own_names_along, put_names};
 ghost use Rattle.ovl_merge.specs.declared.faults.MergeFault.TheVariants.{NoLower};
 ghost use Rattle.ovl_merge.specs.Places.{merge_of, two_layers};
-ghost use Rattle.ovl_merge.specs.Directories.{candidate_names, entries_in, directories_among};
-ghost use Rattle.ovl_merge.specs.Reckoned.{IsPlace, IsDirectoryPlace};
+ghost use Rattle.ovl_merge.specs.Directories.{candidate_names, entries_in};
+ghost use Rattle.ovl_merge.specs.Reckoned.{IsPlace, IsViewFrom, IsVisited};
 
 use crate::MergeFault;
+use crate::directories::Directory;
 use crate::entries::inode_in;
-use crate::places::{Place, directory_place};
-use crate::rest::{Near, names_at};
+use crate::places::Place;
+use crate::rest::names_at;
 use ovl_board::{Piece, Work};
-use ovl_inode::{Inode, is_directory};
-use ovl_lookup::Stack;
+use ovl_inode::Inode;
+use ovl_lookup::{DirView, Stack};
 use ovl_names::{DEPTH_LIMIT, Name, Path};
+use ovl_rewrite::directories;
 use std::alloc::{AllocError, Global};
 use std::collections::BTreeSet;
 use std::marker::Model;
@@ -54,7 +56,8 @@ impl<'a> Work for MergeWork<'a> {
     type Out = Vec<(Name, Inode)>;
 
     ghost use Rattle.std.specs.Prelude.{List};
-    ghost use Rattle.ovl_merge.specs.Directories.{NamedInode, inodes_set, inodes_seen, merge_kids, merge_out, merge_depth};
+    ghost use Rattle.ovl_rewrite.specs.Directories.{NamedInode, inodes_set, inodes_seen};
+    ghost use Rattle.ovl_merge.specs.Directories.{merge_kids, merge_out, merge_depth};
 
     ghost Seen = { List NamedInode };
 
@@ -85,26 +88,6 @@ impl<'a> Work for MergeWork<'a> {
     }
 }
 
-// The pieces of those entries of a piece's directory that are directories themselves.
-fn directories(
-    alloc: Global,
-    piece: &Piece,
-    inodes: &[(Name, Inode)],
-) -> Result<Vec<Piece>, AllocError>
-    ensures { IfOk result (λ kids. kids.items ≡ directories_among piece.now inodes.now) }
-{
-    let mut kids = Vec::new(alloc);
-    for (name, inode) in inodes {
-        if is_directory(inode) {
-            kids.push(Piece {
-                space: piece.space,
-                dir: piece.dir.child(alloc, name)?,
-            })?;
-        }
-    }
-    Ok(kids)
-}
-
 // The names in a directory of the new layer, each with its inode; none where the two layers show no directory.
 fn inodes_at(alloc: Global, stack: &Stack, dir: &Path) -> Result<Vec<(Name, Inode)>, AllocError>
     requires { 1 < length stack.now.layers }
@@ -112,23 +95,32 @@ fn inodes_at(alloc: Global, stack: &Stack, dir: &Path) -> Result<Vec<(Name, Inod
 {
     // Each layer of a stack is one.
     let _layers = stack.layers();
-    match directory_place(alloc, stack, dir)? {
-        Some(place) => inodes_in(alloc, stack, &place),
+    match Directory::at(alloc, stack, dir)? {
+        Some(directory) => {
+            let whole = DirView::of(alloc, stack, 0, &directory.place.path)?;
+            inodes_in(alloc, stack, &directory, &whole)
+        }
         None => Ok(Vec::new(alloc)),
     }
 }
 
-// The same, in a directory that they show at this place.
-fn inodes_in(alloc: Global, stack: &Stack, place: &Place) -> Result<Vec<(Name, Inode)>, AllocError>
+// The same, in a directory that they show, which has this view in the whole stack.
+fn inodes_in(
+    alloc: Global,
+    stack: &Stack,
+    directory: &Directory,
+    whole: &Option<DirView>,
+) -> Result<Vec<(Name, Inode)>, AllocError>
     requires several { 1 < length stack.now.layers }
-    requires directory { IsDirectoryPlace (merge_of stack.now) place.now.path place.now }
-    ensures { IfOk result (λ inodes. inodes.items ≡ entries_in (merge_of stack.now) place.now.path) }
+    requires visited { IsVisited stack.now directory.now.place.path directory.now }
+    requires whole { IsViewFrom 0 stack.now directory.now.place.path whole.now }
+    ensures { IfOk result (λ inodes. inodes.items ≡ entries_in (merge_of stack.now) directory.now.place.path) }
 {
-    let near = Near::at(alloc, stack, place.base())?;
-    let names = candidates(alloc, stack, place)?;
+    let Directory { place, near } = directory;
+    let names = candidates(alloc, stack, directory)?;
     let mut inodes = Vec::new(alloc);
     for name in names {
-        if let Some(inode) = inode_in(alloc, stack, &near, place, &name)? {
+        if let Some(inode) = inode_in(alloc, stack, near, whole, place, &name)? {
             inodes.push((name, inode))?;
         }
     }
@@ -136,13 +128,17 @@ fn inodes_in(alloc: Global, stack: &Stack, place: &Place) -> Result<Vec<(Name, I
 }
 
 // The names that may have an entry in a directory: those of the two layers, and those of its base.
-fn candidates(alloc: Global, stack: &Stack, place: &Place) -> Result<BTreeSet<Name>, AllocError>
+fn candidates(
+    alloc: Global,
+    stack: &Stack,
+    directory: &Directory,
+) -> Result<BTreeSet<Name>, AllocError>
     requires several { 1 < length stack.now.layers }
-    requires is { IsPlace (merge_of stack.now) place.now }
-    ensures { IfOk result (λ names. names.keys ≡ candidate_names (merge_of stack.now) place.now.path) }
+    requires visited { IsVisited stack.now directory.now.place.path directory.now }
+    ensures { IfOk result (λ names. names.keys ≡ candidate_names (merge_of stack.now) directory.now.place.path) }
 {
-    let mut names = own_names(alloc, stack, place)?;
-    let shown = names_at(alloc, stack, place.base())?;
+    let mut names = own_names(alloc, stack, &directory.place)?;
+    let shown = names_at(alloc, stack, &directory.near)?;
     put_all(&mut names, shown)?;
     Ok(names)
 }

@@ -1,26 +1,44 @@
-use Rattle.std.proofs.Common.{◌≡◌, ℕ, ◌<◌, ◌∙◌, length, sym, subst}
-use Rattle.std.specs.Prelude.{All}
-use Rattle.ovl_manifest.specs.Layers.{IsLayer}
+use Rattle.std.proofs.Common.{ℕ, ◌<◌, List, length, sym, subst}
+use Rattle.std.specs.Prelude.{All, Vec}
+use Rattle.std.specs.Global.{Global}
+use Rattle.std.proofs.lemmas.Result.{IfOk-weaker}
+use Rattle.ovl_manifest.specs.Layers.{Entries, IsLayer}
 use Rattle.ovl_lookup.specs.Stacks.{StackView}
-use Rattle.ovl_deref.specs.declared.finish.DerefFault.TheVariants.{LimitOut}
-use Rattle.ovl_deref.proofs.FinishLemmas.{layer-new, limit-kept, limit-passed}
+use Rattle.ovl_lookup.specs.Words.{top_layer, lower_layers}
+use Rattle.ovl_board.specs.declared.works.Parcel.{Parcel}
+use Rattle.ovl_board.specs.Parcels.{parcel_views}
+use Rattle.ovl_rewrite.specs.Directories.{NamedInode, inodes_seen}
+use Rattle.ovl_rewrite.specs.NewLayers.{IsToldBy}
+use Rattle.ovl_deref.specs.Deref.{IsDereferenced}
+use Rattle.ovl_deref.specs.Directories.{new_at, IsDerefWalk}
+use Rattle.ovl_deref.specs.Limits.{PassesLimit}
+use Rattle.ovl_deref.proofs.FinishLemmas.{root-there, walk-tells, limit-kept, limit-passed, ok-both}
 use Rattle.ovl_deref.proofs.finish.finish_deref.Goals as goal
 
-pub returns-in-Ok-clause-layer : goal.returns-in-Ok-clause-layer
-returns-in-Ok-clause-layer c =
-    layer-new c.args.work.now
+pub returns-clause-layer : goal.returns-clause-layer
+returns-clause-layer c =
+    let stack = c.args.work.now in
+    let here = root-there c.work.inside.stack.now stack c.work.view_is _ c.sheet.ensures _ c.root.ensures.value _ c.in_ok-root.root c.inode.ensures c.in_ok-root.ensures in
+    let walk : IsDerefWalk stack (parcel_views inodes_seen c.deref.result.now) = subst (λ (parcels : List (Parcel (Vec NamedInode Global))). IsDerefWalk stack (parcel_views inodes_seen parcels)) (sym c.deref.ensures.value) c.requires in
+    let tells : IsToldBy (new_at stack) c.in_ok-root.root (parcel_views inodes_seen c.deref.result.now) =
+    walk-tells stack
     (subst (λ (s : StackView). All IsLayer s.layers) c.work.view_is c.layers-layers.ensures.each)
     (subst (λ (s : StackView). 0 < length s.layers) c.work.view_is (subst (λ (n : ℕ). 0 < n) c.layers-layers.ensures.value c.layers-layers.ensures.some))
-    c.in_ok-entries.entries.items c.in-Ok.layer c.in_ok-entries.ensures c.in-Ok.ensures.value
+    c.in_ok-root.root (parcel_views inodes_seen c.deref.result.now) here walk in
+    IfOk-weaker c.layer_told.result _ _ (λ layer h. h (new_at stack) tells) c.layer_told.ensures.layer
+
+pub returns-clause-kept : goal.returns-clause-kept
+returns-clause-kept c =
+    let stack = c.args.work.now in
+    ok-both c.layer_told.result IsLayer (λ (layer : Entries). IsDereferenced layer (top_layer stack) (lower_layers stack)) (λ _. PassesLimit stack → ⊥)
+    (λ layer is made passes. limit-kept stack layer is made passes) c.layer_told.ensures.is (returns-clause-layer c)
 
 pub returns-clause-limit : goal.returns-clause-limit
 returns-clause-limit c sound out =
-    let told : c.refusal.result ≡ LimitOut = cc in
-    limit-passed c.args.work.now
-    (subst (λ (s : StackView). All IsLayer s.layers) c.work.view_is c.layers-layers.ensures.each)
-    (subst (λ (s : StackView). 0 < length s.layers) c.work.view_is (subst (λ (n : ℕ). 0 < n) c.layers-layers.ensures.value c.layers-layers.ensures.some))
-    c.in_ok-entries.entries.items c.in-Err.fault c.in_ok-entries.ensures c.in-Err.ensures.value
-    (sym c.refusal.ensures ∙ told) sound
-
-pub returns-in-Ok-clause-kept : goal.returns-in-Ok-clause-kept
-returns-in-Ok-clause-kept c passes = limit-kept c.args.work.now c.in-Ok.layer c.root-root.ensures.layer (returns-in-Ok-clause-layer c) passes
+    let stack = c.args.work.now in
+    let each = subst (λ (s : StackView). All IsLayer s.layers) c.work.view_is c.layers-layers.ensures.each in
+    let some = subst (λ (s : StackView). 0 < length s.layers) c.work.view_is (subst (λ (n : ℕ). 0 < n) c.layers-layers.ensures.value c.layers-layers.ensures.some) in
+    let here = root-there c.work.inside.stack.now stack c.work.view_is _ c.sheet.ensures _ c.root.ensures.value _ c.in_ok-root.root c.inode.ensures c.in_ok-root.ensures in
+    let walk : IsDerefWalk stack (parcel_views inodes_seen c.deref.result.now) = subst (λ (parcels : List (Parcel (Vec NamedInode Global))). IsDerefWalk stack (parcel_views inodes_seen parcels)) (sym c.deref.ensures.value) c.requires in
+    let found = c.layer_told.ensures.limit out (new_at stack) (walk-tells stack each some c.in_ok-root.root (parcel_views inodes_seen c.deref.result.now) here walk) in
+    limit-passed stack each some sound found.0 found.1 found.2 found.3

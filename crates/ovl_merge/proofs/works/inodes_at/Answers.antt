@@ -1,12 +1,22 @@
 use Rattle.std.proofs.Common.{◌≡◌, ◌∙◌, false, Option, refl, sym, subst}
-use Rattle.std.specs.Prelude.{MatchOption}
-use Rattle.ovl_merge.specs.declared.places.Place.{Place}
+use Rattle.std.specs.Prelude.{MatchOption, IfOk}
+use Rattle.ovl_names.specs.Paths.{PathNames}
+use Rattle.ovl_merge.specs.declared.directories.Directory.{Directory}
 use Rattle.ovl_merge.specs.Places.{merge_of, shows_own_directory}
-use Rattle.ovl_merge.specs.Reckoned.{IsDirectoryPlace}
+use Rattle.ovl_merge.specs.Directories.{entries_in}
+use Rattle.ovl_merge.specs.Reckoned.{IsVisited}
 use Rattle.ovl_merge.proofs.FinishLemmas.{merge-each}
 use Rattle.ovl_merge.proofs.LayerLemmas.{upper, lower}
 use Rattle.ovl_merge.proofs.VisitLemmas.{no-entries}
 use Rattle.ovl_merge.proofs.works.inodes_at.Goals as goal
+
+pub returns-in_ok-whole-in-Some : goal.returns-in_ok-whole-in-Some
+returns-in_ok-whole-in-Some c =
+    let stack = c.args.stack.now in
+    let m = merge_of stack in
+    let dir = c.args.dir.now in
+    let is : IsVisited stack dir c.in-Some.directory = subst (λ (found : Option Directory). MatchOption found (shows_own_directory m dir ≡ false) (λ directory. IsVisited stack dir directory)) c.in-Some.is c.in_ok-directory.ensures in
+    subst (λ (p : PathNames). IfOk c.inodes_in.result (λ inodes. inodes.items ≡ entries_in m p)) is.place.path c.inodes_in.ensures
 
 pub returns-in-None : goal.returns-in-None
 returns-in-None c =
@@ -14,5 +24,5 @@ returns-in-None c =
     let m = merge_of stack in
     let dir = c.args.dir.now in
     let each = merge-each stack stack refl c.requires c.layers-layers.ensures.each in
-    let none : shows_own_directory m dir ≡ false = subst (λ (found : Option Place). MatchOption found (shows_own_directory m dir ≡ false) (λ place. IsDirectoryPlace m dir place)) c.in-None.is c.in_ok-place.ensures in
+    let none : shows_own_directory m dir ≡ false = subst (λ (found : Option Directory). MatchOption found (shows_own_directory m dir ≡ false) (λ directory. IsVisited stack dir directory)) c.in-None.is c.in_ok-directory.ensures in
     c.new.ensures.items ∙ sym (no-entries m (upper m each) (lower m each) dir none)

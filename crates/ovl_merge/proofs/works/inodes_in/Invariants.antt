@@ -5,4 +5,4 @@ use Rattle.ovl_merge.specs.Directories.{named_inode}
 use Rattle.ovl_merge.proofs.works.inodes_in.Given as goal
 
 abbrev pub invariant-loop-name : goal.invariant-loop-name
-invariant-loop-name l = l.inodes.items ≡ filter_map (named_inode (merge_of l.stack) l.place.path) l.yielded
+invariant-loop-name l = l.inodes.items ≡ filter_map (named_inode (merge_of l.stack) l.directory.place.path) l.yielded

@@ -1,7 +1,6 @@
-use Rattle.std.proofs.Common.{◌≡◌, ◌∙◌, Option, Some, List, [], sym, ap}
-use Rattle.ovl_names.specs.Names.{PathName}
+use Rattle.std.proofs.Common.{◌≡◌, ◌∙◌, Some, [], sym}
 use Rattle.ovl_names.specs.Paths.{PathNames}
-use Rattle.ovl_manifest.specs.Layers.{Entries, names_below}
+use Rattle.ovl_manifest.specs.Layers.{names_below}
 use Rattle.ovl_lookup.specs.Passes.{put_names}
 use Rattle.ovl_merge.specs.Places.{merge_of}
 use Rattle.ovl_merge.proofs.VisitLemmas.{upper-layer, lower-layer, own-names}

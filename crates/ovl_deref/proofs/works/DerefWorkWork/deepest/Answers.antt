@@ -1,8 +1,11 @@
-use Rattle.std.proofs.Common.{ℕ, ◌<◌, subst}
-use Rattle.ovl_inode.specs.Marks.{is_directory}
-use Rattle.ovl_deref.proofs.DirectoryLemmas.{kids-lawful}
+use Rattle.std.proofs.Common.{ℕ, ◌<◌, subst, arith}
+use Rattle.ovl_rewrite.proofs.DirectoryLemmas.{kids-lawful}
+use Rattle.ovl_deref.specs.Directories.{new_at, names_in, deref_depth}
+use Rattle.ovl_deref.proofs.DirectoryLemmas.{told}
 use Rattle.ovl_deref.proofs.works.DerefWorkWork.deepest.Goals as goal
 
 pub returns-clause-lawful : goal.returns-clause-lawful
 returns-clause-lawful c =
-    rw (← c.self.view_is) (kids-lawful c.self.inside.stack.now c.layers.ensures.each (subst (λ (n : ℕ). 0 < n) c.layers.ensures.value c.layers.ensures.some) (λ entry. is_directory entry.1))
+    let stack = c.self.inside.stack.now in
+    rw (← c.self.view_is) (kids-lawful (new_at stack) (names_in stack) (deref_depth stack)
+    (told stack c.layers.ensures.each (subst (λ (n : ℕ). 0 < n) c.layers.ensures.value c.layers.ensures.some)) (deref_depth stack) (omega arith))

@@ -1,6 +1,0 @@
-use Rattle.std.proofs.Common.{◌≡◌, take}
-use Rattle.ovl_deref.specs.Directories.{directories_among}
-use Rattle.ovl_deref.proofs.works.directories.Given as goal
-
-abbrev pub invariant-loop-name : goal.invariant-loop-name
-invariant-loop-name l = l.kids.items ≡ directories_among l.piece (take l.name-index l.inodes)

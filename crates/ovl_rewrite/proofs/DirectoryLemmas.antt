@@ -1,0 +1,112 @@
+-- The entries of a directory of a new layer: all that it has there, in order; those that are directories are lawful kids.
+use Rattle.std.proofs.Common.{◌≡◌, ℕ, ◌≤◌, inl, inr, Bool, true, Option, Some, None, List, [], ◌∷◌, length, map, refl, sym, ap, ◌∙◌, subst, arith}
+use Rattle.std.specs.Prelude.{filter}
+use Rattle.std.specs.Option.{option_map}
+use Rattle.std.specs.List.{cons_option, filter_map}
+use Rattle.std.specs.Ordering.{ordering_then}
+use Rattle.std.specs.Cmp.Lexicographic.{nat_list_cmp_total}
+use Rattle.std.proofs.lemmas.Cmp.{tied_itself, nat_cmp_total}
+use Rattle.ovl_names.specs.Names.{PathName, name_cmp}
+use Rattle.ovl_names.specs.Paths.{PathNames, child_path, path_cmp}
+use Rattle.ovl_inode.specs.declared.inodes.Inode.{Inode}
+use Rattle.ovl_inode.specs.Marks.{is_directory}
+use Rattle.ovl_board.specs.declared.pieces.Piece.{Piece}
+use Rattle.ovl_board.specs.Pieces.{IsBefore, IsOneBelow, HasLawfulKids}
+use Rattle.ovl_board.proofs.Members.{In, Rises, All-Every, AllPairs-Rises, In-map-cases, In-filter-cases, Rises-filter}
+use Rattle.ovl_board.proofs.PieceOrder.{fork_before}
+use Rattle.ovl_rewrite.specs.Directories.{NamedInode, piece_in}
+use Rattle.ovl_rewrite.specs.Passes.{Tree, tree_kids}
+use Rattle.ovl_rewrite.specs.NewLayers.{NewLayer, is_directory_found, has_directory, named_entry, tree_by, IsTold}
+use Rattle.ovl_rewrite.proofs.Ascents.{NameBefore, rising-names, any-In}
+
+abbrev pub EntryBefore : NamedInode → NamedInode → Type 0
+EntryBefore one other = NameBefore one.0 other.0
+
+module _ (new : NewLayer) where
+  -- ---- the entries of some names
+
+  abbrev listed : PathNames → List PathName → List NamedInode
+  listed directory names = filter_map (named_entry new directory) names
+
+  listed-cases : (directory : PathNames) (names : List PathName) (entry : NamedInode) → In entry (listed directory names) → In entry.0 names × (new (child_path directory entry.0) ≡ Some entry.1)
+  listed-cases directory [] entry h = absurd h
+  listed-cases directory (name ∷ names) entry h = by (listed-cases directory names entry) (new (child_path directory name)) refl h
+    where
+      by : (In entry (listed directory names) → In entry.0 names × (new (child_path directory entry.0) ≡ Some entry.1)) → (found : Option Inode) → new (child_path directory name) ≡ found
+          → In entry (cons_option (option_map (λ inode. (name, inode)) found) (listed directory names)) → In entry.0 (name ∷ names) × (new (child_path directory entry.0) ≡ Some entry.1)
+      by later None e h = let more = later h in (inr more.0, more.1)
+      by later (Some inode) e (inl same) =
+          let own : entry.0 ≡ name = ap (λ (n : NamedInode). n.0) same in
+          (inl own, ap (λ (n : PathName). new (child_path directory n)) own ∙ (e ∙ ap (λ (n : NamedInode). Some n.1) (sym same)))
+      by later (Some inode) e (inr h) = let more = later h in (inr more.0, more.1)
+
+  listed-there : (directory : PathNames) (names : List PathName) (name : PathName) (inode : Inode) → In name names → new (child_path directory name) ≡ Some inode → In (name, inode) (listed directory names)
+  listed-there directory [] name inode h here = absurd h
+  listed-there directory (other ∷ names) name inode (inl same) here =
+      subst (λ (o : Option NamedInode). In (name, inode) (cons_option o (listed directory names)))
+      (sym (ap (named_entry new directory) (sym same) ∙ ap (option_map (λ i. (name, i))) here)) (inl refl)
+  listed-there directory (other ∷ names) name inode (inr h) here = by (named_entry new directory other) (listed-there directory names name inode h here)
+    where
+      by : (o : Option NamedInode) → In (name, inode) (listed directory names) → In (name, inode) (cons_option o (listed directory names))
+      by None later = later
+      by (Some entry) later = inr later
+
+  listed-rise : (directory : PathNames) (names : List PathName) → Rises NameBefore names → Rises EntryBefore (listed directory names)
+  listed-rise directory [] up = tt
+  listed-rise directory (name ∷ names) up = by (new (child_path directory name)) (listed-rise directory names up.1)
+    where
+      by : (found : Option Inode) → Rises EntryBefore (listed directory names) → Rises EntryBefore (cons_option (option_map (λ inode. (name, inode)) found) (listed directory names))
+      by None later = later
+      by (Some inode) later = ((λ entry h. up.0 entry.0 (listed-cases directory names entry h).0), later)
+
+  module _ (names : PathNames → List PathName) (deepest : ℕ) (told : IsTold new names deepest) where
+    abbrev tree : Tree
+    tree = tree_by new names
+
+    -- ---- the entries of a directory: all that there is, in order
+
+    pub entry-new : (directory : PathNames) (entry : NamedInode) → In entry (tree directory) → new (child_path directory entry.0) ≡ Some entry.1
+    entry-new directory entry h = (listed-cases directory (names directory) entry h).1
+
+    pub new-entry : (directory : PathNames) (name : PathName) (inode : Inode) → new (child_path directory name) ≡ Some inode → In (name, inode) (tree directory)
+    new-entry directory name inode here = listed-there directory (names directory) name inode (any-In name (names directory) (told.named directory name inode here)) here
+
+    pub entries-rise : (directory : PathNames) → Rises EntryBefore (tree directory)
+    entries-rise directory = listed-rise directory (names directory) (rising-names (names directory) (told.in_order directory))
+
+    -- ---- the directories among them are lawful kids
+
+    abbrev is_kid : NamedInode → Bool
+    is_kid entry = is_directory entry.1
+
+    kid-entry : (piece kid : Piece) → In kid (tree_kids tree piece) → (entry : NamedInode) × (has_directory new (child_path piece.dir entry.0) ≡ true) × (kid ≡ piece_in piece entry)
+    kid-entry piece kid h =
+        let one = In-map-cases (piece_in piece) kid (filter is_kid (tree piece.dir)) h in
+        let there = In-filter-cases is_kid one.0 (tree piece.dir) one.1.0 in
+        (one.0, ap is_directory_found (entry-new piece.dir one.0 there.0) ∙ there.1, one.1.1)
+
+    kids-rise : (piece : Piece) (entries : List NamedInode) → Rises EntryBefore entries → Rises IsBefore (map (piece_in piece) entries)
+    kids-rise piece [] up = tt
+    kids-rise piece (entry ∷ entries) up = (
+      (λ kid h.
+          let other = In-map-cases (piece_in piece) kid entries h in
+          subst (IsBefore (piece_in piece entry)) (sym other.1.1)
+          (ap (λ o. ordering_then o (path_cmp (child_path piece.dir entry.0) (child_path piece.dir other.0.0))) (tied_itself nat_cmp_total piece.space)
+          ∙ fork_before name_cmp nat_list_cmp_total piece.dir entry.0 other.0.0 [] [] (up.0 other.0 other.1.0))),
+      kids-rise piece entries up.1,
+    )
+
+    pub kids-lawful : (most : ℕ) → deepest ≤ most → HasLawfulKids (tree_kids tree) most
+    kids-lawful most deep = record {
+      lawful = λ piece. record {
+        below = All-Every (IsOneBelow piece) (tree_kids tree piece) (λ kid h.
+            let one = kid-entry piece kid h in
+            subst (IsOneBelow piece) (sym one.2) (refl, (one.0.0, refl)));
+        ascend = AllPairs-Rises IsBefore (tree_kids tree piece)
+            (kids-rise piece (filter is_kid (tree piece.dir)) (Rises-filter EntryBefore is_kid (tree piece.dir) (entries-rise piece.dir)));
+      };
+      shallow = λ piece. All-Every (λ kid. length kid.dir ≤ most) (tree_kids tree piece) (λ kid h.
+          let one = kid-entry piece kid h in
+          let short : length (child_path piece.dir one.0.0) ≤ deepest = told.shallow (child_path piece.dir one.0.0) one.1 in
+          subst (λ (p : Piece). length p.dir ≤ most) (sym one.2) (omega (arith, short, deep)));
+    }

@@ -1,0 +1,97 @@
+-- From the parcels to the new layer.
+use Rattle.std.proofs.Common.{◌≡◌, ℕ, suc, ◌+◌, ◌-◌, ◌<◌, Bool, true, false, cond, Option, Some, None, List, [], ◌∷◌, ◌++◌, length, map, get_or, drop, refl, sym, ap, ◌∙◌, subst, append_assoc, arith}
+use Rattle.std.specs.Prelude.{Vec, Result, Ok, Err}
+use Rattle.std.specs.Global.{Global}
+use Rattle.std.proofs.lemmas.List.{append-nil, drop-map, drop_more}
+use Rattle.ovl_names.specs.Order.{ascends}
+use Rattle.ovl_inode.specs.declared.inodes.Inode.{Inode}
+use Rattle.ovl_manifest.specs.Layers.{Entries, entry_cmp, IsLayer}
+use Rattle.ovl_manifest.specs.Manifest.{entry_fault, entries_after, is_miscounted, is_statable, stated_pair, layer_of_pairs, IsFaultOf}
+use Rattle.ovl_manifest.specs.declared.faults.LayerFault.{LayerFault}
+use Rattle.ovl_manifest.specs.declared.faults.LayerFault.TheVariants.{NotJson, Shape, Version, Count, Entry as WrongEntry, Order, NoParent, Root, Escaped, Memory}
+use Rattle.ovl_manifest.proofs.BackLemmas.{pairs-back}
+use Rattle.ovl_board.specs.declared.works.Parcel.{Parcel}
+use Rattle.ovl_board.specs.Parcels.{parcel_view, parcel_views, IsPlain}
+use Rattle.ovl_board.proofs.WalkLemmas.{IsPlain-from_preorder}
+use Rattle.ovl_board.proofs.LawLemmas.{HasReachedPieces-holds}
+use Rattle.ovl_rewrite.specs.Directories.{NamedInode, inodes_seen}
+use Rattle.ovl_rewrite.specs.Passes.{Tree, IsTree, tree_kids, tree_out, entries_under, View, views_under, WalksUnder}
+use Rattle.ovl_rewrite.specs.NewLayers.{NewLayer, IsOf, IsToldBy, tree_by, root_piece}
+use Rattle.ovl_rewrite.proofs.TreeLemmas.{told-ascend, told-of, is-tree}
+
+-- the parcels from a place on begin with the one there
+pub first-view : (parcels : List (Parcel (Vec NamedInode Global))) (place : ℕ) (parcel : Parcel (Vec NamedInode Global)) → place < length parcels → parcel ≡ get_or parcels place parcel
+    → drop place (parcel_views inodes_seen parcels) ≡ parcel_view inodes_seen parcel ∷ drop (place + 1) (parcel_views inodes_seen parcels)
+first-view parcels place parcel inside is =
+    drop-map (parcel_view inodes_seen) place parcels
+    ∙ (ap (map (parcel_view inodes_seen)) (drop_more parcels place parcel inside)
+    ∙ (λ j. parcel_view inodes_seen (sym is j) ∷ sym (drop-map (parcel_view inodes_seen) (place + 1) parcels) j))
+
+-- ---- pairs that are a layer are its entries
+
+pairs-given : (before pairs layer : Entries) → entries_after before (map stated_pair pairs) ≡ Ok layer → before ++ pairs ≡ layer
+pairs-given before [] layer e = let same : before ≡ layer = cc in append-nil before ∙ same
+pairs-given before (pair ∷ pairs) layer e = by (λ more. pairs-given (before ++ pair ∷ []) pairs layer more) (is_statable pair) (entry_fault before pair) refl e
+  where
+    after : Option LayerFault → Result Entries LayerFault
+    after o = elim (elim o as (λ _. Result Entries LayerFault) [ Some found ↦ Err found | None ↦ Ok (before ++ pair ∷ []) ]) as (λ _. Result Entries LayerFault) [ Ok entries ↦ entries_after entries (map stated_pair pairs) | Err found ↦ Err found ]
+
+    by : (entries_after (before ++ pair ∷ []) (map stated_pair pairs) ≡ Ok layer → (before ++ pair ∷ []) ++ pairs ≡ layer)
+        → (b : Bool) (fault : Option LayerFault) → entry_fault before pair ≡ fault → entries_after before (cond b (Some pair) None ∷ map stated_pair pairs) ≡ Ok layer → before ++ pair ∷ pairs ≡ layer
+    by later false fault f e = let bad : Err (WrongEntry (length before)) ≡ Ok layer = e in cc
+    by later true (Some fault) f e = let bad : Err fault ≡ Ok layer = sym (ap after f) ∙ e in cc
+    by later true None f e = sym (append_assoc before (pair ∷ []) pairs) ∙ later (sym (ap after f) ∙ e)
+
+pub pairs-are : (pairs layer : Entries) → layer_of_pairs pairs ≡ Ok layer → pairs ≡ layer
+pairs-are pairs layer e = by (is_miscounted (length (map stated_pair pairs))) e
+  where
+    by : (b : Bool) → cond b (Err Count) (entries_after [] (map stated_pair pairs)) ≡ Ok layer → pairs ≡ layer
+    by true e = let bad : Err Count ≡ Ok layer = e in cc
+    by false e = pairs-given [] pairs layer e
+
+-- no fault but want of memory is told of a layer
+told-memory : (layer : Entries) (fault : LayerFault) → IsFaultOf (Ok layer) fault → fault ≡ Memory
+told-memory layer Memory told = refl
+told-memory layer NotJson told = let bad : Ok layer ≡ Err NotJson = told in cc
+told-memory layer Shape told = let bad : Ok layer ≡ Err Shape = told in cc
+told-memory layer Version told = let bad : Ok layer ≡ Err Version = told in cc
+told-memory layer Count told = let bad : Ok layer ≡ Err Count = told in cc
+told-memory layer (WrongEntry n) told = let bad : Ok layer ≡ Err (WrongEntry n) = told in cc
+told-memory layer (Order n) told = let bad : Ok layer ≡ Err (Order n) = told in cc
+told-memory layer (NoParent n) told = let bad : Ok layer ≡ Err (NoParent n) = told in cc
+told-memory layer Root told = let bad : Ok layer ≡ Err Root = told in cc
+told-memory layer (Escaped n) told = let bad : Ok layer ≡ Err (Escaped n) = told in cc
+
+-- entries that are a layer's are refused for want of memory alone
+pub layer-refused : (entries : Entries) (fault : LayerFault) → IsLayer entries → IsFaultOf (layer_of_pairs entries) fault → fault ≡ Memory
+layer-refused entries fault is told = told-memory entries fault (subst (λ (r : Result Entries LayerFault). IsFaultOf r fault) (pairs-back entries is) told)
+
+-- ---- the entries that the parcels tell
+
+-- the plain walk has the parcels under the root
+walk-under : (tree : Tree) (deepest : ℕ) → IsTree tree deepest → (views : List View) → IsPlain (tree_kids tree) (tree_out tree) root_piece views → views ≡ views_under tree deepest root_piece
+walk-under tree deepest is views plain =
+    let nodes : List View = views_under tree deepest root_piece in
+    let other = IsPlain-from_preorder (tree_kids tree) (tree_out tree) deepest is.lawful root_piece nodes refl in
+    sym ((HasReachedPieces-holds (tree_kids tree) (tree_out tree) root_piece views plain).3 nodes other)
+
+pub entries-whole : (views after : List View) (old new : Entries) → WalksUnder views after old new
+    → (tree : Tree) (deepest : ℕ) → IsTree tree deepest → IsPlain (tree_kids tree) (tree_out tree) root_piece views → new ≡ old ++ entries_under tree deepest []
+entries-whole views after old new under tree deepest is plain =
+    let whole : deepest - length root_piece.dir ≡ deepest = omega arith in
+    (under tree deepest is root_piece [] (walk-under tree deepest is views plain ∙ sym (append-nil (views_under tree deepest root_piece)))).1
+    ∙ ap (λ n. old ++ entries_under tree n []) whole
+
+-- entries that are those of each tree of which the parcels are the plain walk
+abbrev pub AreTold : Inode → List View → Entries → Type 0
+AreTold root views entries =
+    (tree : Tree) (deepest : ℕ) → IsTree tree deepest → IsPlain (tree_kids tree) (tree_out tree) root_piece views → entries ≡ ([], root) ∷ entries_under tree deepest []
+
+-- they are in order, and have at each path what the new layer has
+pub entries-of : (root : Inode) (views : List View) (entries : Entries) → AreTold root views entries → (new : NewLayer) → IsToldBy new root views
+    → (ascends entry_cmp entries ≡ true) × IsOf new entries
+entries-of root views entries are new by =
+    let same = are (tree_by new by.names) (suc by.deepest) (is-tree new by.names by.deepest by.told) by.walk in (
+      ap (ascends entry_cmp) same ∙ told-ascend new by.names by.deepest by.told root by.rooted,
+      subst (IsOf new) (sym same) (told-of new by.names by.deepest by.told root by.rooted),
+    )

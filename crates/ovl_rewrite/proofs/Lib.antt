@@ -1,0 +1,6 @@
+pub mod Ascents
+pub mod InodeLemmas
+pub mod DirectoryLemmas
+pub mod UnderLemmas
+pub mod TreeLemmas
+pub mod LayerLemmas

@@ -1,0 +1,171 @@
+-- The parcels of a directory and of what lies under it, entry by entry, and the entries that they tell.
+use Rattle.std.proofs.Common.{◌≡◌, ℕ, zero, suc, ◌+◌, ◌-◌, ◌≤◌, ◌<◌, true, false, cond, List, [], ◌∷◌, ◌++◌, length, map, get_or, take, drop, refl, sym, ap, ◌∙◌, subst, append_assoc, arith, length-append}
+use Rattle.std.specs.Prelude.{filter}
+use Rattle.std.specs.List.{flat_map}
+use Rattle.std.proofs.lemmas.List.{append-nil, map-append, drop_more, take_more, take_all}
+use Rattle.std.proofs.lemmas.List.Concat.{flat_map-append}
+use Rattle.std.proofs.Math.ListN.{drop_of_length-le}
+use Rattle.ovl_names.specs.Paths.{PathNames, child_path}
+use Rattle.ovl_inode.specs.Marks.{is_directory}
+use Rattle.ovl_manifest.specs.Layers.{Entries}
+use Rattle.ovl_board.specs.declared.pieces.Piece.{Piece}
+use Rattle.ovl_board.specs.Walks.{preorder}
+use Rattle.ovl_board.specs.Parcels.{own_view}
+use Rattle.ovl_board.proofs.Members.{get_or-In, Contains-In, In}
+use Rattle.ovl_board.proofs.WalkLemmas.{preorder_step}
+use Rattle.ovl_rewrite.specs.Directories.{NamedInode, piece_in, directories_among}
+use Rattle.ovl_rewrite.specs.Passes.{Tree, IsTree, tree_kids, tree_out, entries_under, View, views_under, WalksUnder}
+
+module _ (tree : Tree) (deepest : ℕ) where
+  abbrev own : Piece → View
+  own = own_view (tree_kids tree) (tree_out tree)
+
+  -- as many names as a path may still have below a piece
+  abbrev room : Piece → ℕ
+  room piece = deepest - length piece.dir
+
+  -- the parcels, and the entries, at and under these entries of a directory
+  abbrev pub views_among : Piece → List NamedInode → List View
+  views_among piece entries = map own (flat_map (λ kid. preorder (tree_kids tree) (room piece - 1) kid) (directories_among piece entries))
+
+  abbrev told : ℕ → PathNames → NamedInode → Entries
+  told depth directory entry = (child_path directory entry.0, entry.1) ∷ entries_under tree depth (child_path directory entry.0)
+
+  abbrev pub entries_among : Piece → List NamedInode → Entries
+  entries_among piece entries = flat_map (told (room piece - 1) piece.dir) entries
+
+  room-child : (piece : Piece) (entry : NamedInode) → deepest - length (child_path piece.dir entry.0) ≡ room piece - 1
+  room-child piece entry = omega (arith, length-append piece.dir (entry.0 ∷ []))
+
+  -- a directory among the entries
+  directory-views : (piece : Piece) (entry : NamedInode) (entries : List NamedInode) → is_directory entry.1 ≡ true
+      → views_among piece (entry ∷ entries) ≡ views_under tree deepest (piece_in piece entry) ++ views_among piece entries
+  directory-views piece entry entries is =
+      let walked : Piece → List Piece = λ kid. preorder (tree_kids tree) (room piece - 1) kid in
+      ap (λ b. map own (flat_map walked (map (piece_in piece) (cond b (entry ∷ filter (λ e. is_directory e.1) entries) (filter (λ e. is_directory e.1) entries))))) is
+      ∙ (map-append own (walked (piece_in piece entry)) (flat_map walked (directories_among piece entries))
+      ∙ ap (λ n. map own (preorder (tree_kids tree) n (piece_in piece entry)) ++ views_among piece entries) (sym (room-child piece entry)))
+
+  -- another entry has none
+  file-views : (piece : Piece) (entry : NamedInode) (entries : List NamedInode) → is_directory entry.1 ≡ false → views_among piece (entry ∷ entries) ≡ views_among piece entries
+  file-views piece entry entries is =
+      let walked : Piece → List Piece = λ kid. preorder (tree_kids tree) (room piece - 1) kid in
+      ap (λ b. map own (flat_map walked (map (piece_in piece) (cond b (entry ∷ filter (λ e. is_directory e.1) entries) (filter (λ e. is_directory e.1) entries))))) is
+
+  more-entries : (piece : Piece) (entries : List NamedInode) (entry : NamedInode)
+      → entries_among piece (entries ++ entry ∷ []) ≡ entries_among piece entries ++ told (deepest - length (child_path piece.dir entry.0)) piece.dir entry
+  more-entries piece entries entry =
+      flat_map-append (told (room piece - 1) piece.dir) entries (entry ∷ [])
+      ∙ ap (λ (rest : Entries). entries_among piece entries ++ rest)
+      (append-nil (told (room piece - 1) piece.dir entry)
+      ∙ ap (λ n. told n piece.dir entry) (sym (room-child piece entry)))
+
+  module _ (is : IsTree tree deepest) where
+    -- a directory's own parcel comes first, and then those of its directories
+    pub views-first : (piece : Piece) → views_under tree deepest piece ≡ own piece ∷ views_among piece (tree piece.dir)
+    views-first piece = ap (map own) (preorder_step (tree_kids tree) deepest is.lawful piece)
+
+    nothing-under : (depth : ℕ) (directory : PathNames) → tree directory ≡ [] → entries_under tree depth directory ≡ []
+    nothing-under zero directory none = refl
+    nothing-under (suc depth) directory none = ap (flat_map (told depth directory)) none
+
+    entries-first : (piece : Piece) → entries_under tree (room piece) piece.dir ≡ entries_among piece (tree piece.dir)
+    entries-first piece = by (room piece) refl
+      where
+        by : (n : ℕ) → room piece ≡ n → entries_under tree n piece.dir ≡ flat_map (told (room piece - 1) piece.dir) (tree piece.dir)
+        by zero e = sym (ap (flat_map (told (room piece - 1) piece.dir)) (is.bounded piece.dir (omega (arith, e))))
+        by (suc n) e =
+            let same : n ≡ room piece - 1 = omega (arith, e) in
+            ap (λ m. flat_map (told m piece.dir) (tree piece.dir)) same
+
+-- the parcels after those of the first `i` entries of a directory, and the entries at and under these
+abbrev pub WalksAmong : List View → List View → ℕ → Entries → Entries → Type 0
+WalksAmong before after i old new =
+    (tree : Tree) (deepest : ℕ) → IsTree tree deepest → (piece : Piece) (rest : List View) → before ≡ views_under tree deepest piece ++ rest →
+    (after ≡ views_among tree deepest piece (drop i (tree piece.dir)) ++ rest)
+    × (new ≡ old ++ entries_among tree deepest piece (take i (tree piece.dir)))
+
+-- a tree has a parcel of its directory first
+pub walk-none : (after : List View) (old new : Entries) → WalksUnder [] after old new
+walk-none after old new tree deepest is piece rest is_under =
+    let bad : 0 ≡ length (views_under tree deepest piece ++ rest) = ap length is_under in
+    absurd (omega (arith, bad, ap (λ (views : List View). length (views ++ rest)) (views-first tree deepest is piece)))
+
+module _ (before : List View) (view : View) (later : List View) (first : before ≡ view ∷ later) where
+  head : (tree : Tree) (deepest : ℕ) (is : IsTree tree deepest) (piece : Piece) (rest : List View) → before ≡ views_under tree deepest piece ++ rest
+      → (view ≡ own tree deepest piece) × (later ≡ views_among tree deepest piece (tree piece.dir) ++ rest)
+  head tree deepest is piece rest is_under =
+      let whole : view ∷ later ≡ own tree deepest piece ∷ (views_among tree deepest piece (tree piece.dir) ++ rest) = sym first ∙ (is_under ∙ ap (λ (views : List View). views ++ rest) (views-first tree deepest is piece)) in
+      (ap (λ (views : List View). elim views as (λ _. View) [ [] ↦ view | v ∷ vs ↦ v ]) whole, ap (drop 1) whole)
+
+  pub walk-starts : (old : Entries) → WalksAmong before later 0 old old
+  walk-starts old tree deepest is piece rest is_under = ((head tree deepest is piece rest is_under).1, sym (append-nil old))
+
+  pub walk-ends : (after : List View) (i : ℕ) (old new : Entries) → length view.seen ≤ i → WalksAmong before after i old new → WalksUnder before after old new
+  walk-ends after i old new end walked tree deepest is piece rest is_under =
+      let known = walked tree deepest is piece rest is_under in
+      let count : length (tree piece.dir) ≤ i = omega (arith, end, ap (λ (v : View). length v.seen) (head tree deepest is piece rest is_under).0) in (
+        known.0 ∙ ap (λ (more : List NamedInode). views_among tree deepest piece more ++ rest) (drop_of_length-le (tree piece.dir) count),
+        known.1 ∙ ap (λ (entries : Entries). old ++ entries) (ap (entries_among tree deepest piece) (take_all i (tree piece.dir) count) ∙ sym (entries-first tree deepest is piece)),
+      )
+
+  module _ (after : List View) (i : ℕ) (entry : NamedInode) (inside : i < length view.seen) (is_entry : entry ≡ get_or view.seen i entry) (old mid : Entries) (walked : WalksAmong before after i old mid) where
+    -- the entry at the place, and those after it
+    record At (tree : Tree) (deepest : ℕ) (piece : Piece) (rest : List View) : Type 0 where
+      pub dir : view.piece.dir ≡ piece.dir
+      pub among : In entry (tree piece.dir)
+      pub longer : take (i + 1) (tree piece.dir) ≡ take i (tree piece.dir) ++ entry ∷ []
+      pub left : after ≡ views_among tree deepest piece (entry ∷ drop (i + 1) (tree piece.dir)) ++ rest
+      pub done : mid ≡ old ++ entries_among tree deepest piece (take i (tree piece.dir))
+
+    at : (tree : Tree) (deepest : ℕ) → IsTree tree deepest → (piece : Piece) (rest : List View) → before ≡ views_under tree deepest piece ++ rest → At tree deepest piece rest
+    at tree deepest is piece rest is_under =
+        let top = head tree deepest is piece rest is_under in
+        let seen : view.seen ≡ tree piece.dir = ap (λ (v : View). v.seen) top.0 in
+        let within : i < length (tree piece.dir) = omega (arith, inside, ap length seen) in
+        let own_entry : entry ≡ get_or (tree piece.dir) i entry = is_entry ∙ ap (λ (entries : List NamedInode). get_or entries i entry) seen in
+        let onward : drop i (tree piece.dir) ≡ entry ∷ drop (i + 1) (tree piece.dir) = drop_more (tree piece.dir) i entry within ∙ ap (λ (e : NamedInode). e ∷ drop (i + 1) (tree piece.dir)) (sym own_entry) in
+        let known = walked tree deepest is piece rest is_under in
+        record {
+          dir = ap (λ (v : View). v.piece.dir) top.0;
+          among = subst (λ (e : NamedInode). In e (tree piece.dir)) (sym own_entry) (get_or-In (tree piece.dir) i entry within);
+          longer = take_more (tree piece.dir) i entry within ∙ ap (λ (e : NamedInode). take i (tree piece.dir) ++ e ∷ []) (sym own_entry);
+          left = known.0 ∙ ap (λ (entries : List NamedInode). views_among tree deepest piece entries ++ rest) onward;
+          done = known.1;
+        }
+
+    -- the entries with one more
+    grown : (tree : Tree) (deepest : ℕ) (piece : Piece) (rest : List View) (a : At tree deepest piece rest) (under new : Entries)
+        → entries_under tree (deepest - length (child_path piece.dir entry.0)) (child_path piece.dir entry.0) ≡ under
+        → new ≡ (mid ++ (child_path view.piece.dir entry.0, entry.1) ∷ []) ++ under
+        → new ≡ old ++ entries_among tree deepest piece (take (i + 1) (tree piece.dir))
+    grown tree deepest piece rest a under new are is_new =
+        is_new
+        ∙ (append_assoc mid ((child_path view.piece.dir entry.0, entry.1) ∷ []) under
+        ∙ ((λ j. a.done j ++ (child_path (a.dir j) entry.0, entry.1) ∷ sym are j)
+        ∙ (append_assoc old (entries_among tree deepest piece (take i (tree piece.dir))) (told tree deepest (deepest - length (child_path piece.dir entry.0)) piece.dir entry)
+        ∙ ap (λ (entries : Entries). old ++ entries)
+        (sym (more-entries tree deepest piece (take i (tree piece.dir)) entry) ∙ ap (entries_among tree deepest piece) (sym a.longer)))))
+
+    pub walk-directory : is_directory entry.1 ≡ true → (further : List View) (new : Entries)
+        → WalksUnder after further (mid ++ (child_path view.piece.dir entry.0, entry.1) ∷ []) new → WalksAmong before further (i + 1) old new
+    walk-directory directory further new under tree deepest is piece rest is_under =
+        let a = at tree deepest is piece rest is_under in
+        let more : List View = views_among tree deepest piece (drop (i + 1) (tree piece.dir)) in
+        let split : after ≡ views_under tree deepest (piece_in piece entry) ++ (more ++ rest) =
+        a.left
+        ∙ (ap (λ (views : List View). views ++ rest) (directory-views tree deepest piece entry (drop (i + 1) (tree piece.dir)) directory)
+        ∙ append_assoc (views_under tree deepest (piece_in piece entry)) more rest) in
+        let done = under tree deepest is (piece_in piece entry) (more ++ rest) split in (
+          done.0,
+          grown tree deepest piece rest a (entries_under tree (deepest - length (child_path piece.dir entry.0)) (child_path piece.dir entry.0)) new refl done.1,
+        )
+
+    pub walk-file : is_directory entry.1 ≡ false → WalksAmong before after (i + 1) old (mid ++ (child_path view.piece.dir entry.0, entry.1) ∷ [])
+    walk-file file tree deepest is piece rest is_under =
+        let a = at tree deepest is piece rest is_under in (
+          a.left ∙ ap (λ (views : List View). views ++ rest) (file-views tree deepest piece entry (drop (i + 1) (tree piece.dir)) file),
+          grown tree deepest piece rest a [] (mid ++ (child_path view.piece.dir entry.0, entry.1) ∷ [])
+              (nothing-under tree deepest is (deepest - length (child_path piece.dir entry.0)) (child_path piece.dir entry.0) (is.files piece.dir entry (Contains-In entry (tree piece.dir) a.among) file))
+              (sym (append-nil (mid ++ (child_path view.piece.dir entry.0, entry.1) ∷ []))),
+        )

@@ -1,0 +1,4 @@
+pub mod Directories
+pub mod Passes
+pub mod NewLayers
+pub mod Limits

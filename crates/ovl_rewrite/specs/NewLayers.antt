@@ -1,0 +1,56 @@
+-- What a new layer has at each path, told directory by directory.
+use Rattle.std.specs.Prelude.{◌≡◌, ◌≤◌, ℕ, Bool, true, false, Option, Some, None, List, [], length}
+use Rattle.std.specs.Option.{option_map}
+use Rattle.std.specs.List.{list_any, filter_map}
+use Rattle.ovl_names.specs.Names.{PathName, name_eq, name_cmp}
+use Rattle.ovl_names.specs.Order.{ascends}
+use Rattle.ovl_names.specs.Paths.{PathNames, child_path}
+use Rattle.ovl_inode.specs.declared.inodes.Inode.{Inode}
+use Rattle.ovl_inode.specs.Marks.{is_directory}
+use Rattle.ovl_manifest.specs.Layers.{Entries, entry_at}
+use Rattle.ovl_board.specs.declared.pieces.Piece.{Piece}
+use Rattle.ovl_board.specs.Parcels.{IsPlain}
+use Rattle.ovl_rewrite.specs.Directories.{NamedInode}
+use Rattle.ovl_rewrite.specs.Passes.{Tree, View, tree_kids, tree_out}
+
+-- a new layer: what it has at each path
+abbrev pub NewLayer : Type 0
+NewLayer = PathNames → Option Inode
+
+-- the entries have at each path what the new layer has
+abbrev pub IsOf : NewLayer → Entries → Type 0
+IsOf new entries = (path : PathNames) → entry_at entries path ≡ new path
+
+-- it has a directory at a path
+abbrev pub is_directory_found : Option Inode → Bool
+is_directory_found found = elim found [ Some inode ↦ is_directory inode | None ↦ false ]
+
+abbrev pub has_directory : NewLayer → PathNames → Bool
+has_directory new path = is_directory_found (new path)
+
+-- its tree by the names that may have an entry in each directory
+abbrev pub named_entry : NewLayer → PathNames → PathName → Option NamedInode
+named_entry new directory name = option_map (λ inode. (name, inode)) (new (child_path directory name))
+
+abbrev pub tree_by : NewLayer → (PathNames → List PathName) → Tree
+tree_by new names directory = filter_map (named_entry new directory) (names directory)
+
+-- these names are in order, and each entry of a directory has one of them; what has an entry in it is a directory, and
+-- no directory has more than `deepest` names
+pub record IsTold (new : NewLayer) (names : PathNames → List PathName) (deepest : ℕ) : Type 0 where
+  pub in_order : (directory : PathNames) → ascends name_cmp (names directory) ≡ true
+  pub named : (directory : PathNames) (name : PathName) (inode : Inode) → new (child_path directory name) ≡ Some inode → list_any (name_eq name) (names directory) ≡ true
+  pub closed : (directory : PathNames) (name : PathName) (inode : Inode) → new (child_path directory name) ≡ Some inode → has_directory new directory ≡ true
+  pub shallow : (directory : PathNames) → has_directory new directory ≡ true → length directory ≤ deepest
+
+-- the root as a piece
+abbrev pub root_piece : Piece
+root_piece = record { space = 0; dir = [] }
+
+-- parcels tell a new layer with this root: they are the plain walk over its directories
+pub record IsToldBy (new : NewLayer) (root : Inode) (views : List View) : Type 0 where
+  pub names : PathNames → List PathName
+  pub deepest : ℕ
+  pub told : IsTold new names deepest
+  pub rooted : new [] ≡ Some root
+  pub walk : IsPlain (tree_kids (tree_by new names)) (tree_out (tree_by new names)) root_piece views

@@ -1,0 +1,47 @@
+-- The entries of a tree that is told directory by directory, and how they are taken from the parcels of its plain walk.
+use Rattle.std.specs.Prelude.{◌≡◌, ◌≤◌, ℕ, zero, suc, ◌-◌, false, List, [], ◌∷◌, ◌++◌, length, map, Contains}
+use Rattle.std.specs.List.{flat_map}
+use Rattle.ovl_names.specs.Paths.{PathNames, child_path}
+use Rattle.ovl_inode.specs.Marks.{is_directory}
+use Rattle.ovl_manifest.specs.Layers.{Entries}
+use Rattle.ovl_board.specs.declared.pieces.Piece.{Piece}
+use Rattle.ovl_board.specs.Pieces.{HasLawfulKids}
+use Rattle.ovl_board.specs.Walks.{preorder}
+use Rattle.ovl_board.specs.Parcels.{ParcelView, own_view}
+use Rattle.ovl_rewrite.specs.Directories.{NamedInode, directories_among}
+
+-- a tree by its directories: the entries in each
+abbrev pub Tree : Type 0
+Tree = PathNames → List NamedInode
+
+abbrev pub tree_kids : Tree → Piece → List Piece
+tree_kids tree piece = directories_among piece (tree piece.dir)
+
+abbrev pub tree_out : Tree → Piece → List NamedInode
+tree_out tree piece = tree piece.dir
+
+-- its directories are lawful pieces, it ends at a depth, and what is no directory has no entries
+pub record IsTree (tree : Tree) (deepest : ℕ) : Type 0 where
+  pub lawful : HasLawfulKids (tree_kids tree) deepest
+  pub bounded : (directory : PathNames) → deepest ≤ length directory → tree directory ≡ []
+  pub files : (directory : PathNames) (entry : NamedInode) → Contains (tree directory) entry → is_directory entry.1 ≡ false → tree (child_path directory entry.0) ≡ []
+
+-- the entries at most `depth` names below a directory, in path order
+abbrev pub entries_under : Tree → ℕ → PathNames → Entries
+entries_under tree zero directory = []
+entries_under tree (suc depth) directory =
+    flat_map (λ entry. (child_path directory entry.0, entry.1) ∷ entries_under tree depth (child_path directory entry.0)) (tree directory)
+
+-- what is seen of a directory's parcel, and the parcels of a directory and of what lies under it
+abbrev pub View : Type 0
+View = ParcelView (List NamedInode)
+
+abbrev pub views_under : Tree → ℕ → Piece → List View
+views_under tree deepest piece =
+    map (own_view (tree_kids tree) (tree_out tree)) (preorder (tree_kids tree) (deepest - length piece.dir) piece)
+
+-- where parcels begin with those of a directory of a tree, these are taken off, and the entries under it are added
+abbrev pub WalksUnder : List View → List View → Entries → Entries → Type 0
+WalksUnder before after old new =
+    (tree : Tree) (deepest : ℕ) → IsTree tree deepest → (piece : Piece) (rest : List View) → before ≡ views_under tree deepest piece ++ rest →
+    (after ≡ rest) × (new ≡ old ++ entries_under tree (deepest - length piece.dir) piece.dir)

@@ -1,0 +1,27 @@
+ghost use Rattle.std.specs.Prelude.{◌≡◌, IfOk};
+ghost use Rattle.ovl_rewrite.specs.Directories.{directories_among};
+
+use ovl_board::Piece;
+use ovl_inode::{Inode, is_directory};
+use ovl_names::Name;
+use std::alloc::{AllocError, Global};
+
+/// The pieces of those entries of a piece's directory that are directories themselves; fails only for want of memory.
+pub fn directories(
+    alloc: Global,
+    piece: &Piece,
+    inodes: &[(Name, Inode)],
+) -> Result<Vec<Piece>, AllocError>
+    ensures { IfOk result (λ kids. kids.items ≡ directories_among piece.now inodes.now) }
+{
+    let mut kids = Vec::new(alloc);
+    for (name, inode) in inodes {
+        if is_directory(inode) {
+            kids.push(Piece {
+                space: piece.space,
+                dir: piece.dir.child(alloc, name)?,
+            })?;
+        }
+    }
+    Ok(kids)
+}
