@@ -1,7 +1,9 @@
-//! Tests of the public calls of names, inodes, manifests, lookups and vacuum.
+//! Tests of the public calls of names, inodes, manifests, lookups, vacuum and deref.
 //! They stand apart from the crates that they test, since a crate with tests is proved twice.
 #![tactic(auto)]
 
+#[cfg(test)]
+mod deref;
 #[cfg(test)]
 mod inode;
 #[cfg(test)]
@@ -12,6 +14,8 @@ mod manifest;
 mod marks;
 #[cfg(test)]
 mod names;
+#[cfg(test)]
+mod new_layers;
 #[cfg(test)]
 mod vacuum;
 #[cfg(test)]

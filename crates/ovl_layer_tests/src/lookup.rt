@@ -16,7 +16,7 @@ const METACOPY: &str = "\"kind\":\"file\",\"mode\":420,\"size\":1";
 
 pub(crate) const WHITEOUT: &str = "\"kind\":\"char\",\"mode\":0,\"major\":0,\"minor\":0";
 
-const IS_OPAQUE: &str = "\"trusted.overlay.opaque\":\"79\"";
+pub(crate) const IS_OPAQUE: &str = "\"trusted.overlay.opaque\":\"79\"";
 
 pub(crate) const TO_X: &str = "\"trusted.overlay.redirect\":\"2f78\"";
 

@@ -7,7 +7,7 @@ use std::alloc::Global;
 use std::test::Fail;
 
 // A directory moved from `/x`, in it one that is known beside it as `r`, over what they come from.
-fn moved_twice(alloc: Global) -> Result<Stack, Fail> {
+pub(crate) fn moved_twice(alloc: Global) -> Result<Stack, Fail> {
     let upper = [
         ("/p", DIR, TO_X),
         ("/p/q", DIR, BESIDE_R),
