@@ -1,4 +1,4 @@
-//! Tests of the public calls of names, inodes, manifests, lookups, vacuum and deref.
+//! Tests of the public calls of names, inodes, manifests, lookups, vacuum, deref and merge.
 //! They stand apart from the crates that they test, since a crate with tests is proved twice.
 #![tactic(auto)]
 
@@ -12,6 +12,8 @@ mod lookup;
 mod manifest;
 #[cfg(test)]
 mod marks;
+#[cfg(test)]
+mod merge;
 #[cfg(test)]
 mod names;
 #[cfg(test)]
