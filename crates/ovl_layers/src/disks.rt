@@ -13,6 +13,8 @@ pub enum Thing {
     File(&'static [u8]),
     /// A file of so many spaces, and then these bytes.
     PaddedFile(usize, &'static [u8]),
+    /// A file of these bytes that says it has so many.
+    MisstatedFile(u64, &'static [u8]),
     /// A file of which a read fails behind these bytes.
     TornFile(&'static [u8]),
     /// A folder of these names, each ended by a NUL.
@@ -20,6 +22,22 @@ pub enum Thing {
     /// A folder whose listing fails behind these names.
     TornFolder(&'static [u8]),
     Link,
+}
+
+impl Thing {
+    // What is told of it.
+    fn metadata(self) -> Metadata {
+        match self {
+            Thing::File(bytes) => Metadata::of_file(bytes.len() as u64),
+            Thing::PaddedFile(spaces, bytes) => {
+                Metadata::of_file((spaces as u64).saturating_add(bytes.len() as u64))
+            }
+            Thing::MisstatedFile(length, _) => Metadata::of_file(length),
+            Thing::TornFile(_) => Metadata::of_file(4096),
+            Thing::Folder(_) | Thing::TornFolder(_) => Metadata::of_dir(),
+            Thing::Link => Metadata::of_symlink(0),
+        }
+    }
 }
 
 /// A runtime whose files are these.
@@ -56,6 +74,7 @@ pub struct Opened {
     spaces: usize,
     left: &'static [u8],
     is_torn: bool,
+    thing: Option<Thing>,
 }
 
 impl Read for Opened {
@@ -95,7 +114,10 @@ impl Seek for Opened {
 
 impl OpenFile for Opened {
     fn metadata(&self) -> io::Result<Metadata> {
-        Err(unsupported())
+        match self.thing {
+            Some(thing) => Ok(thing.metadata()),
+            None => Err(unsupported()),
+        }
     }
 
     fn set_len(&self, _size: u64) -> io::Result<()> {
@@ -117,6 +139,7 @@ pub fn input_of(spaces: usize, left: &'static [u8], is_torn: bool) -> Opened {
         spaces,
         left,
         is_torn,
+        thing: None,
     }
 }
 
@@ -142,12 +165,15 @@ impl<R> Files for Disk<'_, R> {
 
     // A folder opens, and its first read fails.
     fn open_file(&self, _how: &OpenOptions, path: &str) -> io::Result<Opened> {
-        Ok(match self.at(path)? {
-            Thing::File(bytes) => input_of(0, bytes, false),
+        let thing = self.at(path)?;
+        let mut opened = match thing {
+            Thing::File(bytes) | Thing::MisstatedFile(_, bytes) => input_of(0, bytes, false),
             Thing::PaddedFile(spaces, bytes) => input_of(spaces, bytes, false),
             Thing::TornFile(bytes) => input_of(0, bytes, true),
             Thing::Folder(_) | Thing::TornFolder(_) | Thing::Link => input_of(0, b"", true),
-        })
+        };
+        opened.thing = Some(thing);
+        Ok(opened)
     }
 
     fn open_dir(&self, path: &str) -> io::Result<Opened> {
@@ -163,11 +189,7 @@ impl<R> Files for Disk<'_, R> {
     }
 
     fn symlink_metadata(&self, path: &str) -> io::Result<Metadata> {
-        Ok(match self.at(path)? {
-            Thing::File(_) | Thing::PaddedFile(..) | Thing::TornFile(_) => Metadata::of_file(0),
-            Thing::Folder(_) | Thing::TornFolder(_) => Metadata::of_dir(),
-            Thing::Link => Metadata::of_symlink(0),
-        })
+        Ok(self.at(path)?.metadata())
     }
 
     fn copy(&self, _from: &str, _to: &str) -> io::Result<u64> {

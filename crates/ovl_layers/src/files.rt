@@ -3,7 +3,7 @@ ghost use Rattle.ovl_layers.specs.Faults.{IsUnread};
 
 use crate::faults::ProgramFault;
 use crate::inputs::{INPUT_LIMIT, InputFault, read_limited};
-use std::fs;
+use std::fs::{self, OpenFile};
 use std::rt::Files;
 
 /// The bytes of a file, at most [`INPUT_LIMIT`]. Links are followed. A folder can't be read.
@@ -23,7 +23,9 @@ fn read_bytes<R: Files + AllocGlobal>(rt: &R, path: &str) -> Result<Vec<u8>, Inp
     ensures { IfOk result (λ bytes. vec_len bytes ≤ INPUT_LIMIT) }
 {
     let mut file = fs::open(rt, path)?;
-    read_limited(rt.alloc(), &mut file, INPUT_LIMIT)
+    // A length that isn't told, or is wrong, as 0 is in /proc, changes only how room is made.
+    let expected = file.metadata().map_or(0, |metadata| metadata.len());
+    read_limited(rt.alloc(), &mut file, INPUT_LIMIT, expected)
 }
 
 /// The bytes of each of these files, in their order. Nothing is read behind the first that can't be read.

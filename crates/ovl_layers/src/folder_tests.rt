@@ -1,4 +1,4 @@
-use crate::disks::Thing::{File, Folder, Link, PaddedFile, TornFile, TornFolder};
+use crate::disks::Thing::{File, Folder, Link, MisstatedFile, PaddedFile, TornFile, TornFolder};
 use crate::disks::{Disk, Thing};
 use crate::faults::ProgramFault;
 use crate::files::{read_file, read_files};
@@ -64,6 +64,20 @@ fn long_files_are_read_whole(rt: HostRuntime) -> Result<(), Fail> {
         let read = read_file(&disk, path)?;
         assert_eq!(rt; read.len(), length, "at {path}");
         assert_eq!(rt; read.last(), Some(&b'a'), "at {path}");
+    }
+    Ok(())
+}
+
+#[test]
+fn files_are_read_whole_whatever_length_they_tell(rt: HostRuntime) -> Result<(), Fail> {
+    for length in [0, 1, 2, 3, 4, 5000, u64::MAX] {
+        let things = [("told", MisstatedFile(length, b"abc"))];
+        let disk = Disk {
+            rt: &rt,
+            things: &things,
+        };
+        let read = read_file(&disk, "told")?;
+        assert_eq!(rt; read.as_slice(), b"abc".as_slice(), "of {length}");
     }
     Ok(())
 }

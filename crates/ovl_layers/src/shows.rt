@@ -28,7 +28,7 @@ pub fn show_input<H: Threads + Wait + Sync + Files + AllocGlobal, R: Read, W: Wr
         ⊎ IsReported Show None (manifest ∷ []) [] default_workers (W.contents writer.old) (W.contents writer.new) result)) }
     ensures silent { IfErr result (λ fault. fault ≢ Output → Keeps (W.contents writer.old) (W.contents writer.new)) }
 {
-    let manifest = read_limited(rt.alloc(), reader, INPUT_LIMIT)?;
+    let manifest = read_limited(rt.alloc(), reader, INPUT_LIMIT, 0)?;
     write_report(
         rt,
         Command::Show,
