@@ -66,7 +66,7 @@ pub fn command<G: Gate + Sync, R: Threads + Wait + Sync>(
     if is_outside(LAYER_LIMIT, manifests.len()) {
         return Err(EngineFault::Layers);
     }
-    let stack = read_stack(alloc, manifests)?;
+    let stack = read_stack(rt, alloc, manifests, workers)?;
     if !blobs_in_order(blobs) {
         return Err(EngineFault::BlobOrder);
     }

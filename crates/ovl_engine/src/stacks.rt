@@ -1,4 +1,4 @@
-ghost use Rattle.std.specs.Prelude.{◌≡◌, ◌<◌, ◌≤◌, Ok, IfOk, MatchResult, length, map};
+ghost use Rattle.std.specs.Prelude.{◌≡◌, ◌+◌, ◌^◌, ◌<◌, ◌≤◌, Ok, IfOk, MatchResult, length, map};
 ghost use Rattle.ovl_lookup.specs.Stacks.{layer_limit};
 ghost use Rattle.ovl_engine.specs.Refusals.{layers_from, IsUnread};
 
@@ -6,16 +6,24 @@ use crate::faults::EngineFault;
 use ovl_lookup::{Stack, StackFault};
 use ovl_manifest::{Layer, read_layer};
 use std::alloc::Global;
+use std::thread::{Threads, map_chunks};
 
-/// The stack of the layers that 1 to [`LAYER_LIMIT`](ovl_lookup::LAYER_LIMIT) manifests state, the topmost first.
-pub(crate) fn read_stack(alloc: Global, manifests: &[Vec<u8>]) -> Result<Stack, EngineFault>
-    requires { (0 < length manifests.now) × (length manifests.now ≤ layer_limit) }
+/// The stack of the layers that 1 to [`LAYER_LIMIT`](ovl_lookup::LAYER_LIMIT) manifests state, the topmost first, read by
+/// at most as many threads as there are workers.
+pub(crate) fn read_stack<R: Threads + Sync>(
+    rt: &R,
+    alloc: Global,
+    manifests: &[Vec<u8>],
+    workers: usize,
+) -> Result<Stack, EngineFault>
+    requires number { 0 < workers }
+    requires limit { (0 < length manifests.now) × (length manifests.now ≤ layer_limit) }
     ensures read { MatchResult result
         (λ stack. layers_from 0 (map (λ manifest. manifest.items) manifests.now) ≡ Ok stack.layers)
         (λ fault. IsUnread (layers_from 0 (map (λ manifest. manifest.items) manifests.now)) fault) }
     ensures count { IfOk result (λ stack. length stack.layers ≡ length manifests.now) }
 {
-    let layers = read_layers(alloc, manifests)?;
+    let layers = read_layers(rt, alloc, manifests, workers)?;
     match Stack::of(alloc, layers) {
         Ok(stack) => Ok(stack),
         // There are as many layers as manifests.
@@ -24,17 +32,46 @@ pub(crate) fn read_stack(alloc: Global, manifests: &[Vec<u8>]) -> Result<Stack, 
     }
 }
 
-// The layers that the manifests state.
-fn read_layers(alloc: Global, manifests: &[Vec<u8>]) -> Result<Vec<Layer>, EngineFault>
+// The layers that the manifests state. Each thread reads a share of the manifests; one worker reads all in the calling
+// thread.
+fn read_layers<R: Threads + Sync>(
+    rt: &R,
+    alloc: Global,
+    manifests: &[Vec<u8>],
+    workers: usize,
+) -> Result<Vec<Layer>, EngineFault>
+    requires number { 0 < workers }
+    requires some { 0 < length manifests.now }
     ensures { MatchResult result
         (λ layers. layers_from 0 (map (λ manifest. manifest.items) manifests.now) ≡ Ok layers.items)
         (λ fault. IsUnread (layers_from 0 (map (λ manifest. manifest.items) manifests.now)) fault) }
+{
+    let share = manifests.len().div_ceil(workers);
+    let read = |first: usize, manifests: &[Vec<u8>]| -> Result<Vec<Layer>, EngineFault>
+        requires { first + length manifests.now < 2 ^ 64 }
+        ensures { MatchResult result
+            (λ layers. layers_from first (map (λ manifest. manifest.items) manifests.entry.now) ≡ Ok layers.items)
+            (λ fault. IsUnread (layers_from first (map (λ manifest. manifest.items) manifests.entry.now)) fault) }
+    { read_share(alloc, first, manifests) };
+    let mut layers = Vec::new(alloc);
+    for read in map_chunks(rt, alloc, manifests, share, &read)? {
+        layers.append(&mut read?)?;
+    }
+    Ok(layers)
+}
+
+// The layers that manifests state, whose indices begin with the first's.
+fn read_share(alloc: Global, first: usize, manifests: &[Vec<u8>]) -> Result<Vec<Layer>, EngineFault>
+    requires { first + length manifests.now < 2 ^ 64 }
+    ensures { MatchResult result
+        (λ layers. layers_from first (map (λ manifest. manifest.items) manifests.now) ≡ Ok layers.items)
+        (λ fault. IsUnread (layers_from first (map (λ manifest. manifest.items) manifests.now)) fault) }
 {
     let mut layers = Vec::new(alloc);
     for (index, manifest) in manifests.iter().enumerate() {
         match read_layer(alloc, manifest.as_slice()) {
             Ok(layer) => layers.push(layer)?,
-            Err(fault) => return Err(EngineFault::unread(index, fault)),
+            Err(fault) => return Err(EngineFault::unread(first + index, fault)),
         }
     }
     Ok(layers)

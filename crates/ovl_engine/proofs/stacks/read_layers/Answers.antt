@@ -1,19 +1,49 @@
-use Rattle.std.proofs.Common.{◌≡◌, ◌∙◌, ℕ, sym, ap, subst, Ok, List, map}
-use Rattle.ovl_manifest.specs.Manifest.{read_layer, IsFaultOf}
-use Rattle.ovl_engine.specs.Refusals.{layers_from, IsUnread}
-use Rattle.ovl_engine.specs.declared.faults.EngineFault.{EngineFault}
-use Rattle.ovl_engine.proofs.ManifestLemmas.{further, fails_here, told}
+use Rattle.std.proofs.Common.{◌≡◌, ◌∙◌, ◌≤◌, ◌*◌, ◌++◌, ◌∷◌, [], suc, sym, ap, subst, Ok, length, map, take, arith, length-append}
+use Rattle.std.proofs.lemmas.Grind.{div_ceil_times}
+use Rattle.std.proofs.lemmas.Iterator.Adapters.{YieldsList-from_vec}
+use Rattle.std.proofs.lemmas.Iterator.Consumers.{YieldsList-turn, YieldsList-end}
+use Rattle.std.proofs.lemmas.List.{take_all}
+use Rattle.std.proofs.lemmas.Result.{err_from_is_err_and}
+use Rattle.ovl_engine.specs.Refusals.{layers_from}
+use Rattle.ovl_engine.proofs.ManifestLemmas.{share_read, share_unread, some_share}
 use Rattle.ovl_engine.proofs.stacks.read_layers.Goals as goal
 
-pub returns-in-Err : goal.returns-in-Err
-returns-in-Err c =
-    let fails = fails_here (λ manifest. manifest.items) c.args.manifests.now c.loop-index.index c.index-manifests-index.result c.loop-index-test.true c.index-manifests-index.is c.loop-index.layers.items c.loop-index.invariant in
-    let one = subst (λ (bytes : List ℕ). IsFaultOf (read_layer bytes) c.in-Err.fault) c.as_slice.ensures.value c.in-Err.ensures in
-    subst (λ (fault : EngineFault). IsUnread (layers_from 0 (map (λ manifest. manifest.items) c.args.manifests.now)) fault) (sym c.unread.ensures)
-    (told c.loop-index.index (read_layer c.index-manifests-index.result.items) (layers_from 0 (map (λ manifest. manifest.items) c.args.manifests.now)) fails c.in-Err.fault one)
+pub returns-in_err-read : goal.returns-in_err-read
+returns-in_err-read g c =
+    let manifests = c.args.manifests.now in
+    let size = c.div_ceil-share.result in
+    let n = length c.loop-read.yielded in
+    let reads = c.in_ok-read-items.read-items in
+    let gives = c.into_iter-read-iterator.ensures.into_iter_gives in
+    let turn = YieldsList-turn (YieldsList-from_vec {s = c.into_iter-read-iterator.result} reads.items gives.0 (gives.1 ∙ reads.ok.0)) c.loop-read.yielded c.loop-read.read-iterator c.loop-read.yielded_by c.next.result c.next.new.self c.in-Some.read c.in-Some.is c.next.ensures.steps in
+    let share = (c.in_ok-read-items.ensures.each n c.in-Some.read turn.0).1 in
+    let out = err_from_is_err_and c.from_residual-in_err-read.result c.from_residual-in_err-read.ensures.1 in
+    rw (out.1, out.2) (share_unread (λ manifest. manifest.items) manifests size n (omega (arith, share.argument_is.in_bounds)) c.loop-read.layers.items c.loop-read.invariant
+    (λ layers. layers.items) _ c.in-Some.read share.argument.now share.call (sym turn.1) share.argument_is.value c.in_err-read.field-0.0 c.in_err-read.was)
 
-pub loop-index-preserved : goal.loop-index-preserved
-loop-index-preserved c =
-    let one = subst (λ (bytes : List ℕ). read_layer bytes ≡ Ok c.in-Ok.layer) c.as_slice.ensures.value c.in-Ok.ensures in
-    further (λ manifest. manifest.items) c.args.manifests.now c.loop-index.index c.index-manifests-index.result c.loop-index-test.true c.index-manifests-index.is c.loop-index.layers.items c.loop-index.invariant c.in-Ok.layer one
-    ∙ ap Ok (sym c.in_ok-push-in-Ok.ensures.items)
+pub loop-read-preserved : goal.loop-read-preserved
+loop-read-preserved g c =
+    let manifests = c.args.manifests.now in
+    let size = c.div_ceil-share.result in
+    let n = length c.loop-read.yielded in
+    let reads = c.in_ok-read-items.read-items in
+    let gives = c.into_iter-read-iterator.ensures.into_iter_gives in
+    let turn = YieldsList-turn (YieldsList-from_vec {s = c.into_iter-read-iterator.result} reads.items gives.0 (gives.1 ∙ reads.ok.0)) c.loop-read.yielded c.loop-read.read-iterator c.loop-read.yielded_by c.next.result c.next.new.self c.in-Some.read c.in-Some.is c.next.ensures.steps in
+    let share = (c.in_ok-read-items.ensures.each n c.in-Some.read turn.0).1 in
+    let more = share_read (λ manifest. manifest.items) manifests size n (omega (arith, share.argument_is.in_bounds)) c.loop-read.layers.items c.loop-read.invariant
+    (λ layers. layers.items) _ c.in-Some.read share.argument.now share.call (sym turn.1) share.argument_is.value c.in_ok-read.field-0 c.in_ok-read.was in
+    let longer : length (c.loop-read.yielded ++ c.in-Some.read ∷ []) ≡ suc n = omega (arith, length-append c.loop-read.yielded (c.in-Some.read ∷ [])) in
+    ap (λ count. layers_from 0 (map (λ manifest. manifest.items) (take (count * size) manifests))) longer ∙ (more ∙ ap Ok (sym c.in_ok-append.ensures.items))
+
+pub returns : goal.returns
+returns g c =
+    let manifests = c.args.manifests.now in
+    let size = c.div_ceil-share.result in
+    let reads = c.in_ok-read-items.read-items in
+    let gives = c.into_iter-read-iterator.ensures.into_iter_gives in
+    let ends = YieldsList-end (YieldsList-from_vec {s = c.into_iter-read-iterator.result} reads.items gives.0 (gives.1 ∙ reads.ok.0)) c.loop-read.yielded c.loop-read.read-iterator c.loop-read.yielded_by c.next.result c.next.new.self c.in-None.is c.next.ensures.steps in
+    let covered : length manifests ≤ size * c.args.workers = subst (λ share. length manifests ≤ share * c.args.workers) (sym c.div_ceil-share.ensures) (div_ceil_times (length manifests) c.args.workers c.requires.number).0 in
+    let some = some_share size c.args.workers (length manifests) c.requires.some covered in
+    let count = ends.1 ∙ (sym reads.ok.0 ∙ c.in_ok-read-items.ensures.len) in
+    let all : length manifests ≤ length c.loop-read.yielded * size = subst (λ shares. length manifests ≤ shares * size) (sym count) (div_ceil_times (length manifests) size some).0 in
+    ap (λ read. layers_from 0 (map (λ manifest. manifest.items) read)) (sym (take_all (length c.loop-read.yielded * size) manifests all)) ∙ c.loop-read.invariant
