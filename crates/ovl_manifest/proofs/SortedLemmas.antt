@@ -1,5 +1,5 @@
 -- Tokens that spell values, put together member by member and entry by entry.
-use Rattle.std.proofs.Common.{◌≡◌, ◌∙◌, ℕ, zero, suc, ◌+◌, ◌*◌, ◌/◌, ◌%◌, ◌≤◌, ◌<◌, ◌^◌, pos, List, [], ◌∷◌, ◌++◌, length, Bool, true, false, Option, Some, None, Result, Ok, Err, IfSome, SomeIff, refl, sym, ap, subst, append_assoc, arith, lt-ltb, ltb-true, eqb-true, eq-eqb}
+use Rattle.std.proofs.Common.{◌≡◌, ◌∙◌, ℕ, zero, suc, ◌+◌, ◌*◌, ◌/◌, ◌%◌, ◌≤◌, ◌<◌, ◌^◌, pos, negsuc, ℤ, neg_ℤ, w64, ◌≢◌, drop, FitsSigned, le-leb, List, [], ◌∷◌, ◌++◌, length, Bool, true, false, Option, Some, None, Result, Ok, Err, IfSome, SomeIff, refl, sym, ap, subst, append_assoc, arith, lt-ltb, ltb-true, eqb-true, eq-eqb}
 use Rattle.std.specs.Prelude.{◌==◌, not, ◌&&◌, ◌||◌, nat_eq, nat_lt, slice_index, codes, if◌then◌else◌, option_and_then}
 use Rattle.std.specs.Option.{option_map}
 use Rattle.std.specs.List.{list_all}
@@ -18,7 +18,8 @@ use Rattle.json.specs.Json as json
 use Rattle.json.specs.Lex.{tokens}
 use Rattle.json.specs.Tree.{json_tokens, items_tokens, members_tokens, items_depth}
 use Rattle.json.proofs.Printed.Trees.{value-json_tokens}
-use Rattle.serde_json.specs.Data.{Data, unsigned, string, array, object, Items, no_items, item, Members, no_members, member, put}
+use Rattle.serde_json.specs.Data.{Data, Num, number, unsigned, negative, string, array, object, Items, no_items, item, Members, no_members, member, put}
+use Rattle.serde_json.specs.Find.{of_integer}
 use Rattle.serde_json.specs.Read.{number_from, number_of, of_json, of_items, of_members, max_depth, read}
 use Rattle.ovl_names.specs.Names.{name_cmp}
 use Rattle.ovl_names.specs.Paths.{PathNames, path_text}
@@ -44,7 +45,7 @@ use Rattle.ovl_manifest.proofs.BackLemmas.{layer-back}
 pub spells-text : {text : List ℕ} {tokens rest : List Token} → tokens ≡ Token.string text ∷ rest → Spells 0 tokens (string text) rest
 spells-text {text} first = record { spelled = json.string text; first = first; states = refl; nests = omega arith }
 
-pub spells-number : {digits : List ℕ} {n : ℕ} {tokens rest : List Token} → tokens ≡ Token.number digits ∷ rest → number_of digits ≡ Some (unsigned n) → Spells 0 tokens (whole n) rest
+pub spells-number : {digits : List ℕ} {value : Num} {tokens rest : List Token} → tokens ≡ Token.number digits ∷ rest → number_of digits ≡ Some value → Spells 0 tokens (number value) rest
 spells-number {digits} first is = record { spelled = json.number digits; first = first; states = ap (option_map Data.number) is; nests = omega arith }
 
 pub natural-read : (digits : List ℕ) (parts : Parts) (number : Option ℕ) → parts ≡ scan digits → (slice_index digits 0 == minus) ≡ false → SomeIff number (IsInteger parts × (digits_of parts < 2 ^ 64)) (digits_of parts) → IfSome number (λ n. number_of digits ≡ Some (unsigned n))
@@ -54,6 +55,34 @@ natural-read digits parts (Some n) is plain exact =
     let read : number_of digits ≡ number_from false parts = rw plain (ap (number_from false) (sym is)) in
     let tested : number_from false parts ≡ Some (unsigned (digits_of parts)) = rw (lt-ltb _ _ exact.0.0.0, exact.0.0.1, eq-eqb _ _ exact.0.0.2, lt-ltb _ _ exact.0.1) refl in
     read ∙ tested ∙ ap (λ m. Some (unsigned m)) (sym exact.1)
+
+pub spells-integer : {digits : List ℕ} {tokens rest : List Token} (value : Option ℤ) → tokens ≡ Token.number digits ∷ rest → IfSome value (λ z. number_of digits ≡ Some (of_integer z)) → IfSome value (λ z. Spells 0 tokens (number (of_integer z)) rest)
+spells-integer None first is = tt
+spells-integer (Some z) first is = spells-number first is
+
+pub positive-read : (digits : List ℕ) (parts : Parts) (value : Option ℤ) → parts ≡ scan digits → (slice_index digits 0 == minus) ≡ false → SomeIff value (IsInteger parts × FitsSigned w64 (pos (digits_of parts))) (pos (digits_of parts)) → IfSome value (λ z. number_of digits ≡ Some (of_integer z))
+unfolding number_of
+positive-read digits parts None is plain exact = tt
+positive-read digits parts (Some z) is plain exact =
+    let fits : digits_of parts < 2 ^ 64 = omega (arith, exact.0.1.sfits) in
+    let read : number_of digits ≡ number_from false parts = rw plain (ap (number_from false) (sym is)) in
+    let tested : number_from false parts ≡ Some (unsigned (digits_of parts)) = rw (lt-ltb _ _ exact.0.0.0, exact.0.0.1, eq-eqb _ _ exact.0.0.2, lt-ltb _ _ fits) refl in
+    read ∙ tested ∙ ap (λ n. Some (of_integer n)) (sym exact.1)
+
+pub negative-read : (digits : List ℕ) (parts : Parts) (value : ℤ) → parts ≡ scan (drop 1 digits) → (slice_index digits 0 == minus) ≡ true → (IsInteger parts × FitsSigned w64 (neg_ℤ (pos (digits_of parts)))) → value ≡ neg_ℤ (pos (digits_of parts)) → value ≢ pos 0 → number_of digits ≡ Some (of_integer value)
+unfolding number_of
+negative-read digits parts value is signed exact same other = by (digits_of parts) refl
+  where
+    read : number_of digits ≡ number_from true parts
+    read = rw signed (ap (number_from true) (sym is))
+
+    by : (n : ℕ) → digits_of parts ≡ n → number_of digits ≡ Some (of_integer value)
+    by zero e = absurd (other (same ∙ ap (λ m. neg_ℤ (pos m)) e))
+    by (suc n) e =
+        let fits : FitsSigned w64 (negsuc n) = rw e at exact.1 in
+        let within : suc n ≤ 2 ^ 63 = omega (arith, fits.sfits) in
+        let tested : number_from true parts ≡ Some (negative (negsuc n)) = rw (lt-ltb _ _ exact.0.0, exact.0.1, eq-eqb _ _ exact.0.2, e, lt-ltb 0 (suc n) (omega arith), le-leb _ _ within) refl in
+        read ∙ tested ∙ ap (λ z. Some (of_integer z)) (sym (same ∙ ap (λ m. neg_ℤ (pos m)) e))
 
 -- ---- members
 
@@ -252,9 +281,9 @@ one_attribute_more attrs more name digits is =
 -- ---- entries
 
 -- the members that were read in turn are those of the entry's value
-in_order : (path : PathNames) (kind : Kind) (mode uid gid mtime : ℕ) (attrs : Attributes)
-    → put (codes "xattrs") (object (attribute_members attrs)) (put (codes "uid") (whole uid) (with_contents kind (put (codes "path") (string (path_text path)) (put (codes "mtime") (whole mtime) (put (codes "mode") (whole mode) (with_device (device_of_kind kind) (put (codes "kind") (string (kind_word kind)) (put (codes "gid") (whole gid) (with_blob (blob_of_kind kind) no_members)))))))))
-    ≡ with_kind kind (common_members (path, record { kind = kind; mode = mode; uid = uid; gid = gid; mtime = pos mtime; attrs = attrs }))
+in_order : (path : PathNames) (kind : Kind) (mode uid gid : ℕ) (mtime : ℤ) (attrs : Attributes)
+    → put (codes "xattrs") (object (attribute_members attrs)) (put (codes "uid") (whole uid) (with_contents kind (put (codes "path") (string (path_text path)) (put (codes "mtime") (number (of_integer mtime)) (put (codes "mode") (whole mode) (with_device (device_of_kind kind) (put (codes "kind") (string (kind_word kind)) (put (codes "gid") (whole gid) (with_blob (blob_of_kind kind) no_members)))))))))
+    ≡ with_kind kind (common_members (path, record { kind = kind; mode = mode; uid = uid; gid = gid; mtime = mtime; attrs = attrs }))
 in_order path Dir mode uid gid mtime attrs = refl
 in_order path (File size None) mode uid gid mtime attrs = refl
 in_order path (File size (Some blob)) mode uid gid mtime attrs = refl
@@ -264,11 +293,11 @@ in_order path (Block major minor) mode uid gid mtime attrs = refl
 in_order path Fifo mode uid gid mtime attrs = refl
 in_order path Socket mode uid gid mtime attrs = refl
 
-pub members_of_entry : (path : PathNames) (kind : Kind) (word : List ℕ) (blob : Option Digest) (device : Option (ℕ × ℕ)) (mode uid gid mtime : ℕ) (attrs : Attributes) → IsKindOf word blob device kind
-    → put (codes "xattrs") (object (attribute_members attrs)) (put (codes "uid") (whole uid) (with_contents kind (put (codes "path") (string (path_text path)) (put (codes "mtime") (whole mtime) (put (codes "mode") (whole mode) (with_device device (put (codes "kind") (string word) (put (codes "gid") (whole gid) (with_blob blob no_members)))))))))
-    ≡ with_kind kind (common_members (path, record { kind = kind; mode = mode; uid = uid; gid = gid; mtime = pos mtime; attrs = attrs }))
+pub members_of_entry : (path : PathNames) (kind : Kind) (word : List ℕ) (blob : Option Digest) (device : Option (ℕ × ℕ)) (mode uid gid : ℕ) (mtime : ℤ) (attrs : Attributes) → IsKindOf word blob device kind
+    → put (codes "xattrs") (object (attribute_members attrs)) (put (codes "uid") (whole uid) (with_contents kind (put (codes "path") (string (path_text path)) (put (codes "mtime") (number (of_integer mtime)) (put (codes "mode") (whole mode) (with_device device (put (codes "kind") (string word) (put (codes "gid") (whole gid) (with_blob blob no_members)))))))))
+    ≡ with_kind kind (common_members (path, record { kind = kind; mode = mode; uid = uid; gid = gid; mtime = mtime; attrs = attrs }))
 members_of_entry path kind word blob device mode uid gid mtime attrs is =
-    let upper : Members → Members = λ members. put (codes "xattrs") (object (attribute_members attrs)) (put (codes "uid") (whole uid) (with_contents kind (put (codes "path") (string (path_text path)) (put (codes "mtime") (whole mtime) (put (codes "mode") (whole mode) members))))) in
+    let upper : Members → Members = λ members. put (codes "xattrs") (object (attribute_members attrs)) (put (codes "uid") (whole uid) (with_contents kind (put (codes "path") (string (path_text path)) (put (codes "mtime") (number (of_integer mtime)) (put (codes "mode") (whole mode) members))))) in
     let own : with_device device (put (codes "kind") (string word) (put (codes "gid") (whole gid) (with_blob blob no_members))) ≡ with_device (device_of_kind kind) (put (codes "kind") (string (kind_word kind)) (put (codes "gid") (whole gid) (with_blob (blob_of_kind kind) no_members))) =
     λ j. with_device (sym is.same_device j) (put (codes "kind") (string (sym is.same_word j)) (put (codes "gid") (whole gid) (with_blob (sym is.same_blob j) no_members))) in
     ap upper own ∙ in_order path kind mode uid gid mtime attrs

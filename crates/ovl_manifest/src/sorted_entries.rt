@@ -9,7 +9,7 @@ ghost use Rattle.ovl_manifest.specs.Sorted.{Spells, HasMember, Adds, with_device
 
 use crate::fields::put_digits;
 use crate::sorted_members::{
-    next_name, next_natural, next_text, read_natural, read_text, take_key,
+    next_name, next_natural, next_text, read_integer, read_natural, read_text, take_key,
 };
 use json::{Reader, Token};
 use ovl_inode::{Attrs, Digest, Inode, Kind, MODE_LIMIT, SIZE_LIMIT, Target, sound};
@@ -29,7 +29,7 @@ pub(crate) fn read_entry(alloc: Global, reader: &mut Reader<'_>) -> Option<(Path
     let word = read_text(reader, "kind")?;
     let device = read_device(reader, word)?;
     let mode = read_natural(reader, "mode", MODE_LIMIT as u64)?;
-    let mtime = read_natural(reader, "mtime", i64::MAX as u64)?;
+    let mtime = read_integer(reader, "mtime")?;
     let path = read_path(alloc, reader)?;
     let kind = read_kind(alloc, reader, word, blob, device)?;
     let uid = read_natural(reader, "uid", u32::MAX as u64)?;
@@ -42,7 +42,7 @@ pub(crate) fn read_entry(alloc: Global, reader: &mut Reader<'_>) -> Option<(Path
         mode: mode as u16,
         uid: uid as u32,
         gid,
-        mtime: mtime as i64,
+        mtime,
         attrs,
     };
     if sound(&inode) {

@@ -16,7 +16,7 @@ use std::alloc::Global;
 
 /// The layer that the bytes of a manifest state, if the members of its objects stand in the byte order of their names,
 /// as [`write_layer`](crate::write_layer) writes them; any order of attributes does. Gives none of other manifests, of
-/// negative times, of any fault and for want of memory.
+/// any fault and for want of memory.
 pub(crate) fn read_sorted(alloc: Global, bytes: &[u8]) -> Option<Layer>
     ensures { IfSome result (λ layer. layer_stated bytes.now ≡ Ok layer) }
 {

@@ -2,7 +2,8 @@
 ghost use Rattle.std.specs.Prelude.{◌≡◌, ◌≤◌, ◌==◌, ◌∷◌, Some, IfSome, IsTrue, MatchOption, slice_index};
 ghost use Rattle.fast_float.specs.Text.{minus};
 ghost use Rattle.json.specs.Token.{key, end_object};
-ghost use Rattle.serde_json.specs.Data.{unsigned, string};
+ghost use Rattle.serde_json.specs.Data.{number, unsigned, string};
+ghost use Rattle.serde_json.specs.Find.{of_integer};
 ghost use Rattle.serde_json.specs.Read.{number_of};
 ghost use Rattle.ovl_manifest.specs.Text.{whole};
 ghost use Rattle.ovl_manifest.specs.Sorted.{Spells, HasMember};
@@ -53,6 +54,16 @@ pub(crate) fn read_natural(reader: &mut Reader<'_>, name: &str, limit: u64) -> O
     next_natural(reader, limit)
 }
 
+/// The whole number of an `i64` that the next member states, if it has this name.
+pub(crate) fn read_integer(reader: &mut Reader<'_>, name: &str) -> Option<i64>
+    ensures { IfSome result (λ value. HasMember 0 name.now reader.old (number (of_integer value)) reader.new) }
+{
+    if !take_key(reader, name) {
+        return None;
+    }
+    next_integer(reader)
+}
+
 /// The text that comes next.
 pub(crate) fn next_text<'a>(reader: &mut Reader<'a>) -> Option<&'a str>
     ensures { IfSome result (λ text. Spells 0 reader.old (string text.now) reader.new) }
@@ -73,6 +84,28 @@ pub(crate) fn next_natural(reader: &mut Reader<'_>, limit: u64) -> Option<u64>
     };
     let number = natural(digits)?;
     if number <= limit { Some(number) } else { None }
+}
+
+// The whole number of an `i64` that comes next.
+fn next_integer(reader: &mut Reader<'_>) -> Option<i64>
+    ensures { IfSome result (λ value. Spells 0 reader.old (number (of_integer value)) reader.new) }
+{
+    let Some(Token::Number(digits)) = reader.next() else {
+        return None;
+    };
+    integer(digits)
+}
+
+// The whole number that digits write, with or without a sign. `-0` writes none: it is read as a fraction.
+fn integer(digits: &str) -> Option<i64>
+    ensures { IfSome result (λ value. number_of digits.now ≡ Some (of_integer value)) }
+{
+    let digits = digits.as_bytes();
+    if !has_minus(digits) {
+        return Numeral::scan(digits).to_i64(false);
+    }
+    let value = Numeral::scan(&digits[1..]).to_i64(true)?;
+    if value == 0 { None } else { Some(value) }
 }
 
 // The whole number that digits without a sign write.

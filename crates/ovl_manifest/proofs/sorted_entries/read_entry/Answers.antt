@@ -1,5 +1,5 @@
-use Rattle.std.proofs.Common.{◌∙◌, ◌∷◌, ℤ, w64, sym, ap, subst, arith}
-use Rattle.std.proofs.lemmas.Int.{to_z_pos}
+use Rattle.std.proofs.Common.{◌∙◌, ◌∷◌, ℤ, w64, SFits, sym, ap, subst, arith, rules}
+use Rattle.std.proofs.lemmas.Int.{to_z-of_z}
 use Rattle.json.specs.Reads.{token_of}
 use Rattle.serde_json.specs.Data.{Members, object}
 use Rattle.ovl_manifest.specs.Text.{entry_value}
@@ -16,11 +16,12 @@ returns-then-sound-clause-value c =
     (and_then (adds (omega arith) c.in_ok-word.ensures _)
     (and_then (c.in_ok-device.ensures _)
     (and_then (adds (omega arith) c.in_ok-mode.ensures.member _)
-    (and_then (adds (omega arith) c.in_ok-mtime.ensures.member _)
+    (and_then (adds (omega arith) c.in_ok-mtime.ensures _)
     (and_then (adds (omega arith) c.in_ok-path.ensures.member _)
     (and_then (c.in_ok-kind.ensures.contents _)
     (and_then (adds (omega arith) c.in_ok-uid.ensures.member _) (adds (omega arith) c.in_ok-attrs.ensures _)))))))) in
     let same = members_of_entry c.in_ok-path.path c.in_ok-kind.kind c.in_ok-word.word.now c.in_ok-group.group.0 c.in_ok-device.device c.in_ok-mode.mode c.in_ok-uid.uid c.in_ok-group.group.1 c.in_ok-mtime.mtime c.in_ok-attrs.attrs c.in_ok-kind.ensures.kind in
     let done = subst (λ (members : Members). Spells 2 c.args.reader.now (object members) c.next-2.new.self) same (spells-object opened all closed) in
-    let time = to_z_pos w64 c.in_ok-mtime.mtime (grind (arith, c.in_ok-mtime.ensures.bound)) in
+    let fits : SFits w64 c.in_ok-mtime.mtime = search rules in
+    let time = to_z-of_z w64 c.in_ok-mtime.mtime fits in
     subst (λ (mtime : ℤ). Spells 2 c.args.reader.now (entry_value (c.in_ok-path.path, record { kind = c.in_ok-kind.kind; mode = c.in_ok-mode.mode; uid = c.in_ok-uid.uid; gid = c.in_ok-group.group.1; mtime = mtime; attrs = c.in_ok-attrs.attrs })) c.next-2.new.self) (sym time) done
