@@ -1,11 +1,11 @@
-ghost use Rattle.std.specs.Prelude.{◌≡◌, ◌↔◌, ◌<◌, ◌==◌, Some, None, is_some, IsTrue, IfOk, MatchResult, [], ◌∷◌, ◌++◌, length, string_bytes};
+ghost use Rattle.std.specs.Prelude.{◌≡◌, ◌↔◌, ◌<◌, ◌==◌, Some, None, is_some, IsTrue, IfOk, IfSome, MatchResult, [], ◌∷◌, ◌++◌, length, nat_lt, string_bytes};
 ghost use Rattle.std.specs.Cmp.{partial_equiv_from_equiv, po};
 ghost use Rattle.std.specs.Cmp.Lexicographic.{nat_list_cmp_total, nat_list_eq_equiv, texts_ties, lists_total, lists_equiv, lists_ties};
 ghost use Rattle.std.proofs.Common.{refl};
 ghost use Rattle.std.specs.List.{list_any};
 ghost use Rattle.ovl_names.specs.Names.{name_cmp, name_fault, slash};
 ghost use Rattle.ovl_names.specs.declared.paths.PathFault.TheVariants.{Memory};
-ghost use Rattle.ovl_names.specs.Paths.{child_path, parent_of, path_eq, path_cmp, path_fault, path_refusal, text_parts, parts_between, has_names, depth_limit};
+ghost use Rattle.ovl_names.specs.Paths.{child_path, parent_of, path_eq, path_cmp, path_fault, path_refusal, text_parts, parts_between, has_names, depth_limit, text_limit};
 ghost use Rattle.ovl_names.specs.Escapes.{shown_path};
 
 use crate::escaped;
@@ -101,18 +101,11 @@ impl Path {
         if rest.is_empty() {
             return Ok(Path::root(alloc));
         }
-        if let Some(fault) = parts_fault(rest) {
-            return Err(fault);
+        match read_names(alloc, rest) {
+            Some(names) => Ok(Path { names }),
+            // Without a fault of the text it fails only for want of memory.
+            None => Err(parts_fault(rest).unwrap_or(PathFault::Memory)),
         }
-        let mut names = Vec::new(alloc);
-        for part in rest.split('/') {
-            // No part is at fault, so that reading it as a name can fail only for want of memory.
-            let Ok(name) = Name::of(alloc, part) else {
-                return Err(PathFault::Memory);
-            };
-            names.push(name)?;
-        }
-        Ok(Path { names })
     }
 
     /// The number of names; 0 for the root.
@@ -215,6 +208,31 @@ impl Path {
     }
 }
 
+// The names that parts with `/` before each spell, if they are a path within the limits; none also for want of memory.
+fn read_names(alloc: Global, rest: &str) -> Option<Vec<Name>>
+    requires { 0 < length rest.now }
+    ensures names { IfSome result (λ names. names.items ≡ parts_between rest.now) }
+    ensures named { IfSome result (λ names. IsTrue (has_names names.items)) }
+    ensures fault { IfSome result (λ _. path_fault depth_limit (slash ∷ rest.now) ≡ None) }
+{
+    if is_too_long(rest) {
+        return None;
+    }
+    let mut names = Vec::new(alloc);
+    for part in rest.split('/') {
+        let Ok(name) = Name::of(alloc, part) else {
+            return None;
+        };
+        let Ok(()) = names.push(name) else {
+            return None;
+        };
+    }
+    if names.len() > DEPTH_LIMIT {
+        return None;
+    }
+    Some(names)
+}
+
 // The first fault of the text that has `/` before these parts, in the order of `PathFault`.
 fn parts_fault(rest: &str) -> Option<PathFault>
     requires { 0 < length rest.now }
@@ -226,7 +244,7 @@ fn parts_fault(rest: &str) -> Option<PathFault>
         Some(PathFault::BadPart)
     } else if part_count(rest) > DEPTH_LIMIT {
         Some(PathFault::TooDeep)
-    } else if rest.len() >= TEXT_LIMIT {
+    } else if is_too_long(rest) {
         Some(PathFault::TooLong)
     } else {
         None
@@ -250,6 +268,13 @@ fn part_count(rest: &str) -> usize
     ensures { result ≡ length (parts_between rest.now) }
 {
     rest.split('/').count()
+}
+
+// Whether these parts with `/` before them are more than `TEXT_LIMIT` bytes.
+fn is_too_long(rest: &str) -> bool
+    ensures { result ≡ nat_lt text_limit (length (slash ∷ rest.now)) }
+{
+    rest.len() >= TEXT_LIMIT
 }
 
 impl PartialEq for Path {

@@ -1,6 +1,6 @@
 use Rattle.std.proofs.Common.{◌≡◌, IsTrue, map}
 use Rattle.ovl_names.specs.Paths.{has_names}
-use Rattle.ovl_names.proofs.paths.Path.parse.Given as goal
+use Rattle.ovl_names.proofs.paths.read_names.Given as goal
 
 abbrev pub invariant-loop-part : goal.invariant-loop-part
 invariant-loop-part l = record {
