@@ -1,6 +1,6 @@
 ghost use Rattle.std.specs.Prelude.{◌≡◌, []};
 
-use crate::command_samples::{contents_of, manifest_of, manifests_of, reported};
+use crate::command_samples::{contents_of, manifest_of, manifests_of};
 use ovl_board::{BoardFault, Piece};
 use ovl_engine::{Answer, Command, EngineFault, ShowWork, command, named_blobs};
 use ovl_lookup::Stack;
@@ -125,56 +125,6 @@ fn a_fault_of_the_board_has_its_text(rt: HostRuntime) -> Result<(), Fail> {
     assert_eq!(rt; fault.to_string(rt.alloc())?.as_str(), "board");
     let fault = EngineFault::from(RunFault::Board(BoardFault::Memory));
     assert_eq!(rt; fault, EngineFault::Memory);
-    Ok(())
-}
-
-// A layer with entries of every kind.
-const TOOLS: &str =
-    "{\"entries\":[{\"gid\":0,\"kind\":\"dir\",\"mode\":493,\"mtime\":1700000000,\"path\":\"/\",\"uid\":0,\"xattrs\":{}},\
-    {\"gid\":0,\"kind\":\"dir\",\"mode\":493,\"mtime\":1700000000,\"path\":\"/bin\",\"uid\":0,\"xattrs\":{}},\
-    {\"blob\":\"bfdeaeb08cffb6a36438bcd12dda25417e3cdd36f1e7e482a2849d539225288b\",\"gid\":0,\"kind\":\"file\",\"mode\":493,\"mtime\":1700000000,\"path\":\"/bin/hello\",\"size\":21,\"uid\":0,\"xattrs\":{}},\
-    {\"gid\":0,\"kind\":\"symlink\",\"mode\":511,\"mtime\":1700000000,\"path\":\"/bin/hi\",\"target\":\"hello\",\"uid\":0,\"xattrs\":{}},\
-    {\"gid\":0,\"kind\":\"symlink\",\"mode\":511,\"mtime\":1700000000,\"path\":\"/bin/old tool\",\"target\":\"../opt/old tools/hi\",\"uid\":0,\"xattrs\":{}},\
-    {\"gid\":0,\"kind\":\"dir\",\"mode\":493,\"mtime\":1700000000,\"path\":\"/dev\",\"uid\":0,\"xattrs\":{}},\
-    {\"gid\":6,\"kind\":\"block\",\"major\":8,\"minor\":0,\"mode\":432,\"mtime\":1700000000,\"path\":\"/dev/disk\",\"uid\":0,\"xattrs\":{}},\
-    {\"gid\":0,\"kind\":\"fifo\",\"mode\":384,\"mtime\":1700000000,\"path\":\"/dev/log-pipe\",\"uid\":0,\"xattrs\":{}},\
-    {\"gid\":0,\"kind\":\"socket\",\"mode\":438,\"mtime\":1700000000,\"path\":\"/dev/log.sock\",\"uid\":0,\"xattrs\":{}},\
-    {\"gid\":0,\"kind\":\"char\",\"major\":1,\"minor\":3,\"mode\":438,\"mtime\":1700000000,\"path\":\"/dev/null\",\"uid\":0,\"xattrs\":{}},\
-    {\"gid\":0,\"kind\":\"dir\",\"mode\":493,\"mtime\":1700000000,\"path\":\"/etc\",\"uid\":0,\"xattrs\":{}},\
-    {\"gid\":0,\"kind\":\"file\",\"mode\":420,\"mtime\":1700000000,\"path\":\"/etc/empty.conf\",\"size\":0,\"uid\":0,\"xattrs\":{}},\
-    {\"blob\":\"0e90e1aa36481e399939d32680dab2005c299f2bb9c3ba6b151ac0cc821fec7a\",\"gid\":0,\"kind\":\"file\",\"mode\":420,\"mtime\":1700000000,\"path\":\"/etc/motd\",\"size\":8,\"uid\":0,\"xattrs\":{\"user.origin\":\"6f7572732e\"}},\
-    {\"gid\":1000,\"kind\":\"dir\",\"mode\":488,\"mtime\":1700000000,\"path\":\"/etc/tools.d\",\"uid\":1000,\"xattrs\":{\"trusted.overlay.opaque\":\"79\"}},\
-    {\"blob\":\"3b6a5e83064c150d750ab23cda5897779da4dd38c898c280b0a4145ba17484dd\",\"gid\":1000,\"kind\":\"file\",\"mode\":416,\"mtime\":-86400,\"path\":\"/etc/tools.d/hello.conf\",\"size\":15,\"uid\":1000,\"xattrs\":{}},\
-    {\"gid\":0,\"kind\":\"dir\",\"mode\":448,\"mtime\":1700000000,\"path\":\"/etc-old\",\"uid\":0,\"xattrs\":{}},\
-    {\"gid\":0,\"kind\":\"char\",\"major\":0,\"minor\":0,\"mode\":0,\"mtime\":0,\"path\":\"/games\",\"uid\":0,\"xattrs\":{}},\
-    {\"gid\":0,\"kind\":\"dir\",\"mode\":1023,\"mtime\":1700000000,\"path\":\"/tmp\",\"uid\":0,\"xattrs\":{}}],\"overlay-layer\":1}";
-
-#[test]
-fn a_layer_shows_every_kind_of_entry(rt: HostRuntime) -> Result<(), Fail> {
-    let alloc = rt.alloc();
-    let mut manifest = Vec::new(alloc);
-    manifest.extend_from_slice(TOOLS.as_bytes())?;
-    assert_eq!(rt;
-        reported(&rt, alloc, &[manifest])?.as_str(),
-        "dir 0755 0 0 1700000000 - - /\n\
-        dir 0755 0 0 1700000000 - - /bin\n\
-        file 0755 0 0 1700000000 21 bfdeaeb08cffb6a36438bcd12dda25417e3cdd36f1e7e482a2849d539225288b /bin/hello\n\
-        symlink 0777 0 0 1700000000 - hello /bin/hi\n\
-        symlink 0777 0 0 1700000000 - ../opt/old\\x20tools/hi /bin/old\\x20tool\n\
-        dir 0755 0 0 1700000000 - - /dev\n\
-        block 0660 0 6 1700000000 - 8:0 /dev/disk\n\
-        fifo 0600 0 0 1700000000 - - /dev/log-pipe\n\
-        socket 0666 0 0 1700000000 - - /dev/log.sock\n\
-        char 0666 0 0 1700000000 - 1:3 /dev/null\n\
-        dir 0755 0 0 1700000000 - - /etc\n\
-        file 0644 0 0 1700000000 0 - /etc/empty.conf\n\
-        file 0644 0 0 1700000000 8 0e90e1aa36481e399939d32680dab2005c299f2bb9c3ba6b151ac0cc821fec7a /etc/motd user.origin=6f7572732e\n\
-        dir 0750 1000 1000 1700000000 - - /etc/tools.d\n\
-        file 0640 1000 1000 -86400 15 3b6a5e83064c150d750ab23cda5897779da4dd38c898c280b0a4145ba17484dd /etc/tools.d/hello.conf\n\
-        dir 0700 0 0 1700000000 - - /etc-old\n\
-        dir 1777 0 0 1700000000 - - /tmp\n\
-        entries 17\n"
-    );
     Ok(())
 }
 
