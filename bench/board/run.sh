@@ -9,7 +9,7 @@ mkdir -p "$work/crates/board_bench/src" "$work/crates/board_bench/proofs/checked
 cp -r "$top/crates/ovl_names" "$top/crates/ovl_board" "$work/crates/"
 cd "$work"
 cat > crates.txt <<'END'
-ovl_names: hex thiserror
+ovl_names: arrayvec hex thiserror
 ovl_board: ovl_names thiserror
 board_bench: ovl_board ovl_names anyhow
 END

@@ -13,7 +13,7 @@ cp -r "$top/crates/ovl_names" "$top/crates/ovl_board" "$top/crates/ovl_lanes" "$
 cp "$top/HANDLES" "$work/"
 cd "$work"
 cat > crates.txt <<'END'
-ovl_names: hex thiserror
+ovl_names: arrayvec hex thiserror
 ovl_board: ovl_names thiserror
 ovl_lanes: ovl_names ovl_board crossbeam_deque thiserror
 ovl_pool: ovl_names ovl_board ovl_lanes crossbeam_utils thiserror

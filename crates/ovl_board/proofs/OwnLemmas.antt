@@ -111,6 +111,13 @@ module _ {O S : Type 0} (seen : O → S) (kids : Piece → List Piece) (out : Pi
   pub own_lawful-bare : (deepest : ℕ) → HasLawfulKids kids deepest → (parcels : List (Parcel O)) → AreOwn kids out (parcel_views seen parcels) → AllLawful (bare parcels)
   own_lawful-bare deepest law parcels own = seen_lawful seen (λ _. tt {0}) parcels (own_lawful kids out (parcel_views seen parcels) own deepest law)
 
+  -- a work's own parcels are its own in any order
+  pub own_permuted : (parcels others : List (Parcel O)) → IsPermutation parcels others → AreOwn kids out (parcel_views seen parcels) → AreOwn kids out (parcel_views seen others)
+  own_permuted parcels others same own =
+      let views = parcel_views seen parcels in
+      each_own kids out (parcel_views seen others) (Every-All (IsOwn kids out) (parcel_views seen others)
+      (All-permutation (IsOwn kids out) views (parcel_views seen others) (IsPermutation-map (parcel_view seen) parcels others same) (All-Every (IsOwn kids out) views (own_each kids out views own))))
+
   -- a work's own parcels in order are its plain walk
   pub order_plain : (root : Piece) (parcels assembled : List (Parcel O)) → AreOwn kids out (parcel_views seen parcels) → IsInOrder root parcels assembled → IsPlain kids out root (parcel_views seen assembled)
   order_plain root parcels assembled own order =
@@ -130,8 +137,7 @@ module _ {O S : Type 0} (seen : O → S) (kids : Piece → List Piece) (out : Pi
               reached_by (HasKid (bare parcels)) (ToKid kids) (λ q r k. to_work kids out views own q r (seen_kid none seen parcels q r k)) root p (Every-All (Reached (HasKid (bare parcels)) root) pieces walk.reached p h));
           whole = λ p r. walk.whole p (reached_by (HasKid views) (HasKid (bare parcels)) (seen_kid seen none parcels) root p (to_parcels kids out views own root closed p r));
         });
-        own = each_own kids out (parcel_views seen assembled) (Every-All (IsOwn kids out) (parcel_views seen assembled)
-            (All-permutation (IsOwn kids out) views (parcel_views seen assembled) (IsPermutation-map (parcel_view seen) parcels assembled order.0) (All-Every (IsOwn kids out) views (own_each kids out views own))));
+        own = own_permuted parcels assembled order.0 own;
       }
 
 -- one more parcel with lawful kids

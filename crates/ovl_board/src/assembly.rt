@@ -49,7 +49,7 @@ pub fn assemble<T: Drop>(
         (λ assembled. IsInOrder root.now parcels.items assembled.items)
         (λ fault. IsBoardFault root.now (bare parcels.items) fault) }
 {
-    sort(&mut parcels)?;
+    sort_parcels(&mut parcels)?;
     if is_walk(alloc, root, &parcels)? {
         return Ok(parcels);
     }
@@ -58,6 +58,15 @@ pub fn assemble<T: Drop>(
     let expected = expected_pieces(alloc, root, &parcels)?;
     compare(alloc, &pieces, &expected)?;
     Ok(parcels)
+}
+
+/// Puts parcels into the order of their pieces; fails only for want of memory. They stay the same parcels in either
+/// case.
+pub fn sort_parcels<T>(parcels: &mut Vec<Parcel<T>>) -> Result<(), AllocError>
+    ensures same { IsPermutation parcels.old.items parcels.new.items }
+    ensures sorted { OnOk result (IsSorted piece_cmp (pieces_of (bare parcels.new.items))) }
+{
+    parcels.sort_by(|a, b| a.piece.cmp(&b.piece))
 }
 
 // Whether the parcels go down the tree of kids, from the root: each of them has the piece that became open last, and
@@ -84,13 +93,6 @@ fn push_reversed<'a>(waiting: &mut Vec<&'a Piece>, kids: &'a [Piece]) -> Result<
     ensures { OnOk result (map (λ piece. piece.now) waiting.new.items ≡ map (λ piece. piece.now) waiting.old.items ++ reverse kids.now) }
 {
     waiting.extend(kids.iter().rev())
-}
-
-fn sort<T>(parcels: &mut Vec<Parcel<T>>) -> Result<(), AllocError>
-    ensures same { IsPermutation parcels.old.items parcels.new.items }
-    ensures sorted { OnOk result (IsSorted piece_cmp (pieces_of (bare parcels.new.items))) }
-{
-    parcels.sort_by(|a, b| a.piece.cmp(&b.piece))
 }
 
 // Whether sorted pieces are the expected ones, each once; else the first fault.

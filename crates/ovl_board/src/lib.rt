@@ -12,7 +12,7 @@ mod plain;
 mod trees;
 mod works;
 
-pub use assembly::{BoardFault, assemble};
+pub use assembly::{BoardFault, assemble, sort_parcels};
 pub use cores::{Core, WORKER_LIMIT};
 pub use events::{CoreFault, Event};
 pub use pieces::{Piece, copies};

@@ -3,8 +3,8 @@ ghost use Rattle.ovl_names.specs.Paths.{child_path};
 ghost use Rattle.ovl_inode.specs.Marks.{is_directory as the_directory};
 ghost use Rattle.ovl_inode.specs.declared.marks.Mark.TheVariants.{Meta};
 ghost use Rattle.ovl_manifest.specs.Layers.{entry_at};
-ghost use Rattle.ovl_lookup.specs.Walk.{walk_to_file};
-ghost use Rattle.ovl_lookup.specs.Sound.{is_seen_there};
+ghost use Rattle.ovl_lookup.specs.Walk.{walk_to_file, mark_at as the_mark};
+ghost use Rattle.ovl_lookup.specs.Sound.{is_seen_there, is_plain};
 ghost use Rattle.ovl_check.specs.Checks.{layer_at, layers_below};
 ghost use Rattle.ovl_check.specs.CheckViews.{check_view};
 ghost use Rattle.ovl_check.specs.Facts.{IsGathered, IsBelow, IsMarked, AreFacts, asks, old_place as the_old_place, content_of as the_content, whiteout_in as the_whiteout, data_size_on};
@@ -137,7 +137,21 @@ fn is_seen(alloc: Global, stack: &Stack, i: usize, place: &Path) -> Result<bool,
     if step.found.is_none() {
         return Ok(true);
     }
-    Ok(matches!(mark_at(alloc, stack, i, place)?, Some(Mark::DirPlain)))
+    is_plain_at(alloc, stack, i, place)
+}
+
+// Whether the layer has a directory there that hides nothing.
+fn is_plain_at(
+    alloc: Global,
+    stack: &Stack,
+    i: usize,
+    place: &Path,
+) -> Result<bool, AllocError>
+    requires { i < length stack.now.layers }
+    ensures { IfOk result (λ answer. answer ≡ is_plain (the_mark (layer_at stack.now i) place.now)) }
+{
+    let mark = mark_at(alloc, stack, i, place)?;
+    Ok(matches!(mark, Some(Mark::DirPlain)))
 }
 
 // A whiteout in a directory of layer `i`.

@@ -1,4 +1,5 @@
 pub mod Order
+pub mod Texts
 pub mod Names
 pub mod Paths
 pub mod Escapes

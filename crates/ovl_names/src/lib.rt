@@ -4,6 +4,7 @@
 mod escapes;
 mod names;
 mod paths;
+mod texts;
 
 pub use escapes::escaped;
 pub use names::{NAME_LIMIT, Name, NameFault};

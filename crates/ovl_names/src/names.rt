@@ -7,6 +7,7 @@ ghost use Rattle.ovl_names.specs.Names.{name_fault, name_refusal, is_name, name_
 ghost use Rattle.ovl_names.specs.Escapes.{escaped as escaped_text};
 
 use crate::escaped;
+use crate::texts::Text;
 use std::alloc::{AllocError, Global};
 use std::cmp::Ordering;
 use std::marker::Model;
@@ -50,18 +51,19 @@ impl From<AllocError> for NameFault {
 /// Names are ordered as bytes.
 #[derive(Debug, Drop)]
 pub struct Name {
-    text: String,
+    text: Text,
 }
 
 impl Model for Name {
-    ghost use Rattle.std.specs.Prelude.{ℕ, List, IsTrue, string_bytes};
+    ghost use Rattle.std.specs.Prelude.{ℕ, List, IsTrue};
     ghost use Rattle.ovl_names.specs.Names.{is_name};
+    ghost use Rattle.ovl_names.specs.Texts.{text_bytes};
 
     ghost Value = { List ℕ };
 
-    ghost view = { λ a. string_bytes a.text };
+    ghost view = { λ a. text_bytes a.text };
 
-    ghost invariant = { λ a. IsTrue (is_name (string_bytes a.text)) };
+    ghost invariant = { λ a. IsTrue (is_name (text_bytes a.text)) };
 }
 
 impl Name {
@@ -74,7 +76,7 @@ impl Name {
         if let Some(fault) = first_name_fault(text) {
             return Err(fault);
         }
-        let text = String::from_str(alloc, text)?;
+        let text = Text::of(alloc, text)?;
         Ok(Name { text })
     }
 
@@ -83,7 +85,7 @@ impl Name {
         ensures { IfOk result (λ name. name ≡ self.now) }
     {
         Ok(Name {
-            text: String::from_str(alloc, self.text.as_str())?,
+            text: self.text.copy(alloc)?,
         })
     }
 
@@ -129,7 +131,7 @@ impl PartialEq for Name {
     ghost laws = { partial_equiv_from_equiv nat_list_eq_equiv };
 
     fn eq(&self, other: &Name) -> bool {
-        self.text.as_bytes() == other.text.as_bytes()
+        self.as_str().as_bytes() == other.as_str().as_bytes()
     }
 }
 
@@ -157,6 +159,6 @@ impl Ord for Name {
     ghost matches_eq = { texts_ties };
 
     fn cmp(&self, other: &Name) -> Ordering {
-        self.text.as_bytes().cmp(other.text.as_bytes())
+        self.as_str().as_bytes().cmp(other.as_str().as_bytes())
     }
 }

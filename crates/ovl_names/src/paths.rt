@@ -18,6 +18,9 @@ use thiserror::Error;
 /// The most names of a path that is read from text.
 pub const DEPTH_LIMIT: usize = 64;
 
+// The names that a path being read has room for at once; more take their room as they come.
+const USUAL_DEPTH: usize = 8;
+
 /// The most bytes of a text that is read as a path.
 pub const TEXT_LIMIT: usize = 4095;
 
@@ -218,7 +221,7 @@ fn read_names(alloc: Global, rest: &str) -> Option<Vec<Name>>
     if is_too_long(rest) {
         return None;
     }
-    let mut names = Vec::new(alloc);
+    let mut names = Vec::with_capacity(alloc, USUAL_DEPTH).ok()?;
     for part in rest.split('/') {
         let Ok(name) = Name::of(alloc, part) else {
             return None;

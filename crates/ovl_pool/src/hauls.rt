@@ -1,6 +1,6 @@
-ghost use Rattle.std.specs.Prelude.{◌≡◌, ◌++◌, ◌⊎◌, None, IfOk, []};
+ghost use Rattle.std.specs.Prelude.{◌≡◌, ◌++◌, ◌⊎◌, None, IfOk, IsPermutation, []};
 
-use ovl_board::{Parcel, Piece};
+use ovl_board::{Parcel, Piece, sort_parcels};
 use std::alloc::{AllocError, Global};
 
 /// What workers bring: their parcels, a piece that the gate refused, and whether memory was wanted.
@@ -21,6 +21,17 @@ impl<T: Drop> Haul<T> {
             refused: None,
             starved: false,
         }
+    }
+
+    /// The haul with its parcels in the order of their pieces, where there is memory to sort them.
+    pub(crate) fn sorted(mut self) -> Haul<T>
+        ensures parcels { IsPermutation self.parcels.items result.parcels.items }
+        ensures refused { result.refused ≡ self.refused }
+    {
+        if sort_parcels(&mut self.parcels).is_err() {
+            self.starved = true;
+        }
+        self
     }
 
     /// Both hauls in one. Of two refused pieces it keeps the first.

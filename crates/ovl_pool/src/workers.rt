@@ -62,9 +62,29 @@ impl Worker {
     }
 }
 
-/// Serves pieces until all that are known are delivered, or a worker met a fault. A worker that finds no piece spins for
-/// a moment, then yields its processor, and tries again (`Backoff::snooze`); it doesn't sleep.
+/// Serves pieces until all that are known are delivered, or a worker met a fault, and sorts its parcels; so each worker
+/// sorts its own, beside the others.
 pub(crate) fn labor<W: Work, G: Gate, R: Wait>(
+    rt: &R,
+    alloc: Global,
+    work: &W,
+    gate: &G,
+    tally: &Mutex<Tally>,
+    thieves: &[Thief],
+    worker: Worker,
+) -> (Worker, Haul<W::Out>)
+    requires { HasPasses thieves.now worker }
+    ensures haul { IsOwnHaul W.seen (W.kids_of work.now) (W.out_of work.now) (G.may_refuse gate.now) result.1 }
+    ensures passes { HasPasses thieves.now result.0 }
+    ensures same { post_of result.0 ≡ post_of worker }
+{
+    let (worker, haul) = serve_all(rt, alloc, work, gate, tally, thieves, worker);
+    (worker, haul.sorted())
+}
+
+// Serves pieces until all that are known are delivered, or a worker met a fault. A worker that finds no piece spins for
+// a moment, then yields its processor, and tries again (`Backoff::snooze`); it doesn't sleep.
+fn serve_all<W: Work, G: Gate, R: Wait>(
     rt: &R,
     alloc: Global,
     work: &W,

@@ -12,3 +12,8 @@ pub loop-name-preserved : goal.loop-name-preserved
 loop-name-preserved c =
     sym (append-nil c.loop-name.inodes.items)
     ∙ shown-more c.loop-name.yielded c.in-Some.name c.in-Some.look c.loop-name.inodes.items None c.loop-name.invariant (sym (not-some c.inode_of.result c.in_default.not-Some) ∙ c.inode_of.ensures)
+
+pub loop-name-preserved-in_default : goal.loop-name-preserved-in_default
+loop-name-preserved-in_default c =
+    sym (append-nil c.loop-name.inodes.items)
+    ∙ shown-more c.loop-name.yielded c.in-Some.name c.in-Some.look c.loop-name.inodes.items None c.loop-name.invariant (sym (not-some c.inode_of.result c.in_default.not-Some) ∙ c.inode_of.ensures)

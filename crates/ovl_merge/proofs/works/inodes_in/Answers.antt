@@ -13,3 +13,8 @@ pub loop-name-preserved : goal.loop-name-preserved
 loop-name-preserved c =
     sym (append-nil c.loop-name.inodes.items)
     ∙ listed-more (merge_of c.args.stack.now) c.args.directory.now.place.path c.loop-name.yielded c.in-Some.name c.loop-name.inodes.items None c.loop-name.invariant (sym (not-some c.in_ok-inode.field-0 c.in_default.not-Some) ∙ c.in_ok-inode.ensures)
+
+pub loop-name-preserved-in_default : goal.loop-name-preserved-in_default
+loop-name-preserved-in_default c =
+    sym (append-nil c.loop-name.inodes.items)
+    ∙ listed-more (merge_of c.args.stack.now) c.args.directory.now.place.path c.loop-name.yielded c.in-Some.name c.loop-name.inodes.items None c.loop-name.invariant (sym (not-some c.in_ok-inode.field-0 c.in_default.not-Some) ∙ c.in_ok-inode.ensures)

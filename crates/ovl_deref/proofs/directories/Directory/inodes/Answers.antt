@@ -12,3 +12,8 @@ pub loop-name-preserved : goal.loop-name-preserved
 loop-name-preserved c =
     sym (append-nil c.loop-name.inodes.items)
     ∙ listed-more c.args.self.now.stack.now c.args.self.now.path.now c.loop-name.yielded c.in-Some.name c.loop-name.inodes.items None c.loop-name.invariant (sym (not-some c.in_ok-inode.field-0 c.in_default.not-Some) ∙ c.in_ok-inode.ensures)
+
+pub loop-name-preserved-in_default : goal.loop-name-preserved-in_default
+loop-name-preserved-in_default c =
+    sym (append-nil c.loop-name.inodes.items)
+    ∙ listed-more c.args.self.now.stack.now c.args.self.now.path.now c.loop-name.yielded c.in-Some.name c.loop-name.inodes.items None c.loop-name.invariant (sym (not-some c.in_ok-inode.field-0 c.in_default.not-Some) ∙ c.in_ok-inode.ensures)

@@ -2,7 +2,7 @@ use Rattle.std.proofs.Common.{◌≡◌, ap, is_lt, Result, Ok, Err, OnOk, rules
 use Rattle.std.proofs.lemmas.List.Sorted.{answers_always}
 use Rattle.ovl_board.specs.Pieces.{piece_cmp}
 use Rattle.ovl_board.proofs.SortLemmas.{sorted-OnOk, ranks_parcels}
-use Rattle.ovl_board.proofs.assembly.sort.Goals as goal
+use Rattle.ovl_board.proofs.assembly.sort_parcels.Goals as goal
 
 at_ok : {T E : Type 0} {P Q : Type 0} (r : Result T E) → (P → Q) → OnOk r P → OnOk r Q
 at_ok (Ok x) f h = f h

@@ -1,7 +1,7 @@
 use Rattle.std.proofs.Common.{◌≡◌}
 use Rattle.ovl_pool.specs.Hauls.{IsOwnHaul}
 use Rattle.ovl_pool.specs.Passes.{HasPasses, post_of}
-use Rattle.ovl_pool.proofs.workers.labor.Given as goal
+use Rattle.ovl_pool.proofs.workers.serve_all.Given as goal
 
 abbrev pub invariant-loop : goal.invariant-loop
 invariant-loop g l =

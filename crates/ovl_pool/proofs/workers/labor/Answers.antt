@@ -1,0 +1,12 @@
+use Rattle.std.proofs.Common.{sym, subst, IfSome}
+use Rattle.ovl_board.proofs.OwnLemmas.{own_permuted}
+use Rattle.ovl_pool.proofs.workers.labor.Goals as goal
+
+-- the haul is the worker's own in any order
+pub returns-clause-haul : goal.returns-clause-haul
+returns-clause-haul g c =
+    let haul = c.serve_all-worker.result.1 in
+    let work = c.args.work.now in (
+      own_permuted g.W.Work.seen (g.W.Work.kids_of work) (g.W.Work.out_of work) haul.parcels.items c.sorted.result.parcels.items c.sorted.ensures.parcels c.serve_all-worker.ensures.haul.0,
+      subst (λ refused. IfSome refused (g.G.Gate.may_refuse c.args.gate.now)) (sym c.sorted.ensures.refused) c.serve_all-worker.ensures.haul.1,
+    )
