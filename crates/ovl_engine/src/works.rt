@@ -1,5 +1,6 @@
 ghost use Rattle.std.specs.Prelude.{◌≡◌, ◌+◌, ◌<◌, ◌≤◌, ◌++◌, ◌∷◌, [], List, IfOk, OnOk, All, length, map};
 ghost use Rattle.std.specs.Vec.Iter.{into_iter_items};
+ghost use Rattle.ovl_names.specs.Paths.{child_path};
 ghost use Rattle.ovl_manifest.specs.Layers.{IsLayer};
 ghost use Rattle.ovl_lookup.specs.Merged.{look as the_look, IsMerged};
 ghost use Rattle.ovl_board.specs.Parcels.{parcel_views};
@@ -133,7 +134,7 @@ pub fn finish_show(
         let Some((name, look)) = directory.entries.next() else {
             continue;
         };
-        let path = directory.path.child(alloc, &name)?;
+        let path = entry_path(alloc, &directory.path, name)?;
         let is_directory = look.is_shown_directory();
         looks.push((path, look))?;
         open.push(directory)?;
@@ -142,6 +143,13 @@ pub fn finish_show(
         }
     }
     Ok(looks)
+}
+
+// The path of the entry of this name in a directory.
+fn entry_path(alloc: Global, directory: &Path, name: Name) -> Result<Path, AllocError>
+    ensures { IfOk result (λ path. path ≡ child_path directory.now name) }
+{
+    directory.child(alloc, &name)
 }
 
 // What is shown at `/`, as a list.

@@ -6,7 +6,6 @@ use Rattle.ovl_engine.specs.Directories.{NamedLook, IsShowWalk}
 use Rattle.ovl_engine.proofs.ListingLemmas.{views_of, has-first, has-next}
 use Rattle.ovl_engine.proofs.GatheringSteps.{view, IsGathering, gathered_some, gathering-first, gathering-exhausted, gathering-told, gathering-entered, gathering-last}
 use Rattle.ovl_engine.proofs.works.finish_show.Goals as goal
-use Rattle.ovl_engine.proofs.works.finish_show.Goals.{then-is_directory+in_ok-open_next-2, else-is_directory}
 
 pub loop-directory-init : goal.loop-directory-init
 loop-directory-init c =
@@ -31,6 +30,31 @@ loop-directory-preserved-in_default-next c =
     gathering-exhausted stack c.in_ok-looks.ensures.each l.looks.items c.pop.new.self.items o (into_iter_items l.rest)
     (subst (λ opens. IsGathering stack l.looks.items opens (into_iter_items l.rest)) c.in-Some.ensures.items l.invariant) none
 
+pub loop-directory-preserved-in-Continue-branch-6 : goal.loop-directory-preserved-in-Continue-branch-6
+loop-directory-preserved-in-Continue-branch-6 c =
+    let stack = c.args.work.now in
+    let each = c.in_ok-looks.ensures.each in
+    let l = c.loop-directory in
+    let looks = l.looks.items in
+    let rest = into_iter_items l.rest in
+    let o = c.in-Some.directory in
+    let kept = c.pop.new.self.items in
+    let h = subst (λ opens. IsGathering stack looks opens rest) c.in-Some.ensures.items l.invariant in
+    let entry : NamedLook = (c.in-Some-next.name, c.in-Some-next.look) in
+    let left = into_iter_items c.next.new.self in
+    let o' = record o { entries = c.next.new.self } in
+    let some : into_iter_items o.entries ≡ entry ∷ left = c.in-Some-next.ensures.items in
+    let longer : c.push.new.self.items ≡ looks ++ (child_path o.path entry.0, entry.1) ∷ [] = c.in_ok-push.ensures.items ∙ ap (λ path. looks ++ (path, entry.1) ∷ []) c.in_ok-path.ensures in
+    let is = sym (sym c.if-is_directory.true ∙ c.is_shown_directory-is_directory.ensures) in
+    let next = has-next stack each view kept o entry left h.told rest h.is_told some is in
+    let opened = c.in_ok-open_next-2.ensures.next next.0 next.1.0 next.1.1 in
+    let o'' = opened.1.0 in
+    let after = into_iter_items c.open_next-then-is_directory.new.parcels in
+    subst (λ ls. IsGathering stack ls c.open_next-then-is_directory.new.opened.items after) (sym longer)
+    (subst (λ opens. IsGathering stack (looks ++ (child_path o.path entry.0, entry.1) ∷ []) opens after) (sym (opened.1.1.0 ∙ ap (λ opens. opens ++ o'' ∷ []) c.in_ok-push-2.ensures.items))
+    (subst (IsGathering stack (looks ++ (child_path o.path entry.0, entry.1) ∷ []) ((kept ++ o' ∷ []) ++ o'' ∷ [])) (sym opened.0)
+    (gathering-entered stack each looks kept o rest h entry left some o' refl is next.0 next.1.0 next.1.1 o'' (λ j. (opened.1.1.1 j, opened.1.1.2 j)))))
+
 pub loop-directory-preserved : goal.loop-directory-preserved
 loop-directory-preserved c =
     let stack = c.args.work.now in
@@ -46,36 +70,33 @@ loop-directory-preserved c =
     let o' = record o { entries = c.next.new.self } in
     let some : into_iter_items o.entries ≡ entry ∷ left = c.in-Some-next.ensures.items in
     let longer : c.push.new.self.items ≡ looks ++ (child_path o.path entry.0, entry.1) ∷ [] = c.in_ok-push.ensures.items ∙ ap (λ path. looks ++ (path, entry.1) ∷ []) c.in_ok-path.ensures in
-    subst (λ ls. IsGathering stack ls c.if-is_directory.open.items (into_iter_items c.if-is_directory.rest)) (sym longer)
-    (elim c.if-is_directory.branch [
-      | then-is_directory+in_ok-open_next-2 w ↦
-          let is = sym (sym w.if-is_directory.true ∙ c.is_shown_directory-is_directory.ensures) in
-          let next = has-next stack each view kept o entry left h.told (into_iter_items l.rest) h.is_told some is in
-          let opened = w.in_ok-open_next-2.ensures.next next.0 next.1.0 next.1.1 in
-          let o'' = opened.1.0 in
-          subst (λ opens. IsGathering stack (looks ++ (child_path o.path entry.0, entry.1) ∷ []) opens (into_iter_items c.if-is_directory.rest)) (sym (ap (λ v. v.items) w.open-is ∙ (opened.1.1.0 ∙ ap (λ opens. opens ++ o'' ∷ []) c.in_ok-push-2.ensures.items)))
-          (subst (IsGathering stack (looks ++ (child_path o.path entry.0, entry.1) ∷ []) ((kept ++ o' ∷ []) ++ o'' ∷ [])) (sym (ap into_iter_items w.rest-is ∙ opened.0))
-          (gathering-entered stack each looks kept o rest h entry left some o' refl is next.0 next.1.0 next.1.1 o'' (λ j. (opened.1.1.1 j, opened.1.1.2 j))))
-      | else-is_directory w ↦
-          let other = sym (sym w.if-is_directory.false ∙ c.is_shown_directory-is_directory.ensures) in
-          subst (λ opens. IsGathering stack (looks ++ (child_path o.path entry.0, entry.1) ∷ []) opens (into_iter_items c.if-is_directory.rest)) (sym (ap (λ v. v.items) w.open-is ∙ c.in_ok-push-2.ensures.items))
-          (subst (λ it. IsGathering stack (looks ++ (child_path o.path entry.0, entry.1) ∷ []) (kept ++ o' ∷ []) (into_iter_items it)) (sym w.rest-is)
-          (gathering-told stack each looks kept o rest h entry left some o' refl other))
-    ])
+    let other = sym (sym c.if-is_directory.false ∙ c.is_shown_directory-is_directory.ensures) in
+    subst (λ ls. IsGathering stack ls c.push-in-Some.new.self.items rest) (sym longer)
+    (subst (λ opens. IsGathering stack (looks ++ (child_path o.path entry.0, entry.1) ∷ []) opens rest) (sym c.in_ok-push-2.ensures.items)
+    (gathering-told stack each looks kept o rest h entry left some o' refl other))
+
+pub loop-directory-smaller-in-Continue-branch-6 : goal.loop-directory-smaller-in-Continue-branch-6
+loop-directory-smaller-in-Continue-branch-6 c =
+    let kept = c.pop.new.self.items in
+    omega (
+      arith,
+      gathered_some c.args.work.now (loop-directory-preserved-in-Continue-branch-6 c),
+      c.in_ok-open_next-2.ensures.few,
+      ap length c.in_ok-push.ensures.items,
+      length-append c.loop-directory.looks.items ((c.in_ok-path.path, c.in-Some-next.look) ∷ []),
+      ap length c.in_ok-push-2.ensures.items,
+      ap length c.in-Some.ensures.items,
+      length-append kept (record c.in-Some.directory { entries = c.next.new.self } ∷ []),
+      length-append kept (c.in-Some.directory ∷ []),
+    )
 
 pub loop-directory-smaller : goal.loop-directory-smaller
 loop-directory-smaller c =
     let kept = c.pop.new.self.items in
-    let next = c.in_ok-push.ensures.items in
-    let few : length c.if-is_directory.open.items ≤ length c.push-in-Some.new.self.items + 1 = elim c.if-is_directory.branch [
-      | then-is_directory+in_ok-open_next-2 w ↦ omega (arith, w.in_ok-open_next-2.ensures.few, ap (λ v. length v.items) w.open-is)
-      | else-is_directory w ↦ omega (arith, ap (λ v. length v.items) w.open-is)
-    ] in
     omega (
       arith,
       gathered_some c.args.work.now (loop-directory-preserved c),
-      few,
-      ap length next,
+      ap length c.in_ok-push.ensures.items,
       length-append c.loop-directory.looks.items ((c.in_ok-path.path, c.in-Some-next.look) ∷ []),
       ap length c.in_ok-push-2.ensures.items,
       ap length c.in-Some.ensures.items,
