@@ -141,12 +141,7 @@ fn is_seen(alloc: Global, stack: &Stack, i: usize, place: &Path) -> Result<bool,
 }
 
 // Whether the layer has a directory there that hides nothing.
-fn is_plain_at(
-    alloc: Global,
-    stack: &Stack,
-    i: usize,
-    place: &Path,
-) -> Result<bool, AllocError>
+fn is_plain_at(alloc: Global, stack: &Stack, i: usize, place: &Path) -> Result<bool, AllocError>
     requires { i < length stack.now.layers }
     ensures { IfOk result (λ answer. answer ≡ is_plain (the_mark (layer_at stack.now i) place.now)) }
 {

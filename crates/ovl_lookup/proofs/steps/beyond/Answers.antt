@@ -11,7 +11,7 @@ use Rattle.ovl_lookup.proofs.steps.beyond.Goals.{then-not-is_empty-via-then-not-
 
 -- nothing is found below a file, and at a whiteout
 at-file : (inode : Inode) (turned : PathNames) (closed : Bool) (name : PathName) (rest : PathNames) →
-  (0 < length rest) ⊎ (is_whiteout inode ≡ true) → nothing_found (child_path turned name ++ rest) true ≡ walk_beyond (Some inode) turned closed name rest
+    (0 < length rest) ⊎ (is_whiteout inode ≡ true) → nothing_found (child_path turned name ++ rest) true ≡ walk_beyond (Some inode) turned closed name rest
 at-file inode turned closed name [] (inl some) = absurd (omega arith)
 at-file inode turned closed name [] (inr white) = rw white (ap (λ (next : PathNames). nothing_found next true) (append-nil (child_path turned name)))
 at-file inode turned closed name (other ∷ rest) end = ap (λ (next : PathNames). nothing_found next true) (append_assoc turned (name ∷ []) (other ∷ rest))
