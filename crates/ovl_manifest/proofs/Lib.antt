@@ -8,6 +8,8 @@ mod RowsText
 pub mod ReadLemmas
 pub mod EntryLemmas
 pub mod TextLemmas
+pub mod TokenLemmas
+pub mod WrittenBackLemmas
 pub mod TailLemmas
 pub mod ValueLemmas
 pub mod StatedLemmas

@@ -23,15 +23,15 @@ use Rattle.ovl_manifest.specs.Manifest.{stated_entries}
 use Rattle.ovl_manifest.specs.Text.{whole, attribute_members, entry_value, entry_items}
 use Rattle.ovl_manifest.proofs.ValueLemmas.{up_to-within, word-within, seconds-back, digest-back, path-back, attributes-back}
 
-record InodeFacts (inode : Inode) : Type 0 where
-  kind : is_sound_kind inode.kind (has_metacopy inode) ≡ true
-  mode : nat_le inode.mode mode_limit ≡ true
-  uid : is_word inode.uid ≡ true
-  gid : is_word inode.gid ≡ true
-  mtime : is_seconds inode.mtime ≡ true
-  attrs : are_attributes inode.attrs ≡ true
+pub record InodeFacts (inode : Inode) : Type 0 where
+  pub kind : is_sound_kind inode.kind (has_metacopy inode) ≡ true
+  pub mode : nat_le inode.mode mode_limit ≡ true
+  pub uid : is_word inode.uid ≡ true
+  pub gid : is_word inode.gid ≡ true
+  pub mtime : is_seconds inode.mtime ≡ true
+  pub attrs : are_attributes inode.attrs ≡ true
 
-facts_of : (inode : Inode) → is_sound_inode inode ≡ true → InodeFacts inode
+pub facts_of : (inode : Inode) → is_sound_inode inode ≡ true → InodeFacts inode
 facts_of inode sound =
     let facts = six (is_sound_kind inode.kind (has_metacopy inode)) (nat_le inode.mode mode_limit) (is_word inode.uid) (is_word inode.gid) (is_seconds inode.mtime) (are_attributes inode.attrs) sound in
     record { kind = facts.0; mode = facts.1; uid = facts.2; gid = facts.3; mtime = facts.4; attrs = facts.5 }

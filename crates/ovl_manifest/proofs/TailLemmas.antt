@@ -1,6 +1,6 @@
 -- JSON reads the same with a newline behind it.
 use Rattle.std.proofs.Common.{◌≡◌, ℕ, ◌∙◌, List, [], ◌∷◌, ◌++◌, Bool, true, false, cond, ◌&&◌, Some, refl, sym, ap, ap₂, subst, append_assoc, append-nil, arith}
-use Rattle.std.specs.Prelude.{codes, option_and_then}
+use Rattle.std.specs.Prelude.{codes}
 use Rattle.json.specs.Token.{Token, begin_object, end_object, begin_array, end_array, key, string, number, boolean, null, bad}
 use Rattle.json.specs.Word.{ends_word, word}
 use Rattle.json.specs.Lex.{Lexeme, token, comma, colon, string_token, lex, between, fresh, punctuate, tokens}
@@ -12,9 +12,7 @@ use Rattle.json.proofs.Printed.Strings.{content-escape, lex-escape}
 use Rattle.json.proofs.Printed.Numbers.{lex-number, in_word-ended}
 use Rattle.json.proofs.Printed.Trees.{value-json_tokens, ArePrintable-json_tokens}
 use Rattle.serde_json.specs.Data.{Data}
-use Rattle.serde_json.specs.Read.{read, of_json, max_depth}
-use Rattle.serde_json.specs.Written.{outline, has_float, IsInOrder}
-use Rattle.serde_json.proofs.Texts.{tokens_from_order}
+use Rattle.serde_json.specs.Written.{outline}
 
 -- ---- what is printed is lexed token by token, whatever ends it
 
@@ -94,10 +92,7 @@ tokens-newline ts are =
 
 -- ---- a value's text
 
-module _ (text : List ℕ) (value : Data) (order : IsInOrder text value) (plain : has_float value ≡ false) where
-  own : tokens text ≡ tree.json_tokens (outline value)
-  own = tokens_from_order text value order plain
-
+module _ (text : List ℕ) (value : Data) (own : tokens text ≡ tree.json_tokens (outline value)) where
   parsed : json.value (tree.depth (outline value)) (tokens text) ≡ Some (outline value, [])
   parsed =
       ap (json.value (tree.depth (outline value))) (own ∙ sym (append-nil (tree.json_tokens (outline value))))
@@ -106,8 +101,5 @@ module _ (text : List ℕ) (value : Data) (order : IsInOrder text value) (plain 
   printable : ArePrintable (tokens text)
   printable = subst ArePrintable (sym own) (ArePrintable-json_tokens (outline value) (value-HasNumbers (tree.depth (outline value)) (tokens text) [] (outline value) (ArePrintableOrBad-tokens text) parsed))
 
-  pub read-newline : text ≡ print (tokens text) → read (text ++ codes "\n") ≡ read text
-  read-newline printed =
-      let same : tokens (text ++ codes "\n") ≡ tokens text =
-      ap (λ (t : List ℕ). tokens (t ++ codes "\n")) printed ∙ (tokens-newline (tokens text) printable ∙ ap tokens (sym printed)) in
-      ap (λ (ts : List Token). option_and_then of_json (option_and_then (λ p. json.if_last p.0 p.1) (json.value max_depth ts))) same
+  pub tokens-ended : text ≡ print (tokens text) → tokens (text ++ codes "\n") ≡ tokens text
+  tokens-ended printed = ap (λ (t : List ℕ). tokens (t ++ codes "\n")) printed ∙ (tokens-newline (tokens text) printable ∙ ap tokens (sym printed))

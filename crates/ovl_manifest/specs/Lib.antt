@@ -8,3 +8,4 @@ pub mod Drafts
 pub mod Sheets
 pub mod SheetPasses
 pub mod Sorted
+pub mod Tokens

@@ -12,6 +12,7 @@ mod sorted_layers;
 mod sorted_members;
 mod trees;
 mod writing;
+mod written_entries;
 
 pub use entries::{ENTRY_LIMIT, from_entries};
 pub use faults::LayerFault;
