@@ -64,8 +64,8 @@ impl DirView {
         ensures { IfOk result (λ looks. AreLooks (from_layer self.now.from stack.now) self.now.path looks.items) }
     {
         let _ = &stack.layers;
-        let mut looks = Vec::new(alloc);
         let tops = self.tops(alloc, stack)?;
+        let mut looks = Vec::with_capacity(alloc, tops.len())?;
         for (name, top) in tops {
             let look = look_in(alloc, stack, self.places_from(top), &name)?;
             if look.is_nothing() {
@@ -82,8 +82,8 @@ impl DirView {
         ensures { IfOk result (λ names. AreKids (from_layer self.now.from stack.now) self.now.path names.items) }
     {
         let _ = &stack.layers;
-        let mut names = Vec::new(alloc);
         let tops = self.tops(alloc, stack)?;
+        let mut names = Vec::with_capacity(alloc, tops.len())?;
         for (name, top) in tops {
             if !shows_in(stack, self.places_from(top), &name) {
                 continue;

@@ -271,14 +271,15 @@ impl Room {
         let mut parents = Vec::new(alloc);
         parents.push(0)?;
         push_parents(&layer.children, 0, &mut parents)?;
-        let mut afters = Vec::new(alloc);
-        afters.push(parents.len() as u32)?;
+        let count = parents.len();
+        let mut afters = Vec::with_capacity(alloc, count)?;
+        afters.push(count as u32)?;
         push_afters(&layer.children, &mut afters)?;
-        let mut marks = Vec::new(alloc);
+        let mut marks = Vec::with_capacity(alloc, count)?;
         marks.push(mark_of(alloc, &layer.inode)?)?;
         push_marks(alloc, &layer.children, &mut marks)?;
         let kids = kids_of(alloc, &parents)?;
-        let rows = Vec::with_capacity(alloc, parents.len())?;
+        let rows = Vec::with_capacity(alloc, count)?;
         Ok(Room {
             rows,
             parents,
@@ -338,7 +339,7 @@ fn kids_of(alloc: Global, parents: &[u32]) -> Result<Vec<Vec<u32>>, AllocError>
         × ((number : ℕ) → number < length parents.now
         → slice_get (map (λ own. own.items) kids.items) number ≡ Some (kid_numbers 1 (drop 1 parents.now) number))) }
 {
-    let mut kids = Vec::new(alloc);
+    let mut kids = Vec::with_capacity(alloc, parents.len())?;
     for number in 0..parents.len() {
         kids.push(Vec::new(alloc))?;
         if number > 0 {

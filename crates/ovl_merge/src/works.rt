@@ -118,7 +118,7 @@ fn inodes_in(
 {
     let Directory { place, near } = directory;
     let names = candidates(alloc, stack, directory)?;
-    let mut inodes = Vec::new(alloc);
+    let mut inodes = Vec::with_capacity(alloc, names.len())?;
     for name in names {
         if let Some(inode) = inode_in(alloc, stack, near, whole, place, &name)? {
             inodes.push((name, inode))?;

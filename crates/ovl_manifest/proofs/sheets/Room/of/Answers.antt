@@ -19,20 +19,20 @@ returns c =
     subst (λ (ns : List ℕ). AddsParents 0 ns parents below) first (subst (λ (ns : List NodeView). AddsParents 0 c.push.new.self.items parents (entries_of_nodes ns)) c.deref.ensures.value c.in_ok-push_parents.ensures) in
     let count : length parents ≡ suc (length below) = parents-count 0 (0 ∷ []) parents below adds ∙ omega arith in
     let seen : c.deref-4.result.now ≡ parents = c.deref-4.ensures.value in
-    let ends : c.push-2.new.self.items ≡ c.len.result ∷ [] = c.in_ok-push-2.ensures.items ∙ ap (λ (ns : List ℕ). ns ++ c.len.result ∷ []) c.new-afters.ensures.items in
+    let ends : c.push-2.new.self.items ≡ c.len-count.result ∷ [] = c.in_ok-push-2.ensures.items ∙ ap (λ (ns : List ℕ). ns ++ c.len-count.result ∷ []) c.in_ok-afters.ensures.items in
     let one : c.push-2.new.self.len ≡ 1 = c.push-2.new.self.ok.0 ∙ ap length ends in
     subst (λ (layer : Entries). IsRoomFor layer (record { rows = c.in_ok-rows.rows; parents = c.push_parents.new.parents; afters = c.push_afters.new.afters; kids = c.in_ok-kids.kids; marks = c.push_marks.new.marks })) c.layer.view_is
     (record {
       rows = c.in_ok-rows.ensures.items;
-      capacity = omega (arith, c.in_ok-rows.ensures.capacity, c.len-2.ensures, c.push_parents.new.parents.ok.0, count);
+      capacity = omega (arith, c.in_ok-rows.ensures.capacity, c.len-count.ensures, c.push_parents.new.parents.ok.0, count);
       root = ap (λ (ns : List ℕ). slice_get ns 0) adds.grown;
       count = count;
       earlier = ap (λ (ns : List ℕ). are_earlier 1 (drop 1 ns)) adds.grown ∙ adds.earlier;
       place = root-place inode nodes parents adds;
-      afters = root-afters inode nodes c.len.result c.push_afters.new.afters.items (omega (arith, c.len.ensures, c.push_parents.new.parents.ok.0, count))
+      afters = root-afters inode nodes c.len-count.result c.push_afters.new.afters.items (omega (arith, c.len-count.ensures, c.push_parents.new.parents.ok.0, count))
           (c.in_ok-push_afters.ensures ∙ (λ j. ends j ++ afters_from (one j) (entries_of_nodes (c.deref-2.ensures.value j))));
       kids_count = c.in_ok-kids.ensures.0 ∙ (ap length seen ∙ count);
       kids = λ number inside. c.in_ok-kids.ensures.1 number (omega (arith, inside, ap length seen, count)) ∙ ap (λ (ns : List ℕ). Some (kid_numbers 1 (drop 1 ns) number)) seen;
       marks = c.in_ok-push_marks.ensures
-          ∙ (λ j. (c.in_ok-push-3.ensures.items ∙ (λ k. c.new-marks.ensures.items k ++ c.in_ok-mark_of.ensures k ∷ [])) j ++ marks_of (entries_of_nodes (c.deref-3.ensures.value j)));
+          ∙ (λ j. (c.in_ok-push-3.ensures.items ∙ (λ k. c.in_ok-marks.ensures.items k ++ c.in_ok-mark_of.ensures k ∷ [])) j ++ marks_of (entries_of_nodes (c.deref-3.ensures.value j)));
     })
