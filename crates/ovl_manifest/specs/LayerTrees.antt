@@ -1,5 +1,5 @@
 -- What a node of a layer's tree is seen as: its name, its inode, and the entries below it.
-use Rattle.std.specs.Prelude.{List, [], ◌∷◌, ◌++◌, map}
+use Rattle.std.specs.Prelude.{◌≡◌, List, [], ◌∷◌, ◌++◌, map}
 use Rattle.std.specs.List.{filter_map}
 use Rattle.std.specs.declared.cmp.Ordering.{Ordering}
 use Rattle.std.specs.Prelude.{Option, Some, None, if◌then◌else◌}
@@ -30,6 +30,10 @@ entries_from inode below = ([], inode) ∷ below
 abbrev pub entries_of_nodes : List NodeView → Entries
 entries_of_nodes [] = []
 entries_of_nodes (node ∷ nodes) = under node.name (entries_from node.inode node.below) ++ entries_of_nodes nodes
+
+-- the entries are those of a directory or file that has these nodes directly below it
+abbrev pub HasBelow : Entries → List NodeView → Type 0
+HasBelow entries nodes = (inode : Inode) × (entries ≡ entries_from inode (entries_of_nodes nodes))
 
 -- the entry as it is seen from its ancestor `name`, if it lies at or under that
 abbrev pub entry_in : PathName → Entry → Option Entry

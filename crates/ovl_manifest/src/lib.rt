@@ -18,5 +18,5 @@ pub use entries::{ENTRY_LIMIT, from_entries};
 pub use faults::LayerFault;
 pub use reading::read_layer;
 pub use sheets::{Sheet, SheetPlace, SheetRow};
-pub use trees::{Cursor, Layer};
+pub use trees::{Cursor, Layer, Node};
 pub use writing::write_layer;

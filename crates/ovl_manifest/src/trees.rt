@@ -3,16 +3,17 @@ ghost use Rattle.std.specs.Option.{option_map};
 ghost use Rattle.ovl_names.specs.Paths.{child_path};
 ghost use Rattle.ovl_manifest.specs.Layers.{IsLayer, entry_at, names_below};
 ghost use Rattle.ovl_manifest.specs.Manifest.{layer_of_pairs};
-ghost use Rattle.ovl_manifest.specs.LayerTrees.{entries_from, entries_in, entries_under, placed};
+ghost use Rattle.ovl_manifest.specs.LayerTrees.{entries_from, entries_in, entries_under, entries_of_nodes, HasBelow, placed};
 
 use ovl_inode::Inode;
 use ovl_names::{Name, Path};
 use std::alloc::{AllocError, Global};
 use std::marker::Model;
 
-/// A named node of a layer's tree.
+/// An entry below the root with all that lies under it, seen as its name, its inode and the entries below it, their
+/// paths counted from it.
 #[derive(Drop)]
-pub(crate) struct Node {
+pub struct Node {
     pub(crate) name: Name,
     pub(crate) inode: Inode,
     pub(crate) children: Vec<Node>,
@@ -74,6 +75,29 @@ impl<'a> Model for Cursor<'a> {
     ghost view = { λ a. entries_from a.inode.now (entries_of_nodes a.children.now) };
 
     ghost invariant = { λ a. ascends node_cmp a.children.now ≡ true };
+}
+
+impl Node {
+    /// The last name of its path.
+    pub fn name(&self) -> &Name
+        ensures { result.now ≡ self.now.name }
+    {
+        &self.name
+    }
+
+    /// The inode, as the layer has it.
+    pub fn inode(&self) -> &Inode
+        ensures { result.now ≡ self.now.inode }
+    {
+        &self.inode
+    }
+
+    /// What lies directly below it, in order.
+    pub fn children(&self) -> &[Node]
+        ensures { entries_of_nodes result.now ≡ self.now.below }
+    {
+        &self.children
+    }
 }
 
 impl Layer {
@@ -186,6 +210,13 @@ impl<'a> Cursor<'a> {
             Ok(place) => Some(Cursor::at(&self.children[place])),
             Err(_) => None,
         }
+    }
+
+    /// What lies directly below the place, in order.
+    pub fn children(&self) -> &'a [Node]
+        ensures { HasBelow self.now result.now }
+    {
+        self.children
     }
 
     /// The names directly below the place, in order; fails only for want of memory.
