@@ -4,8 +4,8 @@ use Rattle.ovl_merge.specs.Places.{merge_of}
 use Rattle.ovl_merge.proofs.VisitLemmas.{listed-more, not-some}
 use Rattle.ovl_merge.proofs.works.inodes_in.Goals as goal
 
-pub loop-name-preserved-in-Continue-branch-4 : goal.loop-name-preserved-in-Continue-branch-4
-loop-name-preserved-in-Continue-branch-4 c =
+pub loop-name-preserved-in-Continue-branch-5 : goal.loop-name-preserved-in-Continue-branch-5
+loop-name-preserved-in-Continue-branch-5 c =
     c.in_ok-push.ensures.items
     ∙ listed-more (merge_of c.args.stack.now) c.args.directory.now.place.path c.loop-name.yielded c.in-Some.name c.loop-name.inodes.items (Some c.in-Some-2.inode) c.loop-name.invariant (sym c.in-Some-2.is ∙ c.in_ok-inode.ensures)
 
