@@ -31,5 +31,5 @@ pub fn finish_deref(
     // Each layer of a stack is one.
     let _layers = work.stack.layers();
     let root = work.stack.sheet(0).root().inode().copy(alloc)?;
-    layer_told(alloc, root, &parcels)
+    layer_told(alloc, root, parcels)
 }

@@ -47,7 +47,7 @@ pub fn finish_merge(
     let _layers = work.stack.layers();
     let root = root_of(alloc, work)?;
     let top = layer_of(alloc, root_alone(alloc, root.copy(alloc)?)?)?;
-    let lower = layer_told(alloc, root, &parcels)?;
+    let lower = layer_told(alloc, root, parcels)?;
     Ok(MergeDone { top, lower })
 }
 

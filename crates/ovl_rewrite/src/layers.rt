@@ -1,5 +1,7 @@
-ghost use Rattle.std.specs.Prelude.{◌≡◌, ◌≤◌, true, Err, IfOk, [], ◌∷◌, ℕ, drop};
+ghost use Rattle.std.specs.Prelude.{◌≡◌, ◌≤◌, true, Err, IfOk, OnOk, [], ◌∷◌, ℕ, length};
+ghost use Rattle.std.specs.Vec.Iter.{into_iter_items};
 ghost use Rattle.ovl_names.specs.Order.{ascends};
+ghost use Rattle.ovl_names.specs.Paths.{child_path};
 ghost use Rattle.ovl_manifest.specs.declared.faults.LayerFault.TheVariants.{Memory as NoMemory};
 ghost use Rattle.ovl_manifest.specs.Layers.{Entries, entry_cmp, IsLayer};
 ghost use Rattle.ovl_board.specs.Parcels.{parcel_views, IsPlain};
@@ -14,17 +16,18 @@ use ovl_inode::{Inode, is_directory};
 use ovl_manifest::{Layer, LayerFault, from_entries};
 use ovl_names::{Name, Path};
 use std::alloc::{AllocError, Global};
+use std::vec::IntoIter;
 
 /// The layer with this root that the parcels tell, which are the plain walk over its directories from `/` of space 0.
 /// `LimitOut` comes only where its entries are no layer.
 pub fn layer_told(
     alloc: Global,
     root: Inode,
-    parcels: &[Parcel<Vec<(Name, Inode)>>],
+    parcels: Vec<Parcel<Vec<(Name, Inode)>>>,
 ) -> Result<Layer, RewriteFault>
     ensures is { IfOk result (λ layer. IsLayer layer) }
-    ensures layer { IfOk result (λ layer. (new : NewLayer) → IsToldBy new root (parcel_views inodes_seen parcels.now) → IsOf new layer) }
-    ensures limit { result ≡ Err LimitOut → (new : NewLayer) → IsToldBy new root (parcel_views inodes_seen parcels.now)
+    ensures layer { IfOk result (λ layer. (new : NewLayer) → IsToldBy new root (parcel_views inodes_seen parcels.items) → IsOf new layer) }
+    ensures limit { result ≡ Err LimitOut → (new : NewLayer) → IsToldBy new root (parcel_views inodes_seen parcels.items)
         → (entries : Entries) × (ascends entry_cmp entries ≡ true) × IsOf new entries × (IsLayer entries → ⊥) }
 {
     let entries = entries_told(alloc, root, parcels)?;
@@ -60,38 +63,44 @@ fn refusal(fault: LayerFault) -> RewriteFault
 fn entries_told(
     alloc: Global,
     root: Inode,
-    parcels: &[Parcel<Vec<(Name, Inode)>>],
+    parcels: Vec<Parcel<Vec<(Name, Inode)>>>,
 ) -> Result<Vec<(Path, Inode)>, AllocError>
-    ensures { IfOk result (λ entries. (tree : Tree) (deepest : ℕ) → IsTree tree deepest → IsPlain (tree_kids tree) (tree_out tree) root_piece (parcel_views inodes_seen parcels.now)
+    ensures { IfOk result (λ entries. (tree : Tree) (deepest : ℕ) → IsTree tree deepest → IsPlain (tree_kids tree) (tree_out tree) root_piece (parcel_views inodes_seen parcels.items)
         → entries.items ≡ ([], root) ∷ entries_under tree deepest []) }
 {
     let mut entries = Vec::new(alloc);
     entries.push((Path::root(alloc), root))?;
-    push_under(alloc, parcels, 0, &mut entries)?;
+    let mut rest = parcels.into_iter();
+    push_under(alloc, &mut rest, &mut entries)?;
     Ok(entries)
 }
 
-// Adds the entries under the directory of the parcel at `place`, and gives the place of the first parcel after those of
-// this directory and of what lies under it.
+// Adds the entries under the directory of the next parcel, and takes its parcel and those of what lies under it.
 fn push_under(
     alloc: Global,
-    parcels: &[Parcel<Vec<(Name, Inode)>>],
-    place: usize,
+    rest: &mut IntoIter<Parcel<Vec<(Name, Inode)>>>,
     entries: &mut Vec<(Path, Inode)>,
-) -> Result<usize, AllocError>
-    ensures after { IfOk result (λ next. place ≤ next) }
-    ensures entries { IfOk result (λ next. WalksUnder (drop place (parcel_views inodes_seen parcels.now)) (drop next (parcel_views inodes_seen parcels.now)) entries.old.items entries.new.items) }
+) -> Result<(), AllocError>
+    ensures fewer { OnOk result (length (into_iter_items rest.new) ≤ length (into_iter_items rest.old)) }
+    ensures entries { OnOk result (WalksUnder (parcel_views inodes_seen (into_iter_items rest.old)) (parcel_views inodes_seen (into_iter_items rest.new)) entries.old.items entries.new.items) }
 {
-    let Some(parcel) = parcels.get(place) else {
-        return Ok(place);
+    let Some(Parcel { piece, out, .. }) = rest.next() else {
+        return Ok(());
     };
-    let mut next = place + 1;
-    for (name, inode) in &parcel.out {
-        let path = parcel.piece.dir.child(alloc, name)?;
-        entries.push((path, inode.copy(alloc)?))?;
-        if is_directory(inode) {
-            next = push_under(alloc, parcels, next, entries)?;
+    for (name, inode) in out {
+        let path = entry_path(alloc, &piece.dir, name)?;
+        let is_above = is_directory(&inode);
+        entries.push((path, inode))?;
+        if is_above {
+            push_under(alloc, rest, entries)?;
         }
     }
-    Ok(next)
+    Ok(())
+}
+
+// The path of the entry of this name in a directory.
+fn entry_path(alloc: Global, directory: &Path, name: Name) -> Result<Path, AllocError>
+    ensures { IfOk result (λ path. path ≡ child_path directory.now name) }
+{
+    directory.child(alloc, &name)
 }

@@ -1,75 +1,91 @@
-use Rattle.std.proofs.Common.{◌≡◌, ◌∙◌, ℕ, ◌<◌, ◌≤◌, ◌+◌, List, [], ◌∷◌, ◌++◌, length, get_or, drop, sym, ap, subst, arith}
-use Rattle.std.specs.Prelude.{Vec}
-use Rattle.std.specs.Global.{Global}
-use Rattle.std.proofs.lemmas.List.{length-map}
-use Rattle.std.proofs.Math.ListN.{drop_of_length-le}
+use Rattle.std.proofs.Common.{◌≡◌, ◌≤◌, ◌<◌, [], ◌∷◌, ℕ, length, get_or, ◌+◌, List, ◌++◌, sym, ap, subst, refl, arith, ◌∙◌, append_assoc, length-append}
+use Rattle.std.specs.Vec.Iter.{into_iter_items}
 use Rattle.ovl_names.specs.Paths.{child_path}
 use Rattle.ovl_manifest.specs.Layers.{Entries}
-use Rattle.ovl_board.specs.declared.works.Parcel.{Parcel}
 use Rattle.ovl_board.specs.Parcels.{parcel_view, parcel_views}
 use Rattle.ovl_rewrite.specs.Directories.{NamedInode, inodes_seen}
 use Rattle.ovl_rewrite.specs.Passes.{View, WalksUnder}
-use Rattle.ovl_rewrite.proofs.UnderLemmas.{WalksAmong, walk-none, walk-starts, walk-ends, walk-directory, walk-file}
-use Rattle.ovl_rewrite.proofs.LayerLemmas.{first-view}
+use Rattle.ovl_rewrite.proofs.UnderLemmas.{WalksAmong, walk-starts, walk-ends, walk-directory, walk-file}
 use Rattle.ovl_rewrite.proofs.layers.+push_under.Goals as goal
-use Rattle.ovl_rewrite.proofs.layers.+push_under.Goals.{then-is_directory+in_ok-next, else-is_directory}
 
-pub returns-in_default-clause-entries : goal.returns-in_default-clause-entries
-returns-in_default-clause-entries t c =
-    let parcels : List (Parcel (Vec NamedInode Global)) = c.args.parcels.now in
-    let views : List View = parcel_views inodes_seen parcels in
-    let past : length parcels ≤ c.args.place = c.in_default.ensures.lookup.3 in
-    let none : drop c.args.place views ≡ [] = drop_of_length-le views (omega (arith, past, length-map parcels (parcel_view inodes_seen))) in
-    subst (λ (before : List View). WalksUnder before (drop c.args.place views) c.args.entries.now.items c.args.entries.now.items) (sym none)
-    (walk-none (drop c.args.place views) c.args.entries.now.items c.args.entries.now.items)
+-- the element behind others
+behind : {X : Type 0} (xs : List X) (x : X) (ys : List X) (d : X) → get_or (xs ++ x ∷ ys) (length xs) d ≡ x
+behind [] x ys d = refl
+behind (first ∷ xs) x ys d = behind xs x ys d
+
+-- the entry behind those that were given
+given_next : (seen done left : List NamedInode) (entry : NamedInode) → seen ≡ done ++ entry ∷ left → (length done < length seen) × (entry ≡ get_or seen (length done) entry)
+given_next seen done left entry parts = (
+  omega (arith, ap length parts, length-append done (entry ∷ left)),
+  sym (ap (λ (es : List NamedInode). get_or es (length done) entry) parts ∙ behind done entry left entry),
+)
 
 pub loop-name-init : goal.loop-name-init
-loop-name-init t c =
-    let parcels : List (Parcel (Vec NamedInode Global)) = c.args.parcels.now in
-    let views : List View = parcel_views inodes_seen parcels in (
-      omega arith,
-      walk-starts (drop c.args.place views) (parcel_view inodes_seen c.in-Some.parcel.now) (drop (c.args.place + 1) views)
-          (first-view parcels c.args.place c.in-Some.parcel.now c.in-Some.ensures.lookup.3.0 c.in-Some.ensures.lookup.1) c.args.entries.now.items,
-    )
+loop-name-init t c = (
+  omega (arith, ap length c.in-Some.ensures.items),
+  walk-starts (parcel_views inodes_seen (into_iter_items c.args.rest.now)) (parcel_view inodes_seen c.in-Some.field-0) (parcel_views inodes_seen (into_iter_items c.next.new.self))
+      (ap (parcel_views inodes_seen) c.in-Some.ensures.items) c.args.entries.now.items,
+  refl,
+)
 
 pub loop-name-preserved : goal.loop-name-preserved
 loop-name-preserved t c =
-    let parcels : List (Parcel (Vec NamedInode Global)) = c.args.parcels.now in
-    let views : List View = parcel_views inodes_seen parcels in
-    let view : View = parcel_view inodes_seen c.in-Some.parcel.now in
-    let before : List View = drop c.args.place views in
-    let after : List View = drop c.loop-name.next views in
+    let before : List View = parcel_views inodes_seen (into_iter_items c.args.rest.now) in
+    let view : View = parcel_view inodes_seen c.in-Some.field-0 in
+    let later : List View = parcel_views inodes_seen (into_iter_items c.next.new.self) in
+    let after : List View = parcel_views inodes_seen (into_iter_items c.loop-name.rest) in
+    let first : before ≡ view ∷ later = ap (parcel_views inodes_seen) c.in-Some.ensures.items in
     let old : Entries = c.args.entries.now.items in
     let mid : Entries = c.loop-name.entries.items in
-    let first = first-view parcels c.args.place c.in-Some.parcel.now c.in-Some.ensures.lookup.3.0 c.in-Some.ensures.lookup.1 in
-    let entry : NamedInode = c.loop-name-item.result in
-    let items = c.deref-name-items.ensures.value in
-    let inside : c.loop-name.name-index < length view.seen = omega (arith, c.loop-name-test.true, ap length items) in
-    let is_entry : entry ≡ get_or view.seen c.loop-name.name-index entry = c.loop-name-item.is ∙ ap (λ (seen : List NamedInode). get_or seen c.loop-name.name-index entry) items in
-    let pushed : c.push.new.self.items ≡ mid ++ (child_path view.piece.dir entry.0, entry.1) ∷ [] = c.in_ok-push.ensures.items ∙ (λ j. mid ++ (c.in_ok-path.ensures j, c.in_ok-copy.ensures j) ∷ []) in
-    elim c.if-is_directory.branch [
-      | then-is_directory+in_ok-next w ↦ (
-        omega (arith, c.loop-name.invariant.0, w.in_ok-next.ensures.after, w.next-is),
-        subst (λ (n : ℕ). WalksAmong before (drop n views) (c.loop-name.name-index + 1) old c.if-is_directory.entries.items) (sym w.next-is)
-            (subst (λ (new : Entries). WalksAmong before (drop w.in_ok-next.next views) (c.loop-name.name-index + 1) old new) (ap (λ es. es.items) (sym w.entries-is))
-            (walk-directory before view (drop (c.args.place + 1) views) first after c.loop-name.name-index entry inside is_entry old mid c.loop-name.invariant.1
-            (sym c.is_directory.ensures ∙ w.if-is_directory.true) (drop w.in_ok-next.next views) w.push_under.new.entries.items
-            (subst (λ (told : Entries). WalksUnder after (drop w.in_ok-next.next views) told w.push_under.new.entries.items) pushed w.in_ok-next.ensures.entries))),
-      )
-      | else-is_directory w ↦ (
-        omega (arith, c.loop-name.invariant.0, w.next-is),
-        subst (λ (n : ℕ). WalksAmong before (drop n views) (c.loop-name.name-index + 1) old c.if-is_directory.entries.items) (sym w.next-is)
-            (subst (λ (new : Entries). WalksAmong before after (c.loop-name.name-index + 1) old new) (sym (ap (λ es. es.items) w.entries-is ∙ pushed))
-            (walk-file before view (drop (c.args.place + 1) views) first after c.loop-name.name-index entry inside is_entry old mid c.loop-name.invariant.1
-            (sym c.is_directory.ensures ∙ w.if-is_directory.false))),
-      )
-    ]
+    let entry : NamedInode = (c.in-Some-2.name, c.in-Some-2.inode) in
+    let done : List NamedInode = c.loop-name.yielded in
+    let left : List NamedInode = into_iter_items c.next-in-loop-name.new.self in
+    let parts : view.seen ≡ done ++ entry ∷ left = sym c.into_iter-name-iterator.ensures.into_iter_gives.0 ∙ (c.loop-name.invariant.2 ∙ ap (λ (es : List NamedInode). done ++ es) c.in-Some-2.ensures.steps.0) in
+    let next = given_next view.seen done left entry parts in
+    let pushed : c.push.new.self.items ≡ mid ++ (child_path view.piece.dir entry.0, entry.1) ∷ [] =
+    c.in_ok-push.ensures.items ∙ ap (λ path. mid ++ (path, entry.1) ∷ []) c.in_ok-path.ensures in
+    let more : length (done ++ entry ∷ []) ≡ length done + 1 = length-append done (entry ∷ []) in (
+      c.loop-name.invariant.0,
+      subst (λ (n : ℕ). WalksAmong before after n old c.push.new.self.items) (sym more)
+          (subst (λ (new : Entries). WalksAmong before after (length done + 1) old new) (sym pushed)
+          (walk-file before view later first after (length done) entry next.0 next.1 old mid c.loop-name.invariant.1 (sym c.if-is_above.ensures))),
+      c.loop-name.invariant.2 ∙ (ap (λ (es : List NamedInode). done ++ es) c.in-Some-2.ensures.steps.0 ∙ sym (append_assoc done (entry ∷ []) left)),
+    )
+
+pub loop-name-preserved-in-Continue-branch-3 : goal.loop-name-preserved-in-Continue-branch-3
+loop-name-preserved-in-Continue-branch-3 t c =
+    let before : List View = parcel_views inodes_seen (into_iter_items c.args.rest.now) in
+    let view : View = parcel_view inodes_seen c.in-Some.field-0 in
+    let later : List View = parcel_views inodes_seen (into_iter_items c.next.new.self) in
+    let after : List View = parcel_views inodes_seen (into_iter_items c.loop-name.rest) in
+    let first : before ≡ view ∷ later = ap (parcel_views inodes_seen) c.in-Some.ensures.items in
+    let old : Entries = c.args.entries.now.items in
+    let mid : Entries = c.loop-name.entries.items in
+    let entry : NamedInode = (c.in-Some-2.name, c.in-Some-2.inode) in
+    let done : List NamedInode = c.loop-name.yielded in
+    let left : List NamedInode = into_iter_items c.next-in-loop-name.new.self in
+    let parts : view.seen ≡ done ++ entry ∷ left = sym c.into_iter-name-iterator.ensures.into_iter_gives.0 ∙ (c.loop-name.invariant.2 ∙ ap (λ (es : List NamedInode). done ++ es) c.in-Some-2.ensures.steps.0) in
+    let next = given_next view.seen done left entry parts in
+    let pushed : c.push.new.self.items ≡ mid ++ (child_path view.piece.dir entry.0, entry.1) ∷ [] =
+    c.in_ok-push.ensures.items ∙ ap (λ path. mid ++ (path, entry.1) ∷ []) c.in_ok-path.ensures in
+    let more : length (done ++ entry ∷ []) ≡ length done + 1 = length-append done (entry ∷ []) in
+    let last : List View = parcel_views inodes_seen (into_iter_items c.push_under.new.rest) in
+    let new : Entries = c.push_under.new.entries.items in (
+      omega (arith, c.loop-name.invariant.0, c.in_ok-push_under.ensures.fewer),
+      subst (λ (n : ℕ). WalksAmong before last n old new) (sym more)
+          (walk-directory before view later first after (length done) entry next.0 next.1 old mid c.loop-name.invariant.1 (sym c.if-is_above.ensures) last new
+          (subst (λ (told : Entries). WalksUnder after last told new) pushed c.in_ok-push_under.ensures.entries)),
+      c.loop-name.invariant.2 ∙ (ap (λ (es : List NamedInode). done ++ es) c.in-Some-2.ensures.steps.0 ∙ sym (append_assoc done (entry ∷ []) left)),
+    )
 
 pub returns-clause-entries : goal.returns-clause-entries
 returns-clause-entries t c =
-    let parcels : List (Parcel (Vec NamedInode Global)) = c.args.parcels.now in
-    let views : List View = parcel_views inodes_seen parcels in
-    walk-ends (drop c.args.place views) (parcel_view inodes_seen c.in-Some.parcel.now) (drop (c.args.place + 1) views)
-    (first-view parcels c.args.place c.in-Some.parcel.now c.in-Some.ensures.lookup.3.0 c.in-Some.ensures.lookup.1)
-    (drop c.loop-name.next views) c.loop-name.name-index c.args.entries.now.items c.loop-name.entries.items
-    (omega (arith, c.loop-name-test.false, ap length c.deref-name-items.ensures.value)) c.loop-name.invariant.1
+    let before : List View = parcel_views inodes_seen (into_iter_items c.args.rest.now) in
+    let view : View = parcel_view inodes_seen c.in-Some.field-0 in
+    let later : List View = parcel_views inodes_seen (into_iter_items c.next.new.self) in
+    let after : List View = parcel_views inodes_seen (into_iter_items c.loop-name.rest) in
+    let done : List NamedInode = c.loop-name.yielded in
+    let left : List NamedInode = into_iter_items c.loop-name.name-iterator in
+    let parts : view.seen ≡ done ++ left = sym c.into_iter-name-iterator.ensures.into_iter_gives.0 ∙ c.loop-name.invariant.2 in
+    let all : length view.seen ≤ length done = omega (arith, ap length parts, length-append done left, c.loop-name.name-iterator.rest.ok.0, c.in-None.ensures.steps.0) in
+    walk-ends before view later (ap (parcel_views inodes_seen) c.in-Some.ensures.items) after (length done) c.args.entries.now.items c.loop-name.entries.items all c.loop-name.invariant.1
