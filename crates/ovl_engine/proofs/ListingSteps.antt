@@ -14,20 +14,16 @@ use Rattle.ovl_lookup.specs.Merged.{is_shown_directory}
 use Rattle.ovl_board.proofs.Members.{Every}
 use Rattle.ovl_engine.specs.declared.listings.Open.{Open}
 use Rattle.ovl_engine.specs.Directories.{NamedLook, ShowParcel, IsShowWalk}
-use Rattle.ovl_engine.specs.Reports.{look_line, show_line}
+use Rattle.ovl_engine.specs.Reports.{look_line, show_line, shown_names}
 use Rattle.ovl_engine.specs.Outcomes.{IsShowReport}
 use Rattle.ovl_engine.proofs.MergedLemmas.{with_look}
 use Rattle.ovl_engine.proofs.ListingLemmas.{OpenView, IsTold, all_paths, views_of, told_some, left-exhausted, left-look, left-told, next-path, left-entered, first-path, left-first, told-last, every-front, every-last, every-push}
-
--- what stands before the names in a directory
-abbrev text_before : PathNames → List ℕ
-text_before dir = flat_map (λ own. codes "/" ++ escaped own) dir
 
 abbrev pub view : Open → OpenView
 view o = (o.parcel.now.piece.dir, drop o.told o.parcel.now.out.items)
 
 abbrev HasText : Open → Type 0
-HasText o = string_bytes o.text ≡ text_before o.parcel.now.piece.dir
+HasText o = string_bytes o.text ≡ shown_names o.parcel.now.piece.dir
 
 -- the entries from one of them on
 pub next_left : (entries : List NamedLook) (told : ℕ) (entry : NamedLook) → told < length entries → entry ≡ get_or entries told entry → drop told entries ≡ entry ∷ drop (told + 1) entries
@@ -35,13 +31,13 @@ next_left entries told entry inside is =
     let more : suc told ≡ told + 1 = omega arith in
     drop-cons entries told entry inside ∙ (λ j. sym is j ∷ drop (more j) entries)
 
-shown-child : (dir : PathNames) (name : PathName) → shown_path (child_path dir name) ≡ text_before dir ++ (codes "/" ++ escaped name)
+pub shown-child : (dir : PathNames) (name : PathName) → shown_path (child_path dir name) ≡ shown_names dir ++ (codes "/" ++ escaped name)
 shown-child [] name = append-nil (codes "/" ++ escaped name)
 shown-child (first ∷ dir) name =
-    flat_map-append (λ own. codes "/" ++ escaped own) (first ∷ dir) (name ∷ []) ∙ ap (λ l. text_before (first ∷ dir) ++ l) (append-nil (codes "/" ++ escaped name))
+    flat_map-append (λ own. codes "/" ++ escaped own) (first ∷ dir) (name ∷ []) ∙ ap (λ l. shown_names (first ∷ dir) ++ l) (append-nil (codes "/" ++ escaped name))
 
-text-child : (dir : PathNames) (name : PathName) → text_before (child_path dir name) ≡ text_before dir ++ (codes "/" ++ escaped name)
-text-child dir name = flat_map-append (λ own. codes "/" ++ escaped own) dir (name ∷ []) ∙ ap (λ l. text_before dir ++ l) (append-nil (codes "/" ++ escaped name))
+pub text-child : (dir : PathNames) (name : PathName) → shown_names (child_path dir name) ≡ shown_names dir ++ (codes "/" ++ escaped name)
+text-child dir name = flat_map-append (λ own. codes "/" ++ escaped own) dir (name ∷ []) ∙ ap (λ l. shown_names dir ++ l) (append-nil (codes "/" ++ escaped name))
 
 module _ (stack : StackView) where
   abbrev line_at : PathNames → List ℕ
@@ -90,7 +86,7 @@ module _ (stack : StackView) where
       counted-next = omega (arith, h.counted, length-append h.told (child ∷ []))
 
       texts-next : Every HasText (opens ++ o' ∷ [])
-      texts-next = every-push HasText opens o' (every-front HasText opens o h.texts) (text ∙ (every-last HasText opens o h.texts ∙ ap (λ (v : OpenView). text_before v.0) (sym same)))
+      texts-next = every-push HasText opens o' (every-front HasText opens o h.texts) (text ∙ (every-last HasText opens o h.texts ∙ ap (λ (v : OpenView). shown_names v.0) (sym same)))
 
       pub listing-told : is_shown_directory entry.1 ≡ false → IsListing longer (entries + 1) (opens ++ o' ∷ []) rest
       listing-told other = record {
@@ -113,7 +109,7 @@ module _ (stack : StackView) where
         texts =
             let path : child ≡ o''.parcel.now.piece.dir = sym (ap (λ (p : ShowParcel). p.piece.dir) its ∙ next-path stack each view opens o entry left h.told rest h.is_told some o' same is parcel parcels e) in
             every-push HasText (opens ++ o' ∷ []) o'' texts-next
-            (its_text ∙ (ap (λ l. l ++ (codes "/" ++ escaped entry.0)) (every-last HasText opens o h.texts) ∙ (sym (text-child (view o).0 entry.0) ∙ ap text_before path)));
+            (its_text ∙ (ap (λ l. l ++ (codes "/" ++ escaped entry.0)) (every-last HasText opens o h.texts) ∙ (sym (text-child (view o).0 entry.0) ∙ ap shown_names path)));
       }
 
     module _ (some : 0 < length stack.layers) where
@@ -127,7 +123,7 @@ module _ (stack : StackView) where
         counted = refl;
         texts =
             let path : [] ≡ o.parcel.now.piece.dir = sym (ap (λ (p : ShowParcel). p.piece.dir) its ∙ first-path stack each some parcel parcels plain) in
-            every-push HasText [] o (λ p i. absurd i) (its_text ∙ ap text_before path);
+            every-push HasText [] o (λ p i. absurd i) (its_text ∙ ap shown_names path);
       }
 
       -- in the end all is told

@@ -33,11 +33,13 @@ redirect_end (DirMoved redirect) = codes " " ++ redirect_word redirect
 redirect_end (Meta (Some redirect)) = codes " " ++ redirect_word redirect
 redirect_end _ = []
 
--- `MARK PATH`, and ` TO` where there is a redirect; none for the root
+-- `MARK PATH`, and ` TO` where there is a redirect, by the text of the path
+abbrev pub marked_line : Mark → List ℕ → List ℕ
+marked_line mark path = spaced (mark_word mark) ++ path ++ redirect_end mark ++ codes "\n"
+
+-- the line of an entry; none for the root
 abbrev pub entry_line : Entry → List ℕ
-entry_line entry =
-    if is_root entry.0 then []
-    else spaced (mark_word (mark_of entry.1)) ++ shown_path entry.0 ++ redirect_end (mark_of entry.1) ++ codes "\n"
+entry_line entry = if is_root entry.0 then [] else marked_line (mark_of entry.1) (shown_path entry.0)
 
 -- the lines, and then `entries N`, the root counted
 abbrev pub layer_report : Entries → List ℕ

@@ -47,6 +47,10 @@ what_word broken _ = codes "-"
 abbrev pub attribute_word : List ℕ × List ℕ → List ℕ
 attribute_word attr = codes " " ++ escaped attr.0 ++ codes "=" ++ encode_lower attr.1
 
+-- what stands before the names in a directory
+abbrev pub shown_names : PathNames → List ℕ
+shown_names dir = flat_map (λ own. codes "/" ++ escaped own) dir
+
 -- a word, and the space after it
 abbrev pub spaced : List ℕ → List ℕ
 spaced word = word ++ codes " "

@@ -48,7 +48,7 @@ pub(crate) fn deref<G: Gate + Sync, R: Threads + Wait + Sync>(
     deref_keeps_soundness();
     expect_clean(rt, alloc, stack, blobs, workers, gate)?;
     let layer = dereferenced(rt, alloc, stack, workers, gate)?;
-    let report = layer_report_of(alloc, &layer.entries(alloc)?)?;
+    let report = layer_report_of(alloc, &layer)?;
     Ok(rewritten(alloc, report, &[&layer])?)
 }
 

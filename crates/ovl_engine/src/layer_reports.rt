@@ -1,39 +1,66 @@
-ghost use Rattle.std.specs.Prelude.{◌≡◌, ◌++◌, IfOk, OnOk, string_bytes};
-ghost use Rattle.ovl_engine.specs.LayerReports.{mark_word as the_mark_word, redirect_word, redirect_end, entry_line, layer_report};
+ghost use Rattle.std.specs.Prelude.{◌≡◌, ◌+◌, ◌++◌, IfOk, OnOk, length, string_bytes};
+ghost use Rattle.std.specs.List.{flat_map};
+ghost use Rattle.ovl_names.specs.Paths.{PathNames, child_path};
+ghost use Rattle.ovl_inode.specs.Marks.{mark_of as mark_of_inode};
+ghost use Rattle.ovl_manifest.specs.LayerTrees.{entries_from, placed};
+ghost use Rattle.ovl_engine.specs.LayerReports.{mark_word as the_mark_word, redirect_word, redirect_end, marked_line, entry_line, layer_report};
+ghost use Rattle.ovl_engine.specs.Reports.{shown_names};
+ghost use Rattle.ovl_manifest.specs.Layers.{IsLayer};
 
+use crate::listings::{one_more, text_of};
 use crate::reports::{push_count, push_escaped, push_path, push_word};
 use ovl_inode::{Inode, Mark, Redirect, mark_of};
-use ovl_names::Path;
+use ovl_manifest::{Layer, Node};
 use std::alloc::{AllocError, Global};
 
 /// The report of a new layer: a line for each entry below its root, in their order, by what it means to the overlay, and
 /// the number of all entries. Fails only for want of memory.
-pub fn layer_report_of(alloc: Global, entries: &[(Path, Inode)]) -> Result<Vec<u8>, AllocError>
-    ensures { IfOk result (λ report. report.items ≡ layer_report entries.now) }
+pub fn layer_report_of(alloc: Global, layer: &Layer) -> Result<Vec<u8>, AllocError>
+    ensures value { IfOk result (λ report. report.items ≡ layer_report layer.now) }
+    ensures layer { OnOk result (IsLayer layer.now) }
 {
     let mut report = String::new(alloc);
-    for (path, inode) in entries {
-        push_entry(alloc, &mut report, path, inode)?;
+    let mut entries = 1;
+    for node in layer.root().children() {
+        push_under(alloc, &mut report, &mut entries, "", node)?;
     }
-    push_count(&mut report, entries.len() as u64)?;
+    push_count(&mut report, entries)?;
     Ok(report.into_bytes())
 }
 
-// Appends the line of an entry; the root has none.
+// Appends the lines of the entries at and under a node, and counts them; `above` is the text of the path up to its name.
+fn push_under(
+    alloc: Global,
+    report: &mut String,
+    entries: &mut u64,
+    above: &str,
+    node: &Node,
+) -> Result<(), AllocError>
+    ensures lines { OnOk result ((dir : PathNames) → above.now ≡ shown_names dir → string_bytes report.new ≡ string_bytes report.old
+        ++ flat_map entry_line (placed (child_path dir node.now.name) (entries_from node.now.inode node.now.below))) }
+    ensures count { OnOk result (entries.new ≡ entries.old + length (entries_from node.now.inode node.now.below)) }
+{
+    let path = text_of(alloc, above, node.name().as_str())?;
+    push_entry(alloc, report, path.as_str(), node.inode())?;
+    *entries = one_more(*entries)?;
+    for child in node.children() {
+        push_under(alloc, report, entries, path.as_str(), child)?;
+    }
+    Ok(())
+}
+
+// Appends the line of an entry below the root, by the text of its path.
 fn push_entry(
     alloc: Global,
     report: &mut String,
-    path: &Path,
+    path: &str,
     inode: &Inode,
 ) -> Result<(), AllocError>
-    ensures { OnOk result (string_bytes report.new ≡ string_bytes report.old ++ entry_line (path.now, inode.now)) }
+    ensures { OnOk result (string_bytes report.new ≡ string_bytes report.old ++ marked_line (mark_of_inode inode.now) path.now) }
 {
-    if path.is_empty() {
-        return Ok(());
-    }
     let mark = mark_of(alloc, inode)?;
     push_word(report, mark_word(&mark))?;
-    push_path(alloc, report, path)?;
+    report.push_str(path)?;
     push_redirect_of(alloc, report, &mark)?;
     report.push_str("\n")
 }

@@ -99,14 +99,14 @@ fn enter<'a>(
 }
 
 // The next number: memory can't hold as many paths as have none.
-fn one_more(entries: u64) -> Result<u64, AllocError>
+pub(crate) fn one_more(entries: u64) -> Result<u64, AllocError>
     ensures { IfOk result (λ more. more ≡ entries + 1) }
 {
     entries.checked_add(1).ok_or(AllocError)
 }
 
 // What stands before the names in a directory, by what stands before its own name.
-fn text_of(alloc: Global, above: &str, name: &str) -> Result<String, AllocError>
+pub(crate) fn text_of(alloc: Global, above: &str, name: &str) -> Result<String, AllocError>
     ensures { IfOk result (λ text. string_bytes text ≡ above.now ++ (codes "/" ++ escaped_text name.now)) }
 {
     let mut text = String::new(alloc);

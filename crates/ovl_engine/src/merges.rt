@@ -46,7 +46,7 @@ pub(crate) fn merge<G: Gate + Sync, R: Threads + Wait + Sync>(
     merge_keeps_the_tree();
     expect_clean(rt, alloc, stack, blobs, workers, gate)?;
     let done = merged(rt, alloc, stack, workers, gate)?;
-    let report = layer_report_of(alloc, &done.lower.entries(alloc)?)?;
+    let report = layer_report_of(alloc, &done.lower)?;
     Ok(rewritten(alloc, report, &[&done.top, &done.lower])?)
 }
 

@@ -1,13 +1,11 @@
-use Rattle.std.proofs.Common.{ℕ, ◌<◌, List, length, sym, subst}
-use Rattle.std.specs.Prelude.{All, Vec}
-use Rattle.std.specs.Global.{Global}
+use Rattle.std.proofs.Common.{ℕ, ◌<◌, length, subst}
+use Rattle.std.specs.Prelude.{All}
 use Rattle.std.proofs.lemmas.Result.{IfOk-weaker}
 use Rattle.ovl_manifest.specs.Layers.{Entries, IsLayer}
 use Rattle.ovl_lookup.specs.Stacks.{StackView}
 use Rattle.ovl_lookup.specs.Words.{top_layer, lower_layers}
-use Rattle.ovl_board.specs.declared.works.Parcel.{Parcel}
 use Rattle.ovl_board.specs.Parcels.{parcel_views}
-use Rattle.ovl_rewrite.specs.Directories.{NamedInode, inodes_seen}
+use Rattle.ovl_rewrite.specs.Directories.{inodes_seen}
 use Rattle.ovl_rewrite.specs.NewLayers.{IsToldBy}
 use Rattle.ovl_deref.specs.Deref.{IsDereferenced}
 use Rattle.ovl_deref.specs.Directories.{new_at, IsDerefWalk}
@@ -19,12 +17,12 @@ pub returns-clause-layer : goal.returns-clause-layer
 returns-clause-layer c =
     let stack = c.args.work.now in
     let here = root-there c.work.inside.stack.now stack c.work.view_is _ c.sheet.ensures _ c.root.ensures.value _ c.in_ok-root.root c.inode.ensures c.in_ok-root.ensures in
-    let walk : IsDerefWalk stack (parcel_views inodes_seen c.deref.result.now) = subst (λ (parcels : List (Parcel (Vec NamedInode Global))). IsDerefWalk stack (parcel_views inodes_seen parcels)) (sym c.deref.ensures.value) c.requires in
-    let tells : IsToldBy (new_at stack) c.in_ok-root.root (parcel_views inodes_seen c.deref.result.now) =
+    let walk : IsDerefWalk stack (parcel_views inodes_seen c.args.parcels.items) = c.requires in
+    let tells : IsToldBy (new_at stack) c.in_ok-root.root (parcel_views inodes_seen c.args.parcels.items) =
     walk-tells stack
     (subst (λ (s : StackView). All IsLayer s.layers) c.work.view_is c.layers-layers.ensures.each)
     (subst (λ (s : StackView). 0 < length s.layers) c.work.view_is (subst (λ (n : ℕ). 0 < n) c.layers-layers.ensures.value c.layers-layers.ensures.some))
-    c.in_ok-root.root (parcel_views inodes_seen c.deref.result.now) here walk in
+    c.in_ok-root.root (parcel_views inodes_seen c.args.parcels.items) here walk in
     IfOk-weaker c.layer_told.result _ _ (λ layer h. h (new_at stack) tells) c.layer_told.ensures.layer
 
 pub returns-clause-kept : goal.returns-clause-kept
@@ -39,6 +37,6 @@ returns-clause-limit c sound out =
     let each = subst (λ (s : StackView). All IsLayer s.layers) c.work.view_is c.layers-layers.ensures.each in
     let some = subst (λ (s : StackView). 0 < length s.layers) c.work.view_is (subst (λ (n : ℕ). 0 < n) c.layers-layers.ensures.value c.layers-layers.ensures.some) in
     let here = root-there c.work.inside.stack.now stack c.work.view_is _ c.sheet.ensures _ c.root.ensures.value _ c.in_ok-root.root c.inode.ensures c.in_ok-root.ensures in
-    let walk : IsDerefWalk stack (parcel_views inodes_seen c.deref.result.now) = subst (λ (parcels : List (Parcel (Vec NamedInode Global))). IsDerefWalk stack (parcel_views inodes_seen parcels)) (sym c.deref.ensures.value) c.requires in
-    let found = c.layer_told.ensures.limit out (new_at stack) (walk-tells stack each some c.in_ok-root.root (parcel_views inodes_seen c.deref.result.now) here walk) in
+    let walk : IsDerefWalk stack (parcel_views inodes_seen c.args.parcels.items) = c.requires in
+    let found = c.layer_told.ensures.limit out (new_at stack) (walk-tells stack each some c.in_ok-root.root (parcel_views inodes_seen c.args.parcels.items) here walk) in
     limit-passed stack each some sound found.0 found.1 found.2 found.3

@@ -15,7 +15,7 @@ returns-clause-tree g c =
     let some = subst (λ (n : ℕ). 0 < n) c.layers-layers.ensures.value c.layers-layers.ensures.some in
     keeps_tree c.in_ok-rewritten.field-0 (c.in_ok-layer.layer ∷ []) layers c.in_ok-rewritten.ensures.back
     (deref_same c.deref_keeps_the_tree.ensures layers some c.layers-layers.ensures.each c.in_ok-expect_clean.ensures.sound
-    c.in_ok-layer.layer c.in_ok-entries.ensures.layer c.in_ok-layer.ensures.layer)
+    c.in_ok-layer.layer c.in_ok-report.ensures.layer c.in_ok-layer.ensures.layer)
 
 pub returns-clause-sound : goal.returns-clause-sound
 returns-clause-sound g c =
@@ -23,4 +23,4 @@ returns-clause-sound g c =
     let some = subst (λ (n : ℕ). 0 < n) c.layers-layers.ensures.value c.layers-layers.ensures.some in
     keeps_soundness c.in_ok-rewritten.field-0 (c.in_ok-layer.layer ∷ []) layers c.in_ok-rewritten.ensures.back
     (deref_sound c.deref_keeps_soundness.ensures layers some c.layers-layers.ensures.each c.in_ok-expect_clean.ensures.sound
-    c.in_ok-layer.layer c.in_ok-entries.ensures.layer c.in_ok-layer.ensures.layer)
+    c.in_ok-layer.layer c.in_ok-report.ensures.layer c.in_ok-layer.ensures.layer)

@@ -19,4 +19,4 @@ returns-clause-tree g c =
     keeps_tree c.in_ok-rewritten.field-0 (c.in_ok-done.done.top ∷ lower ∷ []) layers c.in_ok-rewritten.ensures.back
     (λ path. ap (λ (top : Entries). look (stack_of (top ∷ lower ∷ drop 2 layers)) path) c.in_ok-done.ensures.top
     ∙ merge_same c.merge_keeps_the_tree.ensures layers c.requires.several c.layers-layers.ensures.each c.in_ok-expect_clean.ensures.sound
-    lower c.in_ok-entries.ensures.layer c.in_ok-done.ensures.lower path)
+    lower c.in_ok-report.ensures.layer c.in_ok-done.ensures.lower path)

@@ -1,12 +1,9 @@
-use Rattle.std.proofs.Common.{◌≡◌, ◌∙◌, Err, List, [], ◌∷◌, sym, ap, subst}
-use Rattle.std.specs.Prelude.{Vec}
-use Rattle.std.specs.Global.{Global}
+use Rattle.std.proofs.Common.{◌≡◌, ◌∙◌, Err, [], ◌∷◌, sym, ap, subst}
 use Rattle.std.proofs.lemmas.Result.{err_from_is_err_and}
 use Rattle.ovl_inode.specs.declared.inodes.Inode.{Inode}
 use Rattle.ovl_manifest.specs.Layers.{IsLayer}
-use Rattle.ovl_board.specs.declared.works.Parcel.{Parcel}
 use Rattle.ovl_board.specs.Parcels.{parcel_views}
-use Rattle.ovl_rewrite.specs.Directories.{NamedInode, inodes_seen}
+use Rattle.ovl_rewrite.specs.Directories.{inodes_seen}
 use Rattle.ovl_merge.specs.declared.faults.MergeFault.TheVariants.{NoLower, LimitOut}
 use Rattle.ovl_merge.specs.Places.{merge_of}
 use Rattle.ovl_merge.specs.MergeDown.{merged_entry}
@@ -37,8 +34,8 @@ returns-in_err-lower-clause-limit c sound out =
     let told : refused c.in_err-lower.field-0.0 ≡ LimitOut = cc in
     let m = merge_of c.args.work.now in
     let each = merge-each c.work.inside.stack.now c.args.work.now c.work.view_is c.work.invariant c.layers-layers.ensures.each in
-    let walk : IsMergeWalk c.args.work.now (parcel_views inodes_seen c.deref.result.now) = subst (λ (parcels : List (Parcel (Vec NamedInode Global))). IsMergeWalk c.args.work.now (parcel_views inodes_seen parcels)) (sym c.deref.ensures.value) c.requires in
-    let tells = walk-tells m each c.in_ok-root.root (parcel_views inodes_seen c.deref.result.now) c.in_ok-root.ensures walk in
+    let walk : IsMergeWalk c.args.work.now (parcel_views inodes_seen c.args.parcels.items) = c.requires in
+    let tells = walk-tells m each c.in_ok-root.root (parcel_views inodes_seen c.args.parcels.items) c.in_ok-root.ensures walk in
     let found = c.in_err-lower.ensures.limit (ap Err (refused-limit c.in_err-lower.field-0.0 told)) (merged_entry m) tells in
     limit-passed m each (merge-sound c.work.inside.stack.now c.args.work.now c.work.view_is c.work.invariant sound) found.0 found.1 found.2 found.3
 
@@ -58,8 +55,8 @@ pub returns-clause-lower : goal.returns-clause-lower
 returns-clause-lower c =
     let m = merge_of c.args.work.now in
     let each = merge-each c.work.inside.stack.now c.args.work.now c.work.view_is c.work.invariant c.layers-layers.ensures.each in
-    let walk : IsMergeWalk c.args.work.now (parcel_views inodes_seen c.deref.result.now) = subst (λ (parcels : List (Parcel (Vec NamedInode Global))). IsMergeWalk c.args.work.now (parcel_views inodes_seen parcels)) (sym c.deref.ensures.value) c.requires in
-    c.in_ok-lower.ensures.layer (merged_entry m) (walk-tells m each c.in_ok-root.root (parcel_views inodes_seen c.deref.result.now) c.in_ok-root.ensures walk)
+    let walk : IsMergeWalk c.args.work.now (parcel_views inodes_seen c.args.parcels.items) = c.requires in
+    c.in_ok-lower.ensures.layer (merged_entry m) (walk-tells m each c.in_ok-root.root (parcel_views inodes_seen c.args.parcels.items) c.in_ok-root.ensures walk)
 
 pub returns-clause-kept : goal.returns-clause-kept
 returns-clause-kept c passes = limit-kept (merge_of c.args.work.now) c.in_ok-lower.lower c.in_ok-lower.ensures.is (returns-clause-lower c) passes

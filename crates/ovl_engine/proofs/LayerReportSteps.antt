@@ -1,0 +1,27 @@
+-- The lines of a new layer, node by node.
+use Rattle.std.proofs.Common.{◌≡◌, ℕ, zero, suc, ◌<◌, List, [], ◌∷◌, ◌++◌, length, get_or, sym, ap, arith, length-append}
+use Rattle.std.specs.Prelude.{codes}
+use Rattle.std.proofs.lemmas.List.{length-map}
+use Rattle.ovl_names.specs.Names.{PathName}
+use Rattle.ovl_names.specs.Paths.{PathNames, child_path}
+use Rattle.ovl_names.specs.Escapes.{escaped}
+use Rattle.ovl_inode.specs.declared.inodes.Inode.{Inode}
+use Rattle.ovl_inode.specs.Marks.{mark_of}
+use Rattle.ovl_manifest.specs.Layers.{Entry}
+use Rattle.ovl_manifest.specs.LayerTrees.{NodeView, under, entries_from, entries_of_nodes}
+use Rattle.ovl_engine.specs.Reports.{shown_names}
+use Rattle.ovl_engine.specs.LayerReports.{marked_line, entry_line}
+use Rattle.ovl_engine.proofs.ListingSteps.{shown-child}
+
+-- a node has fewer entries below it than its directory
+pub fewer_below : (nodes : List NodeView) (k : ℕ) (node : NodeView) → k < length nodes → node ≡ get_or nodes k node → length node.below < length (entries_of_nodes nodes)
+fewer_below [] k node inside is = absurd (omega (arith, inside))
+fewer_below (first ∷ nodes) zero node inside is =
+    omega (arith, ap (λ (n : NodeView). length n.below) is, length-append (under first.name (entries_from first.inode first.below)) (entries_of_nodes nodes), length-map {B = Entry} first.below (λ entry. (first.name ∷ entry.0, entry.1)))
+fewer_below (first ∷ nodes) (suc k) node inside is =
+    omega (arith, fewer_below nodes k node (omega (arith, inside)) is, length-append (under first.name (entries_from first.inode first.below)) (entries_of_nodes nodes))
+
+-- the line of an entry in a directory, by what stands before its name
+pub line_in : (dir : PathNames) (name : PathName) (inode : Inode) → marked_line (mark_of inode) (shown_names dir ++ (codes "/" ++ escaped name)) ≡ entry_line (child_path dir name, inode)
+line_in [] name inode = ap (marked_line (mark_of inode)) (sym (shown-child [] name))
+line_in (first ∷ dir) name inode = ap (marked_line (mark_of inode)) (sym (shown-child (first ∷ dir) name))
