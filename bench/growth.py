@@ -53,15 +53,17 @@ def chain(name, depth, attrs=None):
     return [entry(path) for path in paths[:-1]] + [entry(paths[-1], attrs=attrs)] if paths else []
 
 
-def write(folder, layers):
-    """Writes the layers, the topmost first, and gives the files' names. A layer may be a function that makes it."""
+def write(folder, layers, unsorted=False):
+    """Writes the layers, the topmost first, and gives the files' names. A layer may be a function that makes it.
+
+    Members stand in the order of their names, as the converter and the program write them, or unsorted."""
     names = []
     for n, layer in enumerate(layers):
         entries = [entry("/")] + (layer() if callable(layer) else layer)
         entries.sort(key=lambda it: it["path"].encode().split(b"/"))
         names.append(os.path.join(folder, f"layer-{n:03d}.json"))
         with open(names[-1], "w", encoding="utf-8") as out:
-            json.dump({"overlay-layer": 1, "entries": entries}, out, separators=(",", ":"))
+            json.dump({"overlay-layer": 1, "entries": entries}, out, separators=(",", ":"), sort_keys=not unsorted)
     return names
 
 
@@ -148,13 +150,13 @@ class Cost:
     instructions: int | None
 
 
-def cost(program, case, size, longest):
+def cost(program, case, size, longest, unsorted):
     with tempfile.TemporaryDirectory(prefix="ovl-growth-") as folder:
         blobs = os.path.join(folder, "blobs")
         os.mkdir(blobs)
         with open(os.path.join(blobs, BLOB), "wb") as out:
             out.write(CONTENTS)
-        layers, report = write(folder, case.make(size)), os.path.join(folder, "report")
+        layers, report = write(folder, case.make(size), unsorted), os.path.join(folder, "report")
         command = [program, case.command, *(["--blobs", blobs] if case.command == "fsck" else []), "--workers", "1", *layers]
         seconds, peak, status = run.one_run(command, os.devnull, report)
         if status != 0:
@@ -179,7 +181,7 @@ def line(it, mark):
                     f"{1e9 * it.seconds / it.bytes:.0f}", f"{it.peak / it.bytes:.1f}", counted[1]])
 
 
-def measure(program, case, sizes, longest):
+def measure(program, case, sizes, longest, unsorted):
     """Prints the case's table. Gives whether nothing grew too fast."""
     print(f"`{case.command}`: {case.name}:\n")
     head = ["N", "Input and report, bytes", "Seconds", "Peak, bytes", "Instructions", "Nanoseconds a byte", "Peak a byte", "Instructions a byte"]
@@ -187,7 +189,7 @@ def measure(program, case, sizes, longest):
     print(run.row(["---:"] * len(head)))
     before, good = None, True
     for size in sizes:
-        it = cost(program, case, size, longest)
+        it = cost(program, case, size, longest, unsorted)
         bad = grown(before, it, case.allowed)
         print(line(it, " (too many)" if bad else ""), flush=True)
         before, good = it, good and not bad
@@ -201,11 +203,12 @@ def main():
     words.add_argument("--case", type=int, action="append", choices=range(1, len(CASES) + 1), help="only this case, counted from 1")
     words.add_argument("--sizes", type=int, help="only so many of the smallest sizes of each case")
     words.add_argument("--longest", type=float, default=5.0, help="count the instructions of runs of at most so many seconds (default 5)")
+    words.add_argument("--unsorted", action="store_true", help="members out of the order of their names, which are read the other way")
     given = words.parse_args()
     program = os.path.abspath(given.program)
     print(f"Machine: {run.machine()}.\n")
     chosen = [CASES[n - 1] for n in given.case] if given.case else CASES
-    good = [measure(program, it, it.sizes[:given.sizes], given.longest) for it in chosen]
+    good = [measure(program, it, it.sizes[:given.sizes], given.longest, given.unsorted) for it in chosen]
     sys.exit(0 if all(good) else 1)
 
 
