@@ -11,26 +11,28 @@ use Rattle.std.specs.declared.cmp.Ordering.{Ordering}
 use Rattle.std.specs.declared.cmp.Ordering.TheVariants.{Less, Equal, Greater}
 use Rattle.std.proofs.Math.Bool.{or-true, or-false, and-false}
 use Rattle.std.proofs.lemmas.Bool.{or_parts}
+use Rattle.std.proofs.lemmas.Option.{get_or_from_slice_get, slice_get_within}
 use Rattle.std.proofs.Math.Seq.{drop-append_seam}
 use Rattle.std.proofs.lemmas.List.{append-nil}
 use Rattle.std.proofs.lemmas.List.Elements.{All-from_recursion}
 use Rattle.std.proofs.lemmas.List.Folds.{list_any-append}
 use Rattle.std.proofs.lemmas.Grind.{flat_map-append}
 use Rattle.ovl_names.specs.Names.{PathName, name_eq, name_cmp}
-use Rattle.ovl_names.specs.Paths.{child_path}
+use Rattle.ovl_names.specs.Paths.{PathNames, child_path}
 use Rattle.ovl_names.specs.Order.{ascends}
 use Rattle.ovl_names.proofs.Ascending.{ascends-filter}
 use Rattle.ovl_inode.specs.declared.inodes.Inode.{Inode}
-use Rattle.ovl_manifest.specs.Layers.{Entries, entry_at, names_below}
+use Rattle.ovl_manifest.specs.Layers.{Entries, IsLayer, entry_at, names_below}
 use Rattle.ovl_manifest.proofs.NodeLemmas.{name_eq-cmp}
 use Rattle.ovl_lookup.specs.declared.looks.Look.{Look}
-use Rattle.ovl_lookup.specs.Stacks.{from_layer}
+use Rattle.ovl_lookup.specs.Stacks.{StackView, from_layer}
 use Rattle.ovl_lookup.specs.Merged.{look, shown_of, is_nothing}
 use Rattle.ovl_lookup.specs.Laws.{ViewsLook}
 use Rattle.ovl_lookup.specs.Views.{Reached, reached, entry_in, found_below}
-use Rattle.ovl_lookup.specs.ViewPasses.{names_in, put_top, put_tops, tops_along, tops_of, looks_from_tops, AreLooks}
+use Rattle.ovl_lookup.specs.ViewPasses.{names_in, put_top, put_tops, tops_along, tops_of, looks_from_tops, looks_alone, AreLooks}
 use Rattle.ovl_lookup.proofs.ChildLemmas.{any_found, shown-any, names_below-has}
 use Rattle.ovl_lookup.proofs.KidLemmas.{ascends-insert, any-insert, any-filter}
+use Rattle.ovl_lookup.proofs.KidNames.{kid-names-ascend}
 use Rattle.ovl_lookup.proofs.ViewLemmas.{found_below_by, views-find}
 
 -- ---- the names in the places of a view
@@ -213,43 +215,83 @@ module _ (layers : List Entries) (places : List Reached) where
   each-with_look P [] holds = tt
   each-with_look P (name ∷ names) holds = (holds name, each-with_look P names holds)
 
+module _ (stack : StackView) (each : All IsLayer stack.layers) (from : ℕ) (path : PathNames) (tops : List (PathName × ℕ)) (are : AreTops stack.layers (reached (drop from stack.layers) from path) (flat_map (names_in stack.layers) (reached (drop from stack.layers) from path)) tops) where
+  looks-of-tops : AreLooks (from_layer from stack) path (looks_from_tops stack.layers (reached (drop from stack.layers) from path) tops)
+  looks-of-tops = subst (AreLooks (from_layer from stack) path) (sym (looks-are layers places tops are.each)) (record {
+    names = record {
+      in_order = ap (ascends name_cmp) listed ∙ ascends-filter name_cmp (is_shown_at layers places) (names_of tops) are.in_order;
+      same = λ name.
+          ap (list_any (name_eq name)) listed
+          ∙ (any-filter name (is_shown_at layers places) (names_of tops)
+          ∙ (ap (λ b. b && is_shown_at layers places name) (are.same name)
+          ∙ (by name (is_shown_at layers places name) refl
+          ∙ ap (λ (look : Look). not (is_nothing look)) (shown name))));
+    };
+    each = All-from_recursion (λ e. e.1 ≡ look (from_layer from stack) (child_path path e.0)) (with_look layers places kept) (each-with_look layers places (λ e. e.1 ≡ look (from_layer from stack) (child_path path e.0)) kept shown);
+  })
+    where
+      layers : List Entries
+      layers = stack.layers
+
+      places : List Reached
+      places = reached (drop from stack.layers) from path
+
+      kept : List PathName
+      kept = filter (is_shown_at layers places) (names_of tops)
+
+      listed : map (λ e. e.0) (with_look layers places kept) ≡ kept
+      listed = names-with_look layers places kept
+
+      shown : (name : PathName) → shown_at layers places name ≡ look (from_layer from stack) (child_path path name)
+      shown name = ap shown_of (sym (views-find stack each from path name))
+
+      by : (name : PathName) (b : Bool) → is_shown_at layers places name ≡ b → (list_any (name_eq name) (flat_map (names_in layers) places) && is_shown_at layers places name) ≡ is_shown_at layers places name
+      by name true e =
+          let named : list_any (name_eq name) (flat_map (names_in layers) places) ≡ true = found-named layers name places (sym (shown-any (found_below layers name places)) ∙ e) in
+          ap (λ b. b && is_shown_at layers places name) named
+      by name false e = ap (λ b. list_any (name_eq name) (flat_map (names_in layers) places) && b) e ∙ (and-false (list_any (name_eq name) (flat_map (names_in layers) places)) ∙ sym e)
+
 pub views-look : ViewsLook
-views-look stack each from path = subst (AreLooks (from_layer from stack) path) (sym (looks-are layers places tops are.each)) (record {
-  names = record {
-    in_order = ap (ascends name_cmp) listed ∙ ascends-filter name_cmp (is_shown_at layers places) (names_of tops) are.in_order;
-    same = λ name.
-        ap (list_any (name_eq name)) listed
-        ∙ (any-filter name (is_shown_at layers places) (names_of tops)
-        ∙ (ap (λ b. b && is_shown_at layers places name) (are.same name)
-        ∙ (by name (is_shown_at layers places name) refl
-        ∙ ap (λ (look : Look). not (is_nothing look)) (shown name))));
-  };
-  each = All-from_recursion (λ e. e.1 ≡ look (from_layer from stack) (child_path path e.0)) (with_look layers places kept) (each-with_look layers places (λ e. e.1 ≡ look (from_layer from stack) (child_path path e.0)) kept shown);
+views-look stack each from path =
+    let places = reached (drop from stack.layers) from path in
+    looks-of-tops stack each from path (tops_of stack.layers places) (tops-are stack.layers places)
+
+-- ---- a directory that one layer alone has
+
+abbrev with_first : List PathName → List (PathName × ℕ)
+with_first names = map (λ name. (name, zero)) names
+
+names-with_first : (names : List PathName) → map (λ top. top.0) (with_first names) ≡ names
+names-with_first [] = refl
+names-with_first (name ∷ names) = ap (λ ns. name ∷ ns) (names-with_first names)
+
+each-with_first : (P : PathName × ℕ → Type 0) (names : List PathName) → ((name : PathName) → P (name, zero)) → AllByRecursion P (with_first names)
+each-with_first P [] holds = tt
+each-with_first P (name ∷ names) holds = (holds name, each-with_first P names holds)
+
+names-of_one : (layers : List Entries) → All IsLayer layers → (places : List Reached) → length places ≡ 1 → ascends name_cmp (flat_map (names_in layers) places) ≡ true
+names-of_one layers each [] one = absurd (omega (arith, one))
+names-of_one layers each (place ∷ other ∷ rest) one = absurd (omega (arith, one))
+names-of_one layers each (place ∷ []) one = ap (ascends name_cmp) (append-nil (names_in layers place)) ∙ by (slice_get layers place.layer) refl
+  where
+    by : (o : Option Entries) → slice_get layers place.layer ≡ o → ascends name_cmp (elim o as (λ _. List PathName) [ Some layer ↦ names_below layer place.path | None ↦ [] ]) ≡ true
+    by None e = refl
+    by (Some layer) e = kid-names-ascend layer place.path is.in_order
+      where
+        is : IsLayer layer
+        is = subst IsLayer (get_or_from_slice_get layers place.layer layer layer e) (each place.layer layer (slice_get_within layers place.layer layer e))
+
+pub views-look-alone : (stack : StackView) → All IsLayer stack.layers → (from : ℕ) (path : PathNames) → length (reached (drop from stack.layers) from path) ≡ 1
+    → AreLooks (from_layer from stack) path (looks_alone stack.layers (reached (drop from stack.layers) from path))
+views-look-alone stack each from path one = looks-of-tops stack each from path (with_first names) (record {
+  in_order = ap (ascends name_cmp) (names-with_first names) ∙ names-of_one stack.layers each places one;
+  same = λ name. ap (list_any (name_eq name)) (names-with_first names);
+  each = each-with_first (λ top. found_below stack.layers top.0 (drop top.1 places) ≡ found_below stack.layers top.0 places) names (λ name. refl);
+  inside = each-with_first (λ top. top.1 < length places) names (λ name. omega (arith, one));
 })
   where
-    layers : List Entries
-    layers = stack.layers
-
     places : List Reached
     places = reached (drop from stack.layers) from path
 
-    tops : List (PathName × ℕ)
-    tops = tops_of layers places
-
-    are : AreTops layers places (flat_map (names_in layers) places) tops
-    are = tops-are layers places
-
-    kept : List PathName
-    kept = filter (is_shown_at layers places) (names_of tops)
-
-    listed : map (λ e. e.0) (with_look layers places kept) ≡ kept
-    listed = names-with_look layers places kept
-
-    shown : (name : PathName) → shown_at layers places name ≡ look (from_layer from stack) (child_path path name)
-    shown name = ap shown_of (sym (views-find stack each from path name))
-
-    by : (name : PathName) (b : Bool) → is_shown_at layers places name ≡ b → (list_any (name_eq name) (flat_map (names_in layers) places) && is_shown_at layers places name) ≡ is_shown_at layers places name
-    by name true e =
-        let named : list_any (name_eq name) (flat_map (names_in layers) places) ≡ true = found-named layers name places (sym (shown-any (found_below layers name places)) ∙ e) in
-        ap (λ b. b && is_shown_at layers places name) named
-    by name false e = ap (λ b. list_any (name_eq name) (flat_map (names_in layers) places) && b) e ∙ (and-false (list_any (name_eq name) (flat_map (names_in layers) places)) ∙ sym e)
+    names : List PathName
+    names = flat_map (names_in stack.layers) places

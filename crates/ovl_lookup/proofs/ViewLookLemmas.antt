@@ -1,16 +1,16 @@
 -- What is shown at a name in a view, place by place.
 use Rattle.std.proofs.Common.{◌≡◌, ℕ, ◌+◌, ◌-◌, ◌<◌, ◌≤◌, length, arith, Bool, true, false, cond, Option, Some, None, List, [], ◌∷◌, ◌++◌, get_or, take, drop, map, refl, sym, ap, ◌∙◌, subst, zero, suc}
-use Rattle.std.specs.Prelude.{◌&&◌, not, slice_get}
-use Rattle.std.proofs.lemmas.List.{length-map, map-append, drop-map}
+use Rattle.std.specs.Prelude.{◌&&◌, not, slice_get, IsSomeAnd}
+use Rattle.std.proofs.lemmas.List.{append-nil, length-map, map-append, drop-map, take_all, take_more}
 use Rattle.ovl_names.specs.Names.{PathName}
-use Rattle.std.specs.List.{All}
-use Rattle.std.proofs.lemmas.Option.{slice_get_read}
+use Rattle.std.specs.List.{All, flat_map}
+use Rattle.std.proofs.lemmas.Option.{slice_get_read, slice_get_within, get_or_from_slice_get}
 use Rattle.ovl_names.specs.Paths.{PathNames, child_path}
 use Rattle.ovl_inode.specs.declared.inodes.Inode.{Inode}
 use Rattle.ovl_inode.specs.declared.marks.Mark.{Mark}
 use Rattle.ovl_inode.specs.Inodes.{visible}
 use Rattle.ovl_inode.specs.Marks.{mark_of, is_whiteout, is_data, is_metacopy, is_metacopy_mark, is_regular, has_metacopy}
-use Rattle.ovl_manifest.specs.Layers.{Entries, names_below}
+use Rattle.ovl_manifest.specs.Layers.{Entries, entry_at, names_below}
 use Rattle.ovl_manifest.specs.Sheets.{last_name, path_at}
 use Rattle.ovl_manifest.proofs.SheetLemmas.{last_name-child}
 use Rattle.ovl_lookup.specs.declared.looks.Look.{Look}
@@ -28,6 +28,7 @@ use Rattle.ovl_lookup.proofs.ChildLemmas.{any_found, shown-any}
 use Rattle.ovl_lookup.proofs.WalkFacts.{take-rest}
 use Rattle.ovl_lookup.proofs.ViewSteps.{found-whiteout, found-entry, put-next, looks-next}
 use Rattle.ovl_lookup.proofs.TopLemmas.{tops-inside}
+use Rattle.ovl_lookup.proofs.DirViewLemmas.{entry-here, place_read}
 use Rattle.ovl_lookup.proofs.KidNames.{kid-path}
 
 -- ---- a file that lacks its contents
@@ -99,6 +100,11 @@ module _ (layers : List Entries) (name : PathName) (places : List Reached) (k : 
   pub onward-data : is_whiteout inode ≡ false → is_metacopy_mark mark ≡ true → data_below left ≡ data_below onward
   onward-data w meta = ap data_below (found-here w) ∙ data_below-metacopy inode onward (ap is_metacopy_mark (sym marked) ∙ meta)
 
+-- the place that is first, which has something at a name
+pub first-entry : (layers : List Entries) (name : PathName) (places : List Reached) (inode : Inode) → IsSomeAnd (slice_get places zero) (λ place. entry_in layers name place ≡ Some inode) → (place : Reached) × (slice_get places zero ≡ Some place) × (entry_in layers name place ≡ Some inode)
+first-entry layers name [] inode is = absurd is
+first-entry layers name (place ∷ rest) inode is = (place, refl, is)
+
 -- ---- the names at which something is shown
 
 pub names-next : (layers : List Entries) (places : List Reached) (tops : List (PathName × ℕ)) (top : PathName × ℕ) (shown : Bool) → shown ≡ not (is_nothing (look_from_top layers places top).1) → map (λ e. e.0) (looks_from_tops layers places (tops ++ top ∷ [])) ≡ map (λ e. e.0) (looks_from_tops layers places tops) ++ cond shown (top.0 ∷ []) []
@@ -116,20 +122,23 @@ names-next layers places tops top shown is =
 names-here : (stack : StackView) (place : DirPlace) (layer : Entries) → slice_get stack.layers place.layer ≡ Some layer → names_in stack.layers (place_in stack place) ≡ names_below layer (path_at layer place.row)
 names-here stack place layer at = λ j. elim (at j) as (λ _. List PathName) [ Some own ↦ names_below own (elim (at j) as (λ _. PathNames) [ Some entries ↦ path_at entries place.row | None ↦ [] ]) | None ↦ [] ]
 
+get_or-any : (xs : List ℕ) (i d e : ℕ) → i < length xs → get_or xs i e ≡ get_or xs i d
+get_or-any [] i d e inside = absurd (omega (arith, inside))
+get_or-any (x ∷ xs) zero d e inside = refl
+get_or-any (x ∷ xs) (suc i) d e inside = get_or-any xs i d e (omega (arith, inside))
+
+kid-at : (kids : List ℕ) (j : ℕ) → j < length kids → slice_get kids j ≡ Some (get_or kids j 0)
+kid-at kids j inside = slice_get_read kids (length kids) j (get_or kids j 0) refl inside (sym (get_or-any kids j 0 (get_or kids j 0) inside))
+
 -- the name of the row of number `j` among them, put
 pub kid-step : (stack : StackView) (place : DirPlace) (layer : Entries) → slice_get stack.layers place.layer ≡ Some layer → (kids : List ℕ) → map (path_at layer) kids ≡ map (child_path (path_at layer place.row)) (names_below layer (path_at layer place.row)) → (j number : ℕ) → j < length kids → (tops : List (PathName × ℕ))
     → (name : PathName) × (last_name (path_at layer (get_or kids j 0)) ≡ Some name) × (put_tops tops number (drop j (names_in stack.layers (place_in stack place))) ≡ put_tops (put_top tops number name) number (drop (j + 1) (names_in stack.layers (place_in stack place))))
 kid-step stack place layer at kids paths j number inside tops =
-    let own = kid-path layer (path_at layer place.row) kids paths j (get_or kids j 0) (slice_get_read kids (length kids) j (get_or kids j 0) refl inside (sym (get_or-any kids j 0 (get_or kids j 0) inside))) in (
+    let own = kid-path layer (path_at layer place.row) kids paths j (get_or kids j 0) (kid-at kids j inside) in (
       own.0,
       ap last_name own.2 ∙ last_name-child (path_at layer place.row) own.0,
       put-next stack.layers tops (names_in stack.layers (place_in stack place)) number j own.0 (ap (λ (ns : List PathName). slice_get ns j) (names-here stack place layer at) ∙ own.1),
     )
-  where
-    get_or-any : (xs : List ℕ) (i d e : ℕ) → i < length xs → get_or xs i e ≡ get_or xs i d
-    get_or-any [] i d e inside = absurd (omega (arith, inside))
-    get_or-any (x ∷ xs) zero d e inside = refl
-    get_or-any (x ∷ xs) (suc i) d e inside = get_or-any xs i d e (omega (arith, inside))
 
 -- ---- the pass over the names
 
@@ -153,3 +162,68 @@ pub names-more : (stack : StackView) (places : List DirPlace) (tops : List (Path
 names-more stack places tops name top shown behind rest is =
     names-next stack.layers (places_in stack places) tops (name, top) shown
     (is ∙ ap (λ (ps : List Reached). not (is_nothing (shown_of (found_below stack.layers name ps)))) (ap (places_in stack) rest ∙ sym (drop-map (λ own. place_in stack own) top places)))
+
+-- ---- the names of the only place
+
+abbrev pub alone : PathName → Look → List (PathName × Look)
+alone name look = (name, look) ∷ []
+
+not-cond : {X : Type 0} (b : Bool) (one other : X) → cond b one other ≡ cond (not b) other one
+not-cond true one other = refl
+not-cond false one other = refl
+
+alone-by : (name : PathName) (look told : Look) → look ≡ told → cond (is_nothing look) [] (alone name look) ≡ cond (not (is_nothing told)) (alone name told) []
+alone-by name look told same = ap (λ (l : Look). cond (is_nothing l) [] (alone name l)) same ∙ not-cond (is_nothing told) [] (alone name told)
+
+pub alone-more : (layers : List Entries) (places : List Reached) (names : List PathName) (j : ℕ) (name : PathName) (look : Look) → slice_get names j ≡ Some name → look ≡ shown_of (found_below layers name places)
+    → looks_from_tops layers places (map (λ n. (n, zero)) (take j names)) ++ cond (is_nothing look) [] (alone name look) ≡ looks_from_tops layers places (map (λ n. (n, zero)) (take (j + 1) names))
+alone-more layers places names j name look at is =
+    let front : List (PathName × ℕ) = map (λ n. (n, zero)) (take j names) in
+    let more : take (j + 1) names ≡ take j names ++ name ∷ [] =
+    take_more names j name (slice_get_within names j name at) ∙ ap (λ (n : PathName). take j names ++ n ∷ []) (get_or_from_slice_get names j name name at) in
+    ap (λ (last : List (PathName × Look)). looks_from_tops layers places front ++ last) (alone-by name look (shown_of (found_below layers name places)) is)
+    ∙ sym (
+    ap (λ (ns : List PathName). looks_from_tops layers places (map (λ n. (n, zero)) ns)) more
+    ∙ (ap (looks_from_tops layers places) (map-append (λ n. (n, zero)) (take j names) (name ∷ []))
+    ∙ looks-next layers places front (name, zero))
+    )
+
+module _ (stack : StackView) where
+  abbrev names_all : List DirPlace → List PathName
+  names_all places = flat_map (names_in stack.layers) (places_in stack places)
+
+  -- the names of the only place are those in its directory
+  names-alone : (first : DirPlace) (layer : Entries) → slice_get stack.layers first.layer ≡ Some layer → names_all (first ∷ []) ≡ names_below layer (path_at layer first.row)
+  names-alone first layer here = append-nil (names_in stack.layers (place_in stack first)) ∙ names-here stack first layer here
+
+  -- the row of number `j` below the only place has a name
+  pub kid-named : (places : List DirPlace) (layer : Entries) → length places ≡ 1 → slice_get stack.layers (place_read places zero).layer ≡ Some layer → (kids : List ℕ) → map (path_at layer) kids ≡ map (child_path (path_at layer (place_read places zero).row)) (names_below layer (path_at layer (place_read places zero).row))
+      → (j : ℕ) → j < length kids → (name : PathName) × (last_name (path_at layer (get_or kids j 0)) ≡ Some name)
+  kid-named places layer one here kids paths j inside =
+      let read = kid-path layer (path_at layer (place_read places zero).row) kids paths j (get_or kids j 0) (kid-at kids j inside) in
+      (read.0, ap last_name read.2 ∙ last_name-child (path_at layer (place_read places zero).row) read.0)
+
+  -- its name, and what stands there
+  pub kid-alone : (places : List DirPlace) (layer : Entries) → length places ≡ 1 → slice_get stack.layers (place_read places zero).layer ≡ Some layer → (kids : List ℕ) → map (path_at layer) kids ≡ map (child_path (path_at layer (place_read places zero).row)) (names_below layer (path_at layer (place_read places zero).row))
+      → (j : ℕ) → j < length kids → (inode : Inode) → entry_at layer (path_at layer (get_or kids j 0)) ≡ Some inode
+      → (name : PathName) × (last_name (path_at layer (get_or kids j 0)) ≡ Some name) × (slice_get (names_all places) j ≡ Some name) × IsSomeAnd (slice_get (places_in stack places) zero) (λ place. entry_in stack.layers name place ≡ Some inode)
+  kid-alone [] layer one here kids paths j inside inode stands = absurd (omega (arith, one))
+  kid-alone (first ∷ other ∷ rest) layer one here kids paths j inside inode stands = absurd (omega (arith, one))
+  kid-alone (first ∷ []) layer one here kids paths j inside inode stands =
+      let read = kid-path layer (path_at layer first.row) kids paths j (get_or kids j 0) (kid-at kids j inside) in (
+        read.0,
+        ap last_name read.2 ∙ last_name-child (path_at layer first.row) read.0,
+        ap (λ (ns : List PathName). slice_get ns j) (names-alone first layer here) ∙ read.1,
+        entry-here stack read.0 first layer here ∙ (ap (entry_at layer) (sym read.2) ∙ stands),
+      )
+
+  -- the names are as many as the rows
+  pub kids-alone : (places : List DirPlace) (layer : Entries) → length places ≡ 1 → slice_get stack.layers (place_read places zero).layer ≡ Some layer → (kids : List ℕ) → map (path_at layer) kids ≡ map (child_path (path_at layer (place_read places zero).row)) (names_below layer (path_at layer (place_read places zero).row))
+      → (n : ℕ) → length kids ≤ n → take n (names_all places) ≡ names_all places
+  kids-alone [] layer one here kids paths n past = absurd (omega (arith, one))
+  kids-alone (first ∷ other ∷ rest) layer one here kids paths n past = absurd (omega (arith, one))
+  kids-alone (first ∷ []) layer one here kids paths n past =
+      let names : List PathName = names_below layer (path_at layer first.row) in
+      let many : length (names_all (first ∷ [])) ≡ length kids =
+      ap length (names-alone first layer here) ∙ sym (sym (length-map kids (path_at layer)) ∙ (ap length paths ∙ length-map names (child_path (path_at layer first.row)))) in
+      take_all n (names_all (first ∷ [])) (omega (arith, many, past))

@@ -1,6 +1,6 @@
 -- What the passes over the places of a view keep.
 use Rattle.std.specs.Prelude.{◌≡◌, ℕ, zero, suc, not, Some, None, List, [], ◌∷◌, if◌then◌else◌, drop, filter, is_some, map, slice_get}
-use Rattle.std.specs.List.{All}
+use Rattle.std.specs.List.{All, flat_map}
 use Rattle.std.specs.Map.{lookup}
 use Rattle.std.specs.BTreeMap.{insert_entry, is_at}
 use Rattle.ovl_names.specs.Names.{PathName, name_cmp}
@@ -39,6 +39,10 @@ look_from_top layers places top = (top.0, shown_of (found_below layers top.0 (dr
 -- the names at which something is shown, with what is shown there
 abbrev pub looks_from_tops : List Entries → List Reached → List (PathName × ℕ) → List (PathName × Look)
 looks_from_tops layers places tops = filter (λ e. not (is_nothing e.1)) (map (look_from_top layers places) tops)
+
+-- the same of a directory that one layer alone has, whose names are all those in it
+abbrev pub looks_alone : List Entries → List Reached → List (PathName × Look)
+looks_alone layers places = looks_from_tops layers places (map (λ name. (name, zero)) (flat_map (names_in layers) places))
 
 -- the names in a directory of the merged tree in order, each with what is shown there
 pub record AreLooks (stack : StackView) (path : PathNames) (looks : List (PathName × Look)) : Type 0 where

@@ -1,4 +1,4 @@
-ghost use Rattle.std.specs.Prelude.{◌≡◌, ◌<◌, drop, length, map, not, IfOk, OnOk};
+ghost use Rattle.std.specs.Prelude.{◌≡◌, ◌<◌, ◌++◌, [], ◌∷◌, if◌then◌else◌, Some, drop, length, map, not, slice_get, IfOk, IsSomeAnd, OnOk};
 ghost use Rattle.std.specs.Option.{option_map};
 ghost use Rattle.std.specs.List.{All};
 ghost use Rattle.ovl_names.specs.Paths.{child_path};
@@ -8,8 +8,8 @@ ghost use Rattle.ovl_lookup.specs.Stacks.{from_layer};
 ghost use Rattle.ovl_lookup.specs.Trace.{things_found};
 ghost use Rattle.ovl_lookup.specs.Merged.{AreKids, look as the_look, shows as shows_there, shown_of, is_nothing as nothing_test};
 ghost use Rattle.ovl_lookup.specs.Passes.{data_below};
-ghost use Rattle.ovl_lookup.specs.Views.{found_below};
-ghost use Rattle.ovl_lookup.specs.ViewPasses.{AreLooks, names_in, put_top, put_tops, tops_of};
+ghost use Rattle.ovl_lookup.specs.Views.{entry_in, found_below};
+ghost use Rattle.ovl_lookup.specs.ViewPasses.{AreLooks, looks_alone, names_in, put_top, put_tops, tops_of};
 ghost use Rattle.ovl_lookup.specs.DirViews.{IsViewOver, IsPlaceOver, place_in, places_in};
 
 use crate::looks::{lacks_contents, metacopy_shown};
@@ -64,6 +64,10 @@ impl DirView {
         ensures { IfOk result (λ looks. AreLooks (from_layer self.now.from stack.now) self.now.path looks.items) }
     {
         let _ = &stack.layers;
+        if self.places.len() == 1 {
+            let looks = looks_of_one(alloc, stack, &self.places)?;
+            return Ok(looks);
+        }
         let tops = self.tops(alloc, stack)?;
         let mut looks = Vec::with_capacity(alloc, tops.len())?;
         for (name, top) in tops {
@@ -181,6 +185,70 @@ fn shows_in(stack: &Stack, places: &[DirPlace], name: &Name) -> bool
     false
 }
 
+// The names in the directory of the only place at which something is shown, in the order of its rows, each with what is
+// shown there.
+fn looks_of_one(
+    alloc: Global,
+    stack: &Stack,
+    places: &[DirPlace],
+) -> Result<Vec<(Name, Look)>, AllocError>
+    requires one { length places.now ≡ 1 }
+    requires over { All (IsPlaceOver stack.now) places.now }
+    ensures { IfOk result (λ looks. looks.items ≡ looks_alone stack.now.layers (places_in stack.now places.now)) }
+{
+    let place = &places[0];
+    let sheet = stack.sheet(place.layer);
+    let kids = sheet.kids(place.row);
+    let mut looks = Vec::with_capacity(alloc, kids.len())?;
+    for kid in kids {
+        if let Some(name) = name_at(sheet, *kid) {
+            let look = look_at(alloc, stack, places, name, sheet.inode(*kid))?;
+            push_look(alloc, name, look, &mut looks)?;
+        }
+    }
+    Ok(looks)
+}
+
+// Adds a name with what is shown there, where something is.
+fn push_look(
+    alloc: Global,
+    name: &Name,
+    look: Look,
+    looks: &mut Vec<(Name, Look)>,
+) -> Result<(), AllocError>
+    ensures { OnOk result (looks.new.items
+        ≡ looks.old.items ++ (if nothing_test look then [] else (name.now, look) ∷ [])) }
+{
+    if look.is_nothing() {
+        return Ok(());
+    }
+    looks.push((name.copy(alloc)?, look))?;
+    Ok(())
+}
+
+// What is shown at a name, by these places, the first of which has this inode there.
+fn look_at(
+    alloc: Global,
+    stack: &Stack,
+    places: &[DirPlace],
+    name: &Name,
+    inode: &Inode,
+) -> Result<Look, AllocError>
+    requires over { All (IsPlaceOver stack.now) places.now }
+    requires first { IsSomeAnd (slice_get (places_in stack.now places.now) 0)
+        (λ place. entry_in stack.now.layers name.now place ≡ Some inode.now) }
+    ensures { IfOk result (λ look. look ≡ shown_of (found_below stack.now.layers name.now (places_in stack.now places.now))) }
+{
+    if is_whiteout(inode) {
+        return Ok(Look::Nothing);
+    }
+    if !lacks_contents(inode) {
+        return Ok(Look::Shown(visible(alloc, inode)?));
+    }
+    let contents = data_in(alloc, stack, places, name)?;
+    metacopy_shown(alloc, inode, contents)
+}
+
 // What is shown at a name, by these places.
 fn look_in(
     alloc: Global,
@@ -192,17 +260,9 @@ fn look_in(
     ensures { IfOk result (λ look. look ≡ shown_of (found_below stack.now.layers name.now (places_in stack.now places.now))) }
 {
     for i in 0..places.len() {
-        let Some(entry) = places[i].entry(stack, name) else {
-            continue;
-        };
-        if is_whiteout(entry.inode) {
-            return Ok(Look::Nothing);
+        if let Some(entry) = places[i].entry(stack, name) {
+            return look_at(alloc, stack, &places[i..], name, entry.inode);
         }
-        if !lacks_contents(entry.inode) {
-            return Ok(Look::Shown(visible(alloc, entry.inode)?));
-        }
-        let contents = data_in(alloc, stack, &places[i..], name)?;
-        return metacopy_shown(alloc, entry.inode, contents);
     }
     Ok(Look::Nothing)
 }

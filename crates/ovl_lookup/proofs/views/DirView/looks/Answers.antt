@@ -1,7 +1,7 @@
-use Rattle.std.proofs.Common.{◌≡◌, ◌∙◌, ◌++◌, ◌∷◌, [], Bool, true, false, cond, List, length, drop, sym, ap, subst}
+use Rattle.std.proofs.Common.{◌≡◌, ◌∙◌, ◌++◌, ◌∷◌, [], Bool, true, false, cond, List, length, drop, sym, ap, subst, arith}
 use Rattle.std.specs.Prelude.{not}
 use Rattle.std.specs.List.{All}
-use Rattle.std.proofs.lemmas.List.{append-nil, map-id}
+use Rattle.std.proofs.lemmas.List.{append-nil, length-map, map-id}
 use Rattle.std.proofs.lemmas.List.Elements.{All-drop}
 use Rattle.std.proofs.lemmas.Iterator.Consumers.{YieldsList-from_rest, YieldsList-turn, YieldsList-end}
 use Rattle.ovl_names.specs.Names.{PathName}
@@ -11,11 +11,21 @@ use Rattle.ovl_lookup.specs.declared.views.DirPlace.{DirPlace}
 use Rattle.ovl_lookup.specs.Stacks.{StackView, from_layer}
 use Rattle.ovl_lookup.specs.Merged.{is_nothing}
 use Rattle.ovl_lookup.specs.Views.{reached}
-use Rattle.ovl_lookup.specs.ViewPasses.{AreLooks, tops_of, looks_from_tops}
-use Rattle.ovl_lookup.specs.DirViews.{IsPlaceOver, places_in}
-use Rattle.ovl_lookup.proofs.TopLemmas.{views-look}
+use Rattle.ovl_lookup.specs.ViewPasses.{AreLooks, tops_of, looks_from_tops, looks_alone}
+use Rattle.ovl_lookup.specs.DirViews.{IsPlaceOver, place_in, places_in}
+use Rattle.ovl_lookup.proofs.TopLemmas.{views-look, views-look-alone}
 use Rattle.ovl_lookup.proofs.ViewLookLemmas.{top-inside, looks-more}
 use Rattle.ovl_lookup.proofs.views.DirView.looks.Goals as goal
+
+pub returns-then-len-eq1 : goal.returns-then-len-eq1
+returns-then-len-eq1 c =
+    let stack : StackView = c.args.stack.now in
+    let each : All IsLayer stack.layers = subst (λ (s : StackView). All IsLayer s.layers) c.stack.view_is c.stack.invariant.2 in
+    let places : List DirPlace = c.args.self.now.places.items in
+    let one : length (reached (drop c.args.self.now.from stack.layers) c.args.self.now.from c.args.self.now.path) ≡ 1 =
+    ap length (sym c.requires.reached) ∙ (length-map places (λ own. place_in stack own) ∙ omega (arith, c.if-len-eq1.true, c.len.ensures, c.args.self.now.places.ok.0)) in
+    let looks = c.in_ok-looks.ensures ∙ (ap (λ (ps : List DirPlace). looks_alone stack.layers (places_in stack ps)) c.deref.ensures.value ∙ ap (looks_alone stack.layers) c.requires.reached) in
+    subst (λ (told : List (PathName × Look)). AreLooks (from_layer c.args.self.now.from stack) c.args.self.now.path told) (sym looks) (views-look-alone stack each c.args.self.now.from c.args.self.now.path one)
 
 pub places_from-requires : goal.places_from-requires
 places_from-requires c =
