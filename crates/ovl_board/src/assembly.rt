@@ -37,9 +37,26 @@ impl From<AllocError> for BoardFault {
 
 /// The parcels in the order of their pieces, where each piece to which their kids lead from `root` has one
 /// parcel and no other piece has any; else the first fault in the order of [`BoardFault`].
-/// The kids of each parcel must be lawful, see [`crate::kids_lawful`]. It sorts, and copies pieces only where there is
-/// a fault.
+/// The kids of each parcel must be lawful, see [`crate::kids_lawful`]. It sorts parcels only where they don't come in
+/// order, and copies pieces only where there is a fault.
 pub fn assemble<T: Drop>(
+    alloc: Global,
+    root: &Piece,
+    parcels: Vec<Parcel<T>>,
+) -> Result<Vec<Parcel<T>>, BoardFault>
+    requires { AllLawful (bare parcels.items) }
+    ensures { MatchResult result
+        (λ assembled. IsInOrder root.now parcels.items assembled.items)
+        (λ fault. IsBoardFault root.now (bare parcels.items) fault) }
+{
+    if is_walk(alloc, root, &parcels)? {
+        return Ok(parcels);
+    }
+    assemble_unordered(alloc, root, parcels)
+}
+
+// As `assemble`, of parcels in any order.
+fn assemble_unordered<T: Drop>(
     alloc: Global,
     root: &Piece,
     mut parcels: Vec<Parcel<T>>,
@@ -70,9 +87,12 @@ pub fn sort_parcels<T>(parcels: &mut Vec<Parcel<T>>) -> Result<(), AllocError>
 }
 
 // Whether the parcels go down the tree of kids, from the root: each of them has the piece that became open last, and
-// then its kids are open, the first of them last; and in the end no piece is open. In their order that is the walk.
+// then its kids are open, the first of them last; and in the end no piece is open. That is the walk: lawful kids lie
+// below their piece and ascend, so pieces ascend where they go down.
 fn is_walk<T>(alloc: Global, root: &Piece, parcels: &[Parcel<T>]) -> Result<bool, AllocError>
-    ensures { IfOk result (λ walk. IsTrue walk → IsBalanced root.now (bare parcels.now) []) }
+    requires { AllLawful (bare parcels.now) }
+    ensures balanced { IfOk result (λ walk. IsTrue walk → IsBalanced root.now (bare parcels.now) []) }
+    ensures ascend { IfOk result (λ walk. IsTrue walk → AllPairs IsBefore (pieces_of (bare parcels.now))) }
 {
     let mut open = Vec::new(alloc);
     open.push(root)?;

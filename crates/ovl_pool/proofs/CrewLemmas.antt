@@ -1,6 +1,6 @@
 -- Passes and lanes of workers, one of which changes.
-use Rattle.std.proofs.Common.{◌≡◌, ◌≢◌, ◌==◌, cond, Bool, true, false, Some, ℕ, zero, suc, ◌+◌, ◌<◌, ◌≤◌, List, [], ◌∷◌, ◌++◌, length, get_or, set, map, All, refl, sym, ap, ◌∙◌, subst, inl, inr, ⊎_elim, arith}
-use Rattle.std.specs.List.{sum_by, AllWithin}
+use Rattle.std.proofs.Common.{◌≡◌, ◌==◌, cond, Bool, true, false, Some, ℕ, ◌+◌, ◌<◌, List, [], ◌∷◌, ◌++◌, length, get_or, set, map, All, refl, sym, ap, ◌∙◌, subst, ⊎_elim, arith}
+use Rattle.std.specs.List.{AllWithin}
 use Rattle.std.proofs.lemmas.Bool.{cases_eq, cases_Bool, eqb-true, eq-eqb}
 use Rattle.std.proofs.lemmas.List.{length-set, length-map, get_or-set_same, get_or-set_other, get_or-map, map-set, map-append}
 use Rattle.std.proofs.lemmas.List.Elements.{All-set, All-push, All-pop, All-nil, All-cons, All-head, All-tail}
@@ -12,7 +12,7 @@ use Rattle.ovl_lanes.specs.Accounts.{owned}
 use Rattle.ovl_lanes.specs.Lanes.{LaneId, lane_id, thief_id, account_of, IsPass, IsOfLane, IsWhole}
 use Rattle.ovl_pool.specs.declared.workers.Worker.{Worker}
 use Rattle.ovl_pool.specs.declared.workers.Other.{Other}
-use Rattle.ovl_pool.specs.Passes.{IsOther, HasPasses, Ends, Post, names_of, post_of, times_named, held_of, AreOutBut, IsCrew, AreSeated, HasNone}
+use Rattle.ovl_pool.specs.Passes.{IsOther, HasPasses, Post, names_of, post_of, times_named, held_of, AreOutBut, IsCrew, AreSeated, HasNone}
 
 -- a worker without passes, whose lane is new
 abbrev pub IsApart : Worker → Type 0

@@ -1,2 +1,3 @@
 pub mod ChainLemmas
 pub mod CrewLemmas
+pub mod MergeLemmas

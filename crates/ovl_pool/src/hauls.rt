@@ -1,5 +1,6 @@
 ghost use Rattle.std.specs.Prelude.{◌≡◌, ◌++◌, ◌⊎◌, None, IfOk, IsPermutation, []};
 
+use crate::merging::merged;
 use ovl_board::{Parcel, Piece, sort_parcels};
 use std::alloc::{AllocError, Global};
 
@@ -34,24 +35,23 @@ impl<T: Drop> Haul<T> {
         self
     }
 
-    /// Both hauls in one. Of two refused pieces it keeps the first.
-    pub(crate) fn with(self, other: Haul<T>) -> Result<Haul<T>, AllocError>
-        ensures parcels { IfOk result (λ both. both.parcels.items ≡ self.parcels.items ++ other.parcels.items) }
+    /// Both hauls in one, in the order of pieces where each of them is. Of two refused pieces it keeps the first.
+    pub(crate) fn with(self, alloc: Global, other: Haul<T>) -> Result<Haul<T>, AllocError>
+        ensures parcels { IfOk result (λ both. IsPermutation (self.parcels.items ++ other.parcels.items) both.parcels.items) }
         ensures refused { IfOk result (λ both. (both.refused ≡ self.refused) ⊎ (both.refused ≡ other.refused)) }
     {
         let Haul {
-            mut parcels,
+            parcels,
             refused,
             starved,
         } = self;
         let Haul {
-            parcels: mut more,
+            parcels: more,
             refused: beside,
             starved: too,
         } = other;
-        parcels.append(&mut more)?;
         Ok(Haul {
-            parcels,
+            parcels: merged(alloc, parcels, more)?,
             refused: if refused.is_some() { refused } else { beside },
             starved: starved || too,
         })

@@ -5,6 +5,7 @@ mod chains;
 mod crews;
 mod gates;
 mod hauls;
+mod merging;
 mod notes;
 mod runs;
 mod seating;

@@ -1,4 +1,4 @@
-use Rattle.std.proofs.Common.{◌≡◌, ◌<◌, length, vec_len}
+use Rattle.std.proofs.Common.{◌<◌, length, vec_len}
 use Rattle.std.specs.List.{sum_by, AllWithin}
 use Rattle.ovl_pool.specs.Passes.{AreSeated, HasNone}
 use Rattle.ovl_pool.proofs.seating.give_back.Given as goal

@@ -1,4 +1,4 @@
-use Rattle.std.proofs.Common.{rules, ◌≡◌, ◌+◌, refl, sym, ap, ◌∙◌, subst, get_or, set, length, arith, List}
+use Rattle.std.proofs.Common.{rules, ◌≡◌, ◌+◌, refl, sym, ap, ◌∙◌, subst, get_or, set, arith, List}
 use Rattle.std.proofs.lemmas.List.{length-set}
 use Rattle.ovl_lanes.specs.declared.accounts.Account.{Account}
 use Rattle.ovl_lanes.specs.Lanes.{account_of, lane_id, IsPass}

@@ -1,8 +1,8 @@
-use Rattle.std.proofs.Common.{rules, ◌≡◌, ap, ◌∙◌, get_or, List, ℕ}
+use Rattle.std.proofs.Common.{ap, ◌∙◌, List, ℕ}
 use Rattle.std.proofs.lemmas.List.Elements.{All-set}
 use Rattle.std.proofs.Math.Seq.{map-set_same}
 use Rattle.ovl_pool.specs.declared.workers.Other.{Other}
-use Rattle.ovl_pool.specs.Passes.{IsOther, Post, ends_of, names_of, post_of}
+use Rattle.ovl_pool.specs.Passes.{IsOther, ends_of}
 use Rattle.ovl_pool.proofs.workers.Worker.find.Goals as goal
 
 pub returns-in-Some-steal-clause-same : goal.returns-in-Some-steal-clause-same

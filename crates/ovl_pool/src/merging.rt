@@ -1,0 +1,44 @@
+ghost use Rattle.std.specs.Prelude.{◌≡◌, ◌∷◌, ◌++◌, ◌⊎◌, IfOk, MatchOption, IsPermutation, []};
+
+use ovl_board::Parcel;
+use std::alloc::{AllocError, Global};
+use std::collections::VecDeque;
+
+/// The parcels of both lists, in the order of pieces where each of the lists is.
+pub(crate) fn merged<T: Drop>(
+    alloc: Global,
+    first: Vec<Parcel<T>>,
+    second: Vec<Parcel<T>>,
+) -> Result<Vec<Parcel<T>>, AllocError>
+    ensures { IfOk result (λ both. IsPermutation (first.items ++ second.items) both.items) }
+{
+    let mut both = Vec::with_capacity(alloc, first.len().saturating_add(second.len()))?;
+    let mut first = VecDeque::from(first);
+    let mut second = VecDeque::from(second);
+    while let Some(parcel) = next_of(&mut first, &mut second) {
+        both.push(parcel)?;
+    }
+    Ok(both)
+}
+
+// Takes the first parcel of one of the lists: the one whose piece isn't after the other's.
+fn next_of<T>(
+    first: &mut VecDeque<Parcel<T>>,
+    second: &mut VecDeque<Parcel<T>>,
+) -> Option<Parcel<T>>
+    ensures { MatchOption result
+        ((first.old.items ≡ []) × (second.old.items ≡ []))
+        (λ parcel. ((first.old.items ≡ parcel ∷ first.new.items) × (second.new.items ≡ second.old.items))
+        ⊎ ((second.old.items ≡ parcel ∷ second.new.items) × (first.new.items ≡ first.old.items))) }
+{
+    let is_second = match (first.front(), second.front()) {
+        (Some(one), Some(other)) => other.piece < one.piece,
+        (Some(_), None) => false,
+        (None, _) => true,
+    };
+    if is_second {
+        second.pop_front()
+    } else {
+        first.pop_front()
+    }
+}
