@@ -1,16 +1,19 @@
-ghost use Rattle.std.specs.Prelude.{◌≡◌, ◌<◌, ◌↔◌, Ok, Err, Some, IfSome, IsTrue, MatchResult, [], length};
+ghost use Rattle.std.specs.Prelude.{◌≡◌, ◌<◌, ◌↔◌, true, Ok, Err, Some, IfSome, IsTrue, MatchResult, [], ◌∷◌, ◌++◌, length};
+ghost use Rattle.ovl_names.specs.Paths.{path_text};
+ghost use Rattle.ovl_inode.specs.Sound.{is_sound_inode};
 ghost use Rattle.ovl_inode.specs.Attributes.{has_escaped_name as escaped_test, is_escaped_name as escaped_name_test};
 ghost use Rattle.ovl_manifest.specs.Layers.{entry_limit, is_within_limits as within_limits_test};
 ghost use Rattle.ovl_manifest.specs.Manifest.{is_statable, stated_pair, entry_after, layer_of_pairs, is_miscounted, first_fault, is_of_first, IsFaultOf};
 ghost use Rattle.ovl_manifest.specs.declared.faults.LayerFault.{LayerFault};
 ghost use Rattle.ovl_manifest.specs.declared.faults.LayerFault.TheVariants.{Count};
-ghost use Rattle.ovl_manifest.specs.Drafts.{draft_entries, IsDraft};
+ghost use Rattle.ovl_manifest.specs.Drafts.{draft_entries, slashed, IsDraft};
 
 use crate::drafts::Draft;
 use crate::faults::LayerFault;
+use crate::text_paths::place_beside;
 use crate::trees::Layer;
 use ovl_inode::{Attrs, Inode, is_directory, overlay, sound};
-use ovl_names::{DEPTH_LIMIT, Path, TEXT_LIMIT};
+use ovl_names::{DEPTH_LIMIT, Name, Path, TEXT_LIMIT};
 use std::alloc::Global;
 
 /// The most entries of a layer.
@@ -91,6 +94,43 @@ pub(crate) fn add(
         return Err(LayerFault::NoParent(number));
     }
     Ok(draft.with(alloc, path, inode)?)
+}
+
+/// The draft with the entry of a sound inode whose path a text spells, beside the text of the last path; that of the root
+/// is empty here. Gives none of a path or an inode that no layer has there, and for want of memory.
+pub(crate) fn add_beside(
+    alloc: Global,
+    draft: Draft,
+    last: &str,
+    text: &str,
+    inode: Inode,
+) -> Option<Draft>
+    requires draft { IsDraft draft }
+    requires room { length (draft_entries draft) < entry_limit }
+    requires last { slashed draft.last ≡ last.now }
+    requires sound { is_sound_inode inode ≡ true }
+    ensures draft { IfSome result (λ more. IsDraft more) }
+    ensures last { IfSome result (λ more. slashed more.last ≡ text.now) }
+    ensures path { IfSome result (λ more. path_text more.last ≡ text.now) }
+    ensures entries { IfSome result (λ more. draft_entries more ≡ draft_entries draft ++ (more.last, inode) ∷ []) }
+{
+    let (depth, name) = place_beside(last, draft.last().len(), text)?;
+    if depth >= DEPTH_LIMIT || text.len() > TEXT_LIMIT {
+        return None;
+    }
+    if has_escaped_name(&inode.attrs) {
+        return None;
+    }
+    let Ok(name) = Name::of(alloc, name) else {
+        return None;
+    };
+    if !draft.comes_before_child(depth, &name) || !draft.is_directory_above(depth) {
+        return None;
+    }
+    match draft.with_child(alloc, depth, name, inode) {
+        Ok(more) => Some(more),
+        Err(_) => None,
+    }
 }
 
 // The entry that a pair states, and `None` where a manifest can't state it.

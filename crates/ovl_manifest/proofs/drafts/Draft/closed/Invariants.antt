@@ -6,6 +6,7 @@ abbrev pub invariant-loop-draft : goal.invariant-loop-draft
 invariant-loop-draft l = record {
   entries : draft_entries l.draft ≡ draft_entries l.fn.self;
   spelled : map (λ node. node.name) l.draft.spine.items ≡ take (vec_len l.draft.spine) (map (λ node. node.name) l.fn.self.spine.items);
+  last : l.draft.last ≡ l.fn.self.last;
   bound : l.depth ≤ vec_len l.draft.spine;
 }
 
