@@ -1,6 +1,6 @@
 -- Texts of paths, taken apart at a separator.
-use Rattle.std.proofs.Common.{◌≡◌, ℕ, zero, suc, ◌-◌, ◌≤◌, ◌<◌, ◌∙◌, List, [], ◌∷◌, ◌++◌, Bool, true, false, refl, sym, ap, length, take, drop, get_or, append-nil, length-append, length-take, arith, eq-eqb, le-leb}
-use Rattle.std.specs.Prelude.{◌==◌, ◌||◌, filter}
+use Rattle.std.proofs.Common.{◌≡◌, ℕ, suc, ◌-◌, ◌≤◌, ◌<◌, ◌∙◌, List, [], ◌∷◌, ◌++◌, true, false, refl, sym, ap, length, take, drop, get_or, append-nil, length-append, length-take, arith, eq-eqb, le-leb}
+use Rattle.std.specs.Prelude.{◌==◌}
 use Rattle.std.specs.List.{list_any}
 use Rattle.std.proofs.lemmas.Grind.{flat_map-append}
 use Rattle.ovl_names.specs.Names.{slash, is_name}
@@ -63,10 +63,11 @@ slashed-cut (name ∷ names) (byte ∷ front) rest named same down =
     let head : slash ≡ byte = ap (λ (l : List ℕ). get_or l 0 0) same in
     let found = past_name name (slashed names) front rest (name_facts name parts.0).whole (ap (drop 1) same) down in
     let more = slashed-cut names found.0 rest parts.1 found.2 down in
-    let depth : suc (length names - slash_count rest) ≡ length (name ∷ names) - slash_count rest = omega (arith, more.0) in
-    (omega (arith, more.0),
-    (λ j. sym head j ∷ (found.1 ∙ ap (λ (own : List ℕ). name ++ own) more.1) j)
-    ∙ ap (λ (n : ℕ). slashed (take n (name ∷ names))) depth)
+    let depth : suc (length names - slash_count rest) ≡ length (name ∷ names) - slash_count rest = omega (arith, more.0) in (
+      omega (arith, more.0),
+      (λ j. sym head j ∷ (found.1 ∙ ap (λ (own : List ℕ). name ++ own) more.1) j)
+          ∙ ap (λ (n : ℕ). slashed (take n (name ∷ names))) depth,
+    )
 
 -- a path of so many names and bytes keeps the limits
 pub child_limits : (last : PathNames) (depth : ℕ) (name text : List ℕ) → text ≡ slashed (child_path (take depth last) name) → depth < depth_limit → length text ≤ text_limit → is_within_limits (child_path (take depth last) name) ≡ true
