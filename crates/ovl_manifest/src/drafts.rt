@@ -90,7 +90,8 @@ impl Draft {
     {
         let depth = path.len() - 1;
         let name = path.names()[depth].copy(alloc)?;
-        let mut draft = self.closed(depth)?;
+        let mut draft = self;
+        draft.close(depth)?;
         draft.spine.push(Node {
             name,
             inode,
@@ -120,32 +121,32 @@ impl Draft {
         is_directory(inode)
     }
 
-    /// The draft with one more entry, which comes after all others, in the directory of the first `depth` names of the
-    /// last path, which is there.
-    pub(crate) fn with_child(
-        self,
+    /// Puts one more entry, which comes after all others, into the directory of the first `depth` names of the last
+    /// path, which is there.
+    pub(crate) fn enter(
+        &mut self,
         alloc: Global,
         depth: usize,
         name: Name,
         inode: Inode,
-    ) -> Result<Draft, AllocError>
-        requires draft { IsDraft self }
-        requires depth { depth ≤ length self.last }
-        requires entry { CanTake self (child_path (take depth self.last) name) inode }
-        ensures entries { IfOk result (λ draft. draft_entries draft
-            ≡ draft_entries self ++ (child_path (take depth self.last) name, inode) ∷ []) }
-        ensures draft { IfOk result (λ draft. IsDraft draft) }
-        ensures last { IfOk result (λ draft. draft.last ≡ child_path (take depth self.last) name) }
+    ) -> Result<(), AllocError>
+        requires draft { IsDraft self.old }
+        requires depth { depth ≤ length self.old.last }
+        requires entry { CanTake self.old (child_path (take depth self.old.last) name) inode }
+        ensures entries { IfOk result (λ _. draft_entries self.new
+            ≡ draft_entries self.old ++ (child_path (take depth self.old.last) name, inode) ∷ []) }
+        ensures draft { IfOk result (λ _. IsDraft self.new) }
+        ensures last { IfOk result (λ _. self.new.last ≡ child_path (take depth self.old.last) name) }
     {
         let own = name.copy(alloc)?;
-        let mut draft = self.closed(depth)?;
-        draft.spine.push(Node {
+        self.close(depth)?;
+        self.spine.push(Node {
             name: own,
             inode,
             children: Vec::new(alloc),
         })?;
-        draft.last.go_to(depth, name)?;
-        Ok(draft)
+        self.last.go_to(depth, name)?;
+        Ok(())
     }
 
     /// The last path.
@@ -160,64 +161,49 @@ impl Draft {
         requires { IsDraft self }
         ensures { IfOk result (λ layer. layer ≡ draft_entries self) }
     {
+        let mut draft = self;
+        draft.close(0)?;
         let Draft {
             inode,
             children,
             ..
-        } = self.closed(0)?;
+        } = draft;
         Ok(Layer { inode, children })
     }
 
-    // The same draft with the first `depth` nodes of its spine; the others are finished.
-    fn closed(self, depth: usize) -> Result<Draft, AllocError>
-        requires order { ascends entry_cmp (draft_entries self) ≡ true }
-        requires depth { depth ≤ vec_len self.spine }
-        ensures entries { IfOk result (λ draft. draft_entries draft ≡ draft_entries self) }
-        ensures spine { IfOk result (λ draft. map (λ node. node.name) draft.spine.items
-            ≡ take depth (map (λ node. node.name) self.spine.items)) }
-        ensures count { IfOk result (λ draft. vec_len draft.spine ≡ depth) }
-        ensures last { IfOk result (λ draft. draft.last ≡ self.last) }
+    // Finishes the nodes of the spine after the first `depth`.
+    fn close(&mut self, depth: usize) -> Result<(), AllocError>
+        requires order { ascends entry_cmp (draft_entries self.old) ≡ true }
+        requires depth { depth ≤ vec_len self.old.spine }
+        ensures entries { IfOk result (λ _. draft_entries self.new ≡ draft_entries self.old) }
+        ensures spine { IfOk result (λ _. map (λ node. node.name) self.new.spine.items
+            ≡ take depth (map (λ node. node.name) self.old.spine.items)) }
+        ensures count { IfOk result (λ _. vec_len self.new.spine ≡ depth) }
+        ensures last { IfOk result (λ _. self.new.last ≡ self.old.last) }
     {
-        let mut draft = self;
-        while draft.spine.len() > depth {
-            draft = draft.with_last_closed()?;
+        while self.spine.len() > depth {
+            self.close_last()?;
         }
-        Ok(draft)
+        Ok(())
     }
 
-    // The same draft with the last node of its spine finished.
-    fn with_last_closed(self) -> Result<Draft, AllocError>
-        requires order { ascends entry_cmp (draft_entries self) ≡ true }
-        requires some { 1 ≤ vec_len self.spine }
-        ensures entries { IfOk result (λ draft. draft_entries draft ≡ draft_entries self) }
-        ensures spine { IfOk result (λ draft. map (λ node. node.name) draft.spine.items
-            ≡ take (vec_len self.spine - 1) (map (λ node. node.name) self.spine.items)) }
-        ensures count { IfOk result (λ draft. vec_len draft.spine + 1 ≡ vec_len self.spine) }
-        ensures last { IfOk result (λ draft. draft.last ≡ self.last) }
+    // Finishes the last node of the spine.
+    fn close_last(&mut self) -> Result<(), AllocError>
+        requires order { ascends entry_cmp (draft_entries self.old) ≡ true }
+        requires some { 1 ≤ vec_len self.old.spine }
+        ensures entries { IfOk result (λ _. draft_entries self.new ≡ draft_entries self.old) }
+        ensures spine { IfOk result (λ _. map (λ node. node.name) self.new.spine.items
+            ≡ take (vec_len self.old.spine - 1) (map (λ node. node.name) self.old.spine.items)) }
+        ensures count { IfOk result (λ _. vec_len self.new.spine + 1 ≡ vec_len self.old.spine) }
+        ensures last { IfOk result (λ _. self.new.last ≡ self.old.last) }
     {
-        let Draft {
-            inode,
-            mut children,
-            mut spine,
-            last,
-        } = self;
-        let node = spine.pop().unwrap();
-        let Some(parent) = spine.pop() else {
-            children.push(node)?;
-            return Ok(Draft {
-                inode,
-                children,
-                spine,
-                last,
-            });
+        let node = self.spine.pop().unwrap();
+        let Some(parent) = self.spine.pop() else {
+            self.children.push(node)?;
+            return Ok(());
         };
-        spine.push(parent.with_child(node)?)?;
-        Ok(Draft {
-            inode,
-            children,
-            spine,
-            last,
-        })
+        self.spine.push(parent.with_child(node)?)?;
+        Ok(())
     }
 }
 

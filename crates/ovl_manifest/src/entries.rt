@@ -96,23 +96,23 @@ pub(crate) fn add(
     Ok(draft.with(alloc, path, inode)?)
 }
 
-/// The draft with the entry of a sound inode whose path a text spells, beside the text of the last path; that of the root
-/// is empty here. Gives none of a path or an inode that no layer has there, and for want of memory.
+/// Puts the entry of a sound inode, whose path a text spells, into the draft, whose last path has the text `last`; the
+/// text of the root is empty here. Gives none of a path or an inode that no layer has there, and for want of memory.
 pub(crate) fn add_beside(
     alloc: Global,
-    draft: Draft,
+    draft: &mut Draft,
     last: &str,
     text: &str,
     inode: Inode,
-) -> Option<Draft>
-    requires draft { IsDraft draft }
-    requires room { length (draft_entries draft) < entry_limit }
-    requires last { slashed draft.last ≡ last.now }
+) -> Option<()>
+    requires draft { IsDraft draft.old }
+    requires room { length (draft_entries draft.old) < entry_limit }
+    requires last { slashed draft.old.last ≡ last.now }
     requires sound { is_sound_inode inode ≡ true }
-    ensures draft { IfSome result (λ more. IsDraft more) }
-    ensures last { IfSome result (λ more. slashed more.last ≡ text.now) }
-    ensures path { IfSome result (λ more. path_text more.last ≡ text.now) }
-    ensures entries { IfSome result (λ more. draft_entries more ≡ draft_entries draft ++ (more.last, inode) ∷ []) }
+    ensures draft { IfSome result (λ _. IsDraft draft.new) }
+    ensures last { IfSome result (λ _. slashed draft.new.last ≡ text.now) }
+    ensures path { IfSome result (λ _. path_text draft.new.last ≡ text.now) }
+    ensures entries { IfSome result (λ _. draft_entries draft.new ≡ draft_entries draft.old ++ (draft.new.last, inode) ∷ []) }
 {
     let (depth, name) = place_beside(last, draft.last().len(), text)?;
     if depth >= DEPTH_LIMIT || text.len() > TEXT_LIMIT {
@@ -127,8 +127,8 @@ pub(crate) fn add_beside(
     if !draft.comes_before_child(depth, &name) || !draft.is_directory_above(depth) {
         return None;
     }
-    match draft.with_child(alloc, depth, name, inode) {
-        Ok(more) => Some(more),
+    match draft.enter(alloc, depth, name, inode) {
+        Ok(()) => Some(()),
         Err(_) => None,
     }
 }

@@ -80,10 +80,7 @@ fn read_entries(alloc: Global, reader: &mut Reader<'_>) -> Option<Layer>
         let Some((path, inode)) = read_entry(alloc, reader) else {
             return None;
         };
-        let Some(more) = add_beside(alloc, draft, last, path, inode) else {
-            return None;
-        };
-        draft = more;
+        add_beside(alloc, &mut draft, last, path, inode)?;
         last = path;
         number += 1;
     }

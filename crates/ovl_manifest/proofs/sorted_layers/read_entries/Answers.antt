@@ -42,8 +42,8 @@ pub entries-preserved : goal.entries-preserved
 entries-preserved c =
     let so_far = c.entries.invariant.spelled in
     let before = draft_entries c.entries.draft in
-    let added = c.in-Some-add_beside.ensures in
-    let entry : Entry = (c.in-Some-add_beside.more.last, c.in-Some-read_entry.inode) in
+    let added = c.in_ok-add_beside.ensures in
+    let entry : Entry = (c.add_beside.new.draft.last, c.in-Some-read_entry.inode) in
     let here = subst (λ (later : List Token). AddsEntries 2 so_far.0 before later) (sym c.entries-test.ensures.1) so_far.2 in
     let more = one_entry_more here entry ((c.in-Some-read_entry.ensures).value entry.0 added.path) in
     record {
