@@ -1,19 +1,26 @@
 -- What a draft's spine says of its entries.
-use Rattle.std.proofs.Common.{◌≡◌, ℕ, ◌-◌, ◌<◌, ◌≤◌, length, take, true, false, List, [], ◌∷◌, ◌++◌, map, refl, sym, ap, ◌∙◌, subst, append_assoc, vec_len, Option, Some}
+use Rattle.std.proofs.Common.{◌≡◌, ℕ, zero, suc, ◌-◌, ◌<◌, ◌≤◌, length, take, drop, true, false, List, [], ◌∷◌, ◌++◌, map, refl, sym, ap, ◌∙◌, subst, append_assoc, vec_len, Option, Some, get_or, arith, length-append, length-take-le}
+use Rattle.std.proofs.Math.Seq.{take-append_seam}
 use Rattle.std.proofs.lemmas.List.{length-map}
 use Rattle.std.specs.Ordering.{is_lt}
+use Rattle.std.specs.declared.cmp.Ordering.{Ordering}
+use Rattle.std.specs.declared.cmp.Ordering.TheVariants.{Less, Equal, Greater}
 use Rattle.std.specs.Cmp.Lexicographic.{bytes_decides, pointwise_decides}
-use Rattle.ovl_names.specs.Names.{PathName}
-use Rattle.ovl_names.specs.Paths.{PathNames, path_cmp, path_eq, parent_path, child_path}
+use Rattle.ovl_names.specs.Names.{PathName, name_cmp}
+use Rattle.ovl_names.specs.Paths.{PathNames, path_cmp, path_eq, parent_path, child_path, has_names}
 use Rattle.ovl_names.specs.Order.{ascends}
+use Rattle.ovl_names.proofs.Ascending.{both, list_all-front}
+use Rattle.std.specs.List.{list_all}
 use Rattle.ovl_inode.specs.declared.inodes.Inode.{Inode}
+use Rattle.ovl_inode.specs.Attributes.{has_escaped_name}
 use Rattle.ovl_inode.specs.Marks.{is_directory}
-use Rattle.ovl_manifest.specs.Layers.{Entries, entry_cmp, entry_at, is_directory_at}
+use Rattle.ovl_inode.specs.Sound.{is_sound_inode}
+use Rattle.ovl_manifest.specs.Layers.{Entry, Entries, entry_cmp, entry_at, is_directory_at, is_within_limits, entry_limit}
 use Rattle.ovl_manifest.specs.LayerTrees.{NodeView, entries_from, entries_of_nodes}
 use Rattle.ovl_manifest.specs.Manifest.{comes_after}
-use Rattle.ovl_manifest.specs.Drafts.{entries_of_open, draft_entries, inode_on_way, IsDraft}
+use Rattle.ovl_manifest.specs.Drafts.{entries_of_open, draft_entries, inode_on_way, IsDraft, CanTake}
 use Rattle.ovl_manifest.specs.declared.drafts.Draft.{Draft}
-use Rattle.ovl_manifest.proofs.OpenLemmas.{opened, entry_at-on_way}
+use Rattle.ovl_manifest.proofs.OpenLemmas.{opened, entry_at-on_way, path_cmp-under}
 use Rattle.ovl_manifest.proofs.LayerLemmas.{parent_on_way, no_parent-deep, no_parent-other, comes_after-last}
 
 -- the names of a spine, as a path
@@ -63,3 +70,80 @@ opened_draft inode nodes spine more name own path pushed spelled =
 pub no_names : (spine : List NodeView) → names_of spine ≡ [] → spine ≡ []
 no_names [] none = refl
 no_names (node ∷ spine) none = let bad : node.name ∷ names_of spine ≡ [] = none in cc
+
+-- ---- an entry in a directory on the way to the last
+
+-- the last path is made of names
+pub last_named : (draft : Draft) → IsDraft draft → has_names draft.last ≡ true
+last_named draft is =
+    let all = subst (λ (es : Entries). list_all (λ entry. has_names entry.0) es ≡ true) is.ends.2 is.layer.named in
+    let here = (list_all-front (λ (entry : Entry). has_names entry.0) is.ends.0 ((draft.last, is.ends.1) ∷ []) all).1 in
+    (both {a = has_names draft.last} {b = true} here).0
+
+-- the first names of the last path, and one more
+module _ (last : PathNames) (depth : ℕ) (within : depth ≤ length last) (name : PathName) where
+  pub child_depth : length (child_path (take depth last) name) - 1 ≡ depth
+  child_depth = omega (arith, length-append (take depth last) (name ∷ []), length-take-le depth last within)
+
+  pub child_parent : parent_path (child_path (take depth last) name) ≡ take depth last
+  child_parent =
+      ap (λ (n : ℕ). take n (child_path (take depth last) name)) (child_depth ∙ sym (length-take-le depth last within))
+      ∙ take-append_seam (take depth last) (name ∷ [])
+
+-- it comes after the last path where its name comes after the last path's there, or the last path has no more names
+pub child_after : (last : PathNames) (depth : ℕ) (name d : PathName) → depth < length last → is_lt (path_cmp last (child_path (take depth last) name)) ≡ is_lt (name_cmp (get_or last depth d) name)
+child_after [] depth name d inside = absurd (omega (arith, inside))
+child_after (own ∷ last) (suc depth) name d inside = ap is_lt (path_cmp-under own last (child_path (take depth last) name)) ∙ child_after last depth name d (omega (arith, inside))
+child_after (own ∷ last) zero name d inside = by (name_cmp own name) refl
+  where
+    no_less : (more : PathNames) → is_lt (path_cmp more []) ≡ false
+    no_less [] = refl
+    no_less (first ∷ more) = refl
+
+    by : (o : Ordering) → name_cmp own name ≡ o → is_lt (path_cmp (own ∷ last) (name ∷ [])) ≡ is_lt (name_cmp own name)
+    by Less e = rw e refl
+    by Equal e = rw e (no_less last)
+    by Greater e = rw e refl
+
+pub child_after-end : (last : PathNames) (name : PathName) → is_lt (path_cmp last (child_path (take (length last) last) name)) ≡ true
+child_after-end [] name = refl
+child_after-end (own ∷ last) name = ap is_lt (path_cmp-under own last (child_path (take (length last) last) name)) ∙ child_after-end last name
+
+pub can_take_child : (draft : Draft) → IsDraft draft → (depth : ℕ) (name : PathName) (inode : Inode) → depth ≤ length draft.last
+    → is_lt (path_cmp draft.last (child_path (take depth draft.last) name)) ≡ true
+    → is_directory (inode_on_way draft.inode draft.spine.items depth) ≡ true
+    → is_sound_inode inode ≡ true → has_escaped_name inode.attrs ≡ false → is_within_limits (child_path (take depth draft.last) name) ≡ true → length (draft_entries draft) < entry_limit
+    → CanTake draft (child_path (take depth draft.last) name) inode
+can_take_child draft is depth name inode within after directory sound unescaped limited room = record {
+  after =
+      ap (λ (es : Entries). comes_after es path) is.ends.2
+      ∙ (comes_after-last is.ends.0 draft.last path is.ends.1 (subst (λ (es : Entries). ascends entry_cmp es ≡ true) is.ends.2 is.layer.in_order) ∙ after);
+  parent =
+      on_way draft is path after (subst (λ (n : ℕ). n ≤ vec_len draft.spine) (sym deep_as) inside) same
+      ∙ (ap (λ (n : ℕ). is_directory (inode_on_way draft.inode draft.spine.items n)) deep_as ∙ directory);
+  sound = sound;
+  unescaped = unescaped;
+  limited = limited;
+  room = room;
+}
+  where
+    path : PathNames
+    path = child_path (take depth draft.last) name
+
+    deep_as : length path - 1 ≡ depth
+    deep_as = child_depth draft.last depth within name
+
+    inside : depth ≤ vec_len draft.spine
+    inside = subst (λ (n : ℕ). depth ≤ n) (spine_length draft is) within
+
+    same : path_eq (take (length path - 1) path) (take (length path - 1) draft.last) ≡ true
+    same = (pointwise_decides bytes_decides (take (length path - 1) path) (take (length path - 1) draft.last)).1 (child_parent draft.last depth within name ∙ ap (λ (n : ℕ). take n draft.last) (sym deep_as))
+
+-- the last path of a root alone is the root
+pub alone : (draft : Draft) → IsDraft draft → (inode : Inode) → draft_entries draft ≡ ([], inode) ∷ [] → draft.last ≡ []
+alone draft is inode one = by is.ends.0 (sym is.ends.2 ∙ one)
+  where
+    by : (front : Entries) → front ++ (draft.last, is.ends.1) ∷ [] ≡ ([], inode) ∷ [] → draft.last ≡ []
+    by [] same = ap (λ (es : Entries). (get_or es 0 ([], inode)).0) same
+    by (first ∷ []) same = let bad : (draft.last, is.ends.1) ∷ [] ≡ [] = ap (drop 1) same in cc
+    by (first ∷ next ∷ front) same = let bad : next ∷ (front ++ (draft.last, is.ends.1) ∷ []) ≡ [] = ap (drop 1) same in cc

@@ -1,6 +1,6 @@
 -- Entries that a manifest can state, and the limits of their paths.
 use Rattle.std.proofs.Common.{◌≡◌, ℕ, suc, ◌+◌, ◌++◌, ◌<◌, ◌≤◌, ◌∙◌, subst, Ok, List, [], ◌∷◌, Bool, true, false, Option, Some, None, refl, sym, ap, length, length-append, map, take, get_or, arith, le-leb}
-use Rattle.std.specs.Prelude.{◌==◌, ◌&&◌, ◌↔◌, not, Result, Err, IfSome, IsTrue, flat_map, nat_le, nat_lt, is_none, if◌then◌else◌}
+use Rattle.std.specs.Prelude.{◌==◌, ◌&&◌, ◌↔◌, not, Result, Err, IfSome, IsTrue, nat_le, nat_lt, is_none, if◌then◌else◌}
 use Rattle.std.specs.Result.{result_err}
 use Rattle.std.proofs.lemmas.Bool.Decides.{nat_tests}
 use Rattle.std.proofs.lemmas.Grind.{flat_map-append}
@@ -13,6 +13,7 @@ use Rattle.ovl_names.proofs.Ascending.{both}
 use Rattle.ovl_inode.specs.Attributes.{has_escaped_name}
 use Rattle.ovl_inode.specs.Marks.{is_directory}
 use Rattle.ovl_manifest.specs.Layers.{Entry, Entries, is_directory_at, is_within_limits, entry_limit}
+use Rattle.ovl_manifest.specs.Drafts.{slashed}
 use Rattle.ovl_manifest.specs.Fields.{entry_of}
 use Rattle.ovl_manifest.specs.Manifest.{is_statable, stated_pair, comes_after, entry_after, entries_after, is_miscounted, layer_of_pairs, first_fault, is_of_first, IsFaultOf}
 use Rattle.ovl_manifest.specs.declared.faults.LayerFault.{LayerFault}
@@ -25,10 +26,6 @@ stated_statable value None is = tt
 stated_statable value (Some entry) is = let of = stated value entry (sym is) in rw (of.1, of.0) refl
 
 -- ---- the text of a path, name by name
-
--- a separator before each name
-abbrev pub slashed : PathNames → List ℕ
-slashed names = flat_map (λ own. slash ∷ own) names
 
 pub name_length : (name : List ℕ) → is_name name ≡ true → length name ≤ name_limit
 name_length name is = by (nat_lt name_limit (length name)) refl

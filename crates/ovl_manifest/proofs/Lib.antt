@@ -12,6 +12,7 @@ pub mod TokenLemmas
 pub mod WrittenBackLemmas
 pub mod TailLemmas
 pub mod ValueLemmas
+pub mod WayLemmas
 pub mod StatedLemmas
 pub mod BackLemmas
 pub mod SortedLemmas

@@ -25,7 +25,7 @@ use Rattle.ovl_inode.specs.Sound.{is_word, is_seconds}
 use Rattle.ovl_manifest.specs.Layers.{is_within_limits}
 use Rattle.ovl_manifest.specs.Fields.{up_to, path_of_text, attribute_after, attributes_after}
 use Rattle.ovl_manifest.specs.Text.{hexadecimal, attribute_members}
-use Rattle.ovl_manifest.proofs.EntryLemmas.{slashed}
+use Rattle.ovl_manifest.specs.Drafts.{slashed}
 use Rattle.ovl_manifest.proofs.FieldLemmas.{attributes_after-put}
 use Rattle.ovl_manifest.proofs.TextLemmas.{attributes_in_turn, attribute_members-in_turn, no_or, all-at}
 
@@ -81,12 +81,12 @@ digest-back blob is =
 
 -- ---- paths
 
-record NameFacts (name : List ℕ) : Type 0 where
-  some : (length name == 0) ≡ false
-  sound : is_some (name_fault name) ≡ false
-  whole : list_any (λ byte. byte == slash) name ≡ false
+pub record NameFacts (name : List ℕ) : Type 0 where
+  pub some : (length name == 0) ≡ false
+  pub sound : is_some (name_fault name) ≡ false
+  pub whole : list_any (λ byte. byte == slash) name ≡ false
 
-name_facts : (name : List ℕ) → is_name name ≡ true → NameFacts name
+pub name_facts : (name : List ℕ) → is_name name ≡ true → NameFacts name
 name_facts name is =
     let tests = none_of (length name == 0) (nat_lt name_limit (length name)) (name_eq name dot || name_eq name dot_dot) (list_any (λ byte. byte == slash) name) (list_any (λ byte. byte == 0) name) (both is).0 in
     record { some = tests.0; whole = tests.1; sound = unsome (name_fault name) (both is).0 }

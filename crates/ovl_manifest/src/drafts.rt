@@ -1,7 +1,7 @@
 ghost use Rattle.std.specs.Prelude.{◌≡◌, ◌≤◌, ◌+◌, ◌-◌, true, false, [], ◌∷◌, ◌++◌, IsTrue, IfOk, length, map, take, vec_len};
 ghost use Rattle.std.specs.Bool.{OnTrue};
 ghost use Rattle.ovl_names.specs.Order.{ascends};
-ghost use Rattle.ovl_names.specs.Paths.{path_cmp, parent_path};
+ghost use Rattle.ovl_names.specs.Paths.{path_cmp, parent_path, child_path};
 ghost use Rattle.ovl_inode.specs.Attributes.{has_escaped_name};
 ghost use Rattle.ovl_inode.specs.Marks.{is_directory};
 ghost use Rattle.ovl_inode.specs.Sound.{is_sound_inode};
@@ -13,7 +13,7 @@ ghost use Rattle.ovl_manifest.specs.Drafts.{draft_entries, inode_on_way as way_i
 
 use crate::trees::{Layer, Node};
 use ovl_inode::{Inode, is_directory};
-use ovl_names::Path;
+use ovl_names::{Name, Path};
 use std::alloc::{AllocError, Global};
 
 /// A layer while it is built: the finished nodes of its root, and the nodes on the way to its last entry.
@@ -90,7 +90,8 @@ impl Draft {
     {
         let depth = path.len() - 1;
         let name = path.names()[depth].copy(alloc)?;
-        let mut draft = self.closed(depth)?;
+        let mut draft = self;
+        draft.close(depth)?;
         draft.spine.push(Node {
             name,
             inode,
@@ -100,67 +101,109 @@ impl Draft {
         Ok(draft)
     }
 
+    /// Whether the entry `name` of the directory of the first `depth` names of the last path comes after all entries.
+    pub(crate) fn comes_before_child(&self, depth: usize, name: &Name) -> bool
+        requires { depth ≤ length self.now.last }
+        ensures { result ≡ is_lt (path_cmp self.now.last (child_path (take depth self.now.last) name.now)) }
+    {
+        match self.last.names().get(depth) {
+            Some(own) => own < name,
+            None => true,
+        }
+    }
+
+    /// Whether the path of the first `depth` names of the last path is a directory's.
+    pub(crate) fn is_directory_above(&self, depth: usize) -> bool
+        requires { depth ≤ vec_len self.now.spine }
+        ensures { result ≡ is_directory (way_inode self.now.inode self.now.spine.items depth) }
+    {
+        let inode = self.inode_on_way(depth);
+        is_directory(inode)
+    }
+
+    /// Puts one more entry, which comes after all others, into the directory of the first `depth` names of the last
+    /// path, which is there.
+    pub(crate) fn enter(
+        &mut self,
+        alloc: Global,
+        depth: usize,
+        name: Name,
+        inode: Inode,
+    ) -> Result<(), AllocError>
+        requires draft { IsDraft self.old }
+        requires depth { depth ≤ length self.old.last }
+        requires entry { CanTake self.old (child_path (take depth self.old.last) name) inode }
+        ensures entries { IfOk result (λ _. draft_entries self.new
+            ≡ draft_entries self.old ++ (child_path (take depth self.old.last) name, inode) ∷ []) }
+        ensures draft { IfOk result (λ _. IsDraft self.new) }
+        ensures last { IfOk result (λ _. self.new.last ≡ child_path (take depth self.old.last) name) }
+    {
+        let own = name.copy(alloc)?;
+        self.close(depth)?;
+        self.spine.push(Node {
+            name: own,
+            inode,
+            children: Vec::new(alloc),
+        })?;
+        self.last.go_to(depth, name)?;
+        Ok(())
+    }
+
+    /// The last path.
+    pub(crate) fn last(&self) -> &Path
+        ensures { result.now ≡ self.now.last }
+    {
+        &self.last
+    }
+
     /// The finished layer.
     pub(crate) fn finish(self) -> Result<Layer, AllocError>
         requires { IsDraft self }
         ensures { IfOk result (λ layer. layer ≡ draft_entries self) }
     {
+        let mut draft = self;
+        draft.close(0)?;
         let Draft {
             inode,
             children,
             ..
-        } = self.closed(0)?;
+        } = draft;
         Ok(Layer { inode, children })
     }
 
-    // The same draft with the first `depth` nodes of its spine; the others are finished.
-    fn closed(self, depth: usize) -> Result<Draft, AllocError>
-        requires order { ascends entry_cmp (draft_entries self) ≡ true }
-        requires depth { depth ≤ vec_len self.spine }
-        ensures entries { IfOk result (λ draft. draft_entries draft ≡ draft_entries self) }
-        ensures spine { IfOk result (λ draft. map (λ node. node.name) draft.spine.items
-            ≡ take depth (map (λ node. node.name) self.spine.items)) }
-        ensures count { IfOk result (λ draft. vec_len draft.spine ≡ depth) }
+    // Finishes the nodes of the spine after the first `depth`.
+    fn close(&mut self, depth: usize) -> Result<(), AllocError>
+        requires order { ascends entry_cmp (draft_entries self.old) ≡ true }
+        requires depth { depth ≤ vec_len self.old.spine }
+        ensures entries { IfOk result (λ _. draft_entries self.new ≡ draft_entries self.old) }
+        ensures spine { IfOk result (λ _. map (λ node. node.name) self.new.spine.items
+            ≡ take depth (map (λ node. node.name) self.old.spine.items)) }
+        ensures count { IfOk result (λ _. vec_len self.new.spine ≡ depth) }
+        ensures last { IfOk result (λ _. self.new.last ≡ self.old.last) }
     {
-        let mut draft = self;
-        while draft.spine.len() > depth {
-            draft = draft.with_last_closed()?;
+        while self.spine.len() > depth {
+            self.close_last()?;
         }
-        Ok(draft)
+        Ok(())
     }
 
-    // The same draft with the last node of its spine finished.
-    fn with_last_closed(self) -> Result<Draft, AllocError>
-        requires order { ascends entry_cmp (draft_entries self) ≡ true }
-        requires some { 1 ≤ vec_len self.spine }
-        ensures entries { IfOk result (λ draft. draft_entries draft ≡ draft_entries self) }
-        ensures spine { IfOk result (λ draft. map (λ node. node.name) draft.spine.items
-            ≡ take (vec_len self.spine - 1) (map (λ node. node.name) self.spine.items)) }
-        ensures count { IfOk result (λ draft. vec_len draft.spine + 1 ≡ vec_len self.spine) }
+    // Finishes the last node of the spine.
+    fn close_last(&mut self) -> Result<(), AllocError>
+        requires order { ascends entry_cmp (draft_entries self.old) ≡ true }
+        requires some { 1 ≤ vec_len self.old.spine }
+        ensures entries { IfOk result (λ _. draft_entries self.new ≡ draft_entries self.old) }
+        ensures spine { IfOk result (λ _. map (λ node. node.name) self.new.spine.items
+            ≡ take (vec_len self.old.spine - 1) (map (λ node. node.name) self.old.spine.items)) }
+        ensures count { IfOk result (λ _. vec_len self.new.spine + 1 ≡ vec_len self.old.spine) }
+        ensures last { IfOk result (λ _. self.new.last ≡ self.old.last) }
     {
-        let Draft {
-            inode,
-            mut children,
-            mut spine,
-            last,
-        } = self;
-        let node = spine.pop().unwrap();
-        let Some(parent) = spine.pop() else {
-            children.push(node)?;
-            return Ok(Draft {
-                inode,
-                children,
-                spine,
-                last,
-            });
+        let node = self.spine.pop().unwrap();
+        let Some(parent) = self.spine.pop() else {
+            self.children.push(node)?;
+            return Ok(());
         };
-        spine.push(parent.with_child(node)?)?;
-        Ok(Draft {
-            inode,
-            children,
-            spine,
-            last,
-        })
+        self.spine.push(parent.with_child(node)?)?;
+        Ok(())
     }
 }
 

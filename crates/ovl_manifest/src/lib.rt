@@ -10,6 +10,7 @@ mod sheets;
 mod sorted_entries;
 mod sorted_layers;
 mod sorted_members;
+mod text_paths;
 mod trees;
 mod writing;
 mod written_entries;

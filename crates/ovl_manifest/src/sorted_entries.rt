@@ -1,10 +1,9 @@
 //! Entries as a reader's tokens give them, where the members of each object stand in the order of their names.
-ghost use Rattle.std.specs.Prelude.{Some, IfSome, IsTrue, codes};
+ghost use Rattle.std.specs.Prelude.{◌≡◌, true, Some, IfSome, codes};
 ghost use Rattle.serde_json.specs.Data.{string, object, Members, no_members, put};
-ghost use Rattle.ovl_names.specs.Paths.{path_text};
-ghost use Rattle.ovl_manifest.specs.Layers.{is_within_limits};
+ghost use Rattle.ovl_names.specs.Paths.{PathNames, path_text};
+ghost use Rattle.ovl_inode.specs.Sound.{is_sound_inode};
 ghost use Rattle.ovl_manifest.specs.Text.{whole, with_blob, attribute_members, entry_value};
-ghost use Rattle.ovl_manifest.specs.Manifest.{is_statable};
 ghost use Rattle.ovl_manifest.specs.Sorted.{Spells, HasMember, Adds, with_device, with_contents, IsKindOf};
 
 use crate::fields::put_digits;
@@ -13,13 +12,14 @@ use crate::sorted_members::{
 };
 use json::{Reader, Token};
 use ovl_inode::{Attrs, Digest, Inode, Kind, MODE_LIMIT, SIZE_LIMIT, Target, sound};
-use ovl_names::Path;
 use std::alloc::Global;
 
-/// The entry that the next tokens spell, if the members of its objects stand in the order of their names.
-pub(crate) fn read_entry(alloc: Global, reader: &mut Reader<'_>) -> Option<(Path, Inode)>
-    ensures value { IfSome result (λ entry. Spells 2 reader.old (entry_value entry) reader.new) }
-    ensures statable { IfSome result (λ entry. IsTrue (is_statable entry)) }
+/// The text of the path and the inode of the entry that the next tokens spell, if the members of its objects stand in
+/// the order of their names.
+pub(crate) fn read_entry<'a>(alloc: Global, reader: &mut Reader<'a>) -> Option<(&'a str, Inode)>
+    ensures value { IfSome result (λ entry. (path : PathNames) → path_text path ≡ entry.0.now
+        → Spells 2 reader.old (entry_value (path, entry.1)) reader.new) }
+    ensures sound { IfSome result (λ entry. is_sound_inode entry.1 ≡ true) }
 {
     let Some(Token::BeginObject) = reader.next() else {
         return None;
@@ -30,7 +30,7 @@ pub(crate) fn read_entry(alloc: Global, reader: &mut Reader<'_>) -> Option<(Path
     let device = read_device(reader, word)?;
     let mode = read_natural(reader, "mode", MODE_LIMIT as u64)?;
     let mtime = read_integer(reader, "mtime")?;
-    let path = read_path(alloc, reader)?;
+    let path = read_text(reader, "path")?;
     let kind = read_kind(alloc, reader, word, blob, device)?;
     let uid = read_natural(reader, "uid", u32::MAX as u64)?;
     let attrs = read_attributes(alloc, reader)?;
@@ -87,17 +87,6 @@ fn read_device(reader: &mut Reader<'_>, word: &str) -> Option<Option<(u32, u32)>
     let major = read_natural(reader, "major", u32::MAX as u64)?;
     let minor = read_natural(reader, "minor", u32::MAX as u64)?;
     Some(Some((major as u32, minor as u32)))
-}
-
-fn read_path(alloc: Global, reader: &mut Reader<'_>) -> Option<Path>
-    ensures member { IfSome result (λ path. HasMember 0 (codes "path") reader.old (string (path_text path)) reader.new) }
-    ensures limits { IfSome result (λ path. IsTrue (is_within_limits path)) }
-{
-    let text = read_text(reader, "path")?;
-    match Path::parse(alloc, text) {
-        Ok(path) => Some(path),
-        Err(_) => None,
-    }
 }
 
 // The kind of this word, with the blob and the numbers that were read and the member after `path`.

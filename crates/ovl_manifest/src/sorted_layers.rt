@@ -6,11 +6,12 @@ ghost use Rattle.ovl_manifest.specs.Manifest.{read_layer as layer_stated};
 ghost use Rattle.ovl_manifest.specs.Text.{entry_items, layer_value};
 ghost use Rattle.ovl_manifest.specs.Sorted.{Spells};
 
-use crate::entries::{ENTRY_LIMIT, add, start};
+use crate::entries::{ENTRY_LIMIT, add_beside, start};
 use crate::sorted_entries::read_entry;
 use crate::sorted_members::{read_natural, take_key};
 use crate::trees::Layer;
 use json::{Reader, Scratch, Token};
+use ovl_names::Path;
 use simdutf8::compat::from_utf8;
 use std::alloc::Global;
 
@@ -61,20 +62,26 @@ fn read_entries(alloc: Global, reader: &mut Reader<'_>) -> Option<Layer>
     let Some(Token::BeginArray) = reader.next() else {
         return None;
     };
-    let root = read_entry(alloc, reader)?;
-    let Ok(mut draft) = start(alloc, Some(root)) else {
+    let Some((text, root)) = read_entry(alloc, reader) else {
         return None;
     };
+    if text != "/" {
+        return None;
+    }
+    let Ok(mut draft) = start(alloc, Some((Path::root(alloc), root))) else {
+        return None;
+    };
+    let mut last = "";
     let mut number = 1;
     'entries: while !reader.take_end_array() {
         if number == ENTRY_LIMIT {
             return None;
         }
-        let entry = read_entry(alloc, reader)?;
-        draft = match add(alloc, draft, number as u32, Some(entry)) {
-            Ok(more) => more,
-            Err(_) => return None,
+        let Some((path, inode)) = read_entry(alloc, reader) else {
+            return None;
         };
+        add_beside(alloc, &mut draft, last, path, inode)?;
+        last = path;
         number += 1;
     }
     match draft.finish() {

@@ -12,13 +12,42 @@ use fast_float::Numeral;
 use json::{Reader, Token};
 
 /// Takes the next token, and answers whether it is a key of this name.
+#[inline(always)]
 pub(crate) fn take_key(reader: &mut Reader<'_>, name: &str) -> bool
     ensures { IsTrue result → reader.old ≡ key name.now ∷ reader.new }
 {
-    match reader.next() {
-        Some(Token::Key(own)) => own == name,
-        _ => false,
+    match next_key(reader) {
+        Some(own) => is_same(own.as_bytes(), name.as_bytes()),
+        None => false,
     }
+}
+
+// The name that the next token has, if it is a key.
+#[inline(never)]
+fn next_key<'a>(reader: &mut Reader<'a>) -> Option<&'a str>
+    ensures { IfSome result (λ own. reader.old ≡ key own.now ∷ reader.new) }
+{
+    match reader.next() {
+        Some(Token::Key(own)) => Some(own),
+        _ => None,
+    }
+}
+
+// Whether the texts are the same, byte by byte and with no way out, which at a literal name becomes a comparison of words.
+#[inline(always)]
+fn is_same(own: &[u8], name: &[u8]) -> bool
+    ensures { IsTrue result → own.now ≡ name.now }
+{
+    if own.len() != name.len() {
+        return false;
+    }
+    let mut same = true;
+    let mut i = name.len();
+    while i > 0 {
+        i -= 1;
+        same = (own[i] == name[i]) & same;
+    }
+    same
 }
 
 /// The next member's name, and none at the end of the object.
@@ -34,6 +63,7 @@ pub(crate) fn next_name<'a>(reader: &mut Reader<'a>) -> Option<Option<&'a str>>
 }
 
 /// The text that the next member states, if it has this name.
+#[inline(always)]
 pub(crate) fn read_text<'a>(reader: &mut Reader<'a>, name: &str) -> Option<&'a str>
     ensures { IfSome result (λ text. HasMember 0 name.now reader.old (string text.now) reader.new) }
 {
@@ -44,6 +74,7 @@ pub(crate) fn read_text<'a>(reader: &mut Reader<'a>, name: &str) -> Option<&'a s
 }
 
 /// The whole number from 0 to a limit that the next member states, if it has this name.
+#[inline(always)]
 pub(crate) fn read_natural(reader: &mut Reader<'_>, name: &str, limit: u64) -> Option<u64>
     ensures member { IfSome result (λ number. HasMember 0 name.now reader.old (whole number) reader.new) }
     ensures bound { IfSome result (λ number. number ≤ limit) }
@@ -55,6 +86,7 @@ pub(crate) fn read_natural(reader: &mut Reader<'_>, name: &str, limit: u64) -> O
 }
 
 /// The whole number of an `i64` that the next member states, if it has this name.
+#[inline(always)]
 pub(crate) fn read_integer(reader: &mut Reader<'_>, name: &str) -> Option<i64>
     ensures { IfSome result (λ value. HasMember 0 name.now reader.old (number (of_integer value)) reader.new) }
 {

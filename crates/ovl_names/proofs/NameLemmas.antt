@@ -1,5 +1,5 @@
 -- Texts that are names, and texts that are paths.
-use Rattle.std.proofs.Common.{◌≡◌, ℕ, ◌<◌, List, [], ◌∷◌, ◌++◌, Bool, true, false, Option, Some, None, refl, sym, ap, ◌∙◌, lit<, length, arith}
+use Rattle.std.proofs.Common.{◌≡◌, ℕ, ◌<◌, List, [], ◌∷◌, ◌++◌, Bool, true, false, Option, Some, None, refl, sym, ap, ◌∙◌, lit<, length, take, drop, arith}
 use Rattle.std.proofs.lemmas.Bool.{eqb-true}
 use Rattle.std.specs.Prelude.{◌==◌, nat_eq, nat_lt, is_some, is_none, not, unwrap_or, if◌then◌else◌}
 use Rattle.std.specs.List.{list_any, starts_with}
@@ -11,7 +11,8 @@ use Rattle.ovl_names.specs.Names.{name_fault, is_name, slash}
 use Rattle.ovl_names.specs.Paths.{PathNames, path_fault, path_refusal, text_parts, parts_between, has_names, depth_limit, text_limit}
 use Rattle.ovl_names.specs.declared.names.NameFault.{NameFault}
 use Rattle.ovl_names.specs.declared.paths.PathFault.TheVariants.{NotAbsolute, EmptyPart, BadPart, TooDeep, TooLong, Memory}
-use Rattle.ovl_names.proofs.Ascending.{both}
+use Rattle.std.proofs.lemmas.List.{take-append-drop}
+use Rattle.ovl_names.proofs.Ascending.{both, list_all-front}
 
 -- a text without a fault is a name
 pub is_name-from_fault : (bytes : List ℕ) → name_fault bytes ≡ None → IsUtf8 bytes → is_name bytes ≡ true
@@ -20,6 +21,10 @@ is_name-from_fault bytes none utf8 = rw none (is_utf8-from_IsUtf8 bytes utf8)
 -- names and one more
 pub has_names-child : (path : PathNames) (name : List ℕ) → has_names path ≡ true → is_name name ≡ true → has_names (path ++ name ∷ []) ≡ true
 has_names-child path name named is = list_all-append is_name path (name ∷ []) ∙ rw named (rw is refl)
+
+-- the first of names
+pub has_names-take : (n : ℕ) (path : PathNames) → has_names path ≡ true → has_names (take n path) ≡ true
+has_names-take n path named = (list_all-front is_name (take n path) (drop n path) (ap has_names (take-append-drop n path) ∙ named)).0
 
 -- a text from which no separator can be stripped isn't absolute
 pub path_fault-relative : (depth : ℕ) (text : List ℕ) → ((rest : List ℕ) → text ≡ encode 47 ++ rest → ⊥) → path_fault depth text ≡ Some NotAbsolute

@@ -1,4 +1,4 @@
-ghost use Rattle.std.specs.Prelude.{◌≡◌, ◌↔◌, ◌<◌, ◌==◌, Some, None, is_some, IsTrue, IfOk, IfSome, MatchResult, [], ◌∷◌, ◌++◌, length, nat_lt, string_bytes};
+ghost use Rattle.std.specs.Prelude.{◌≡◌, ◌↔◌, ◌<◌, ◌==◌, Some, None, is_some, IsTrue, IfOk, IfSome, MatchResult, [], ◌∷◌, ◌++◌, length, take, nat_lt, string_bytes};
 ghost use Rattle.std.specs.Cmp.{partial_equiv_from_equiv, po};
 ghost use Rattle.std.specs.Cmp.Lexicographic.{nat_list_cmp_total, nat_list_eq_equiv, texts_ties, lists_total, lists_equiv, lists_ties};
 ghost use Rattle.std.proofs.Common.{refl};
@@ -180,6 +180,17 @@ impl Path {
     {
         self.names.push(name)?;
         Ok(())
+    }
+
+    /// Goes up to the directory of the first `depth` names, and down to its entry `name`; where memory is wanted, it
+    /// stays at that directory.
+    pub fn go_to(&mut self, depth: usize, name: Name) -> Result<(), AllocError>
+        ensures { MatchResult result
+            (λ _. self.new ≡ child_path (take depth self.old) name)
+            (λ _. self.new ≡ take depth self.old) }
+    {
+        self.names.truncate(depth);
+        self.push(name)
     }
 
     /// The path of the directory that holds this entry, and `None` for the root; fails only for want of memory.

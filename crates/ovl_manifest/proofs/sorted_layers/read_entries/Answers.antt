@@ -1,25 +1,40 @@
-use Rattle.std.proofs.Common.{◌∙◌, ◌+◌, [], ◌∷◌, List, Some, sym, ap, subst, arith}
+use Rattle.std.proofs.Common.{◌≡◌, ◌∙◌, ◌+◌, [], ◌∷◌, List, true, sym, ap, subst, arith, length, length-append, rules}
+use Rattle.std.specs.Cmp.Lexicographic.{bytes_decides}
+use Rattle.ovl_names.specs.Paths.{PathNames, path_text}
+use Rattle.ovl_names.proofs.Ascending.{not_false}
+use Rattle.ovl_inode.specs.declared.inodes.Inode.{Inode}
 use Rattle.json.specs.Token.{Token}
 use Rattle.json.specs.Reads.{token_of}
 use Rattle.json.proofs.Grammar.{closed_array}
 use Rattle.serde_json.specs.Data.{array}
-use Rattle.ovl_manifest.specs.Layers.{Entries}
+use Rattle.ovl_manifest.specs.Layers.{Entry, Entries}
+use Rattle.ovl_manifest.specs.Manifest.{is_statable}
 use Rattle.ovl_manifest.specs.Text.{entry_items}
-use Rattle.ovl_manifest.specs.Drafts.{draft_entries}
+use Rattle.ovl_manifest.specs.Drafts.{draft_entries, slashed}
 use Rattle.ovl_manifest.specs.Sorted.{Spells}
-use Rattle.ovl_manifest.proofs.ReadLemmas.{one_more}
+use Rattle.ovl_manifest.proofs.DraftLemmas.{alone}
 use Rattle.ovl_manifest.proofs.SortedLemmas.{AddsEntries, adds-no_entries, one_entry_more, spells-entries, last_entry}
 use Rattle.ovl_manifest.proofs.sorted_layers.read_entries.Goals as goal
 
+pub start-requires : goal.start-requires
+start-requires c =
+    let root : is_statable ([], c.in-Some.root) ≡ true = (c.in-Some.ensures).sound in
+    subst (λ (path : PathNames). is_statable (path, c.in-Some.root) ≡ true) (sym c.root.ensures) root
+
 pub entries-init : goal.entries-init
 entries-init c =
+    let root : Inode = c.in-Some.root in
     let opened = c.in-Some-BeginArray.ensures.value ∙ ap (λ t. token_of t ∷ c.next.new.self) c.in-Some-BeginArray.field-0-is in
-    let first = last_entry [] c.in_ok-root.root (draft_entries c.in-Ok.draft) c.in-Ok.ensures.0 in
-    let one = one_entry_more (adds-no_entries 2 c.next.new.self) c.in_ok-root.root c.in_ok-root.ensures.value in
+    let same : draft_entries c.in-Ok.draft ≡ ([], root) ∷ [] =
+    last_entry [] (c.root.result, root) (draft_entries c.in-Ok.draft) c.in-Ok.ensures.0 ∙ (λ j. (c.root.ensures j, root) ∷ []) in
+    let text : c.in-Some.text.now ≡ path_text [] = (bytes_decides c.in-Some.text.now (path_text [])).0 (not_false _ (sym c.if-ne.ensures)) in
+    let one = one_entry_more (adds-no_entries 2 c.next.new.self) ([], root) ((c.in-Some.ensures).value [] (sym text)) in
     record {
       draft = c.in-Ok.ensures.1;
-      spelled = (c.next.new.self, opened, subst (λ (entries : Entries). AddsEntries 2 c.next.new.self entries c.read_entry.new.reader) (sym first) one);
-      count = one_more [] (Some c.in_ok-root.root) (draft_entries c.in-Ok.draft) c.in-Ok.ensures.0;
+      spelled = (c.next.new.self, opened, subst (λ (entries : Entries). AddsEntries 2 c.next.new.self entries c.read_entry.new.reader) (sym same) one);
+      text = search rules;
+      last = ap slashed (alone c.in-Ok.draft c.in-Ok.ensures.1 root same);
+      count = ap length same;
       limit = omega arith;
     }
 
@@ -27,13 +42,16 @@ pub entries-preserved : goal.entries-preserved
 entries-preserved c =
     let so_far = c.entries.invariant.spelled in
     let before = draft_entries c.entries.draft in
-    let last = last_entry before c.in_ok-entry.entry (draft_entries c.in-Ok-add.more) c.in-Ok-add.ensures.0 in
+    let added = c.in_ok-add_beside.ensures in
+    let entry : Entry = (c.add_beside.new.draft.last, c.in-Some-read_entry.inode) in
     let here = subst (λ (later : List Token). AddsEntries 2 so_far.0 before later) (sym c.entries-test.ensures.1) so_far.2 in
-    let more = one_entry_more here c.in_ok-entry.entry c.in_ok-entry.ensures.value in
+    let more = one_entry_more here entry ((c.in-Some-read_entry.ensures).value entry.0 added.path) in
     record {
-      draft = c.in-Ok-add.ensures.1;
-      spelled = (so_far.0, so_far.1, subst (λ (entries : Entries). AddsEntries 2 so_far.0 entries c.read_entry-in-entries.new.reader) (sym last) more);
-      count = one_more before (Some c.in_ok-entry.entry) (draft_entries c.in-Ok-add.more) c.in-Ok-add.ensures.0 ∙ ap (λ n. n + 1) c.entries.invariant.count;
+      draft = added.draft;
+      spelled = (so_far.0, so_far.1, subst (λ (entries : Entries). AddsEntries 2 so_far.0 entries c.read_entry-in-entries.new.reader) (sym added.entries) more);
+      text = search rules;
+      last = added.last;
+      count = ap length added.entries ∙ (length-append before (entry ∷ []) ∙ ap (λ n. n + 1) c.entries.invariant.count);
       limit = omega (arith, c.entries.invariant.limit, c.if-number-eq-ENTRY_LIMIT.false);
     }
 

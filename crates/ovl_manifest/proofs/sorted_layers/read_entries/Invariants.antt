@@ -1,7 +1,9 @@
 use Rattle.std.proofs.Common.{◌≡◌, ◌-◌, ◌≤◌, ◌∷◌, List, length}
+use denote.Shadow.{shadow}
+use denote.Text.{Utf8}
 use Rattle.json.specs.Token.{Token}
 use Rattle.ovl_manifest.specs.Layers.{entry_limit}
-use Rattle.ovl_manifest.specs.Drafts.{draft_entries, IsDraft}
+use Rattle.ovl_manifest.specs.Drafts.{draft_entries, slashed, IsDraft}
 use Rattle.ovl_manifest.proofs.SortedLemmas.{AddsEntries}
 use Rattle.ovl_manifest.proofs.sorted_layers.read_entries.Given as goal
 
@@ -10,6 +12,8 @@ abbrev pub invariant-entries : goal.invariant-entries
 invariant-entries l = record {
   draft : IsDraft l.draft;
   spelled : (inside : List Token) × (l.fn.reader ≡ Token.begin_array ∷ inside) × AddsEntries 2 inside (draft_entries l.draft) l.reader;
+  text : shadow (Utf8 l.last);
+  last : slashed l.draft.last ≡ l.last;
   count : length (draft_entries l.draft) ≡ l.number;
   limit : l.number ≤ entry_limit;
 }

@@ -9,18 +9,18 @@ use Rattle.ovl_manifest.proofs.drafts.Draft.finish.Goals as goal
 
 pub invariant_of-result : goal.invariant_of-result
 invariant_of-result c =
-    let nodes : List NodeView = c.in_ok-inode.field-0.children.items in
-    let none : c.in_ok-inode.field-0.spine.items ≡ [] = no_names c.in_ok-inode.field-0.spine.items c.in_ok-inode.ensures.spine in
-    let same = sym (c.in_ok-inode.ensures.entries)
-    ∙ ap (λ (below : Entries). entries_from c.in_ok-inode.field-0.inode below)
+    let nodes : List NodeView = c.close.new.self.children.items in
+    let none : c.close.new.self.spine.items ≡ [] = no_names c.close.new.self.spine.items c.in_ok-close.ensures.spine in
+    let same = sym (c.in_ok-close.ensures.entries)
+    ∙ ap (λ (below : Entries). entries_from c.close.new.self.inode below)
     (ap (λ (spine : List NodeView). entries_of_nodes nodes ++ entries_of_open spine) none ∙ append-nil (entries_of_nodes nodes)) in
     let is = subst IsLayer same c.requires.layer in
-    (nodes_ascend nodes (ascends-below c.in_ok-inode.field-0.inode (entries_of_nodes nodes) is.in_order), is)
+    (nodes_ascend nodes (ascends-below c.close.new.self.inode (entries_of_nodes nodes) is.in_order), is)
 
 pub returns : goal.returns
 returns c =
-    let nodes : List NodeView = c.in_ok-inode.field-0.children.items in
-    let none : c.in_ok-inode.field-0.spine.items ≡ [] = no_names c.in_ok-inode.field-0.spine.items c.in_ok-inode.ensures.spine in
-    ap (λ (below : Entries). entries_from c.in_ok-inode.field-0.inode below)
+    let nodes : List NodeView = c.close.new.self.children.items in
+    let none : c.close.new.self.spine.items ≡ [] = no_names c.close.new.self.spine.items c.in_ok-close.ensures.spine in
+    ap (λ (below : Entries). entries_from c.close.new.self.inode below)
     (sym (append-nil (entries_of_nodes nodes)) ∙ ap (λ (spine : List NodeView). entries_of_nodes nodes ++ entries_of_open spine) (sym none))
-    ∙ c.in_ok-inode.ensures.entries
+    ∙ c.in_ok-close.ensures.entries
