@@ -13,5 +13,6 @@ mod views;
 
 pub use looks::Look;
 pub use stacks::{LAYER_LIMIT, Stack, StackFault};
-pub use steps::{OwnDirectory, Step, walk};
+pub use steps::{OwnDirectory, OwnTrail, Step, walk};
+pub use trails::Trail;
 pub use views::DirView;

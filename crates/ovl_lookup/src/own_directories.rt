@@ -58,9 +58,10 @@ impl OwnDirectory {
     {
         // Each sheet is a layer.
         let _root = sheet.root_number();
-        let Some(row) = directory_below(sheet, self.row, name) else {
+        let Some(below) = directory_below(sheet, self.row, name) else {
             return Ok(None);
         };
+        let row = below.row;
         let next = Trail::of(alloc, self.next.names())?;
         let Entered { next, closed } = enter(alloc, sheet.mark(row), name, self.closed, next)?;
         let next = next.path(alloc)?;

@@ -3,10 +3,11 @@ ghost use Rattle.ovl_names.specs.Paths.{child_path};
 ghost use Rattle.ovl_inode.specs.Marks.{mark_of as the_mark};
 ghost use Rattle.ovl_manifest.specs.Layers.{entry_at, is_directory_at};
 ghost use Rattle.ovl_manifest.specs.Sheets.{path_at};
-ghost use Rattle.ovl_lookup.specs.Passes.{IsDescent, IsArrival, IsOwnDirectory, IsMarked, step_of, entered_path, entered_closed};
+ghost use Rattle.ovl_lookup.specs.Passes.{IsDescent, IsArrival, IsOwnDirectory, IsMarked, own_of, step_of, entered_path, entered_closed};
 ghost use Rattle.ovl_lookup.specs.Walk.{walk as the_walk, walk_beyond, walk_to_file};
 
 use crate::trails::Trail;
+use crate::view_looks::name_at;
 use ovl_inode::{Inode, Mark, Redirect, is_directory, is_whiteout};
 use ovl_manifest::Sheet;
 use ovl_names::{Name, Path};
@@ -134,11 +135,11 @@ pub(crate) struct Descent<'a> {
     pub(crate) closed: bool,
 }
 
-// How far a path goes through directories.
+// How far a path goes through directories. Each name that it goes on by is the layer's own.
 pub(crate) fn descend<'a>(
     alloc: Global,
     sheet: &'a Sheet,
-    trail: &Trail<'a>,
+    trail: &Trail<'_>,
 ) -> Result<Descent<'a>, AllocError>
     ensures { IfOk result (λ descent. IsDescent sheet.now trail.now descent) }
 {
@@ -147,7 +148,7 @@ pub(crate) fn descend<'a>(
     let mut closed = false;
     let mut depth = 0;
     while let Some(name) = trail.name(depth) {
-        let Some(child) = directory_below(sheet, row, name) else {
+        let Some(below) = directory_below(sheet, row, name) else {
             return Ok(Descent {
                 row,
                 depth,
@@ -155,10 +156,10 @@ pub(crate) fn descend<'a>(
                 closed,
             });
         };
-        let entered = enter(alloc, sheet.mark(child), name, closed, next)?;
+        let entered = enter(alloc, sheet.mark(below.row), below.name, closed, next)?;
         next = entered.next;
         closed = entered.closed;
-        row = child;
+        row = below.row;
         depth += 1;
     }
     Ok(Descent {
@@ -180,15 +181,26 @@ pub struct OwnDirectory {
     pub closed: bool,
 }
 
+/// A directory of one layer, and how its walk goes on, with no name copied.
+#[derive(Debug, Drop)]
+pub struct OwnTrail<'a> {
+    /// The number of its row in the layer's sheet.
+    pub row: u32,
+    /// The path by which the layer below knows it.
+    pub next: Trail<'a>,
+    /// Whether the layers below are hidden there.
+    pub closed: bool,
+}
+
 // The directory that a layer has at a path.
-pub(crate) fn directory_in(
+pub(crate) fn trail_in<'a>(
     alloc: Global,
-    sheet: &Sheet,
+    sheet: &'a Sheet,
     path: &Path,
-) -> Result<Option<OwnDirectory>, AllocError>
+) -> Result<Option<OwnTrail<'a>>, AllocError>
     ensures { IfOk result (λ found. MatchOption found
         (is_directory_at sheet.now path.now ≡ false)
-        (λ own. IsOwnDirectory sheet.now path.now own)) }
+        (λ own. IsOwnDirectory sheet.now path.now (own_of own))) }
 {
     let trail = Trail::of(alloc, path.names())?;
     let Descent {
@@ -200,6 +212,22 @@ pub(crate) fn directory_in(
     if depth < trail.len() {
         return Ok(None);
     }
+    Ok(Some(OwnTrail { row, next, closed }))
+}
+
+// The same, in a path of its own.
+pub(crate) fn directory_in(
+    alloc: Global,
+    sheet: &Sheet,
+    path: &Path,
+) -> Result<Option<OwnDirectory>, AllocError>
+    ensures { IfOk result (λ found. MatchOption found
+        (is_directory_at sheet.now path.now ≡ false)
+        (λ own. IsOwnDirectory sheet.now path.now own)) }
+{
+    let Some(OwnTrail { row, next, closed }) = trail_in(alloc, sheet, path)? else {
+        return Ok(None);
+    };
     let next = next.path(alloc)?;
     Ok(Some(OwnDirectory { row, next, closed }))
 }
@@ -246,13 +274,24 @@ pub(crate) fn arrive<'a>(
     Ok(Arrival::Past { next })
 }
 
-// The row of the directory `name` in the directory of a row, and `None` where there is none.
-pub(crate) fn directory_below(sheet: &Sheet, row: u32, name: &Name) -> Option<u32>
+// A directory in another one of a layer: its row, and its name there.
+#[derive(Drop)]
+pub(crate) struct DirectoryBelow<'a> {
+    pub(crate) row: u32,
+    pub(crate) name: &'a Name,
+}
+
+// The directory `name` in the directory of a row, and `None` where there is none.
+pub(crate) fn directory_below<'a>(
+    sheet: &'a Sheet,
+    row: u32,
+    name: &Name,
+) -> Option<DirectoryBelow<'a>>
     requires { row < length sheet.now }
     ensures { MatchOption result
         (is_directory_at sheet.now (child_path (path_at sheet.now row) name.now) ≡ false)
-        (λ child. (child < length sheet.now) × (path_at sheet.now child ≡ child_path (path_at sheet.now row) name.now)
-        × (is_directory_at sheet.now (path_at sheet.now child) ≡ true)) }
+        (λ below. (below.row < length sheet.now) × (path_at sheet.now below.row ≡ child_path (path_at sheet.now row) name.now)
+        × (is_directory_at sheet.now (path_at sheet.now below.row) ≡ true) × (below.name.now ≡ name.now)) }
 {
     let Some(child) = sheet.child(row, name) else {
         return None;
@@ -260,7 +299,14 @@ pub(crate) fn directory_below(sheet: &Sheet, row: u32, name: &Name) -> Option<u3
     if !is_directory(sheet.inode(child)) {
         return None;
     }
-    Some(child)
+    // The root alone has no name.
+    let Some(own) = name_at(sheet, child) else {
+        return None;
+    };
+    Some(DirectoryBelow {
+        row: child,
+        name: own,
+    })
 }
 
 // Where a walk has come to in a directory: the path by which the layer below knows it, and whether the layers below are

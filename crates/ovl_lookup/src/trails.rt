@@ -1,15 +1,20 @@
-ghost use Rattle.std.specs.Prelude.{◌≡◌, ◌+◌, ◌<◌, ◌^◌, ◌++◌, [], length, drop, slice_get, IfOk, IfSome};
+ghost use Rattle.std.specs.Prelude.{◌≡◌, ◌+◌, ◌<◌, ◌^◌, ◌++◌, [], Some, length, drop, slice_get, IfOk, IfSome};
+ghost use Rattle.std.specs.Cmp.{partial_equiv_from_equiv, po};
+ghost use Rattle.std.specs.Cmp.Lexicographic.{nat_list_cmp_total, nat_list_eq_equiv, texts_ties, lists_total, lists_equiv, lists_ties};
+ghost use Rattle.std.proofs.Common.{refl};
 ghost use Rattle.std.specs.Option.{option_map};
-ghost use Rattle.ovl_names.specs.Paths.{child_path};
+ghost use Rattle.ovl_names.specs.Names.{name_cmp};
+ghost use Rattle.ovl_names.specs.Paths.{child_path, path_cmp, path_eq};
 
 use ovl_names::{Name, Path};
 use std::alloc::{AllocError, Global};
+use std::cmp::Ordering;
 use std::marker::Model;
 use std::slice;
 
-// A path from the root in parts that others hold, so that no name of it is copied.
-#[derive(Drop)]
-pub(crate) struct Trail<'a> {
+/// A path from the root in parts that others hold, so that no name of it is copied. Trails are ordered as their paths.
+#[derive(Debug, Drop)]
+pub struct Trail<'a> {
     parts: Vec<&'a [Name]>,
     len: usize,
 }
@@ -107,8 +112,15 @@ impl<'a> Trail<'a> {
         Ok(trail)
     }
 
-    // The path, in names of its own.
-    pub(crate) fn path(&self, alloc: Global) -> Result<Path, AllocError>
+    /// A trail equal to this one; fails only for want of memory.
+    pub fn copy(&self, alloc: Global) -> Result<Trail<'a>, AllocError>
+        ensures { IfOk result (λ trail. trail ≡ self.now) }
+    {
+        self.onward(Trail::root(alloc), 0)
+    }
+
+    /// The path, in names of its own; fails only for want of memory.
+    pub fn path(&self, alloc: Global) -> Result<Path, AllocError>
         ensures { IfOk result (λ path. path ≡ self.now) }
     {
         let mut path = Path::root(alloc);
@@ -118,5 +130,64 @@ impl<'a> Trail<'a> {
             }
         }
         Ok(path)
+    }
+
+    // How the path of this trail is to that of another, name by name.
+    fn compared(&self, other: &Trail<'_>) -> Ordering
+        ensures { result ≡ path_cmp self.now other.now }
+    {
+        let mut number = 0;
+        while let Some(own) = self.name(number) {
+            let Some(name) = other.name(number) else {
+                return Ordering::Greater;
+            };
+            match own.cmp(name) {
+                Ordering::Less => return Ordering::Less,
+                Ordering::Greater => return Ordering::Greater,
+                Ordering::Equal => number += 1,
+            }
+        }
+        if number < other.len() {
+            return Ordering::Less;
+        }
+        Ordering::Equal
+    }
+}
+
+impl<'a> PartialEq for Trail<'a> {
+    ghost eq = { path_eq };
+
+    ghost laws = { partial_equiv_from_equiv (lists_equiv nat_list_eq_equiv) };
+
+    fn eq(&self, other: &Trail<'a>) -> bool {
+        self.compared(other).is_eq()
+    }
+}
+
+impl<'a> Eq for Trail<'a> {
+    ghost laws = { lists_equiv nat_list_eq_equiv };
+}
+
+impl<'a> PartialOrd for Trail<'a> {
+    ghost partial_cmp = { λ a b. Some (path_cmp a b) };
+
+    ghost laws = { po (lists_total nat_list_cmp_total) (lists_ties name_cmp texts_ties) };
+
+    fn partial_cmp(&self, other: &Trail<'a>) -> Option<Ordering> {
+        Some(self.compared(other))
+    }
+}
+
+impl<'a> Ord for Trail<'a> {
+    ghost cmp = { path_cmp };
+
+    ghost total = { lists_total nat_list_cmp_total };
+
+    ghost matches_partial_cmp = { λ a b. refl };
+
+    ghost matches_eq = { lists_ties name_cmp texts_ties };
+
+    fn cmp(&self, other: &Trail<'a>) -> Ordering {
+        self.compared(other)
     }
 }

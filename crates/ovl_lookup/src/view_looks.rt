@@ -139,7 +139,7 @@ impl DirPlace {
 }
 
 // The last name of the path of a row; the root has none.
-fn name_at(sheet: &Sheet, number: u32) -> Option<&Name>
+pub(crate) fn name_at(sheet: &Sheet, number: u32) -> Option<&Name>
     requires { number < length sheet.now }
     ensures { option_map (λ name. name.now) result ≡ last_name (path_at sheet.now number) }
 {

@@ -20,7 +20,8 @@ loop-name-preserved c =
     let at = name-read names i name c.in-Some.ensures.value in
     let more = taken layer names i name at.0 at.1 in
     let below = c.in-Some-directory_below.ensures in
-    let path : path_at layer c.in-Some-directory_below.child ≡ child_path (take i names) name =
+    let own : c.in-Some-directory_below.below.name.now ≡ name = below.3 in
+    let path : path_at layer c.in-Some-directory_below.below.row ≡ child_path (take i names) name =
     below.1 ∙ ap (λ (p : PathNames). child_path p name) c.loop-name.invariant.here in
     let marked = sym (ap (λ (p : PathNames). option_map mark_of (entry_at layer p)) path) ∙ c.mark.ensures in
     record {
@@ -30,7 +31,7 @@ loop-name-preserved c =
       directory = sym (ap (is_directory_at layer) (path ∙ more)) ∙ below.2;
       turned =
           ap (λ (e : Entered). e.next) c.in_ok-entered.ensures
-          ∙ (ap (λ (p : PathNames). entered_path c.mark.result.now p name) c.loop-name.invariant.turned
+          ∙ ((λ j. entered_path c.mark.result.now (c.loop-name.invariant.turned j) (own j))
           ∙ turn-next layer names i name at.0 at.1 c.mark.result.now marked);
       shut =
           ap (λ (e : Entered). e.closed) c.in_ok-entered.ensures

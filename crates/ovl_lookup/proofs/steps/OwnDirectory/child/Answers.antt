@@ -20,5 +20,5 @@ returns c =
     let next = c.in_ok-next-3.ensures ∙ (ap (λ (e : Entered). e.next) c.in_ok-next-2.ensures ∙ ap (λ (p : PathNames). entered_path mark p c.args.name.now) (c.in_ok-next.ensures ∙ c.names.ensures.value)) in
     let closed = ap (λ (e : Entered). e.closed) c.in_ok-next-2.ensures in
     let same : record { next = c.in_ok-next-3.next; closed = c.in_ok-next-2.field-0.closed } ≡ record { next = entered_path mark c.args.self.now.next c.args.name.now; closed = entered_closed mark c.args.self.now.closed } = λ j. record { next = next j; closed = closed j } in
-    subst (λ (e : Entered). IsOwnDirectory layer below (record { row = c.in-Some.row; next = e.next; closed = e.closed })) (sym same)
-    (own-child layer path c.args.name.now c.root_number-root.ensures.layer c.args.self.now c.requires c.in-Some.row c.in-Some.ensures.0 c.in-Some.ensures.1 directory mark marked)
+    subst (λ (e : Entered). IsOwnDirectory layer below (record { row = c.in-Some.below.row; next = e.next; closed = e.closed })) (sym same)
+    (own-child layer path c.args.name.now c.root_number-root.ensures.layer c.args.self.now c.requires c.in-Some.below.row c.in-Some.ensures.0 c.in-Some.ensures.1 directory mark marked)

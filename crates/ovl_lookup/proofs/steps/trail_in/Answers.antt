@@ -9,7 +9,7 @@ use Rattle.ovl_lookup.specs.Passes.{IsDescent}
 use Rattle.ovl_lookup.specs.Walk.{turn, is_shut}
 use Rattle.ovl_lookup.proofs.WalkFacts.{walk-whole}
 use Rattle.ovl_lookup.proofs.DirViewLemmas.{short-descent}
-use Rattle.ovl_lookup.proofs.steps.directory_in.Goals as goal
+use Rattle.ovl_lookup.proofs.steps.trail_in.Goals as goal
 
 pub returns-then-depth-len : goal.returns-then-depth-len
 returns-then-depth-len c =
@@ -33,6 +33,6 @@ returns c =
       inside = is.inside;
       here = is.here ∙ whole;
       directory = holds;
-      next = c.in_ok-next.ensures ∙ (is.turned ∙ (ap (turn layer) whole ∙ sym (ap (λ (s : Step). s.next) step)));
+      next = is.turned ∙ (ap (turn layer) whole ∙ sym (ap (λ (s : Step). s.next) step));
       closed = is.shut ∙ (ap (is_shut layer) whole ∙ sym (ap (λ (s : Step). s.closed) step));
     }
