@@ -7,8 +7,8 @@ ghost use Rattle.ovl_check.specs.Facts.{IsBelow, asks as asks_test, data_size};
 
 use crate::directories::{Child, Directory};
 use ovl_inode::{Mark, file_size};
-use ovl_lookup::{DirView, Stack};
-use ovl_names::{Name, Path};
+use ovl_lookup::{DirView, Stack, Trail};
+use ovl_names::Name;
 use std::alloc::{AllocError, Global};
 
 // The view of the layers below layer `i` where the walk of a directory with these entries goes on, made only where that
@@ -17,7 +17,7 @@ pub(crate) fn below_children(
     alloc: Global,
     stack: &Stack,
     i: usize,
-    next: &Path,
+    next: &Trail<'_>,
     closed: bool,
     children: &[Child<'_>],
 ) -> Result<Option<DirView>, AllocError>
@@ -33,7 +33,8 @@ pub(crate) fn below_children(
     }
     // A stack has at most 128 layers.
     let _layers = stack.layers();
-    DirView::of(alloc, stack, i + 1, next)
+    let next = next.path(alloc)?;
+    DirView::of(alloc, stack, i + 1, &next)
 }
 
 fn any_asks(children: &[Child<'_>]) -> bool
@@ -50,7 +51,7 @@ fn asks(mark: &Mark) -> bool
 }
 
 // Whether the layers below layer `i` show something under a name in the place of a directory.
-pub(crate) fn show_in(stack: &Stack, _i: usize, directory: &Directory<'_>, name: &Name) -> bool
+pub(crate) fn show_in(stack: &Stack, _i: usize, directory: &Directory<'_, '_>, name: &Name) -> bool
     requires { IsBelow stack.now _i directory.now.next directory.now.below }
     ensures { result ≡ shows (layers_below stack.now _i) (child_path directory.now.next name.now) }
 {
@@ -67,7 +68,7 @@ pub(crate) fn data_size_in(
     alloc: Global,
     stack: &Stack,
     _i: usize,
-    directory: &Directory<'_>,
+    directory: &Directory<'_, '_>,
     name: &Name,
 ) -> Result<Option<u64>, AllocError>
     requires { IsBelow stack.now _i directory.now.next directory.now.below }

@@ -18,7 +18,7 @@ use crate::marks::is_moved;
 use crate::subjects::{CheckOut, CheckWork};
 use ovl_board::{Piece, Work};
 use ovl_inode::{Digest, is_directory};
-use ovl_lookup::Stack;
+use ovl_lookup::{Stack, Trail};
 use ovl_names::{DEPTH_LIMIT, Name, Path};
 use std::alloc::{AllocError, Global};
 
@@ -40,7 +40,7 @@ impl<'a> CheckWork<'a> {
 }
 
 impl<'a> Work for CheckWork<'a> {
-    type Out = CheckOut;
+    type Out = CheckOut<'a>;
 
     ghost use Rattle.ovl_names.specs.Paths.{depth_limit};
     ghost use Rattle.ovl_check.specs.Checks.{CheckSeen, check_seen, check_kids, check_out, seen_set as checks_set};
@@ -58,7 +58,11 @@ impl<'a> Work for CheckWork<'a> {
 
     ghost deepest_of = { λ _. depth_limit };
 
-    fn visit(&self, alloc: Global, piece: &Piece) -> Result<(Vec<Piece>, CheckOut), AllocError> {
+    fn visit(
+        &self,
+        alloc: Global,
+        piece: &Piece,
+    ) -> Result<(Vec<Piece>, CheckOut<'a>), AllocError> {
         let i = usize::from(piece.space);
         if i >= self.stack.layers() {
             return Ok((Vec::new(alloc), nothing(alloc)));
@@ -79,12 +83,12 @@ impl<'a> Work for CheckWork<'a> {
 }
 
 // What comes of a directory of a layer.
-fn directory_out(
+fn directory_out<'a>(
     alloc: Global,
     work: &CheckWork<'_>,
     layer: u16,
-    directory: Directory<'_>,
-) -> Result<CheckOut, AllocError>
+    directory: Directory<'_, 'a>,
+) -> Result<CheckOut<'a>, AllocError>
     requires inside { layer < length work.now.stack.now.layers }
     requires gathered { IsGathered (layer_at work.now.stack.now layer) directory }
     requires below { IsBelowOf work.now.stack.now layer directory }
@@ -103,8 +107,8 @@ fn directory_out(
 }
 
 // The path that goes on from a walk, where that is open.
-fn place_of(next: Path, closed: bool) -> Option<Path>
-    ensures { result ≡ (if closed then None else Some next) }
+fn place_of<'a>(next: Trail<'a>, closed: bool) -> Option<Trail<'a>>
+    ensures { result ≡ (if closed then None else Some next.entry) }
 {
     if closed {
         return None;
@@ -112,7 +116,7 @@ fn place_of(next: Path, closed: bool) -> Option<Path>
     Some(next)
 }
 
-fn nothing(alloc: Global) -> CheckOut
+fn nothing<'a>(alloc: Global) -> CheckOut<'a>
     ensures { check_seen result ≡ no_seen }
 {
     CheckOut {
@@ -145,7 +149,7 @@ fn push_directory(
     alloc: Global,
     work: &CheckWork<'_>,
     layer: u16,
-    directory: &Directory<'_>,
+    directory: &Directory<'_, '_>,
     findings: &mut Vec<Finding>,
 ) -> Result<(), AllocError>
     requires inside { layer < length work.now.stack.now.layers }
@@ -162,7 +166,7 @@ fn push_files(
     alloc: Global,
     work: &CheckWork<'_>,
     layer: u16,
-    directory: &Directory<'_>,
+    directory: &Directory<'_, '_>,
     findings: &mut Vec<Finding>,
 ) -> Result<(), AllocError>
     requires inside { layer < length work.now.stack.now.layers }
@@ -182,7 +186,7 @@ fn push_file(
     alloc: Global,
     work: &CheckWork<'_>,
     layer: u16,
-    directory: &Directory<'_>,
+    directory: &Directory<'_, '_>,
     child: &Child<'_>,
     findings: &mut Vec<Finding>,
 ) -> Result<(), AllocError>

@@ -14,7 +14,7 @@ use crate::marks::has_attribute;
 use crate::places::mark_of_entry;
 use ovl_board::Piece;
 use ovl_inode::{Inode, Mark, is_directory, overlay};
-use ovl_lookup::{DirView, OwnDirectory, Stack};
+use ovl_lookup::{DirView, OwnTrail, Stack, Trail};
 use ovl_manifest::{Sheet, SheetRow};
 use ovl_names::{Name, Path};
 use std::alloc::{AllocError, Global};
@@ -29,12 +29,12 @@ pub(crate) struct Child<'a> {
 
 // A directory of a layer, gathered once for all that is in it.
 #[derive(Drop)]
-pub(crate) struct Directory<'a> {
-    pub(crate) path: &'a Path,
+pub(crate) struct Directory<'p, 'a> {
+    pub(crate) path: &'p Path,
     pub(crate) inode: &'a Inode,
     pub(crate) mark: Mark,
     // The path by which the layers below know it, and whether they are hidden there.
-    pub(crate) next: Path,
+    pub(crate) next: Trail<'a>,
     pub(crate) closed: bool,
     pub(crate) children: Vec<Child<'a>>,
     // The view of the layers below there, where they aren't hidden and an entry asks them.
@@ -42,12 +42,12 @@ pub(crate) struct Directory<'a> {
 }
 
 // The directory that layer `i` has at a path, and `None` where it has none.
-pub(crate) fn directory_at<'a>(
+pub(crate) fn directory_at<'p, 'a>(
     alloc: Global,
     stack: &'a Stack,
     i: usize,
-    path: &'a Path,
-) -> Result<Option<Directory<'a>>, AllocError>
+    path: &'p Path,
+) -> Result<Option<Directory<'p, 'a>>, AllocError>
     requires { i < length stack.now.layers }
     ensures { IfOk result (λ found. MatchOption found
         (is_directory_at (layer_at stack.now i) path.now ≡ false)
@@ -55,7 +55,7 @@ pub(crate) fn directory_at<'a>(
 {
     // Each of them is a layer.
     let _layers = stack.layers();
-    let Some(OwnDirectory { row, next, closed }) = stack.own_directory(alloc, i, path)? else {
+    let Some(OwnTrail { row, next, closed }) = stack.own_trail(alloc, i, path)? else {
         return Ok(None);
     };
     let sheet = stack.sheet(i);

@@ -10,7 +10,7 @@ ghost use Rattle.ovl_check.specs.Walks.{AreLayerWalks, double_at, places_with, d
 use crate::findings::{Code, Finding};
 use crate::subjects::{CheckOut, CheckWork};
 use ovl_board::Parcel;
-use ovl_names::Path;
+use ovl_lookup::Trail;
 use std::alloc::{AllocError, Global};
 use std::collections::BTreeSet;
 
@@ -19,7 +19,7 @@ use std::collections::BTreeSet;
 pub fn finish_check(
     alloc: Global,
     _work: &CheckWork<'_>,
-    layers: Vec<Vec<Parcel<CheckOut>>>,
+    layers: Vec<Vec<Parcel<CheckOut<'_>>>>,
 ) -> Result<Vec<Finding>, AllocError>
     requires count { length layers.items ≡ length _work.now.stack.now.layers }
     requires walks { AreLayerWalks (check_view _work.now) 0 (map (λ parcels. parcel_views check_seen parcels.items) layers.items) }
@@ -34,8 +34,11 @@ pub fn finish_check(
 }
 
 // What is found along the walks of all layers.
-fn found_in(alloc: Global, layers: Vec<Vec<Parcel<CheckOut>>>) -> Result<Vec<Finding>, AllocError>
-    ensures { IfOk result (λ found. found.items ≡ flat_map (λ parcels. found_along (parcel_views check_seen parcels.items)) layers.items) }
+fn found_in(
+    alloc: Global,
+    layers: Vec<Vec<Parcel<CheckOut<'_>>>>,
+) -> Result<Vec<Finding>, AllocError>
+    ensures { IfOk result (λ found. found.items ≡ flat_map (λ parcels. found_along (parcel_views check_seen parcels.items)) layers.entry.items) }
 {
     let mut found = Vec::new(alloc);
     for parcels in layers {
@@ -47,10 +50,10 @@ fn found_in(alloc: Global, layers: Vec<Vec<Parcel<CheckOut>>>) -> Result<Vec<Fin
 
 // Adds the outputs of all directories.
 fn push_outputs(
-    parcels: Vec<Parcel<CheckOut>>,
+    parcels: Vec<Parcel<CheckOut<'_>>>,
     findings: &mut Vec<Finding>,
 ) -> Result<(), AllocError>
-    ensures { OnOk result (findings.new.items ≡ findings.old.items ++ flat_map (λ parcel. parcel.out.findings.items) parcels.items) }
+    ensures { OnOk result (findings.new.items ≡ findings.old.items ++ flat_map (λ parcel. parcel.out.findings.items) parcels.entry.items) }
 {
     for parcel in parcels {
         let out = parcel.out;
@@ -63,7 +66,7 @@ fn push_outputs(
 // Adds a finding for each moved directory that goes on where an earlier one does.
 fn push_doubles(
     alloc: Global,
-    parcels: &[Parcel<CheckOut>],
+    parcels: &[Parcel<CheckOut<'_>>],
     findings: &mut Vec<Finding>,
 ) -> Result<(), AllocError>
     ensures { OnOk result (findings.new.items ≡ findings.old.items ++ doubles_after [] (parcel_views check_seen parcels.now)) }
@@ -79,17 +82,17 @@ fn push_doubles(
 }
 
 // Whether one of these directories is a moved one; without one there are no doubles.
-fn has_moved(parcels: &[Parcel<CheckOut>]) -> bool
+fn has_moved(parcels: &[Parcel<CheckOut<'_>>]) -> bool
     ensures { result ≡ list_any (λ parcel. parcel.out.moved) parcels.now }
 {
     parcels.iter().any(|parcel| parcel.out.moved)
 }
 
 // Notes where a directory goes on, and adds a finding where it is moved and an earlier one goes on there.
-fn note_place(
+fn note_place<'a>(
     alloc: Global,
-    parcel: &Parcel<CheckOut>,
-    places: &mut BTreeSet<Path>,
+    parcel: &Parcel<CheckOut<'a>>,
+    places: &mut BTreeSet<Trail<'a>>,
     findings: &mut Vec<Finding>,
 ) -> Result<(), AllocError>
     ensures found { OnOk result (findings.new.items ≡ findings.old.items

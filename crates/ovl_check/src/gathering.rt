@@ -17,7 +17,7 @@ use crate::marks::attribute_is;
 use crate::places::{data_size_below, look_below, mark_at, step_of};
 use crate::subjects::CheckWork;
 use ovl_inode::{Inode, Mark, Redirect, overlay};
-use ovl_lookup::{Look, Stack};
+use ovl_lookup::{Look, Stack, Trail};
 use ovl_names::{Name, Path};
 use std::alloc::{AllocError, Global};
 
@@ -26,7 +26,7 @@ pub(crate) fn facts_of_directory<'a>(
     alloc: Global,
     work: &CheckWork<'_>,
     i: usize,
-    directory: &'a Directory<'_>,
+    directory: &'a Directory<'_, '_>,
 ) -> Result<Facts<'a>, AllocError>
     requires inside { i < length work.now.stack.now.layers }
     requires gathered { IsGathered (layer_at work.now.stack.now i) directory.now }
@@ -57,7 +57,7 @@ pub(crate) fn facts_of_child<'a>(
     alloc: Global,
     work: &CheckWork<'_>,
     i: usize,
-    directory: &Directory<'_>,
+    directory: &Directory<'_, '_>,
     child: &'a Child<'_>,
 ) -> Result<Facts<'a>, AllocError>
     requires inside { i < length work.now.stack.now.layers }
@@ -96,7 +96,7 @@ fn old_place(
     alloc: Global,
     stack: &Stack,
     i: usize,
-    next: &Path,
+    next: &Trail<'_>,
     closed: bool,
 ) -> Result<OldPlace, AllocError>
     requires { i < length stack.now.layers }
@@ -105,8 +105,9 @@ fn old_place(
     if closed {
         return Ok(OldPlace::Hidden);
     }
-    let content = content_of(&look_below(alloc, stack, i, next)?);
-    let is_seen = is_seen(alloc, stack, i, next)?;
+    let place = next.path(alloc)?;
+    let content = content_of(&look_below(alloc, stack, i, &place)?);
+    let is_seen = is_seen(alloc, stack, i, &place)?;
     Ok(OldPlace::Open { content, is_seen })
 }
 
@@ -150,7 +151,7 @@ fn is_plain_at(alloc: Global, stack: &Stack, i: usize, place: &Path) -> Result<b
 }
 
 // A whiteout in a directory of layer `i`.
-fn whiteout_in(stack: &Stack, i: usize, directory: &Directory<'_>, name: &Name) -> KindFacts
+fn whiteout_in(stack: &Stack, i: usize, directory: &Directory<'_, '_>, name: &Name) -> KindFacts
     requires inside { i < length stack.now.layers }
     requires below { directory.now.closed ≡ false → IsBelow stack.now i directory.now.next directory.now.below }
     ensures { result ≡ the_whiteout (layers_below stack.now i) directory.now name.now }
@@ -176,7 +177,7 @@ fn data_size(
     alloc: Global,
     stack: &Stack,
     i: usize,
-    directory: &Directory<'_>,
+    directory: &Directory<'_, '_>,
     name: &Name,
     redirect: &Option<Redirect>,
     _inode: &Inode,

@@ -4,16 +4,15 @@ ghost use Rattle.ovl_check.specs.Blobs.{blob_views, are_in_order, wrong_names};
 use crate::blobs::Blob;
 use crate::findings::Finding;
 use ovl_inode::Digest;
-use ovl_lookup::Stack;
-use ovl_names::Path;
+use ovl_lookup::{Stack, Trail};
 
 /// What comes of checking a directory of a layer.
 #[derive(Debug, Drop)]
-pub struct CheckOut {
+pub struct CheckOut<'a> {
     /// What is found at the directory and at each entry in it that is no directory, redirect-double apart.
     pub findings: Vec<Finding>,
-    /// The path by which the layers below know the directory, where they aren't hidden.
-    pub place: Option<Path>,
+    /// The path by which the layers below know the directory, where they aren't hidden, in names that the layer holds.
+    pub place: Option<Trail<'a>>,
     /// Whether the directory is a moved one.
     pub moved: bool,
 }

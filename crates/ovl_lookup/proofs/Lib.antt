@@ -33,3 +33,4 @@ pub mod BeyondLaws
 pub mod PassLaws
 pub mod CourseLaws
 mod Rows
+mod TrailLemmas

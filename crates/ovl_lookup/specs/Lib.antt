@@ -1,6 +1,7 @@
 pub mod Walk
 pub mod Stacks
 pub mod Trace
+pub mod Trails
 pub mod Merged
 pub mod Passes
 pub mod Sound

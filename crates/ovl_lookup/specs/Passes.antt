@@ -1,17 +1,20 @@
 -- What the passes over names and layers keep.
 use Rattle.std.specs.Prelude.{◌≡◌, ℕ, zero, suc, ◌<◌, ◌≤◌, Bool, true, false, ◌||◌, Option, Some, None, List, [], ◌∷◌, ◌++◌, if◌then◌else◌, is_some, unwrap_or, length, take, drop, filter, map, slice_get, IfSome}
+use Rattle.std.specs.Option.{option_map}
 use Rattle.std.specs.List.{flat_map}
 use Rattle.std.specs.BTreeSet.{insert_key}
 use Rattle.ovl_names.specs.Names.{PathName, name_cmp}
 use Rattle.ovl_names.specs.Paths.{PathNames, child_path}
 use Rattle.ovl_inode.specs.declared.inodes.Inode.{Inode}
 use Rattle.ovl_inode.specs.declared.marks.Mark.{Mark}
-use Rattle.ovl_inode.specs.Marks.{is_metacopy, is_data}
+use Rattle.ovl_inode.specs.Marks.{mark_of, is_metacopy, is_data}
 use Rattle.ovl_manifest.specs.Layers.{Entries, IsLayer, entry_at, is_directory_at, names_below}
 use Rattle.ovl_manifest.specs.Sheets.{path_at}
 use Rattle.ovl_lookup.specs.declared.steps.Descent.{Descent}
 use Rattle.ovl_lookup.specs.declared.steps.OwnDirectory.{OwnDirectory}
-use Rattle.ovl_lookup.specs.declared.steps.Trail.{Trail}
+use Rattle.ovl_lookup.specs.declared.steps.OwnTrail.{OwnTrail}
+use Rattle.ovl_lookup.specs.declared.steps.Step.{Step}
+use Rattle.ovl_lookup.specs.declared.steps.TrailStep.{TrailStep}
 use Rattle.ovl_lookup.specs.declared.steps.Arrival.{Arrival}
 use Rattle.ovl_lookup.specs.declared.steps.Arrival.TheVariants.{Directory, Past, End}
 use Rattle.ovl_lookup.specs.declared.looks.Look.{Look}
@@ -41,18 +44,24 @@ pub record IsOwnDirectory (layer : Entries) (path : PathNames) (own : OwnDirecto
   pub next : own.next ≡ (walk layer path).next
   pub closed : own.closed ≡ (walk layer path).closed
 
--- the path of a trail
-abbrev pub names_along : Trail → PathNames
-names_along trail = trail.turned ++ trail.rest.now
+-- a directory with its next path in names of its own
+abbrev pub own_of : OwnTrail → OwnDirectory
+own_of own = record { row = own.row; next = own.next; closed = own.closed }
+
+-- the step that a walk along a trail gives, and that what it found has its mark
+abbrev pub step_of : TrailStep → Step
+step_of step = record { found = option_map (λ found. found.inode.now) step.found; next = step.next; closed = step.closed }
+
+abbrev pub IsMarked : TrailStep → Type 0
+IsMarked step = IfSome step.found (λ found. found.mark.now ≡ mark_of found.inode.now)
 
 -- where the walk of a path in a layer leads: to a directory, past the layer where nothing is there, or no further
 abbrev pub IsArrival : Entries → PathNames → Arrival → Type 0
 IsArrival layer path (Directory row next closed) =
     (is_directory_at layer path ≡ true) × (row < length layer) × (path_at layer row ≡ path)
     × (next ≡ (walk layer path).next) × (closed ≡ (walk layer path).closed)
-IsArrival layer path (Past next walked) =
-    (entry_at layer path ≡ None) × ((walk layer path).closed ≡ false) × (walked ≤ length path)
-    × (next ++ drop walked path ≡ (walk layer path).next)
+IsArrival layer path (Past next) =
+    (entry_at layer path ≡ None) × ((walk layer path).closed ≡ false) × (next ≡ (walk layer path).next)
 IsArrival layer path End =
     (is_directory_at layer path ≡ false) × ((is_some (entry_at layer path) || (walk layer path).closed) ≡ true)
 

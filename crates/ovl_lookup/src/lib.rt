@@ -7,10 +7,12 @@ mod looks;
 mod own_directories;
 mod stacks;
 mod steps;
+mod trails;
 mod view_looks;
 mod views;
 
 pub use looks::Look;
 pub use stacks::{LAYER_LIMIT, Stack, StackFault};
-pub use steps::{OwnDirectory, Step, walk};
+pub use steps::{OwnDirectory, OwnTrail, Step, walk};
+pub use trails::Trail;
 pub use views::DirView;

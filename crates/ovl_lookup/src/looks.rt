@@ -1,15 +1,18 @@
-ghost use Rattle.std.specs.Prelude.{◌≡◌, ◌≤◌, ◌∷◌, ◌&&◌, true, length, drop, IfOk};
+ghost use Rattle.std.specs.Prelude.{◌≡◌, ◌<◌, ◌≤◌, ◌∷◌, ◌&&◌, true, length, drop, slice_get, IfOk, IfSome};
 ghost use Rattle.std.specs.Cmp.{partial_equiv_from_equiv};
-ghost use Rattle.ovl_inode.specs.Marks.{is_metacopy as the_metacopy, is_regular, has_metacopy};
+ghost use Rattle.ovl_inode.specs.Marks.{mark_of as the_mark, is_metacopy_mark, is_regular, has_metacopy};
 ghost use Rattle.ovl_lookup.specs.Stacks.{from_layer};
 ghost use Rattle.ovl_lookup.specs.Trace.{things_found};
 ghost use Rattle.ovl_lookup.specs.Merged.{look as the_look, shown_of, data_of as the_data, is_nothing as nothing_test, is_shown_directory as directory_test, without_blob as kind_without_blob};
-ghost use Rattle.ovl_lookup.specs.Passes.{found_on, shown_with, data_below};
+ghost use Rattle.ovl_lookup.specs.Walk.{walk as the_walk};
+ghost use Rattle.ovl_lookup.specs.Passes.{IsMarked, step_of, found_on, shown_with, data_below};
 ghost use Rattle.ovl_lookup.specs.Equal.{look_eq};
 ghost use Rattle.ovl_lookup.specs.EqualLaws.{look_eq_equiv};
 
-use crate::{Stack, Step};
-use ovl_inode::{Inode, Kind, Mark, is_data, is_directory, mark_of, overlay, visible};
+use crate::Stack;
+use crate::steps::{Found, TrailStep, follow};
+use crate::trails::Trail;
+use ovl_inode::{Inode, Kind, Mark, is_data, is_directory, overlay, visible};
 use ovl_names::Path;
 use std::alloc::{AllocError, Global};
 
@@ -70,15 +73,15 @@ impl Stack {
         requires { from ≤ length self.now.layers }
         ensures { IfOk result (λ look. look ≡ the_look (from_layer from self.now) path.now) }
     {
-        let mut next = path.copy(alloc)?;
+        let mut next = Trail::of(alloc, path.names())?;
         for i in from..self.layers() {
-            let Step {
+            let TrailStep {
                 found,
                 next: below,
                 closed,
-            } = self.own_walk(alloc, i, &next)?;
-            if let Some(inode) = found {
-                return self.shown(alloc, &inode, i + 1, below, closed);
+            } = self.followed(alloc, i, &next)?;
+            if let Some(found) = found {
+                return self.shown(alloc, found, i + 1, below, closed);
             }
             if closed {
                 return Ok(Look::Nothing);
@@ -88,39 +91,57 @@ impl Stack {
         Ok(Look::Nothing)
     }
 
-    // What is shown where this is the first thing found, and the walks go on, unless closed, at `next` in layer `i`.
-    fn shown(
-        &self,
+    // The walk of a trail in layer `i`.
+    fn followed<'a>(
+        &'a self,
         alloc: Global,
-        inode: &Inode,
         i: usize,
-        next: Path,
+        trail: &Trail<'a>,
+    ) -> Result<TrailStep<'a>, AllocError>
+        requires { i < length self.now.layers }
+        ensures value { IfSome (slice_get self.now.layers i) (λ layer. IfOk result (λ step. step_of step ≡ the_walk layer trail.now)) }
+        ensures marked { IfOk result IsMarked }
+    {
+        follow(alloc, &self.layers[i], trail)
+    }
+
+    // What is shown where this is the first thing found, and the walks go on, unless closed, at `next` in layer `i`.
+    fn shown<'a>(
+        &'a self,
+        alloc: Global,
+        found: Found<'a>,
+        i: usize,
+        next: Trail<'a>,
         closed: bool,
     ) -> Result<Look, AllocError>
-        requires { i ≤ length self.now.layers }
-        ensures { IfOk result (λ look. look ≡ shown_of (inode.now ∷ found_on self.now i next closed)) }
+        requires layers { i ≤ length self.now.layers }
+        requires marked { found.mark.now ≡ the_mark found.inode.now }
+        ensures { IfOk result (λ look. look ≡ shown_of (found.entry.inode.now ∷ found_on self.now i next.entry closed)) }
     {
+        let Found { inode, mark } = found;
         if !lacks_contents(inode) {
             return Ok(Look::Shown(visible(alloc, inode)?));
         }
-        let contents = self.data_of(alloc, inode, i, next, closed)?;
+        let contents = self.data_of(alloc, inode, mark, i, next, closed)?;
         metacopy_shown(alloc, inode, contents)
     }
 
     // The data of a metacopy file that is the first thing found, where the walks go on like that.
-    fn data_of(
-        &self,
+    fn data_of<'a>(
+        &'a self,
         alloc: Global,
-        inode: &Inode,
+        _inode: &Inode,
+        mark: &Mark,
         i: usize,
-        next: Path,
+        next: Trail<'a>,
         closed: bool,
     ) -> Result<Option<Inode>, AllocError>
         requires layers { i ≤ length self.now.layers }
-        requires bare { (is_regular inode.now && has_metacopy inode.now) ≡ true }
-        ensures { IfOk result (λ found. found ≡ the_data (inode.now ∷ found_on self.now i next closed)) }
+        requires marked { mark.now ≡ the_mark _inode.now }
+        requires bare { (is_regular _inode.now && has_metacopy _inode.now) ≡ true }
+        ensures { IfOk result (λ found. found ≡ the_data (_inode.now ∷ found_on self.now i next.entry closed)) }
     {
-        if !is_metacopy(alloc, inode)? {
+        if !is_meta(mark) {
             return Ok(None);
         }
         if closed {
@@ -130,27 +151,27 @@ impl Stack {
     }
 
     // The data that the layers from `from` on have at a path, below metacopy files.
-    pub(crate) fn data(
-        &self,
+    pub(crate) fn data<'a>(
+        &'a self,
         alloc: Global,
         from: usize,
-        path: Path,
+        path: Trail<'a>,
     ) -> Result<Option<Inode>, AllocError>
         requires { from ≤ length self.now.layers }
-        ensures { IfOk result (λ found. found ≡ data_below (things_found (drop from self.now.layers) path)) }
+        ensures { IfOk result (λ found. found ≡ data_below (things_found (drop from self.now.layers) path.entry)) }
     {
         let mut next = path;
         for place in from..self.layers() {
-            let Step {
+            let TrailStep {
                 found,
                 next: lower,
                 closed,
-            } = self.own_walk(alloc, place, &next)?;
-            if let Some(inode) = found {
-                if is_data(&inode) {
-                    return Ok(Some(inode));
+            } = self.followed(alloc, place, &next)?;
+            if let Some(found) = found {
+                if is_data(found.inode) {
+                    return Ok(Some(found.inode.copy(alloc)?));
                 }
-                if !is_metacopy(alloc, &inode)? {
+                if !is_meta(found.mark) {
                     return Ok(None);
                 }
             }
@@ -193,10 +214,11 @@ pub(crate) fn lacks_contents(inode: &Inode) -> bool
     matches!(&inode.kind, Kind::File { .. }) && inode.attrs.get(overlay::METACOPY).is_some()
 }
 
-fn is_metacopy(alloc: Global, inode: &Inode) -> Result<bool, AllocError>
-    ensures { IfOk result (λ answer. answer ≡ the_metacopy inode.now) }
+// Whether this is the mark of a metacopy file whose redirect is absent or well formed.
+pub(crate) fn is_meta(mark: &Mark) -> bool
+    ensures { result ≡ is_metacopy_mark mark.now }
 {
-    Ok(matches!(mark_of(alloc, inode)?, Mark::Meta(_)))
+    matches!(mark, Mark::Meta(_))
 }
 
 fn without_blob(alloc: Global, kind: &Kind) -> Result<Kind, AllocError>

@@ -5,7 +5,8 @@ ghost use Rattle.ovl_manifest.specs.Sheets.{path_at};
 ghost use Rattle.ovl_lookup.specs.Walk.{walk as the_walk};
 ghost use Rattle.ovl_lookup.specs.Passes.{IsOwnDirectory};
 
-use crate::steps::{Entered, beyond, directory_below, enter};
+use crate::steps::{Entered, TrailStep, beyond, directory_below, enter, found_in};
+use crate::trails::Trail;
 use crate::{OwnDirectory, Step};
 use ovl_inode::is_directory;
 use ovl_manifest::Sheet;
@@ -28,18 +29,19 @@ impl OwnDirectory {
                 closed: self.closed,
             });
         };
-        let inode = sheet.inode(row);
-        let mark = sheet.mark(row);
-        let next = self.next.copy(alloc)?;
-        if !is_directory(inode) {
-            return beyond(alloc, inode, mark, next, self.closed, name, &[]);
+        let next = Trail::of(alloc, self.next.names())?;
+        let found = found_in(sheet, row);
+        if !is_directory(found.inode) {
+            let step = beyond(alloc, found, next, self.closed, name)?;
+            return step.copied(alloc);
         }
-        let Entered { next, closed } = enter(alloc, mark, name, self.closed, next)?;
-        Ok(Step {
-            found: Some(inode.copy(alloc)?),
+        let Entered { next, closed } = enter(alloc, found.mark, name, self.closed, next)?;
+        let step = TrailStep {
+            found: Some(found),
             next,
             closed,
-        })
+        };
+        step.copied(alloc)
     }
 
     /// The directory `name` in this one, and `None` where the layer has none there. Fails only for want of memory.
@@ -56,11 +58,13 @@ impl OwnDirectory {
     {
         // Each sheet is a layer.
         let _root = sheet.root_number();
-        let Some(row) = directory_below(sheet, self.row, name) else {
+        let Some(below) = directory_below(sheet, self.row, name) else {
             return Ok(None);
         };
-        let next = self.next.copy(alloc)?;
+        let row = below.row;
+        let next = Trail::of(alloc, self.next.names())?;
         let Entered { next, closed } = enter(alloc, sheet.mark(row), name, self.closed, next)?;
+        let next = next.path(alloc)?;
         Ok(Some(OwnDirectory { row, next, closed }))
     }
 }

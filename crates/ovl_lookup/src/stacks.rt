@@ -2,13 +2,13 @@ ghost use Rattle.std.specs.Prelude.{◌≡◌, ◌<◌, ◌≤◌, ◌↔◌, �
 ghost use Rattle.std.specs.Option.{option_map};
 ghost use Rattle.std.specs.List.{All};
 ghost use Rattle.ovl_manifest.specs.Layers.{IsLayer, entry_at, is_directory_at, names_below};
-ghost use Rattle.ovl_lookup.specs.Passes.{IsOwnDirectory};
+ghost use Rattle.ovl_lookup.specs.Passes.{IsOwnDirectory, own_of};
 ghost use Rattle.ovl_lookup.specs.Walk.{walk as the_walk, open_natural_path};
 ghost use Rattle.ovl_lookup.specs.declared.stacks.StackFault.TheVariants.{Layers, Memory};
 ghost use Rattle.ovl_lookup.specs.Stacks.{layer_limit};
 
-use crate::steps::directory_in;
-use crate::{OwnDirectory, Step, walk};
+use crate::steps::{directory_in, trail_in};
+use crate::{OwnDirectory, OwnTrail, Step, walk};
 use ovl_inode::Inode;
 use ovl_manifest::{Layer, Sheet};
 use ovl_names::{Name, Path};
@@ -130,6 +130,21 @@ impl Stack {
             (λ own. IsOwnDirectory layer path.now own))) }
     {
         directory_in(alloc, &self.layers[i], path)
+    }
+
+    /// The same with no name copied: the next path is in names that the layer holds.
+    pub fn own_trail<'a>(
+        &'a self,
+        alloc: Global,
+        i: usize,
+        path: &Path,
+    ) -> Result<Option<OwnTrail<'a>>, AllocError>
+        requires { i < length self.now.layers }
+        ensures { IfSome (slice_get self.now.layers i) (λ layer. IfOk result (λ found. MatchOption found
+            (is_directory_at layer path.now ≡ false)
+            (λ own. IsOwnDirectory layer path.now (own_of own)))) }
+    {
+        trail_in(alloc, &self.layers[i], path)
     }
 
     /// The path at which the layers below layer `i` have an entry by its own name: the next path of the walk of its

@@ -1,11 +1,13 @@
-ghost use Rattle.std.specs.Prelude.{◌≡◌, ◌≢◌, ◌+◌, ◌<◌, ◌≤◌, ◌++◌, false, true, Some, None, length, drop, get_or, IfOk, MatchResult, MatchOption};
+ghost use Rattle.std.specs.Prelude.{◌≡◌, ◌<◌, [], false, true, Some, length, IfOk, MatchOption};
 ghost use Rattle.ovl_names.specs.Paths.{child_path};
 ghost use Rattle.ovl_inode.specs.Marks.{mark_of as the_mark};
-ghost use Rattle.ovl_manifest.specs.Layers.{is_directory_at};
+ghost use Rattle.ovl_manifest.specs.Layers.{entry_at, is_directory_at};
 ghost use Rattle.ovl_manifest.specs.Sheets.{path_at};
-ghost use Rattle.ovl_lookup.specs.Passes.{IsDescent, IsArrival, IsOwnDirectory, names_along, entered_path, entered_closed};
-ghost use Rattle.ovl_lookup.specs.Walk.{walk as the_walk, nothing_found, walk_beyond, walk_to_file};
+ghost use Rattle.ovl_lookup.specs.Passes.{IsDescent, IsArrival, IsOwnDirectory, IsMarked, own_of, step_of, entered_path, entered_closed};
+ghost use Rattle.ovl_lookup.specs.Walk.{walk as the_walk, walk_beyond, walk_to_file};
 
+use crate::trails::Trail;
+use crate::view_looks::name_at;
 use ovl_inode::{Inode, Mark, Redirect, is_directory, is_whiteout};
 use ovl_manifest::Sheet;
 use ovl_names::{Name, Path};
@@ -29,72 +31,136 @@ pub struct Step {
 pub fn walk(alloc: Global, sheet: &Sheet, path: &Path) -> Result<Step, AllocError>
     ensures { IfOk result (λ step. step ≡ the_walk sheet.now path.now) }
 {
-    let names = path.names();
+    let trail = Trail::of(alloc, path.names())?;
+    let step = follow(alloc, sheet, &trail)?;
+    step.copied(alloc)
+}
+
+// What a walk in one layer found, and where it goes on, with nothing copied.
+#[derive(Drop)]
+pub(crate) struct TrailStep<'a> {
+    pub(crate) found: Option<Found<'a>>,
+    pub(crate) next: Trail<'a>,
+    pub(crate) closed: bool,
+}
+
+// An inode of a layer, with its mark.
+#[derive(Drop)]
+pub(crate) struct Found<'a> {
+    pub(crate) inode: &'a Inode,
+    pub(crate) mark: &'a Mark,
+}
+
+impl<'a> TrailStep<'a> {
+    // The same, in an inode and a path of its own.
+    pub(crate) fn copied(self, alloc: Global) -> Result<Step, AllocError>
+        ensures { IfOk result (λ step. step ≡ step_of self.entry) }
+    {
+        let TrailStep {
+            found,
+            next,
+            closed,
+        } = self;
+        let next = next.path(alloc)?;
+        let found = match found {
+            Some(found) => Some(found.inode.copy(alloc)?),
+            None => None,
+        };
+        Ok(Step {
+            found,
+            next,
+            closed,
+        })
+    }
+}
+
+// The walk of a trail in one layer.
+pub(crate) fn follow<'a>(
+    alloc: Global,
+    sheet: &'a Sheet,
+    trail: &Trail<'a>,
+) -> Result<TrailStep<'a>, AllocError>
+    ensures value { IfOk result (λ step. step_of step ≡ the_walk sheet.now trail.now) }
+    ensures marked { IfOk result IsMarked }
+{
     let Descent {
         row,
         depth,
         next,
         closed,
-    } = descend(alloc, sheet, &[], names)?;
-    if depth == names.len() {
-        return Ok(Step {
-            found: Some(sheet.inode(row).copy(alloc)?),
+    } = descend(alloc, sheet, trail)?;
+    let Some(name) = trail.name(depth) else {
+        return Ok(TrailStep {
+            found: Some(found_in(sheet, row)),
             next,
             closed,
         });
-    }
-    let name = &names[depth];
-    match sheet.child(row, name) {
-        Some(number) => beyond(
-            alloc,
-            sheet.inode(number),
-            sheet.mark(number),
-            next,
+    };
+    let Some(number) = sheet.child(row, name) else {
+        return Ok(TrailStep {
+            found: None,
+            next: trail.onward(next, depth)?,
             closed,
-            name,
-            &names[depth + 1..],
-        ),
-        None => missing(alloc, next, closed, &names[depth..]),
+        });
+    };
+    if depth + 1 < trail.len() {
+        return Ok(TrailStep {
+            found: None,
+            next: trail.onward(next, depth)?,
+            closed: true,
+        });
+    }
+    beyond(alloc, found_in(sheet, number), next, closed, name)
+}
+
+// What a layer has in the row of a number.
+pub(crate) fn found_in(sheet: &Sheet, number: u32) -> Found<'_>
+    requires { number < length sheet.now }
+    ensures value { entry_at sheet.now (path_at sheet.now number) ≡ Some result.inode.now }
+    ensures marked { result.mark.now ≡ the_mark result.inode.now }
+{
+    Found {
+        inode: sheet.inode(number),
+        mark: sheet.mark(number),
     }
 }
 
 // How far a path goes through directories of a layer: the row of the last of them, how many names lead to it, the path
 // by which the layer below knows it, and whether the layers below are hidden there.
 #[derive(Drop)]
-pub(crate) struct Descent {
+pub(crate) struct Descent<'a> {
     pub(crate) row: u32,
     pub(crate) depth: usize,
-    pub(crate) next: Path,
+    pub(crate) next: Trail<'a>,
     pub(crate) closed: bool,
 }
 
-// How far a path of two parts goes through directories.
-pub(crate) fn descend(
+// How far a path goes through directories. Each name that it goes on by is the layer's own.
+pub(crate) fn descend<'a>(
     alloc: Global,
-    sheet: &Sheet,
-    turned: &[Name],
-    rest: &[Name],
-) -> Result<Descent, AllocError>
-    ensures { IfOk result (λ descent. IsDescent sheet.now (turned.now ++ rest.now) descent) }
+    sheet: &'a Sheet,
+    trail: &Trail<'_>,
+) -> Result<Descent<'a>, AllocError>
+    ensures { IfOk result (λ descent. IsDescent sheet.now trail.now descent) }
 {
     let mut row = sheet.root_number();
-    let mut next = Path::root(alloc);
+    let mut next = Trail::root(alloc);
     let mut closed = false;
-    let depth = turned.len() + rest.len();
-    for i in 0..depth {
-        let name = name_in(turned, rest, i);
-        let Some(child) = directory_below(sheet, row, name) else {
+    let mut depth = 0;
+    while let Some(name) = trail.name(depth) {
+        let Some(below) = directory_below(sheet, row, name) else {
             return Ok(Descent {
                 row,
-                depth: i,
+                depth,
                 next,
                 closed,
             });
         };
-        let entered = enter(alloc, sheet.mark(child), name, closed, next)?;
+        let entered = enter(alloc, sheet.mark(below.row), below.name, closed, next)?;
         next = entered.next;
         closed = entered.closed;
-        row = child;
+        row = below.row;
+        depth += 1;
     }
     Ok(Descent {
         row,
@@ -102,17 +168,6 @@ pub(crate) fn descend(
         next,
         closed,
     })
-}
-
-// The name of a number in a path of two parts.
-fn name_in<'a>(turned: &'a [Name], rest: &'a [Name], number: usize) -> &'a Name
-    requires { number < length turned.now + length rest.now }
-    ensures { result.now ≡ get_or (turned.now ++ rest.now) number result.now }
-{
-    if number < turned.len() {
-        return &turned[number];
-    }
-    &rest[number - turned.len()]
 }
 
 /// A directory of one layer, and how its walk goes on.
@@ -126,7 +181,41 @@ pub struct OwnDirectory {
     pub closed: bool,
 }
 
+/// A directory of one layer, and how its walk goes on, with no name copied.
+#[derive(Debug, Drop)]
+pub struct OwnTrail<'a> {
+    /// The number of its row in the layer's sheet.
+    pub row: u32,
+    /// The path by which the layer below knows it.
+    pub next: Trail<'a>,
+    /// Whether the layers below are hidden there.
+    pub closed: bool,
+}
+
 // The directory that a layer has at a path.
+pub(crate) fn trail_in<'a>(
+    alloc: Global,
+    sheet: &'a Sheet,
+    path: &Path,
+) -> Result<Option<OwnTrail<'a>>, AllocError>
+    ensures { IfOk result (λ found. MatchOption found
+        (is_directory_at sheet.now path.now ≡ false)
+        (λ own. IsOwnDirectory sheet.now path.now (own_of own))) }
+{
+    let trail = Trail::of(alloc, path.names())?;
+    let Descent {
+        row,
+        depth,
+        next,
+        closed,
+    } = descend(alloc, sheet, &trail)?;
+    if depth < trail.len() {
+        return Ok(None);
+    }
+    Ok(Some(OwnTrail { row, next, closed }))
+}
+
+// The same, in a path of its own.
 pub(crate) fn directory_in(
     alloc: Global,
     sheet: &Sheet,
@@ -136,95 +225,73 @@ pub(crate) fn directory_in(
         (is_directory_at sheet.now path.now ≡ false)
         (λ own. IsOwnDirectory sheet.now path.now own)) }
 {
-    let names = path.names();
-    let Descent {
-        row,
-        depth,
-        next,
-        closed,
-    } = descend(alloc, sheet, &[], names)?;
-    if depth < names.len() {
+    let Some(OwnTrail { row, next, closed }) = trail_in(alloc, sheet, path)? else {
         return Ok(None);
-    }
+    };
+    let next = next.path(alloc)?;
     Ok(Some(OwnDirectory { row, next, closed }))
 }
 
-// A path from the root in two parts: what layers above made of its first names, and the names after those, which no
-// layer copies.
+// Where the walk of a path in one layer leads: to a directory's row, past the layer, where `next` goes on, or no
+// further.
 #[derive(Drop)]
-pub(crate) struct Trail<'a> {
-    pub(crate) turned: Path,
-    pub(crate) rest: &'a [Name],
-}
-
-impl<'a> Trail<'a> {
-    // The trail that goes on at `next` in place of so many names.
-    pub(crate) fn onward(
-        self,
-        alloc: Global,
-        next: Path,
-        walked: usize,
-    ) -> Result<Trail<'a>, AllocError>
-        requires { walked ≤ length (names_along self) }
-        ensures { IfOk result (λ trail. names_along trail ≡ next ++ drop walked (names_along self.entry)) }
-    {
-        let Trail { turned, rest } = self;
-        let count = turned.len();
-        if walked >= count {
-            let rest = &rest[walked - count..];
-            return Ok(Trail { turned: next, rest });
-        }
-        if walked == 0 && next.is_empty() {
-            return Ok(Trail { turned, rest });
-        }
-        let turned = next.joined(alloc, &turned.names()[walked..])?;
-        Ok(Trail { turned, rest })
-    }
-}
-
-// Where the walk of a path in one layer leads: to a directory's row, past the layer, where `next` goes on in place of
-// the names that were walked, or no further.
-#[derive(Drop)]
-pub(crate) enum Arrival {
-    Directory { row: u32, next: Path, closed: bool },
-    Past { next: Path, walked: usize },
+pub(crate) enum Arrival<'a> {
+    Directory {
+        row: u32,
+        next: Trail<'a>,
+        closed: bool,
+    },
+    Past {
+        next: Trail<'a>,
+    },
     End,
 }
 
 // Where the walk of a path leads.
-pub(crate) fn arrive(alloc: Global, sheet: &Sheet, trail: &Trail<'_>) -> Result<Arrival, AllocError>
-    ensures { IfOk result (λ arrival. IsArrival sheet.now (names_along trail.now) arrival) }
+pub(crate) fn arrive<'a>(
+    alloc: Global,
+    sheet: &'a Sheet,
+    trail: &Trail<'a>,
+) -> Result<Arrival<'a>, AllocError>
+    ensures { IfOk result (λ arrival. IsArrival sheet.now trail.now arrival) }
 {
-    let turned = trail.turned.names();
-    let rest = trail.rest;
     let Descent {
         row,
         depth,
         next,
         closed,
-    } = descend(alloc, sheet, turned, rest)?;
-    if depth == turned.len() + rest.len() {
+    } = descend(alloc, sheet, trail)?;
+    let Some(name) = trail.name(depth) else {
         return Ok(Arrival::Directory { row, next, closed });
-    }
-    if let Some(_file) = sheet.child(row, name_in(turned, rest, depth)) {
+    };
+    if let Some(_file) = sheet.child(row, name) {
         return Ok(Arrival::End);
     }
     if closed {
         return Ok(Arrival::End);
     }
-    Ok(Arrival::Past {
-        next,
-        walked: depth,
-    })
+    let next = trail.onward(next, depth)?;
+    Ok(Arrival::Past { next })
 }
 
-// The row of the directory `name` in the directory of a row, and `None` where there is none.
-pub(crate) fn directory_below(sheet: &Sheet, row: u32, name: &Name) -> Option<u32>
+// A directory in another one of a layer: its row, and its name there.
+#[derive(Drop)]
+pub(crate) struct DirectoryBelow<'a> {
+    pub(crate) row: u32,
+    pub(crate) name: &'a Name,
+}
+
+// The directory `name` in the directory of a row, and `None` where there is none.
+pub(crate) fn directory_below<'a>(
+    sheet: &'a Sheet,
+    row: u32,
+    name: &Name,
+) -> Option<DirectoryBelow<'a>>
     requires { row < length sheet.now }
     ensures { MatchOption result
         (is_directory_at sheet.now (child_path (path_at sheet.now row) name.now) ≡ false)
-        (λ child. (child < length sheet.now) × (path_at sheet.now child ≡ child_path (path_at sheet.now row) name.now)
-        × (is_directory_at sheet.now (path_at sheet.now child) ≡ true)) }
+        (λ below. (below.row < length sheet.now) × (path_at sheet.now below.row ≡ child_path (path_at sheet.now row) name.now)
+        × (is_directory_at sheet.now (path_at sheet.now below.row) ≡ true) × (below.name.now ≡ name.now)) }
 {
     let Some(child) = sheet.child(row, name) else {
         return None;
@@ -232,123 +299,106 @@ pub(crate) fn directory_below(sheet: &Sheet, row: u32, name: &Name) -> Option<u3
     if !is_directory(sheet.inode(child)) {
         return None;
     }
-    Some(child)
+    // The root alone has no name.
+    let Some(own) = name_at(sheet, child) else {
+        return None;
+    };
+    Some(DirectoryBelow {
+        row: child,
+        name: own,
+    })
 }
 
 // Where a walk has come to in a directory: the path by which the layer below knows it, and whether the layers below are
 // hidden there.
 #[derive(Drop)]
-pub(crate) struct Entered {
-    pub(crate) next: Path,
+pub(crate) struct Entered<'a> {
+    pub(crate) next: Trail<'a>,
     pub(crate) closed: bool,
 }
 
 // How the next path and its flag go on in a directory of this mark.
-pub(crate) fn enter(
+pub(crate) fn enter<'a>(
     alloc: Global,
-    mark: &Mark,
-    name: &Name,
+    mark: &'a Mark,
+    name: &'a Name,
     closed: bool,
-    next: Path,
-) -> Result<Entered, AllocError>
-    ensures { IfOk result (λ entered. entered ≡ record { next = entered_path mark.now next name.now; closed = entered_closed mark.now closed }) }
+    next: Trail<'a>,
+) -> Result<Entered<'a>, AllocError>
+    ensures { IfOk result (λ entered. entered ≡ record { next = entered_path mark.now next.entry name.now; closed = entered_closed mark.now closed }) }
 {
-    let mut next = next;
     match mark {
         Mark::DirMoved(Redirect::To(origin)) => {
-            return Ok(Entered {
-                next: origin.copy(alloc)?,
+            let next = Trail::of(alloc, origin.names())?;
+            Ok(Entered {
+                next,
                 closed: false,
-            });
+            })
         }
         Mark::DirMoved(Redirect::Beside(own)) => {
-            next.push(own.copy(alloc)?)?;
-            return Ok(Entered { next, closed });
+            let next = next.child(own)?;
+            Ok(Entered { next, closed })
         }
         Mark::DirOpaque | Mark::DirBad => {
-            next.push(name.copy(alloc)?)?;
-            return Ok(Entered { next, closed: true });
+            let next = next.child(name)?;
+            Ok(Entered { next, closed: true })
         }
-        Mark::Whiteout | Mark::DirPlain | Mark::Meta(_) | Mark::MetaBad | Mark::Leaf => {}
+        Mark::Whiteout | Mark::DirPlain | Mark::Meta(_) | Mark::MetaBad | Mark::Leaf => {
+            let next = next.child(name)?;
+            Ok(Entered { next, closed })
+        }
     }
-    next.push(name.copy(alloc)?)?;
-    Ok(Entered { next, closed })
 }
 
-// The walk's end where these names aren't there.
-fn missing(alloc: Global, next: Path, closed: bool, rest: &[Name]) -> Result<Step, AllocError>
-    ensures { IfOk result (λ step. step ≡ nothing_found (next ++ rest.now) closed) }
-{
-    Ok(Step {
-        found: None,
-        next: next.joined(alloc, rest)?,
-        closed,
-    })
-}
-
-// The walk's end at `name`, which is no directory, with `rest` after it.
-pub(crate) fn beyond(
+// The walk's end at `name`, which is no directory and the last of its path.
+pub(crate) fn beyond<'a>(
     alloc: Global,
-    inode: &Inode,
-    mark: &Mark,
-    next: Path,
+    found: Found<'a>,
+    next: Trail<'a>,
     closed: bool,
-    name: &Name,
-    rest: &[Name],
-) -> Result<Step, AllocError>
-    requires { mark.now ≡ the_mark inode.now }
-    ensures { IfOk result (λ step. step ≡ walk_beyond (Some inode.now) next closed name.now rest.now) }
+    name: &'a Name,
+) -> Result<TrailStep<'a>, AllocError>
+    requires { found.mark.now ≡ the_mark found.inode.now }
+    ensures value { IfOk result (λ step. step_of step ≡ walk_beyond (Some found.entry.inode.now) next.entry closed name.now []) }
+    ensures marked { IfOk result IsMarked }
 {
-    let mut next = next;
-    if !rest.is_empty() || is_whiteout(inode) {
-        next.push(name.copy(alloc)?)?;
-        return missing(alloc, next, true, rest);
+    if is_whiteout(found.inode) {
+        let next = next.child(name)?;
+        return Ok(TrailStep {
+            found: None,
+            next,
+            closed: true,
+        });
     }
-    let found = inode.copy(alloc)?;
-    file_step(alloc, mark, found, next, closed, name)
+    file_step(alloc, found, next, closed, name)
 }
 
-// The walk's end at a non-directory of this mark, which is found.
-fn file_step(
+// The walk's end at a non-directory that is found.
+fn file_step<'a>(
     alloc: Global,
-    mark: &Mark,
-    inode: Inode,
-    next: Path,
+    found: Found<'a>,
+    next: Trail<'a>,
     closed: bool,
-    name: &Name,
-) -> Result<Step, AllocError>
-    ensures { IfOk result (λ step. step ≡ walk_to_file inode mark.now next closed name.now) }
+    name: &'a Name,
+) -> Result<TrailStep<'a>, AllocError>
+    requires { found.mark.now ≡ the_mark found.inode.now }
+    ensures value { IfOk result (λ step. step_of step ≡ walk_to_file found.entry.inode.now found.entry.mark.now next.entry closed name.now) }
+    ensures marked { IfOk result IsMarked }
 {
-    let mut next = next;
-    let found = Some(inode);
-    let closed = match mark {
-        Mark::Meta(Some(Redirect::To(origin))) => {
-            return Ok(Step {
-                found,
-                next: origin.copy(alloc)?,
-                closed: false,
-            });
-        }
-        Mark::Meta(Some(Redirect::Beside(own))) => {
-            next.push(own.copy(alloc)?)?;
-            return Ok(Step {
-                found,
-                next,
-                closed,
-            });
-        }
-        Mark::Meta(None) => closed,
+    let (next, closed) = match found.mark {
+        Mark::Meta(Some(Redirect::To(origin))) => (Trail::of(alloc, origin.names())?, false),
+        Mark::Meta(Some(Redirect::Beside(own))) => (next.child(own)?, closed),
+        Mark::Meta(None) => (next.child(name)?, closed),
         Mark::Whiteout
         | Mark::DirOpaque
         | Mark::DirMoved(_)
         | Mark::DirBad
         | Mark::DirPlain
         | Mark::MetaBad
-        | Mark::Leaf => true,
+        | Mark::Leaf => (next.child(name)?, true),
     };
-    next.push(name.copy(alloc)?)?;
-    Ok(Step {
-        found,
+    Ok(TrailStep {
+        found: Some(found),
         next,
         closed,
     })

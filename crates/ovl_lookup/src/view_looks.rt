@@ -12,7 +12,8 @@ ghost use Rattle.ovl_lookup.specs.Views.{entry_in, found_below};
 ghost use Rattle.ovl_lookup.specs.ViewPasses.{AreLooks, looks_alone, names_in, put_top, put_tops, tops_of};
 ghost use Rattle.ovl_lookup.specs.DirViews.{IsViewOver, IsPlaceOver, place_in, places_in};
 
-use crate::looks::{lacks_contents, metacopy_shown};
+use crate::looks::{is_meta, lacks_contents, metacopy_shown};
+use crate::trails::Trail;
 use crate::views::{DirPlace, goes_on_at, goes_on_by};
 use crate::{DirView, Look, Stack};
 use ovl_inode::{Inode, Mark, is_data, is_whiteout, visible};
@@ -142,7 +143,7 @@ impl DirPlace {
 }
 
 // The last name of the path of a row; the root has none.
-fn name_at(sheet: &Sheet, number: u32) -> Option<&Name>
+pub(crate) fn name_at(sheet: &Sheet, number: u32) -> Option<&Name>
     requires { number < length sheet.now }
     ensures { option_map (λ name. name.now) result ≡ last_name (path_at sheet.now number) }
 {
@@ -293,7 +294,8 @@ fn data_in(
             return Ok(None);
         }
         if let Some(origin) = goes_on_at(entry.mark) {
-            return stack.data(alloc, place.layer + 1, origin.copy(alloc)?);
+            let trail = Trail::of(alloc, origin.names())?;
+            return stack.data(alloc, place.layer + 1, trail);
         }
         let Some(other) = goes_on_by(entry.mark, own) else {
             return Ok(None);
@@ -301,11 +303,4 @@ fn data_in(
         own = other;
     }
     Ok(None)
-}
-
-// Whether this is the mark of a metacopy file whose redirect is absent or well formed.
-fn is_meta(mark: &Mark) -> bool
-    ensures { result ≡ is_metacopy_mark mark.now }
-{
-    matches!(mark, Mark::Meta(_))
 }

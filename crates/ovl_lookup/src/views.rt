@@ -8,7 +8,8 @@ ghost use Rattle.ovl_lookup.specs.Views.{reached, entry_in, reached_below};
 ghost use Rattle.ovl_lookup.specs.DirViews.{path_on, name_on, IsViewOver, IsViewOf, IsPlaceOver, IsEntryIn, AddsPlaces, place_in, places_in};
 
 use crate::Stack;
-use crate::steps::{Arrival, Trail, arrive};
+use crate::steps::{Arrival, arrive};
+use crate::trails::Trail;
 use ovl_inode::{Inode, Mark, Redirect, is_directory};
 use ovl_names::{Name, Path};
 use std::alloc::{AllocError, Global};
@@ -118,20 +119,17 @@ impl DirView {
 }
 
 // Adds the places of the view of a path over the layers from `from` on.
-fn push_reached(
+fn push_reached<'a>(
     alloc: Global,
-    stack: &Stack,
+    stack: &'a Stack,
     from: usize,
-    path: &Path,
+    path: &'a Path,
     places: &mut Vec<DirPlace>,
 ) -> Result<(), AllocError>
     requires { from ≤ length stack.now.layers }
     ensures { OnOk result (AddsPlaces stack.now places.old.items places.new.items (reached (drop from stack.now.layers) from path.now)) }
 {
-    let mut trail = Trail {
-        turned: Path::root(alloc),
-        rest: path.names(),
-    };
+    let mut trail = Trail::of(alloc, path.names())?;
     for layer in from..stack.layers() {
         match arrive(alloc, stack.sheet(layer), &trail)? {
             Arrival::Directory { row, next, closed } => {
@@ -139,12 +137,9 @@ fn push_reached(
                 if closed {
                     return Ok(());
                 }
-                trail = Trail {
-                    turned: next,
-                    rest: &[],
-                };
+                trail = next;
             }
-            Arrival::Past { next, walked } => trail = trail.onward(alloc, next, walked)?,
+            Arrival::Past { next } => trail = next,
             Arrival::End => return Ok(()),
         }
     }

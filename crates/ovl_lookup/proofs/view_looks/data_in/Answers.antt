@@ -83,7 +83,7 @@ returns-in-Some-goes_on_at c =
     let origin : PathNames = c.in-Some-goes_on_at.origin.now in
     let from_root = things_found (drop (own.layer + 1) stack.layers) in
     let onward = onward-data stack.layers c.loop-place.own.now (places_in stack places) k (place_in stack own) at inode mark is.inode is.mark (sym c.is_whiteout.ensures ∙ c.if-is_whiteout.false) (sym c.is_meta.ensures ∙ c.if-not-is_meta.false) in
-    let same = ap (λ (p : PathNames). data_below (from_root p)) c.in_ok-copy-2.ensures
+    let same = ap (λ (p : PathNames). data_below (from_root p)) (c.in_ok-trail.ensures ∙ c.names.ensures.value)
     ∙ sym (sym c.loop-place.invariant ∙ (onward ∙ ap data_below (on-path c.loop-place.own.now from_root (λ other. found_below stack.layers other (drop (k + 1) (places_in stack places))) mark origin (sym c.in-Some-goes_on_at.ensures)))) in
     subst (λ (wanted : Option Inode). IfOk c.data.result (λ found. found ≡ wanted)) same c.data.ensures
 

@@ -9,22 +9,24 @@ use Rattle.ovl_lookup.specs.Passes.{IsDescent}
 use Rattle.ovl_lookup.specs.Walk.{turn, is_shut}
 use Rattle.ovl_lookup.proofs.WalkFacts.{walk-whole}
 use Rattle.ovl_lookup.proofs.DirViewLemmas.{short-descent}
-use Rattle.ovl_lookup.proofs.steps.directory_in.Goals as goal
+use Rattle.ovl_lookup.proofs.steps.trail_in.Goals as goal
 
-pub returns-then-depth-names : goal.returns-then-depth-names
-returns-then-depth-names c =
+pub returns-then-depth-len : goal.returns-then-depth-len
+returns-then-depth-len c =
     let layer : Entries = c.args.sheet.now in
     let descent : Descent = c.in_ok-row.field-0 in
-    let is = subst (λ (names : PathNames). IsDescent layer names descent) c.names-names.ensures.value c.in_ok-row.ensures in
-    short-descent layer c.args.path.now descent is (grind (arith, nat_tests, c.if-depth-names.true, ap length c.names-names.ensures.value))
+    let same : c.in_ok-trail.trail ≡ c.args.path.now = c.in_ok-trail.ensures ∙ c.names.ensures.value in
+    let is = subst (λ (names : PathNames). IsDescent layer names descent) same c.in_ok-row.ensures in
+    short-descent layer c.args.path.now descent is (grind (arith, nat_tests, c.if-depth-len.true, c.len.ensures, ap length same))
 
 pub returns : goal.returns
 returns c =
     let layer : Entries = c.args.sheet.now in
     let path : PathNames = c.args.path.now in
     let descent : Descent = c.in_ok-row.field-0 in
-    let is = subst (λ (names : PathNames). IsDescent layer names descent) c.names-names.ensures.value c.in_ok-row.ensures in
-    let whole : take descent.depth path ≡ path = take_all descent.depth path (grind (arith, nat_tests, c.if-depth-names.false, ap length c.names-names.ensures.value)) in
+    let same : c.in_ok-trail.trail ≡ path = c.in_ok-trail.ensures ∙ c.names.ensures.value in
+    let is = subst (λ (names : PathNames). IsDescent layer names descent) same c.in_ok-row.ensures in
+    let whole : take descent.depth path ≡ path = take_all descent.depth path (grind (arith, nat_tests, c.if-depth-len.false, c.len.ensures, ap length same)) in
     let holds : is_directory_at layer path ≡ true = ap (is_directory_at layer) (sym whole) ∙ is.directory in
     let step = walk-whole layer path holds in
     record {

@@ -1,0 +1,17 @@
+use Rattle.std.proofs.Common.{◌+◌, ◌≤◌, ◌∙◌, ◌++◌, length, drop, sym, ap, arith}
+use Rattle.ovl_names.specs.Paths.{PathNames}
+use Rattle.ovl_lookup.specs.Trails.{names_of_parts}
+use Rattle.ovl_lookup.proofs.TrailLemmas.{part-next, drop-past}
+use Rattle.ovl_lookup.proofs.trails.Trail.onward.Goals as goal
+
+pub loop-part-preserved-then-left-part : goal.loop-part-preserved-then-left-part
+loop-part-preserved-then-left-part c =
+    let k = c.loop-part.part-index in
+    let left = c.loop-part.left in
+    let part : PathNames = c.part-item.result.now in
+    let rest : PathNames = names_of_parts (drop (k + 1) c.deref-part-items.result.now) in
+    let past : length part ≤ left = omega (arith, c.if-left-part.true) in
+    ap (λ (names : PathNames). c.loop-part.trail ++ names)
+    (sym (drop-past part rest left past)
+    ∙ ap (drop left) (sym (part-next c.deref-part-items.result.now k c.part-item.result c.loop-part-test.true c.part-item.is)))
+    ∙ c.loop-part.invariant

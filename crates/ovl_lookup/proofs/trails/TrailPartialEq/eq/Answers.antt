@@ -1,0 +1,10 @@
+use Rattle.std.proofs.Common.{◌∙◌, sym, ap}
+use Rattle.std.specs.Ordering.{is_eq}
+use Rattle.std.specs.Cmp.Lexicographic.{lists_ties, texts_ties}
+use Rattle.ovl_names.specs.Names.{name_cmp}
+use Rattle.ovl_lookup.proofs.trails.TrailPartialEq.eq.Goals as goal
+
+pub returns : goal.returns
+returns c =
+    c.is_eq.ensures
+    ∙ (ap is_eq c.compared.ensures ∙ sym (lists_ties name_cmp texts_ties c.args.self.now c.args.other.now))

@@ -1,0 +1,193 @@
+ghost use Rattle.std.specs.Prelude.{◌≡◌, ◌+◌, ◌<◌, ◌^◌, ◌++◌, [], Some, length, drop, slice_get, IfOk, IfSome};
+ghost use Rattle.std.specs.Cmp.{partial_equiv_from_equiv, po};
+ghost use Rattle.std.specs.Cmp.Lexicographic.{nat_list_cmp_total, nat_list_eq_equiv, texts_ties, lists_total, lists_equiv, lists_ties};
+ghost use Rattle.std.proofs.Common.{refl};
+ghost use Rattle.std.specs.Option.{option_map};
+ghost use Rattle.ovl_names.specs.Names.{name_cmp};
+ghost use Rattle.ovl_names.specs.Paths.{child_path, path_cmp, path_eq};
+
+use ovl_names::{Name, Path};
+use std::alloc::{AllocError, Global};
+use std::cmp::Ordering;
+use std::marker::Model;
+use std::slice;
+
+/// A path from the root in parts that others hold, so that no name of it is copied. Trails are ordered as their paths.
+#[derive(Debug, Drop)]
+pub struct Trail<'a> {
+    parts: Vec<&'a [Name]>,
+    len: usize,
+}
+
+impl<'a> Model for Trail<'a> {
+    ghost use Rattle.std.specs.Prelude.{◌≡◌, length};
+    ghost use Rattle.ovl_names.specs.Paths.{PathNames};
+    ghost use Rattle.ovl_lookup.specs.Trails.{names_of_parts};
+
+    ghost Value = { PathNames };
+
+    ghost view = { λ a. names_of_parts a.parts.items };
+
+    ghost invariant = { λ a. a.len ≡ length (names_of_parts a.parts.items) };
+}
+
+impl<'a> Trail<'a> {
+    // The trail of the root.
+    pub(crate) fn root(alloc: Global) -> Trail<'a>
+        ensures { result ≡ [] }
+    {
+        Trail {
+            parts: Vec::new(alloc),
+            len: 0,
+        }
+    }
+
+    // The trail of these names.
+    pub(crate) fn of(alloc: Global, names: &'a [Name]) -> Result<Trail<'a>, AllocError>
+        ensures { IfOk result (λ trail. trail ≡ names.now) }
+    {
+        Trail::root(alloc).with(names)
+    }
+
+    // The trail that goes down these names from this one.
+    pub(crate) fn with(self, names: &'a [Name]) -> Result<Trail<'a>, AllocError>
+        ensures { IfOk result (λ trail. trail ≡ self.entry ++ names.now) }
+    {
+        let Trail { parts, len } = self;
+        let Some(len) = len.checked_add(names.len()) else {
+            // More names than memory has room for.
+            return Err(AllocError);
+        };
+        let mut parts = parts;
+        parts.push(names)?;
+        Ok(Trail { parts, len })
+    }
+
+    // The trail of the entry `name` in this directory.
+    pub(crate) fn child(self, name: &'a Name) -> Result<Trail<'a>, AllocError>
+        ensures { IfOk result (λ trail. trail ≡ child_path self.entry name.now) }
+    {
+        self.with(slice::from_ref(name))
+    }
+
+    // The number of names.
+    pub(crate) fn len(&self) -> usize
+        ensures { result ≡ length self.now }
+    {
+        self.len
+    }
+
+    // The name of a number, and `None` past the last.
+    pub(crate) fn name(&self, number: usize) -> Option<&'a Name>
+        ensures value { option_map (λ name. name.now) result ≡ slice_get self.now number }
+        ensures inside { IfSome result (λ _. number + 1 < 2 ^ 64) }
+    {
+        if number >= self.len {
+            return None;
+        }
+        let mut left = number;
+        for &part in &self.parts {
+            if left < part.len() {
+                return Some(&part[left]);
+            }
+            left -= part.len();
+        }
+        None
+    }
+
+    // The trail that goes on at `next` in place of so many names.
+    pub(crate) fn onward(&self, next: Trail<'a>, walked: usize) -> Result<Trail<'a>, AllocError>
+        ensures { IfOk result (λ trail. trail ≡ next.entry ++ drop walked self.now) }
+    {
+        let mut trail = next;
+        let mut left = walked;
+        for &part in &self.parts {
+            if left >= part.len() {
+                left -= part.len();
+                continue;
+            }
+            trail = trail.with(&part[left..])?;
+            left = 0;
+        }
+        Ok(trail)
+    }
+
+    /// A trail equal to this one; fails only for want of memory.
+    pub fn copy(&self, alloc: Global) -> Result<Trail<'a>, AllocError>
+        ensures { IfOk result (λ trail. trail ≡ self.now) }
+    {
+        self.onward(Trail::root(alloc), 0)
+    }
+
+    /// The path, in names of its own; fails only for want of memory.
+    pub fn path(&self, alloc: Global) -> Result<Path, AllocError>
+        ensures { IfOk result (λ path. path ≡ self.now) }
+    {
+        let mut path = Path::root(alloc);
+        for &part in &self.parts {
+            for name in part {
+                path.push(name.copy(alloc)?)?;
+            }
+        }
+        Ok(path)
+    }
+
+    // How the path of this trail is to that of another, name by name.
+    fn compared(&self, other: &Trail<'_>) -> Ordering
+        ensures { result ≡ path_cmp self.now other.now }
+    {
+        let mut number = 0;
+        while let Some(own) = self.name(number) {
+            let Some(name) = other.name(number) else {
+                return Ordering::Greater;
+            };
+            match own.cmp(name) {
+                Ordering::Less => return Ordering::Less,
+                Ordering::Greater => return Ordering::Greater,
+                Ordering::Equal => number += 1,
+            }
+        }
+        if number < other.len() {
+            return Ordering::Less;
+        }
+        Ordering::Equal
+    }
+}
+
+impl<'a> PartialEq for Trail<'a> {
+    ghost eq = { path_eq };
+
+    ghost laws = { partial_equiv_from_equiv (lists_equiv nat_list_eq_equiv) };
+
+    fn eq(&self, other: &Trail<'a>) -> bool {
+        self.compared(other).is_eq()
+    }
+}
+
+impl<'a> Eq for Trail<'a> {
+    ghost laws = { lists_equiv nat_list_eq_equiv };
+}
+
+impl<'a> PartialOrd for Trail<'a> {
+    ghost partial_cmp = { λ a b. Some (path_cmp a b) };
+
+    ghost laws = { po (lists_total nat_list_cmp_total) (lists_ties name_cmp texts_ties) };
+
+    fn partial_cmp(&self, other: &Trail<'a>) -> Option<Ordering> {
+        Some(self.compared(other))
+    }
+}
+
+impl<'a> Ord for Trail<'a> {
+    ghost cmp = { path_cmp };
+
+    ghost total = { lists_total nat_list_cmp_total };
+
+    ghost matches_partial_cmp = { λ a b. refl };
+
+    ghost matches_eq = { lists_ties name_cmp texts_ties };
+
+    fn cmp(&self, other: &Trail<'a>) -> Ordering {
+        self.compared(other)
+    }
+}
