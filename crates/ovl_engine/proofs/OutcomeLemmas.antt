@@ -1,5 +1,5 @@
 -- What a run that fails is told as, and numbers within their limits.
-use Rattle.std.proofs.Common.{◌≡◌, ◌≢◌, ◌⊎◌, inl, inr, ℕ, ◌<◌, ◌≤◌, true, false, List, refl, arith}
+use Rattle.std.proofs.Common.{◌≡◌, ◌≢◌, ◌⊎◌, inl, inr, ℕ, ◌<◌, ◌≤◌, true, false, Result, Ok, Err, List, [], refl, sym, ap, subst, arith}
 use Rattle.ovl_manifest.specs.Layers.{Entries}
 use Rattle.ovl_board.specs.declared.pieces.Piece.{Piece}
 use Rattle.ovl_board.specs.declared.assembly.BoardFault.{BoardFault}
@@ -10,10 +10,11 @@ use Rattle.ovl_engine.specs.declared.requests.Command.{Command}
 use Rattle.ovl_engine.specs.declared.requests.Command.TheVariants.{Show, Fsck, Vacuum, Deref, Merge}
 use Rattle.ovl_engine.specs.declared.faults.EngineFault.{EngineFault}
 use Rattle.ovl_engine.specs.declared.faults.EngineFault.TheVariants.{Workers as NoWorkers, Layers, Layer, BlobOrder, BlobSize, NoLower, Faulty, LimitOut, Run, Memory as WantsMemory}
-use Rattle.ovl_engine.specs.Refusals.{failed_run}
+use Rattle.ovl_engine.specs.declared.requests.Answer.{Answer}
+use Rattle.ovl_engine.specs.Refusals.{failed_run, layers_from, stated_layers}
 use Rattle.ovl_check.specs.Blobs.{BlobView}
 use Rattle.ovl_engine.specs.Commands.{checks, makes_layers}
-use Rattle.ovl_engine.specs.Outcomes.{MayRefuse, IsFaultOfRun, IsFailure}
+use Rattle.ovl_engine.specs.Outcomes.{MayRefuse, IsFaultOfRun, IsFailure, IsAccepted, IsRefusal, IsRun, IsOutcome}
 
 module _ (command : Command) (layers : List Entries) (blobs : List BlobView) (may_refuse : Piece → Type 0) where
   board_failed : (fault : BoardFault) → IsFaultOfRun command layers blobs (Board fault) → IsFailure command layers blobs may_refuse (failed_run (Board fault))
@@ -72,3 +73,36 @@ not_beyond limit n some few (inr many) = omega arith
 pub not_refused : (limit n m : ℕ) → n ≡ m → 0 < m → m ≤ limit → (n ≡ 0) ⊎ (limit < n) → ⊥
 not_refused limit n m same some few (inl none) = omega arith
 not_refused limit n m same some few (inr many) = omega arith
+
+-- what a command is refused for comes of it
+pub refusal-outcome : (command : Command) (manifests : List (List ℕ)) (blobs : List BlobView) (workers : ℕ) (may_refuse : Piece → Type 0) (fault : EngineFault) → IsRefusal command manifests blobs workers fault → IsOutcome command manifests blobs workers may_refuse (Err fault)
+refusal-outcome command manifests blobs workers may_refuse WantsMemory is = tt
+refusal-outcome command manifests blobs workers may_refuse (Faulty report) is = absurd is
+refusal-outcome command manifests blobs workers may_refuse LimitOut is = absurd is
+refusal-outcome command manifests blobs workers may_refuse (Run fault) is = absurd is
+refusal-outcome command manifests blobs workers may_refuse NoWorkers is = is
+refusal-outcome command manifests blobs workers may_refuse Layers is = is
+refusal-outcome command manifests blobs workers may_refuse (Layer index fault) is = is
+refusal-outcome command manifests blobs workers may_refuse BlobOrder is = is
+refusal-outcome command manifests blobs workers may_refuse BlobSize is = is
+refusal-outcome command manifests blobs workers may_refuse NoLower is = is
+
+-- what comes of a stack that a command isn't refused for comes of the command
+pub run-outcome : (command : Command) (manifests : List (List ℕ)) (layers : List Entries) (blobs : List BlobView) (workers : ℕ) (may_refuse : Piece → Type 0) (result : Result Answer EngineFault) → IsAccepted command manifests blobs workers → layers_from 0 manifests ≡ Ok layers → IsRun command layers blobs may_refuse result → IsOutcome command manifests blobs workers may_refuse result
+run-outcome command manifests layers blobs workers may_refuse result accepted read is = by result (subst (λ (ls : List Entries). IsRun command ls blobs may_refuse result) (sym stated) is)
+  where
+    stated : stated_layers manifests ≡ layers
+    stated = ap (λ (r : Result (List Entries) EngineFault). elim r as (λ _. List Entries) [ Ok layers ↦ layers | Err fault ↦ [] ]) read
+
+    by : (result : Result Answer EngineFault) → IsRun command (stated_layers manifests) blobs may_refuse result → IsOutcome command manifests blobs workers may_refuse result
+    by (Ok answer) is = (accepted, is)
+    by (Err (Faulty report)) is = (accepted, is)
+    by (Err LimitOut) is = (accepted, is)
+    by (Err (Run fault)) is = (accepted, is)
+    by (Err WantsMemory) is = tt
+    by (Err NoWorkers) is = absurd is
+    by (Err Layers) is = absurd is
+    by (Err (Layer index fault)) is = absurd is
+    by (Err BlobOrder) is = absurd is
+    by (Err BlobSize) is = absurd is
+    by (Err NoLower) is = absurd is

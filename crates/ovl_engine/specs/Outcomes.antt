@@ -205,6 +205,19 @@ IsAccepted command manifests blobs workers = first_refusal command manifests blo
 abbrev pub IsRefused : Command → List (List ℕ) → List BlobView → ℕ → EngineFault → Type 0
 IsRefused command manifests blobs workers fault = first_refusal command manifests blobs workers ≡ Some fault
 
+-- why a command does no work; want of memory may come at any time
+abbrev pub IsRefusal : Command → List (List ℕ) → List BlobView → ℕ → EngineFault → Type 0
+IsRefusal command manifests blobs workers Memory = ⊤
+IsRefusal command manifests blobs workers (Faulty report) = ⊥
+IsRefusal command manifests blobs workers LimitOut = ⊥
+IsRefusal command manifests blobs workers (Run fault) = ⊥
+IsRefusal command manifests blobs workers Workers = IsRefused command manifests blobs workers Workers
+IsRefusal command manifests blobs workers Layers = IsRefused command manifests blobs workers Layers
+IsRefusal command manifests blobs workers (Layer index fault) = IsRefused command manifests blobs workers (Layer index fault)
+IsRefusal command manifests blobs workers BlobOrder = IsRefused command manifests blobs workers BlobOrder
+IsRefusal command manifests blobs workers BlobSize = IsRefused command manifests blobs workers BlobSize
+IsRefusal command manifests blobs workers NoLower = IsRefused command manifests blobs workers NoLower
+
 -- what comes of a command, by these manifests and blobs, this number of workers and a gate that may refuse these
 -- pieces; want of memory may come at any time
 abbrev pub IsOutcome : Command → List (List ℕ) → List BlobView → ℕ → (Piece → Type 0) → Result Answer EngineFault → Type 0

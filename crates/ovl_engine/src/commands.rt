@@ -1,13 +1,13 @@
-ghost use Rattle.std.specs.Prelude.{◌≡◌, ◌↔◌, ◌<◌, ◌≤◌, true, false, Err, IfOk, [], length, map, nat_lt};
+ghost use Rattle.std.specs.Prelude.{◌≡◌, ◌↔◌, ◌<◌, ◌≤◌, true, false, Ok, Err, IfOk, IfErr, OnOk, [], length, map, nat_lt};
 ghost use Rattle.ovl_lookup.specs.Stacks.{layer_limit};
 ghost use Rattle.ovl_board.specs.Machine.{worker_limit};
 ghost use Rattle.ovl_check.specs.Blobs.{blob_views, are_in_order};
 ghost use Rattle.ovl_engine.specs.declared.requests.Command.TheVariants.{Show, Fsck};
 ghost use Rattle.ovl_engine.specs.declared.faults.EngineFault.TheVariants.{Workers, Layers};
-ghost use Rattle.ovl_engine.specs.Refusals.{is_outside as outside_test, blob_limit, blob_bytes};
-ghost use Rattle.ovl_engine.specs.Outcomes.{IsOutcome, IsRun};
+ghost use Rattle.ovl_engine.specs.Refusals.{is_outside as outside_test, layers_from, blob_limit, blob_bytes};
+ghost use Rattle.ovl_engine.specs.Outcomes.{IsAccepted, IsRefusal, IsOutcome, IsRun};
 ghost use Rattle.ovl_engine.specs.Commands.{makes_layers, stays_sound, wants_lower as lower_test};
-ghost use Rattle.ovl_engine.specs.Kept.{KeepsTree, IsSoundAfter, manifests_after};
+ghost use Rattle.ovl_engine.specs.Kept.{KeepsTree, KeepsTreeOf, KeepsSoundness, IsSoundAfter, manifests_after};
 
 use crate::checks::findings_of;
 use crate::derefs::deref;
@@ -60,6 +60,54 @@ pub fn command<G: Gate + Sync, R: Threads + Wait + Sync>(
     ensures layers { (result ≡ Err Layers)
         ↔ ((outside_test worker_limit workers ≡ false) × (outside_test layer_limit (length manifests.now) ≡ true)) }
 {
+    let stack = stack_for(rt, alloc, what, manifests, blobs, workers)?;
+    answer(rt, alloc, what, &stack, blobs, workers, gate)
+}
+
+/// What [`command`] gives, of manifests that nobody needs any more: they are let go once their layers are read, so that
+/// the command's work has their memory.
+pub fn command_of<G: Gate + Sync, R: Threads + Wait + Sync>(
+    rt: &R,
+    alloc: Global,
+    what: Command,
+    manifests: Vec<Vec<u8>>,
+    blobs: &[Blob],
+    workers: usize,
+    gate: &G,
+) -> Result<Answer, EngineFault>
+    ensures outcome { IsOutcome what (map (λ manifest. manifest.items) manifests.items) (blob_views blobs.now) workers (G.may_refuse gate.now) result }
+    ensures keeps { IfOk result (λ answer. makes_layers what ≡ true
+        → KeepsTree (map (λ manifest. manifest.items) manifests.items) (manifests_after (map (λ manifest. manifest.items) manifests.items) answer)) }
+    ensures sound { IfOk result (λ answer. stays_sound what ≡ true
+        → IsSoundAfter (manifests_after (map (λ manifest. manifest.items) manifests.items) answer)) }
+    ensures workers { (result ≡ Err Workers) ↔ (outside_test worker_limit workers ≡ true) }
+    ensures layers { (result ≡ Err Layers)
+        ↔ ((outside_test worker_limit workers ≡ false) × (outside_test layer_limit (length manifests.items) ≡ true)) }
+{
+    let stack = stack_for(rt, alloc, what, &manifests, blobs, workers)?;
+    drop(manifests);
+    answer(rt, alloc, what, &stack, blobs, workers, gate)
+}
+
+// The stack of the layers that the manifests state, where nothing refuses the command before its work.
+fn stack_for<R: Threads + Sync>(
+    rt: &R,
+    alloc: Global,
+    what: Command,
+    manifests: &[Vec<u8>],
+    blobs: &[Blob],
+    workers: usize,
+) -> Result<Stack, EngineFault>
+    ensures accepted { OnOk result (IsAccepted what (map (λ manifest. manifest.items) manifests.now) (blob_views blobs.now) workers) }
+    ensures read { IfOk result (λ stack. layers_from 0 (map (λ manifest. manifest.items) manifests.now) ≡ Ok stack.layers) }
+    ensures number { OnOk result ((0 < workers) × (workers ≤ worker_limit)) }
+    ensures ascend { OnOk result (are_in_order (blob_views blobs.now) ≡ true) }
+    ensures several { IfOk result (λ stack. lower_test what ≡ true → 1 < length stack.layers) }
+    ensures refused { IfErr result (λ fault. IsRefusal what (map (λ manifest. manifest.items) manifests.now) (blob_views blobs.now) workers fault) }
+    ensures workers { (result ≡ Err Workers) ↔ (outside_test worker_limit workers ≡ true) }
+    ensures layers { (result ≡ Err Layers)
+        ↔ ((outside_test worker_limit workers ≡ false) × (outside_test layer_limit (length manifests.now) ≡ true)) }
+{
     if is_outside(WORKER_LIMIT, workers) {
         return Err(EngineFault::Workers);
     }
@@ -76,12 +124,32 @@ pub fn command<G: Gate + Sync, R: Threads + Wait + Sync>(
     if wants_lower(what) && manifests.len() == 1 {
         return Err(EngineFault::NoLower);
     }
+    Ok(stack)
+}
+
+// What the command gives of a stack that it isn't refused for.
+fn answer<G: Gate + Sync, R: Threads + Wait + Sync>(
+    rt: &R,
+    alloc: Global,
+    what: Command,
+    stack: &Stack,
+    blobs: &[Blob],
+    workers: usize,
+    gate: &G,
+) -> Result<Answer, EngineFault>
+    requires number { (0 < workers) × (workers ≤ worker_limit) }
+    requires ascend { are_in_order (blob_views blobs.now) ≡ true }
+    requires several { lower_test what ≡ true → 1 < length stack.now.layers }
+    ensures outcome { IsRun what stack.now.layers (blob_views blobs.now) (G.may_refuse gate.now) result }
+    ensures keeps { IfOk result (λ answer. makes_layers what ≡ true → KeepsTreeOf stack.now.layers answer) }
+    ensures sound { IfOk result (λ answer. stays_sound what ≡ true → KeepsSoundness stack.now.layers answer) }
+{
     match what {
-        Command::Show => show(rt, alloc, &stack, workers, gate),
-        Command::Fsck => fsck(rt, alloc, &stack, blobs, workers, gate),
-        Command::Vacuum => vacuum(rt, alloc, &stack, blobs, workers, gate),
-        Command::Deref => deref(rt, alloc, &stack, blobs, workers, gate),
-        Command::Merge => merge(rt, alloc, &stack, blobs, workers, gate),
+        Command::Show => show(rt, alloc, stack, workers, gate),
+        Command::Fsck => fsck(rt, alloc, stack, blobs, workers, gate),
+        Command::Vacuum => vacuum(rt, alloc, stack, blobs, workers, gate),
+        Command::Deref => deref(rt, alloc, stack, blobs, workers, gate),
+        Command::Merge => merge(rt, alloc, stack, blobs, workers, gate),
     }
 }
 

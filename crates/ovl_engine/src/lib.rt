@@ -20,7 +20,7 @@ mod vacuums;
 mod works;
 
 pub use blobs::named_blobs;
-pub use commands::{BLOB_LIMIT, command};
+pub use commands::{BLOB_LIMIT, command, command_of};
 pub use emits::{EmitFault, emit};
 pub use faults::EngineFault;
 pub use fsck_reports::{fsck_report_of, is_clean};

@@ -30,7 +30,7 @@ pub fn perform<R: Files + AllocGlobal + Clone + Drop + Threads + Wait + Sync, W:
     write_report(
         rt,
         line.what,
-        &manifests,
+        manifests,
         &blobs,
         line.workers,
         &line.out,

@@ -9,7 +9,7 @@ ghost use Rattle.ovl_layers.specs.Reported.{IsReported};
 use crate::endings::Ending;
 use crate::faults::ProgramFault;
 use crate::outputs::write_layers;
-use ovl_engine::{Blob, Command, EngineFault, command, emit};
+use ovl_engine::{Blob, Command, EngineFault, command_of, emit};
 use ovl_pool::OpenGate;
 use std::alloc::Global;
 use std::io::Write;
@@ -18,21 +18,21 @@ use std::sync::Wait;
 use std::thread::Threads;
 
 /// Writes what a command gives of these manifests, the topmost layer's first, and these blobs: first its new layers
-/// into the folder `out`, if there is one, and then its report. Where the command is refused for faults, their report is
+/// into the folder `out`, if there is one, and then its report. The manifests are let go once they are read. Where the command is refused for faults, their report is
 /// written and no layer. Nothing is written to the writer where the command gives no answer, or a layer can't be written.
 pub fn write_report<H: Threads + Wait + Sync + Files + AllocGlobal, W: Write>(
     rt: &H,
     what: Command,
-    manifests: &[Vec<u8>],
+    manifests: Vec<Vec<u8>>,
     blobs: &[Blob],
     workers: usize,
     out: &Option<String>,
     writer: &mut W,
 ) -> Result<Ending, ProgramFault>
-    ensures { IsReported what out.now (map (λ manifest. manifest.items) manifests.now) (blob_views blobs.now) workers
+    ensures { IsReported what out.now (map (λ manifest. manifest.items) manifests.items) (blob_views blobs.now) workers
         (W.contents writer.old) (W.contents writer.new) result }
 {
-    match command(rt, rt.alloc(), what, manifests, blobs, workers, &OpenGate) {
+    match command_of(rt, rt.alloc(), what, manifests, blobs, workers, &OpenGate) {
         Ok(answer) => {
             write_new(rt, out, &answer.layers)?;
             write(writer, &answer.report, Ending::of(answer.clean))

@@ -29,10 +29,12 @@ pub fn show_input<H: Threads + Wait + Sync + Files + AllocGlobal, R: Read, W: Wr
     ensures silent { IfErr result (λ fault. fault ≢ Output → Keeps (W.contents writer.old) (W.contents writer.new)) }
 {
     let manifest = read_limited(rt.alloc(), reader, INPUT_LIMIT, 0)?;
+    let mut manifests = Vec::new(rt.alloc());
+    manifests.push(manifest)?;
     write_report(
         rt,
         Command::Show,
-        &[manifest],
+        manifests,
         &[],
         DEFAULT_WORKERS,
         &None,

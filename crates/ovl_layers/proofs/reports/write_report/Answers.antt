@@ -14,19 +14,19 @@ pub returns-in_err-write_new-in-Ok : goal.returns-in_err-write_new-in-Ok
 returns-in_err-write_new-in-Ok g c =
     let out = err_from_is_err_and c.from_residual.result c.from_residual.ensures.1 in
     rw (out.1, out.2)
-    (not_written c.args.what c.args.out.now (texts c.args.manifests.now) (blob_views c.args.blobs.now) c.args.workers (g.W.Write.contents c.args.writer.now) (g.W.Write.contents c.args.writer.now)
+    (not_written c.args.what c.args.out.now (texts c.args.manifests.items) (blob_views c.args.blobs.now) c.args.workers (g.W.Write.contents c.args.writer.now) (g.W.Write.contents c.args.writer.now)
     c.in-Ok.answer c.in-Ok.ensures.outcome c.in_err-write_new-in-Ok.field-0.0 c.in_err-write_new-in-Ok.ensures (stays (g.W.Write.contents c.args.writer.now)))
 
 pub returns-in_ok-write_new-in-Ok : goal.returns-in_ok-write_new-in-Ok
 returns-in_ok-write_new-in-Ok g c =
-    told c.args.what c.args.out.now (texts c.args.manifests.now) (blob_views c.args.blobs.now) c.args.workers (g.W.Write.contents c.args.writer.now) (g.W.Write.contents c.write.new.writer)
+    told c.args.what c.args.out.now (texts c.args.manifests.items) (blob_views c.args.blobs.now) c.args.workers (g.W.Write.contents c.args.writer.now) (g.W.Write.contents c.write.new.writer)
     c.deref-in-Ok.result.now c.of.result c.write.result
     (inl (c.in-Ok.answer, (c.in-Ok.ensures.outcome, (c.deref-in-Ok.ensures.value, c.of.ensures)))) c.write.ensures
 
 pub returns-in-Err-Faulty : goal.returns-in-Err-Faulty
 returns-in-Err-Faulty g c =
-    let outcome = subst (λ (fault : EngineFault). IsOutcome c.args.what (texts c.args.manifests.now) (blob_views c.args.blobs.now) c.args.workers refuses_nothing (Err fault))
+    let outcome = subst (λ (fault : EngineFault). IsOutcome c.args.what (texts c.args.manifests.items) (blob_views c.args.blobs.now) c.args.workers refuses_nothing (Err fault))
     c.in-Err-Faulty.field-0-is c.in-Err-Faulty.ensures.outcome in
-    told c.args.what c.args.out.now (texts c.args.manifests.now) (blob_views c.args.blobs.now) c.args.workers (g.W.Write.contents c.args.writer.now) (g.W.Write.contents c.write-in-Err-Faulty.new.writer)
+    told c.args.what c.args.out.now (texts c.args.manifests.items) (blob_views c.args.blobs.now) c.args.workers (g.W.Write.contents c.args.writer.now) (g.W.Write.contents c.write-in-Err-Faulty.new.writer)
     c.deref-in-Err-Faulty.result.now _ c.write-in-Err-Faulty.result
     (inr (c.in-Err-Faulty.report, (outcome, (c.deref-in-Err-Faulty.ensures.value, refl)))) c.write-in-Err-Faulty.ensures
