@@ -33,7 +33,7 @@ fn next_key<'a>(reader: &mut Reader<'a>) -> Option<&'a str>
     }
 }
 
-// Whether the texts are the same, byte by byte and with no way out, which at a literal name becomes a comparison of words.
+// Whether the texts are the same. No byte is a way out, so that at a literal name it becomes a comparison of words.
 #[inline(always)]
 fn is_same(own: &[u8], name: &[u8]) -> bool
     ensures { IsTrue result → own.now ≡ name.now }
