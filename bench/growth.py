@@ -73,6 +73,10 @@ def long_redirect(size):
     return [[entry("/m", attrs={REDIRECT: "/a" * size})] + files("/m", size), []]
 
 
+def redirected_directories(size):
+    return [[entry("/m", attrs={REDIRECT: "/a" * size})] + [entry(f"/m/d{n:07d}") for n in range(size)], []]
+
+
 def many_attributes(size):
     return [[entry("/m", attrs={f"user.a{n}": "v" for n in range(size)})] + files("/m", size)]
 
@@ -116,13 +120,14 @@ def one_directory(size):
 
 @dataclass(frozen=True)
 class Case:
-    """A command on layers of several sizes, and how often the instructions for a byte may grow at a doubling."""
+    """A command on layers of several sizes, how often the instructions for a byte may grow at a doubling, and its status."""
 
     name: str
     command: str
     make: Callable
     sizes: tuple
     allowed: float = ALLOWED
+    status: int = 0
 
 
 CHAINS = Case("N layers of 64 directories in each other, the deepest redirected to the first", "show", chained_redirects,
@@ -138,6 +143,9 @@ CASES = [
     Case("3,000 metacopy files through N layers", "fsck", metacopy_files, (16, 32, 64), 2.2),
     Case("a layer of N entries", "show", full_layer, (131_072, 1_048_576)),
     Case("a directory of N files", "show", one_directory, (50_000, 100_000, 200_000)),
+    Case("a directory with a redirect of N names, and N directories in it", "show", redirected_directories, (250, 500, 1_000, 2_000)),
+    # The redirect leads nowhere, which is a fault. Two places below it are compared by all its names.
+    Case("a directory with a redirect of N names, and N directories in it", "fsck", redirected_directories, (250, 500, 1_000, 2_000), 2.2, 1),
 ]
 
 
@@ -159,11 +167,11 @@ def cost(program, case, size, longest, unsorted):
         layers, report = write(folder, case.make(size), unsorted), os.path.join(folder, "report")
         command = [program, case.command, *(["--blobs", blobs] if case.command == "fsck" else []), "--workers", "1", *layers]
         seconds, peak, status = run.one_run(command, os.devnull, report)
-        if status != 0:
+        if status != case.status:
             sys.exit(f"growth.py: {case.name}: status {status} at {size}")
         counted = None
         if seconds <= longest and shutil.which("valgrind"):
-            counted = instructions.instructions(command, (0,))
+            counted = instructions.instructions(command, (case.status,))
         return Cost(size, sum(map(os.path.getsize, [*layers, report])), seconds, peak, counted)
 
 

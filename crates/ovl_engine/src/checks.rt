@@ -69,14 +69,14 @@ fn wrong_blobs<G: Gate + Sync, R: Threads + Wait + Sync>(
 }
 
 // The plain walks of the layers of a stack, in order.
-fn layer_walks<G: Gate + Sync, R: Threads + Wait + Sync>(
+fn layer_walks<'a, G: Gate + Sync, R: Threads + Wait + Sync>(
     rt: &R,
     alloc: Global,
     stack: &Stack,
-    work: &CheckWork<'_>,
+    work: &CheckWork<'a>,
     workers: usize,
     gate: &G,
-) -> Result<Vec<Vec<Parcel<CheckOut>>>, EngineFault>
+) -> Result<Vec<Vec<Parcel<CheckOut<'a>>>>, EngineFault>
     requires number { (0 < workers) × (workers ≤ worker_limit) }
     requires same { (check_view work.now).stack ≡ stack.now }
     ensures { MatchResult result

@@ -76,11 +76,11 @@ pub(crate) fn stack_of(alloc: Global, upper: &str, lower: &str) -> Result<Stack,
 }
 
 // The plain walks of the first `count` layers, each from its root.
-fn walks_of(
+fn walks_of<'a>(
     alloc: Global,
-    work: &CheckWork<'_>,
+    work: &CheckWork<'a>,
     count: u16,
-) -> Result<Vec<Vec<Parcel<CheckOut>>>, Fail>
+) -> Result<Vec<Vec<Parcel<CheckOut<'a>>>>, Fail>
     ensures count { IfOk result (λ layers. length layers.items ≡ count) }
     ensures walks { IfOk result (λ layers. AreLayerWalks (check_view work.now) 0 (map (λ parcels. parcel_views check_seen parcels.items) layers.items)) }
 {
