@@ -1,8 +1,8 @@
 //! Small layers for tests, and what their stacks show.
 
-use ovl_engine::{Answer, Blob, Command, command};
+use ovl_engine::{Answer, Blob, Command, command, command_of};
 use ovl_pool::OpenGate;
-use std::alloc::Global;
+use std::alloc::{AllocError, Global};
 use std::sync::Wait;
 use std::test::Fail;
 use std::thread::Threads;
@@ -167,7 +167,8 @@ pub(crate) fn checked<R: Threads + Wait + Sync>(
     Ok(report)
 }
 
-// What a command answers, alike by one worker and by four, with as many new layers as it makes.
+// What a command answers, alike by one worker and by four, which let the manifests go, with as many new layers as it
+// makes.
 fn answered<R: Threads + Wait + Sync>(
     rt: &R,
     alloc: Global,
@@ -176,7 +177,8 @@ fn answered<R: Threads + Wait + Sync>(
     blobs: &[Blob],
 ) -> Result<Answer, Fail> {
     let alone = command(rt, alloc, what, manifests, blobs, 1, &OpenGate)?;
-    let together = command(rt, alloc, what, manifests, blobs, 4, &OpenGate)?;
+    let copies = copies_of(alloc, manifests)?;
+    let together = command_of(rt, alloc, what, copies, blobs, 4, &OpenGate)?;
     if alone != together {
         return Err(Fail::new("four workers answer otherwise than one"));
     }
@@ -189,6 +191,14 @@ fn answered<R: Threads + Wait + Sync>(
         return Err(Fail::new("there are other new layers than the command makes"));
     }
     Ok(alone)
+}
+
+fn copies_of(alloc: Global, manifests: &[Vec<u8>]) -> Result<Vec<Vec<u8>>, AllocError> {
+    let mut copies = Vec::new(alloc);
+    for manifest in manifests {
+        copies.push(manifest.clone()?)?;
+    }
+    Ok(copies)
 }
 
 // What a command that makes new layers reports, and behind it their manifests, alike by one worker and by four. With
