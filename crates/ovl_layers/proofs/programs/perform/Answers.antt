@@ -14,4 +14,4 @@ returns g c =
       none = c.in_ok-blobs.ensures.none;
     } in
     performed c.args.line.now _ _ c.write_report.result manifests (blob_views c.in_ok-blobs.blobs.items) read
-    (rw (c.deref-2.ensures.value, c.deref-3.ensures.value) at c.write_report.ensures)
+    (rw c.deref-2.ensures.value at c.write_report.ensures)
