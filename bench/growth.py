@@ -158,7 +158,7 @@ class Cost:
     instructions: int | None
 
 
-def cost(program, case, size, longest, unsorted):
+def cost(program, case, size, longest, unsorted=False):
     with tempfile.TemporaryDirectory(prefix="ovl-growth-") as folder:
         blobs = os.path.join(folder, "blobs")
         os.mkdir(blobs)
