@@ -1,10 +1,12 @@
-ghost use Rattle.std.specs.Prelude.{◌≡◌, ◌+◌, ◌<◌, ◌^◌, ◌++◌, [], Some, length, drop, slice_get, IfOk, IfSome};
+ghost use Rattle.std.specs.Prelude.{◌≡◌, ◌+◌, ◌<◌, ◌^◌, ◌++◌, [], Some, length, drop, reverse, slice_get, IfOk, IfSome};
 ghost use Rattle.std.specs.Cmp.{partial_equiv_from_equiv, po};
 ghost use Rattle.std.specs.Cmp.Lexicographic.{nat_list_cmp_total, nat_list_eq_equiv, texts_ties, lists_total, lists_equiv, lists_ties};
 ghost use Rattle.std.proofs.Common.{refl};
+ghost use Rattle.std.proofs.lemmas.Cmp.{on_total, on_equiv};
 ghost use Rattle.std.specs.Option.{option_map};
 ghost use Rattle.ovl_names.specs.Names.{name_cmp};
-ghost use Rattle.ovl_names.specs.Paths.{child_path, path_cmp, path_eq};
+ghost use Rattle.ovl_names.specs.Paths.{child_path};
+ghost use Rattle.ovl_lookup.specs.Trails.{trail_cmp, trail_eq};
 
 use ovl_names::{Name, Path};
 use std::alloc::{AllocError, Global};
@@ -12,7 +14,8 @@ use std::cmp::Ordering;
 use std::marker::Model;
 use std::slice;
 
-/// A path from the root in parts that others hold, so that no name of it is copied. Trails are ordered as their paths.
+/// A path from the root in parts that others hold, so that no name of it is copied. Trails are ordered name by name from
+/// the last one on, as those below one redirect begin with all its names.
 #[derive(Debug, Drop)]
 pub struct Trail<'a> {
     parts: Vec<&'a [Name]>,
@@ -132,13 +135,24 @@ impl<'a> Trail<'a> {
         Ok(path)
     }
 
-    // How the path of this trail is to that of another, name by name.
+    // The name of a number counted from the last, and `None` past the first.
+    fn name_back(&self, number: usize) -> Option<&'a Name>
+        ensures value { option_map (λ name. name.now) result ≡ slice_get (reverse self.now) number }
+        ensures inside { IfSome result (λ _. number + 1 < 2 ^ 64) }
+    {
+        if number >= self.len {
+            return None;
+        }
+        self.name(self.len - 1 - number)
+    }
+
+    // How this trail is to another, name by name from the last one on.
     fn compared(&self, other: &Trail<'_>) -> Ordering
-        ensures { result ≡ path_cmp self.now other.now }
+        ensures { result ≡ trail_cmp self.now other.now }
     {
         let mut number = 0;
-        while let Some(own) = self.name(number) {
-            let Some(name) = other.name(number) else {
+        while let Some(own) = self.name_back(number) {
+            let Some(name) = other.name_back(number) else {
                 return Ordering::Greater;
             };
             match own.cmp(name) {
@@ -155,9 +169,9 @@ impl<'a> Trail<'a> {
 }
 
 impl<'a> PartialEq for Trail<'a> {
-    ghost eq = { path_eq };
+    ghost eq = { trail_eq };
 
-    ghost laws = { partial_equiv_from_equiv (lists_equiv nat_list_eq_equiv) };
+    ghost laws = { partial_equiv_from_equiv (on_equiv reverse (lists_equiv nat_list_eq_equiv)) };
 
     fn eq(&self, other: &Trail<'a>) -> bool {
         self.compared(other).is_eq()
@@ -165,13 +179,13 @@ impl<'a> PartialEq for Trail<'a> {
 }
 
 impl<'a> Eq for Trail<'a> {
-    ghost laws = { lists_equiv nat_list_eq_equiv };
+    ghost laws = { on_equiv reverse (lists_equiv nat_list_eq_equiv) };
 }
 
 impl<'a> PartialOrd for Trail<'a> {
-    ghost partial_cmp = { λ a b. Some (path_cmp a b) };
+    ghost partial_cmp = { λ a b. Some (trail_cmp a b) };
 
-    ghost laws = { po (lists_total nat_list_cmp_total) (lists_ties name_cmp texts_ties) };
+    ghost laws = { po (on_total reverse (lists_total nat_list_cmp_total)) (λ a b. lists_ties name_cmp texts_ties (reverse a) (reverse b)) };
 
     fn partial_cmp(&self, other: &Trail<'a>) -> Option<Ordering> {
         Some(self.compared(other))
@@ -179,13 +193,13 @@ impl<'a> PartialOrd for Trail<'a> {
 }
 
 impl<'a> Ord for Trail<'a> {
-    ghost cmp = { path_cmp };
+    ghost cmp = { trail_cmp };
 
-    ghost total = { lists_total nat_list_cmp_total };
+    ghost total = { on_total reverse (lists_total nat_list_cmp_total) };
 
     ghost matches_partial_cmp = { λ a b. refl };
 
-    ghost matches_eq = { lists_ties name_cmp texts_ties };
+    ghost matches_eq = { λ a b. lists_ties name_cmp texts_ties (reverse a) (reverse b) };
 
     fn cmp(&self, other: &Trail<'a>) -> Ordering {
         self.compared(other)
