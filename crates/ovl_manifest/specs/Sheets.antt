@@ -71,6 +71,13 @@ abbrev pub are_earlier : ℕ → List ℕ → Bool
 are_earlier number [] = true
 are_earlier number (parent ∷ parents) = nat_lt parent number && are_earlier (suc number) parents
 
+-- these rows are those of a layer, whatever they say of the numbers after their subtrees
+pub record AreRows (rows : List SheetRow) : Type 0 where
+  pub layer : IsLayer (entries_of_rows rows)
+  pub root : IsSomeAnd (slice_get rows 0) (λ row. (row.name ≡ None) × (row.parent ≡ 0))
+  pub named : list_all (λ row. is_some row.name) (drop 1 rows) ≡ true
+  pub earlier : are_earlier 1 (parents_of rows) ≡ true
+
 -- these rows are those of a layer, with the numbers of the rows directly below each, and the mark of each
 pub record IsSheet (rows : List SheetRow) (below : List (List ℕ)) (marked : List Mark) : Type 0 where
   pub layer : IsLayer (entries_of_rows rows)

@@ -6,7 +6,7 @@ ghost use Rattle.ovl_names.specs.Paths.{child_path};
 ghost use Rattle.ovl_inode.specs.Marks.{mark_of as the_mark};
 ghost use Rattle.ovl_manifest.specs.Layers.{IsLayer, entry_at, names_below};
 ghost use Rattle.ovl_manifest.specs.LayerTrees.{entries_in, entries_under, entries_of_nodes};
-ghost use Rattle.ovl_manifest.specs.Sheets.{IsRowOf, path_at, afters_from, kid_numbers, are_earlier};
+ghost use Rattle.ovl_manifest.specs.Sheets.{IsRowOf, AreRows, path_at, entries_of_rows, afters_from, kid_numbers, parents_of, are_earlier};
 ghost use Rattle.ovl_manifest.specs.SheetPasses.{AddsParents, IsRoomFor, rows_from, kid_order};
 
 use crate::trees::{Layer, Node};
@@ -81,6 +81,22 @@ impl Sheet {
             Ok(room) => Ok(Sheet::filled(layer, room)),
             Err(AllocError) => Err(layer),
         }
+    }
+
+    /// The sheet of the rows of a layer, in path order; the number after each one's subtree is set here.
+    pub(crate) fn of_rows(alloc: Global, mut rows: Vec<SheetRow>) -> Result<Sheet, AllocError>
+        requires { AreRows rows.items }
+        ensures { IfOk result (λ sheet. sheet ≡ entries_of_rows rows.items) }
+    {
+        let mut parents = Vec::with_capacity(alloc, rows.len())?;
+        let mut marks = Vec::with_capacity(alloc, rows.len())?;
+        for row in &rows {
+            parents.push(row.parent)?;
+            marks.push(mark_of(alloc, &row.inode)?)?;
+        }
+        let kids = kids_of(alloc, &parents)?;
+        set_afters(alloc, &parents, &mut rows)?;
+        Ok(Sheet { rows, kids, marks })
     }
 
     /// The number of rows, at least one; takes no memory.
