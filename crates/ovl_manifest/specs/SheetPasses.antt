@@ -66,3 +66,13 @@ pub record IsRoomFor (layer : Entries) (room : Room) : Type 0 where
   pub kids_count : length room.kids.items ≡ length layer
   pub kids : (number : ℕ) → number < length layer → slice_get (map (λ own. own.items) room.kids.items) number ≡ Some (kid_numbers 1 (drop 1 room.parents.items) number)
   pub marks : room.marks.items ≡ map (λ entry. mark_of entry.1) layer
+
+-- the number of names of each entry's path
+abbrev pub depths_of : Entries → List ℕ
+depths_of entries = map (λ entry. length entry.0) entries
+
+-- the rows, with these numbers after their subtrees
+abbrev pub with_afters : List ℕ → List SheetRow → List SheetRow
+with_afters afters [] = []
+with_afters [] (row ∷ rows) = row ∷ rows
+with_afters (after ∷ afters) (row ∷ rows) = record row { after = after } ∷ with_afters afters rows

@@ -7,7 +7,7 @@ ghost use Rattle.ovl_inode.specs.Marks.{mark_of as the_mark};
 ghost use Rattle.ovl_manifest.specs.Layers.{IsLayer, entry_at, names_below};
 ghost use Rattle.ovl_manifest.specs.LayerTrees.{entries_in, entries_under, entries_of_nodes};
 ghost use Rattle.ovl_manifest.specs.Sheets.{IsRowOf, AreRows, path_at, entries_of_rows, afters_from, kid_numbers, parents_of, are_earlier};
-ghost use Rattle.ovl_manifest.specs.SheetPasses.{AddsParents, IsRoomFor, rows_from, kid_order};
+ghost use Rattle.ovl_manifest.specs.SheetPasses.{AddsParents, IsRoomFor, rows_from, kid_order, depths_of as the_depths, with_afters};
 
 use crate::trees::{Layer, Node};
 use ovl_inode::{Inode, Mark, mark_of};
@@ -95,7 +95,8 @@ impl Sheet {
             marks.push(mark_of(alloc, &row.inode)?)?;
         }
         let kids = kids_of(alloc, &parents)?;
-        set_afters(alloc, &parents, &mut rows)?;
+        let depths = depths_of(alloc, &rows)?;
+        set_afters(&depths, &mut rows);
         Ok(Sheet { rows, kids, marks })
     }
 
@@ -345,6 +346,40 @@ fn push_marks(alloc: Global, nodes: &[Node], marks: &mut Vec<Mark>) -> Result<()
         push_marks(alloc, &node.children, marks)?;
     }
     Ok(())
+}
+
+// The number of names of each row's path.
+fn depths_of(alloc: Global, rows: &[SheetRow]) -> Result<Vec<u32>, AllocError>
+    requires rows { AreRows rows.now }
+    requires limit { length rows.now < 2 ^ 32 }
+    ensures { IfOk result (λ depths. depths.items ≡ the_depths (entries_of_rows rows.now)) }
+{
+    let mut depths = Vec::with_capacity(alloc, rows.len())?;
+    for row in rows {
+        let depth = match row.name {
+            Some(_) => depths[row.parent as usize] + 1,
+            None => 0,
+        };
+        depths.push(depth)?;
+    }
+    Ok(depths)
+}
+
+// Sets the number after the subtree of each row: those under a row follow it and have more names.
+fn set_afters(depths: &[u32], rows: &mut Vec<SheetRow>)
+    requires limit { vec_len rows.old < 2 ^ 32 }
+    requires depths { depths.now ≡ the_depths (entries_of_rows rows.old.items) }
+    ensures { rows.new.items ≡ with_afters (afters_from 0 (entries_of_rows rows.old.items)) rows.old.items }
+{
+    let mut number = rows.len();
+    while number > 0 {
+        number -= 1;
+        let mut after = number + 1;
+        while after < rows.len() && depths[after] > depths[number] {
+            after = rows[after].after as usize;
+        }
+        rows[number].after = after as u32;
+    }
 }
 
 // The numbers of the rows directly below each row, by the parents of all; the first row is the root.
