@@ -1,18 +1,21 @@
 -- The numbers after the subtrees of rows, found from the last row on.
-use Rattle.std.proofs.Common.{◌≡◌, ℕ, zero, suc, ◌+◌, ◌-◌, ◌<◌, ◌≤◌, length, get_or, drop, map, set, Bool, true, false, cond, Option, Some, None, List, [], ◌∷◌, ◌++◌, refl, sym, ap, ◌∙◌, subst, arith}
+use Rattle.std.proofs.Common.{◌≡◌, ℕ, zero, suc, ◌+◌, ◌-◌, ◌<◌, ◌≤◌, length, get_or, drop, map, set, Bool, true, false, cond, Option, Some, None, List, [], ◌∷◌, ◌++◌, refl, sym, ap, ◌∙◌, subst, arith, length-append, inl, inr, ◌⊎◌}
 use Rattle.std.specs.Prelude.{nat_lt, ◌&&◌, slice_get, is_some, IsSomeAnd}
 use Rattle.std.specs.List.{list_all}
 use Rattle.std.proofs.lemmas.Bool.{ltb-true, ltb-false}
-use Rattle.std.proofs.lemmas.Option.{slice_get_past, slice_get-get_or, get_or_from_slice_get}
+use Rattle.std.proofs.lemmas.Option.{slice_get_read, get_or_from_slice_get}
 use Rattle.std.proofs.lemmas.List.{same_lists, get_or-set_same, get_or-set_other, length-map, get_or-map}
-use Rattle.std.proofs.Math.Seq.{drop-nil}
+use Rattle.std.proofs.lemmas.Grind.{same_number_lists}
+use Rattle.std.proofs.Math.ListN.{get_or-append}
+use Rattle.std.proofs.Math.Seq.{drop-nil, get_or-append_seam}
+use Rattle.ovl_names.specs.Names.{PathName}
 use Rattle.ovl_inode.specs.declared.marks.Mark.{Mark}
 use Rattle.ovl_inode.specs.Marks.{mark_of}
 use Rattle.ovl_manifest.specs.declared.sheets.SheetRow.{SheetRow}
 use Rattle.ovl_manifest.specs.Layers.{Entry, Entries, IsLayer}
 use Rattle.ovl_manifest.specs.Sheets.{path_of, path_at, row_path, entries_with, entries_of_rows, count_deeper, afters_from, kid_numbers, parents_of, are_earlier, AreRows, IsSheet}
 use Rattle.ovl_manifest.specs.SheetPasses.{depths_of, with_afters}
-use Rattle.ovl_manifest.proofs.SheetLemmas.{some-same, afters-get, with-length}
+use Rattle.ovl_manifest.proofs.SheetLemmas.{some-same, afters-get, with-length, length-child, row-known, entry-of}
 use Rattle.ovl_manifest.proofs.SheetPassLemmas.{afters-length}
 
 -- ---- entries that have more names than one before them
@@ -143,6 +146,56 @@ module _ (entries : Entries) where
       get_or_from_slice_get (afters_from 0 entries) number _ d (afters-get 0 entries number found.0 found.1)
       ∙ omega (arith, ap (λ o. count_deeper (length (path_of o)) (drop (suc number) entries)) found.1)
 
+-- ---- the number of names of each row's path, from the first on
+
+-- the numbers of names of the first `count` entries
+pub record AreDepthsTo (entries : Entries) (count : ℕ) (depths : List ℕ) : Type 0 where
+  pub so_far : length depths ≡ count
+  pub each : (k : ℕ) → k < count → get_or depths k 0 ≡ length (path_at entries k)
+  pub small : (k : ℕ) → k < count → get_or depths k 0 ≤ k
+
+pub one-depth : (entries : Entries) (count depth : ℕ) (depths more : List ℕ) → AreDepthsTo entries count depths → depth ≡ length (path_at entries count) → depth ≤ count → more ≡ depths ++ depth ∷ [] → AreDepthsTo entries (count + 1) more
+one-depth entries count depth depths more are is small grown = subst (AreDepthsTo entries (count + 1)) (sym grown) (record {
+  so_far = omega (arith, length-append depths (depth ∷ []), are.so_far);
+  each = λ k inside. elim (seen k inside) [ inl old ↦ old.1 ∙ are.each k old.0 | inr new ↦ new.1 ∙ (is ∙ ap (λ n. length (path_at entries n)) (sym new.0)) ];
+  small = λ k inside. elim (seen k inside) [ inl old ↦ subst (λ n. n ≤ k) (sym old.1) (are.small k old.0) | inr new ↦ omega (arith, new.0, new.1, small) ];
+})
+  where
+    seen : (k : ℕ) → k < count + 1 → ((k < count) × (get_or (depths ++ depth ∷ []) k 0 ≡ get_or depths k 0)) ⊎ ((k ≡ count) × (get_or (depths ++ depth ∷ []) k 0 ≡ depth))
+    seen k inside = by (nat_lt k count) refl
+      where
+        by : (b : Bool) → nat_lt k count ≡ b → ((k < count) × (get_or (depths ++ depth ∷ []) k 0 ≡ get_or depths k 0)) ⊎ ((k ≡ count) × (get_or (depths ++ depth ∷ []) k 0 ≡ depth))
+        by true e = inl (ltb-true k count e, get_or-append depths (depth ∷ []) 0 k (omega (arith, ltb-true k count e, are.so_far)))
+        by false e =
+            let last : k ≡ count = omega (arith, ltb-false k count e, inside) in
+            inr (last, ap (λ n. get_or (depths ++ depth ∷ []) n 0) (last ∙ sym are.so_far) ∙ get_or-append_seam depths depth [] 0)
+
+pub all-depths : (entries : Entries) (depths : List ℕ) → AreDepthsTo entries (length entries) depths → depths ≡ depths_of entries
+all-depths entries depths are = same_number_lists depths (depths_of entries) (are.so_far ∙ sym (depths-count entries)) (λ k inside.
+    let within : k < length entries = omega (arith, inside, are.so_far) in
+    are.each k within ∙ sym (depth-at entries k 0 within))
+
+module _ (rows : List SheetRow) (are : AreRows rows) (k : ℕ) (row : SheetRow) (inside : k < length rows) (is : row ≡ get_or rows k row) where
+  row-at-k : slice_get rows k ≡ Some row
+  row-at-k = slice_get_read rows (length rows) k row refl inside is
+
+  own-path : path_at (entries_of_rows rows) k ≡ row_path (entries_of_rows rows) row.parent row.name
+  own-path = ap path_of (entry-of rows are k row row-at-k)
+
+  -- a row with a name has one name more than that of its parent, which comes before it
+  pub depth-named : (name : PathName) → row.name ≡ Some name → (row.parent < k) × (length (path_at (entries_of_rows rows) k) ≡ suc (length (path_at (entries_of_rows rows) row.parent)))
+  depth-named name named = (
+    by (row-known rows are k row row-at-k),
+    ap length (own-path ∙ ap (row_path (entries_of_rows rows) row.parent) named) ∙ length-child (path_at (entries_of_rows rows) row.parent) name,
+  )
+    where
+      by : (row.name ≡ None) ⊎ (row.parent < k) → row.parent < k
+      by (inl none) = let bad : Some name ≡ None = sym named ∙ none in cc
+      by (inr less) = less
+
+  pub depth-root : row.name ≡ None → length (path_at (entries_of_rows rows) k) ≡ 0
+  depth-root none = ap length (own-path ∙ ap (row_path (entries_of_rows rows) row.parent) none)
+
 -- ---- rows whose numbers after are set from the last on
 
 -- the rows from `number` on have the numbers after their subtrees
@@ -256,10 +309,12 @@ module _ (rows : List SheetRow) (are : AreRows rows) where
   pub set-sheet : (below : List (List ℕ)) (marked : List Mark) → ((number : ℕ) → number < length rows → slice_get below number ≡ Some (kid_numbers 1 (parents_of rows) number)) → marked ≡ map (λ row. mark_of row.inode) rows
       → IsSheet (with_afters (afters_from 0 (entries_of_rows rows)) rows) below marked
   set-sheet below marked kids marks = record {
-    layer = subst IsLayer (sym (set-entries numbers rows)) are.layer;
-    root = root numbers rows are.root;
-    named = named numbers rows are.named;
-    earlier = ap (are_earlier 1) (with-parents numbers rows) ∙ are.earlier;
+    are = record {
+      layer = subst IsLayer (sym (set-entries numbers rows)) are.layer;
+      root = root numbers rows are.root;
+      named = named numbers rows are.named;
+      earlier = ap (are_earlier 1) (with-parents numbers rows) ∙ are.earlier;
+    };
     afters = with-afters numbers rows (afters-length 0 (entries_of_rows rows) ∙ entries-count rows) ∙ ap (afters_from 0) (sym (set-entries numbers rows));
     kids = λ number inside. kids number (omega (arith, inside, with-count numbers rows)) ∙ ap (λ (parents : List ℕ). Some (kid_numbers 1 parents number)) (sym (with-parents numbers rows));
     marks = marks ∙ sym (with-map (λ row. mark_of row.inode) (λ row after. refl) numbers rows);

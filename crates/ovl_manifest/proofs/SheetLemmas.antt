@@ -24,7 +24,7 @@ use Rattle.ovl_inode.specs.Marks.{mark_of}
 use Rattle.ovl_manifest.specs.declared.sheets.SheetRow.{SheetRow}
 use Rattle.ovl_manifest.specs.Layers.{Entry, Entries, entry_cmp, entry_at, name_below, names_below}
 use Rattle.ovl_manifest.specs.LayerTrees.{entries_in, entries_under}
-use Rattle.ovl_manifest.specs.Sheets.{last_name, path_of, path_at, row_path, entries_with, entries_of_rows, count_deeper, afters_from, IsRowOf, kid_numbers, parents_of, are_earlier, IsSheet}
+use Rattle.ovl_manifest.specs.Sheets.{last_name, path_of, path_at, row_path, entries_with, entries_of_rows, count_deeper, afters_from, IsRowOf, kid_numbers, parents_of, are_earlier, AreRows, IsSheet}
 use Rattle.ovl_manifest.specs.SheetPasses.{name_order, name_of_row, row_name, kid_order}
 use Rattle.ovl_manifest.proofs.NodeLemmas.{name_eq-same, name_eq-cmp, entry_at-under}
 use Rattle.ovl_manifest.proofs.OpenLemmas.{path_cmp-under}
@@ -387,22 +387,16 @@ own-kids items lists directory own numbers at inside is =
 pub kids-within : {V : Type 0} (items : V → List ℕ) (lists : List V) (directory : ℕ) (numbers : List ℕ) → slice_get (map items lists) directory ≡ Some numbers → directory < length lists
 kids-within items lists directory numbers at = omega (arith, slice_get_within (map items lists) directory numbers at, length-map lists items)
 
-module _ (rows : List SheetRow) (below : List (List ℕ)) (marked : List Mark) (is : IsSheet rows below marked) where
-  abbrev layer : Entries
-  layer = entries_of_rows rows
-
-  pub count : length (entries_of_rows rows) ≡ length rows
-  count = omega (arith, with-length [] rows)
-
+module _ (rows : List SheetRow) (are : AreRows rows) where
   -- a row after the first has a name, and its parent comes before it
   pub row-after : (j : ℕ) (row : SheetRow) → slice_get rows (suc j) ≡ Some row → (row.parent < suc j) × ((name : PathName) × (row.name ≡ Some name))
   row-after j row at =
       let parent : slice_get (parents_of rows) j ≡ Some row.parent = parents-get rows j ∙ ap (option_map (λ (r : SheetRow). r.parent)) at in
-      (omega (arith, earlier-get 1 (parents_of rows) j row.parent is.earlier parent), some-name row.name (named-get rows j row is.named at))
+      (omega (arith, earlier-get 1 (parents_of rows) j row.parent are.earlier parent), some-name row.name (named-get rows j row are.named at))
 
   pub row-known : (number : ℕ) (row : SheetRow) → slice_get rows number ≡ Some row → (row.name ≡ None) ⊎ (row.parent < number)
   row-known zero row at =
-      let root = root-row rows is.root in
+      let root = root-row rows are.root in
       let same : root.0 ≡ row = some-same root.0 row (sym root.1 ∙ at) in
       inl (ap (λ (r : SheetRow). r.name) (sym same) ∙ root.2)
   row-known (suc j) row at = inr (row-after j row at).0
@@ -410,6 +404,13 @@ module _ (rows : List SheetRow) (below : List (List ℕ)) (marked : List Mark) (
   -- the entry of a row
   pub entry-of : (number : ℕ) (row : SheetRow) → slice_get rows number ≡ Some row → slice_get (entries_of_rows rows) number ≡ Some (row_path (entries_of_rows rows) row.parent row.name, row.inode)
   entry-of number row at = with-row [] rows number number row (omega arith) at (row-known number row at)
+
+module _ (rows : List SheetRow) (below : List (List ℕ)) (marked : List Mark) (is : IsSheet rows below marked) where
+  abbrev layer : Entries
+  layer = entries_of_rows rows
+
+  pub count : length (entries_of_rows rows) ≡ length rows
+  count = omega (arith, with-length [] rows)
 
   -- a number of an entry is one of a row
   pub row-at : (number : ℕ) → number < length (entries_of_rows rows) → (row : SheetRow) × (slice_get rows number ≡ Some row)
@@ -430,12 +431,12 @@ module _ (rows : List SheetRow) (below : List (List ℕ)) (marked : List Mark) (
     where
       by : (j : ℕ) (o : Option SheetRow) → slice_get rows (suc j) ≡ o → option_map (λ (row : SheetRow). row.parent) o ≡ Some directory → (row : SheetRow) × (slice_get rows (suc j) ≡ Some row) × (row.parent ≡ directory) × ((name : PathName) × (row.name ≡ Some name))
       by j None e parent = let bad : None ≡ Some directory = parent in cc
-      by j (Some row) e parent = (row, e, some-same row.parent directory parent, (row-after j row e).1)
+      by j (Some row) e parent = (row, e, some-same row.parent directory parent, (row-after rows is.are j row e).1)
 
   -- the path of such a row
   pub kid-path : (number directory : ℕ) (row : SheetRow) (name : PathName) → slice_get rows number ≡ Some row → row.parent ≡ directory → row.name ≡ Some name → path_at (entries_of_rows rows) number ≡ child_path (path_at (entries_of_rows rows) directory) name
   kid-path number directory row name at parent named =
-      ap path_of (entry-of number row at) ∙ (λ j. row_path (entries_of_rows rows) (parent j) (named j))
+      ap path_of (entry-of rows is.are number row at) ∙ (λ j. row_path (entries_of_rows rows) (parent j) (named j))
 
   -- a name that no row directly below a directory has is no entry, and nothing lies under it
   pub child-none : (directory : ℕ) (name : PathName) → directory < length (entries_of_rows rows)
@@ -449,13 +450,13 @@ module _ (rows : List SheetRow) (below : List (List ℕ)) (marked : List Mark) (
       all-from (entry ∷ entries) each = rw (each 0 entry refl) (all-from entries (λ k other at. each (suc k) other at))
 
       here : (k : ℕ) → k < length layer → (entry : Entry) × (slice_get layer k ≡ Some entry)
-      here k within = let row = row-at k within in ((row_path layer row.0.parent row.0.name, row.0.inode), entry-of k row.0 row.1)
+      here k within = let row = row-at k within in ((row_path layer row.0.parent row.0.name, row.0.inode), entry-of rows is.are k row.0 row.1)
 
       not_under : (limit k : ℕ) → k < limit → (entry : Entry) → slice_get layer k ≡ Some entry → lies_under (child_path (path_at layer directory) name) entry.0 ≡ false
       not_under zero k less entry at = absurd (omega arith)
       not_under (suc limit) zero less entry at =
-          let root = root-row rows is.root in
-          let path : entry.0 ≡ [] = ap path_of (sym at ∙ entry-of 0 root.0 root.1) ∙ ap (row_path layer root.0.parent) root.2 in
+          let root = root-row rows is.are.root in
+          let path : entry.0 ≡ [] = ap path_of (sym at ∙ entry-of rows is.are 0 root.0 root.1) ∙ ap (row_path layer root.0.parent) root.2 in
           ap (lies_under (child_path (path_at layer directory) name)) path ∙ root-not_under (path_at layer directory) name
       not_under (suc limit) (suc j) less entry at = by (not_under limit) (lies_under (child_path (path_at layer directory) name) entry.0) refl
         where
@@ -463,13 +464,13 @@ module _ (rows : List SheetRow) (below : List (List ℕ)) (marked : List Mark) (
           row = row-at (suc j) (slice_get_within layer (suc j) entry at)
 
           facts : (row.0.parent < suc j) × ((own : PathName) × (row.0.name ≡ Some own))
-          facts = row-after j row.0 row.1
+          facts = row-after rows is.are j row.0 row.1
 
           own : PathName
           own = facts.1.0
 
           path : entry.0 ≡ child_path (path_at layer row.0.parent) own
-          path = ap path_of (sym at ∙ entry-of (suc j) row.0 row.1) ∙ ap (row_path layer row.0.parent) facts.1.1
+          path = ap path_of (sym at ∙ entry-of rows is.are (suc j) row.0 row.1) ∙ ap (row_path layer row.0.parent) facts.1.1
 
           parent : (entry : Entry) × (slice_get layer row.0.parent ≡ Some entry)
           parent = here row.0.parent (omega (arith, facts.0, slice_get_within layer (suc j) entry at))
@@ -480,7 +481,7 @@ module _ (rows : List SheetRow) (below : List (List ℕ)) (marked : List Mark) (
           cases : ((k : ℕ) → k < limit → (entry : Entry) → slice_get layer k ≡ Some entry → lies_under (child_path (path_at layer directory) name) entry.0 ≡ false)
               → ((path_at layer directory ≡ path_at layer row.0.parent) × (name ≡ own)) ⊎ (lies_under (child_path (path_at layer directory) name) (path_at layer row.0.parent) ≡ true) → ⊥
           cases earlier (inl same) =
-              let one : directory ≡ row.0.parent = number-one layer directory row.0.parent dir.0 parent.0 is.layer.in_order dir.1 parent.1 (sym (ap path_of dir.1) ∙ (same.0 ∙ ap path_of parent.1)) in
+              let one : directory ≡ row.0.parent = number-one layer directory row.0.parent dir.0 parent.0 is.are.layer.in_order dir.1 parent.1 (sym (ap path_of dir.1) ∙ (same.0 ∙ ap path_of parent.1)) in
               let listed : slice_get (parents_of rows) j ≡ Some directory = parents-get rows j ∙ (ap (option_map (λ (r : SheetRow). r.parent)) row.1 ∙ ap Some (sym one)) in
               let place = kid-has 1 (parents_of rows) directory j listed in
               none place.0 0 row.0 place.1 (ap (slice_get rows) (place.2 0 ∙ omega arith) ∙ row.1) (facts.1.1 ∙ ap Some (sym same.1))
@@ -497,8 +498,8 @@ module _ (rows : List SheetRow) (below : List (List ℕ)) (marked : List Mark) (
   under-some number inside none =
       let row = row-at number inside in
       let entry : Entry = (row_path layer row.0.parent row.0.name, row.0.inode) in
-      let at : slice_get layer number ≡ Some entry = entry-of number row.0 row.1 in
-      let found : entry_at layer entry.0 ≡ Some entry.1 = entry_at-number layer number entry is.layer.in_order at in
+      let at : slice_get layer number ≡ Some entry = entry-of rows is.are number row.0 row.1 in
+      let found : entry_at layer entry.0 ≡ Some entry.1 = entry_at-number layer number entry is.are.layer.in_order at in
       let bad : None ≡ Some entry.1 =
       ap (λ (entries : Entries). entry_at entries []) (sym none)
       ∙ (sym (entry_at-under (path_at layer number) layer) ∙ (ap (λ o. entry_at layer (path_of o)) at ∙ found)) in cc
@@ -507,8 +508,8 @@ module _ (rows : List SheetRow) (below : List (List ℕ)) (marked : List Mark) (
   pub entry_at-row : (number : ℕ) (row : SheetRow) → slice_get rows number ≡ Some row → entry_at (entries_of_rows rows) (path_at (entries_of_rows rows) number) ≡ Some row.inode
   entry_at-row number row at =
       let entry : Entry = (row_path layer row.parent row.name, row.inode) in
-      let here : slice_get layer number ≡ Some entry = entry-of number row at in
-      ap (λ o. entry_at layer (path_of o)) here ∙ entry_at-number layer number entry is.layer.in_order here
+      let here : slice_get layer number ≡ Some entry = entry-of rows is.are number row at in
+      ap (λ o. entry_at layer (path_of o)) here ∙ entry_at-number layer number entry is.are.layer.in_order here
 
   pub inode-at : (number : ℕ) (row : SheetRow) → slice_get rows number ≡ Some row → entry_at (entries_under (path_at (entries_of_rows rows) number) (entries_of_rows rows)) [] ≡ Some row.inode
   inode-at number row at = sym (entry_at-under (path_at layer number) layer) ∙ entry_at-row number row at
@@ -533,7 +534,7 @@ module _ (rows : List SheetRow) (below : List (List ℕ)) (marked : List Mark) (
       let first : Entry = (row_path layer one.0.parent one.0.name, one.0.inode) in
       let second : Entry = (row_path layer other.0.parent other.0.name, other.0.inode) in
       let before : is_lt (path_cmp first.0 second.0) ≡ true =
-      ascends-apart entry_cmp layer (get_or kids k d) (get_or kids (suc k) d) first second is.layer.in_order (kid-rises 1 (parents_of rows) directory k d inside) (entry-of (get_or kids k d) one.0 one.1) (entry-of (get_or kids (suc k) d) other.0 other.1) in
+      ascends-apart entry_cmp layer (get_or kids k d) (get_or kids (suc k) d) first second is.are.layer.in_order (kid-rises 1 (parents_of rows) directory k d inside) (entry-of rows is.are (get_or kids k d) one.0 one.1) (entry-of rows is.are (get_or kids (suc k) d) other.0 other.1) in
       let beside : is_lt (path_cmp (child_path dir one.3.0) (child_path dir other.3.0)) ≡ true =
       (λ j. is_lt (path_cmp (row_path layer (sym one.2 j) (sym one.3.1 j)) (row_path layer (sym other.2 j) (sym other.3.1 j)))) ∙ before in
       let after : is_lt (name_cmp other.3.0 one.3.0) ≡ false =
@@ -559,7 +560,7 @@ module _ (rows : List SheetRow) (below : List (List ℕ)) (marked : List Mark) (
       let row = kid-row directory place 0 inside in
       let equal : name_cmp row.3.0 name ≡ Equal = sym (ap (λ o. name_order (name_of_row o) name) row.1 ∙ ap (λ n. name_order n name) row.3.1) ∙ answer 0 in
       let same : row.3.0 ≡ name = (bytes_decides row.3.0 name).0 (name_eq-cmp row.3.0 name Equal equal) in (
-        slice_get_within layer kid (row_path layer row.0.parent row.0.name, row.0.inode) (entry-of kid row.0 row.1),
+        slice_get_within layer kid (row_path layer row.0.parent row.0.name, row.0.inode) (entry-of rows is.are kid row.0 row.1),
         kid-path kid directory row.0 row.3.0 row.1 row.2 row.3.1 ∙ ap (child_path (path_at layer directory)) same,
       )
 
@@ -599,7 +600,7 @@ module _ (rows : List SheetRow) (below : List (List ℕ)) (marked : List Mark) (
           let first : Entry = (row_path layer one.0.parent one.0.name, one.0.inode) in
           let second : Entry = (row_path layer other.0.parent other.0.name, other.0.inode) in
           let paths : path_at layer directory ≡ path_at layer parent = (pointwise_decides bytes_decides (path_at layer directory) (path_at layer parent)).0 f in
-          let same : directory ≡ parent = number-one layer directory parent first second is.layer.in_order (entry-of directory one.0 one.1) (entry-of parent other.0 other.1) (sym (ap path_of (entry-of directory one.0 one.1)) ∙ (paths ∙ ap path_of (entry-of parent other.0 other.1))) in
+          let same : directory ≡ parent = number-one layer directory parent first second is.are.layer.in_order (entry-of rows is.are directory one.0 one.1) (entry-of rows is.are parent other.0 other.1) (sym (ap path_of (entry-of rows is.are directory one.0 one.1)) ∙ (paths ∙ ap path_of (entry-of rows is.are parent other.0 other.1))) in
           let bad : false ≡ true = sym e ∙ grind (arith, nat_tests) in cc
 
   named-below : (directory : ℕ) → directory < length (entries_of_rows rows) → (j : ℕ) (entry : Entry) (parent : ℕ)
@@ -607,10 +608,10 @@ module _ (rows : List SheetRow) (below : List (List ℕ)) (marked : List Mark) (
       → name_below (path_at (entries_of_rows rows) directory) entry.0 ≡ cond (parent == directory) (Some (own_name rows (suc j))) None
   named-below directory inside j entry parent at listed =
       let row = row-at (suc j) (slice_get_within layer (suc j) entry at) in
-      let facts = row-after j row.0 row.1 in
+      let facts = row-after rows is.are j row.0 row.1 in
       let same : row.0.parent ≡ parent = some-same row.0.parent parent (sym (parents-get rows j ∙ ap (option_map (λ (r : SheetRow). r.parent)) row.1) ∙ listed) in
       let path : entry.0 ≡ child_path (path_at layer row.0.parent) facts.1.0 =
-      ap path_of (sym at ∙ entry-of (suc j) row.0 row.1) ∙ ap (row_path layer row.0.parent) facts.1.1 in
+      ap path_of (sym at ∙ entry-of rows is.are (suc j) row.0 row.1) ∙ ap (row_path layer row.0.parent) facts.1.1 in
       let own : own_name rows (suc j) ≡ facts.1.0 = ap (λ o. unwrap_or (name_of_row o) []) row.1 ∙ ap (λ n. unwrap_or n []) facts.1.1 in
       let within : row.0.parent < length layer = omega (arith, facts.0, slice_get_within layer (suc j) entry at) in
       ap (name_below (path_at layer directory)) path
@@ -619,18 +620,18 @@ module _ (rows : List SheetRow) (below : List (List ℕ)) (marked : List Mark) (
 
   pub names-of : (directory : ℕ) → directory < length (entries_of_rows rows) → names_below (entries_of_rows rows) (path_at (entries_of_rows rows) directory) ≡ map (own_name rows) (kid_numbers 1 (parents_of rows) directory)
   names-of directory inside =
-      let root = root-row rows is.root in
-      names-from_root (path_at layer directory) directory (own_name rows) layer (parents_of rows) (root.0.inode) (entry-of 0 root.0 root.1 ∙ ap (λ n. Some (row_path layer root.0.parent n, root.0.inode)) root.2) (omega (arith, count, parents-length rows root.0 root.1)) (named-below directory inside)
+      let root = root-row rows is.are.root in
+      names-from_root (path_at layer directory) directory (own_name rows) layer (parents_of rows) (root.0.inode) (entry-of rows is.are 0 root.0 root.1 ∙ ap (λ n. Some (row_path layer root.0.parent n, root.0.inode)) root.2) (omega (arith, count, parents-length rows root.0 root.1)) (named-below directory inside)
 
   -- ---- what the sheet says of a number
 
   pub root-path : path_at (entries_of_rows rows) 0 ≡ []
   root-path =
-      let root = root-row rows is.root in
-      ap path_of (entry-of 0 root.0 root.1) ∙ ap (row_path layer root.0.parent) root.2
+      let root = root-row rows is.are.root in
+      ap path_of (entry-of rows is.are 0 root.0 root.1) ∙ ap (row_path layer root.0.parent) root.2
 
   pub root-inside : 0 < length (entries_of_rows rows)
-  root-inside = let root = root-row rows is.root in slice_get_within layer 0 (row_path layer root.0.parent root.0.name, root.0.inode) (entry-of 0 root.0 root.1)
+  root-inside = let root = root-row rows is.are.root in slice_get_within layer 0 (row_path layer root.0.parent root.0.name, root.0.inode) (entry-of rows is.are 0 root.0 root.1)
 
   pub mark-at : (number : ℕ) (mark : Mark) → number < length (entries_of_rows rows) → slice_get marked number ≡ Some mark → option_map mark_of (entry_at (entries_of_rows rows) (path_at (entries_of_rows rows) number)) ≡ Some mark
   mark-at number mark inside at =
@@ -660,17 +661,17 @@ module _ (rows : List SheetRow) (below : List (List ℕ)) (marked : List Mark) (
 
   parent-at : (number : ℕ) (row : SheetRow) → slice_get rows number ≡ Some row → (entry : Entry) × (slice_get layer row.parent ≡ Some entry) × (entry.0 ≡ parent_path (path_at layer number))
   parent-at zero row at =
-      let root = root-row rows is.root in
+      let root = root-row rows is.are.root in
       let same : root.0 ≡ row = some-same root.0 row (sym root.1 ∙ at) in
       let own : row.parent ≡ 0 = ap (λ (r : SheetRow). r.parent) (sym same) ∙ root.3 in (
         (row_path layer root.0.parent root.0.name, root.0.inode),
-        ap (slice_get layer) own ∙ entry-of 0 root.0 root.1,
+        ap (slice_get layer) own ∙ entry-of rows is.are 0 root.0 root.1,
         ap (row_path layer root.0.parent) root.2 ∙ sym (ap parent_path root-path),
       )
   parent-at (suc j) row at =
-      let facts = row-after j row at in
+      let facts = row-after rows is.are j row at in
       let above = row-at row.parent (omega (arith, facts.0, slice_get_within rows (suc j) row at, count)) in
-      let here : slice_get layer row.parent ≡ Some (row_path layer above.0.parent above.0.name, above.0.inode) = entry-of row.parent above.0 above.1 in (
+      let here : slice_get layer row.parent ≡ Some (row_path layer above.0.parent above.0.name, above.0.inode) = entry-of rows is.are row.parent above.0 above.1 in (
         (row_path layer above.0.parent above.0.name, above.0.inode),
         here,
         sym (ap path_of here) ∙ sym (ap parent_path (kid-path (suc j) row.parent row facts.1.0 at refl facts.1.1) ∙ parent_path-child (path_at layer row.parent) facts.1.0),
@@ -683,7 +684,7 @@ module _ (rows : List SheetRow) (below : List (List ℕ)) (marked : List Mark) (
   pub row-of : (number : ℕ) (row : SheetRow) → slice_get rows number ≡ Some row → IsRowOf (entries_of_rows rows) number row
   row-of number row at =
       let own : Entry = (row_path layer row.parent row.name, row.inode) in
-      let here : slice_get layer number ≡ Some own = entry-of number row at in
+      let here : slice_get layer number ≡ Some own = entry-of rows is.are number row at in
       let above = parent-at number row at in
       let after : Some row.after ≡ Some (suc (0 + number + count_deeper (length own.0) (drop (suc number) layer))) =
       sym (slice_get-map (λ (r : SheetRow). r.after) rows number ∙ ap (option_map (λ (r : SheetRow). r.after)) at)

@@ -533,10 +533,12 @@ module _ (inode : Inode) (nodes : List NodeView) (parents afters : List ℕ) (co
       let parts : parents_of own_rows ≡ drop 1 parents = rows-parents parents afters 1 (entries_of_nodes nodes) (omega (arith, count)) in
       let last : length afters ≡ suc (length (entries_of_nodes nodes)) = ap length ends ∙ afters-length 0 own_layer in
       record {
-        layer = subst IsLayer (sym filled-entries) is;
-        root = (refl, get_or_from_slice_get parents 0 0 0 root);
-        named = rows-named parents afters 1 (entries_of_nodes nodes) (below-nodes nodes);
-        earlier = ap (are_earlier 1) parts ∙ earlier;
+        are = record {
+          layer = subst IsLayer (sym filled-entries) is;
+          root = (refl, get_or_from_slice_get parents 0 0 0 root);
+          named = rows-named parents afters 1 (entries_of_nodes nodes) (below-nodes nodes);
+          earlier = ap (are_earlier 1) parts ∙ earlier;
+        };
         afters = rows-afters parents afters 0 own_layer (omega (arith, last)) ∙ (ends ∙ ap (afters_from 0) (sym filled-entries));
         kids = λ number inside. kids number (omega (arith, inside, rows-length parents afters 0 own_layer)) ∙ ap (λ (ps : List ℕ). Some (kid_numbers 1 ps number)) (sym parts);
         marks = marks ∙ sym (rows-marks parents afters 0 own_layer);

@@ -80,10 +80,7 @@ pub record AreRows (rows : List SheetRow) : Type 0 where
 
 -- these rows are those of a layer, with the numbers of the rows directly below each, and the mark of each
 pub record IsSheet (rows : List SheetRow) (below : List (List ℕ)) (marked : List Mark) : Type 0 where
-  pub layer : IsLayer (entries_of_rows rows)
-  pub root : IsSomeAnd (slice_get rows 0) (λ row. (row.name ≡ None) × (row.parent ≡ 0))
-  pub named : list_all (λ row. is_some row.name) (drop 1 rows) ≡ true
-  pub earlier : are_earlier 1 (parents_of rows) ≡ true
+  pub are : AreRows rows
   pub afters : map (λ row. row.after) rows ≡ afters_from 0 (entries_of_rows rows)
   pub kids : (number : ℕ) → number < length rows → slice_get below number ≡ Some (kid_numbers 1 (parents_of rows) number)
   pub marks : marked ≡ map (λ row. mark_of row.inode) rows

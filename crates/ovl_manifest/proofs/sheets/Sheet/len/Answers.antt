@@ -7,7 +7,7 @@ use Rattle.ovl_manifest.proofs.sheets.Sheet.len.Goals as goal
 
 pub overflow_cast-result : goal.overflow_cast-result
 overflow_cast-result c =
-    let few : length (entries_of_rows c.self.inside.rows.items) ≤ 1048576 = leb-true (length (entries_of_rows c.self.inside.rows.items)) entry_limit c.self.invariant.layer.counted in
+    let few : length (entries_of_rows c.self.inside.rows.items) ≤ 1048576 = leb-true (length (entries_of_rows c.self.inside.rows.items)) entry_limit c.self.invariant.are.layer.counted in
     omega (arith, few, c.len.ensures, count _ _ _ c.self.invariant, c.self.inside.rows.ok.0)
 
 pub returns-clause-value : goal.returns-clause-value

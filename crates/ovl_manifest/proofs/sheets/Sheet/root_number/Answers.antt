@@ -11,4 +11,4 @@ pub returns-clause-path : goal.returns-clause-path
 returns-clause-path c = subst (λ (layer : Entries). path_at layer 0 ≡ []) c.self.view_is (root-path _ _ _ c.self.invariant)
 
 pub returns-clause-layer : goal.returns-clause-layer
-returns-clause-layer c = subst IsLayer c.self.view_is c.self.invariant.layer
+returns-clause-layer c = subst IsLayer c.self.view_is c.self.invariant.are.layer
