@@ -2,7 +2,7 @@
 use Rattle.std.proofs.Common.{◌≡◌, ℕ, zero, suc, ◌+◌, ◌-◌, ◌<◌, ◌≤◌, length, get_or, drop, map, set, Bool, true, false, cond, Option, Some, None, List, [], ◌∷◌, ◌++◌, refl, sym, ap, ◌∙◌, subst, arith, length-append, inl, inr, ◌⊎◌}
 use Rattle.std.specs.Prelude.{nat_lt, ◌&&◌, slice_get, is_some, IsSomeAnd}
 use Rattle.std.specs.List.{list_all}
-use Rattle.std.proofs.lemmas.Bool.{ltb-true, ltb-false}
+use Rattle.std.proofs.lemmas.Bool.{ltb-true, ltb-false, leb-true}
 use Rattle.std.proofs.lemmas.Option.{slice_get_read, get_or_from_slice_get}
 use Rattle.std.proofs.lemmas.List.{same_lists, get_or-set_same, get_or-set_other, length-map, get_or-map}
 use Rattle.std.proofs.lemmas.Grind.{same_number_lists}
@@ -332,3 +332,6 @@ module _ (rows : List SheetRow) (are : AreRows rows) where
       named afters [] all = all
       named [] (row ∷ rows) all = all
       named (after ∷ afters) (row ∷ rows) all = with-named afters rows ∙ all
+
+pub few-rows : (rows : List SheetRow) → AreRows rows → length rows < 4294967296
+few-rows rows are = omega (arith, leb-true (length (entries_of_rows rows)) 1048576 are.layer.counted, entries-count rows)
