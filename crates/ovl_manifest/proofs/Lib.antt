@@ -18,3 +18,4 @@ pub mod BackLemmas
 pub mod SortedLemmas
 pub mod SheetLemmas
 pub mod SheetPassLemmas
+pub mod SheetDraftLemmas
