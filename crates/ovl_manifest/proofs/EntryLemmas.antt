@@ -13,7 +13,7 @@ use Rattle.ovl_names.proofs.Ascending.{both}
 use Rattle.ovl_inode.specs.Attributes.{has_escaped_name}
 use Rattle.ovl_inode.specs.Marks.{is_directory}
 use Rattle.ovl_manifest.specs.Layers.{Entry, Entries, is_directory_at, is_within_limits, entry_limit}
-use Rattle.ovl_manifest.specs.Drafts.{slashed}
+use Rattle.ovl_manifest.specs.TextPaths.{slashed}
 use Rattle.ovl_manifest.specs.Fields.{entry_of}
 use Rattle.ovl_manifest.specs.Manifest.{is_statable, stated_pair, comes_after, entry_after, entries_after, is_miscounted, layer_of_pairs, first_fault, is_of_first, IsFaultOf}
 use Rattle.ovl_manifest.specs.declared.faults.LayerFault.{LayerFault}

@@ -19,3 +19,4 @@ pub mod SortedLemmas
 pub mod SheetLemmas
 pub mod SheetPassLemmas
 pub mod AfterLemmas
+pub mod SheetDraftLemmas

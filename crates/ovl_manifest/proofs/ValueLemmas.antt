@@ -25,7 +25,7 @@ use Rattle.ovl_inode.specs.Sound.{is_word, is_seconds}
 use Rattle.ovl_manifest.specs.Layers.{is_within_limits}
 use Rattle.ovl_manifest.specs.Fields.{up_to, path_of_text, attribute_after, attributes_after}
 use Rattle.ovl_manifest.specs.Text.{hexadecimal, attribute_members}
-use Rattle.ovl_manifest.specs.Drafts.{slashed}
+use Rattle.ovl_manifest.specs.TextPaths.{slashed}
 use Rattle.ovl_manifest.proofs.FieldLemmas.{attributes_after-put}
 use Rattle.ovl_manifest.proofs.TextLemmas.{attributes_in_turn, attribute_members-in_turn, no_or, all-at}
 

@@ -7,7 +7,7 @@ use Rattle.ovl_names.specs.Names.{slash, is_name}
 use Rattle.ovl_names.specs.Paths.{PathNames, has_names, child_path, path_text, depth_limit, text_limit}
 use Rattle.ovl_names.proofs.Ascending.{both}
 use Rattle.ovl_manifest.specs.Layers.{is_within_limits}
-use Rattle.ovl_manifest.specs.Drafts.{slashed, slash_count}
+use Rattle.ovl_manifest.specs.TextPaths.{slashed, slash_count}
 use Rattle.ovl_manifest.proofs.TextLemmas.{no_or}
 use Rattle.ovl_manifest.proofs.ValueLemmas.{name_facts}
 

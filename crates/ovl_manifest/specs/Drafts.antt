@@ -1,6 +1,5 @@
 -- A layer while it is built: finished nodes, and the nodes on the way to its last entry.
-use Rattle.std.specs.Prelude.{◌≡◌, ◌<◌, ℕ, zero, suc, ◌==◌, true, false, length, List, [], ◌∷◌, ◌++◌, map, flat_map, filter}
-use Rattle.ovl_names.specs.Names.{slash}
+use Rattle.std.specs.Prelude.{◌≡◌, ◌<◌, ℕ, zero, suc, true, false, length, List, [], ◌∷◌, ◌++◌, map}
 use Rattle.ovl_names.specs.Paths.{PathNames, parent_path}
 use Rattle.ovl_inode.specs.Attributes.{has_escaped_name}
 use Rattle.ovl_inode.specs.Sound.{is_sound_inode}
@@ -18,14 +17,6 @@ entries_of_open (node ∷ deeper) = under node.name (entries_from node.inode (no
 -- the entries of a draft: the finished nodes of the root, and the open ones after them
 abbrev pub draft_entries : Draft → Entries
 draft_entries draft = entries_from draft.inode (entries_of_nodes draft.children.items ++ entries_of_open draft.spine.items)
-
--- a separator before each name: the text of a path, where that of the root is empty
-abbrev pub slashed : PathNames → List ℕ
-slashed names = flat_map (λ own. slash ∷ own) names
-
--- how many separators stand in a text
-abbrev pub slash_count : List ℕ → ℕ
-slash_count text = length (filter (λ byte. byte == slash) text)
 
 -- the inode of the directory on the way to the last entry that has so many names
 abbrev pub inode_on_way : Inode → List NodeView → ℕ → Inode

@@ -4,8 +4,10 @@ pub mod TreeFalls
 pub mod Fields
 pub mod Manifest
 pub mod Text
+pub mod TextPaths
 pub mod Drafts
 pub mod Sheets
 pub mod SheetPasses
+pub mod SheetDrafts
 pub mod Sorted
 pub mod Tokens

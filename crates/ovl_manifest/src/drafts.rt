@@ -1,7 +1,7 @@
 ghost use Rattle.std.specs.Prelude.{◌≡◌, ◌≤◌, ◌+◌, ◌-◌, true, false, [], ◌∷◌, ◌++◌, IsTrue, IfOk, length, map, take, vec_len};
 ghost use Rattle.std.specs.Bool.{OnTrue};
 ghost use Rattle.ovl_names.specs.Order.{ascends};
-ghost use Rattle.ovl_names.specs.Paths.{path_cmp, parent_path, child_path};
+ghost use Rattle.ovl_names.specs.Paths.{path_cmp, parent_path};
 ghost use Rattle.ovl_inode.specs.Attributes.{has_escaped_name};
 ghost use Rattle.ovl_inode.specs.Marks.{is_directory};
 ghost use Rattle.ovl_inode.specs.Sound.{is_sound_inode};
@@ -13,7 +13,7 @@ ghost use Rattle.ovl_manifest.specs.Drafts.{draft_entries, inode_on_way as way_i
 
 use crate::trees::{Layer, Node};
 use ovl_inode::{Inode, is_directory};
-use ovl_names::{Name, Path};
+use ovl_names::Path;
 use std::alloc::{AllocError, Global};
 
 /// A layer while it is built: the finished nodes of its root, and the nodes on the way to its last entry.
@@ -99,61 +99,6 @@ impl Draft {
         })?;
         draft.last = path;
         Ok(draft)
-    }
-
-    /// Whether the entry `name` of the directory of the first `depth` names of the last path comes after all entries.
-    pub(crate) fn comes_before_child(&self, depth: usize, name: &Name) -> bool
-        requires { depth ≤ length self.now.last }
-        ensures { result ≡ is_lt (path_cmp self.now.last (child_path (take depth self.now.last) name.now)) }
-    {
-        match self.last.names().get(depth) {
-            Some(own) => own < name,
-            None => true,
-        }
-    }
-
-    /// Whether the path of the first `depth` names of the last path is a directory's.
-    pub(crate) fn is_directory_above(&self, depth: usize) -> bool
-        requires { depth ≤ vec_len self.now.spine }
-        ensures { result ≡ is_directory (way_inode self.now.inode self.now.spine.items depth) }
-    {
-        let inode = self.inode_on_way(depth);
-        is_directory(inode)
-    }
-
-    /// Puts one more entry, which comes after all others, into the directory of the first `depth` names of the last
-    /// path, which is there.
-    pub(crate) fn enter(
-        &mut self,
-        alloc: Global,
-        depth: usize,
-        name: Name,
-        inode: Inode,
-    ) -> Result<(), AllocError>
-        requires draft { IsDraft self.old }
-        requires depth { depth ≤ length self.old.last }
-        requires entry { CanTake self.old (child_path (take depth self.old.last) name) inode }
-        ensures entries { IfOk result (λ _. draft_entries self.new
-            ≡ draft_entries self.old ++ (child_path (take depth self.old.last) name, inode) ∷ []) }
-        ensures draft { IfOk result (λ _. IsDraft self.new) }
-        ensures last { IfOk result (λ _. self.new.last ≡ child_path (take depth self.old.last) name) }
-    {
-        let own = name.copy(alloc)?;
-        self.close(depth)?;
-        self.spine.push(Node {
-            name: own,
-            inode,
-            children: Vec::new(alloc),
-        })?;
-        self.last.go_to(depth, name)?;
-        Ok(())
-    }
-
-    /// The last path.
-    pub(crate) fn last(&self) -> &Path
-        ensures { result.now ≡ self.now.last }
-    {
-        &self.last
     }
 
     /// The finished layer.

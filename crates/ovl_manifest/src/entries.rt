@@ -1,19 +1,16 @@
-ghost use Rattle.std.specs.Prelude.{◌≡◌, ◌<◌, ◌↔◌, true, Ok, Err, Some, IfSome, IsTrue, MatchResult, [], ◌∷◌, ◌++◌, length};
-ghost use Rattle.ovl_names.specs.Paths.{path_text};
-ghost use Rattle.ovl_inode.specs.Sound.{is_sound_inode};
+ghost use Rattle.std.specs.Prelude.{◌≡◌, ◌<◌, ◌↔◌, Ok, Err, Some, IfSome, IsTrue, MatchResult, [], length};
 ghost use Rattle.ovl_inode.specs.Attributes.{has_escaped_name as escaped_test, is_escaped_name as escaped_name_test};
 ghost use Rattle.ovl_manifest.specs.Layers.{entry_limit, is_within_limits as within_limits_test};
 ghost use Rattle.ovl_manifest.specs.Manifest.{is_statable, stated_pair, entry_after, layer_of_pairs, is_miscounted, first_fault, is_of_first, IsFaultOf};
 ghost use Rattle.ovl_manifest.specs.declared.faults.LayerFault.{LayerFault};
 ghost use Rattle.ovl_manifest.specs.declared.faults.LayerFault.TheVariants.{Count};
-ghost use Rattle.ovl_manifest.specs.Drafts.{draft_entries, slashed, IsDraft};
+ghost use Rattle.ovl_manifest.specs.Drafts.{draft_entries, IsDraft};
 
 use crate::drafts::Draft;
 use crate::faults::LayerFault;
-use crate::text_paths::place_beside;
 use crate::trees::Layer;
 use ovl_inode::{Attrs, Inode, is_directory, overlay, sound};
-use ovl_names::{DEPTH_LIMIT, Name, Path, TEXT_LIMIT};
+use ovl_names::{DEPTH_LIMIT, Path, TEXT_LIMIT};
 use std::alloc::Global;
 
 /// The most entries of a layer.
@@ -96,43 +93,6 @@ pub(crate) fn add(
     Ok(draft.with(alloc, path, inode)?)
 }
 
-/// Puts the entry of a sound inode, whose path a text spells, into the draft, whose last path has the text `last`; the
-/// text of the root is empty here. Gives none of a path or an inode that no layer has there, and for want of memory.
-pub(crate) fn add_beside(
-    alloc: Global,
-    draft: &mut Draft,
-    last: &str,
-    text: &str,
-    inode: Inode,
-) -> Option<()>
-    requires draft { IsDraft draft.old }
-    requires room { length (draft_entries draft.old) < entry_limit }
-    requires last { slashed draft.old.last ≡ last.now }
-    requires sound { is_sound_inode inode ≡ true }
-    ensures draft { IfSome result (λ _. IsDraft draft.new) }
-    ensures last { IfSome result (λ _. slashed draft.new.last ≡ text.now) }
-    ensures path { IfSome result (λ _. path_text draft.new.last ≡ text.now) }
-    ensures entries { IfSome result (λ _. draft_entries draft.new ≡ draft_entries draft.old ++ (draft.new.last, inode) ∷ []) }
-{
-    let (depth, name) = place_beside(last, draft.last().len(), text)?;
-    if depth >= DEPTH_LIMIT || text.len() > TEXT_LIMIT {
-        return None;
-    }
-    if has_escaped_name(&inode.attrs) {
-        return None;
-    }
-    let Ok(name) = Name::of(alloc, name) else {
-        return None;
-    };
-    if !draft.comes_before_child(depth, &name) || !draft.is_directory_above(depth) {
-        return None;
-    }
-    match draft.enter(alloc, depth, name, inode) {
-        Ok(()) => Some(()),
-        Err(_) => None,
-    }
-}
-
 // The entry that a pair states, and `None` where a manifest can't state it.
 fn stated(entry: (Path, Inode)) -> Option<(Path, Inode)>
     ensures { result ≡ stated_pair entry }
@@ -158,8 +118,8 @@ fn is_within_limits(path: &Path) -> bool
     bytes <= TEXT_LIMIT
 }
 
-// Whether the name of some attribute begins with `overlay::ESCAPED_PREFIX`.
-fn has_escaped_name(attrs: &Attrs) -> bool
+/// Whether the name of some attribute begins with `overlay::ESCAPED_PREFIX`.
+pub(crate) fn has_escaped_name(attrs: &Attrs) -> bool
     ensures { result ≡ escaped_test attrs.now }
 {
     attrs

@@ -6,6 +6,7 @@ mod entries;
 mod faults;
 mod fields;
 mod reading;
+mod sheet_drafts;
 mod sheets;
 mod sorted_entries;
 mod sorted_layers;
@@ -17,7 +18,7 @@ mod written_entries;
 
 pub use entries::{ENTRY_LIMIT, from_entries};
 pub use faults::LayerFault;
-pub use reading::read_layer;
+pub use reading::{read_layer, read_sheet};
 pub use sheets::{Sheet, SheetPlace, SheetRow};
 pub use trees::{Cursor, Layer, Node};
 pub use writing::write_layer;

@@ -6,6 +6,7 @@ ghost use Rattle.ovl_manifest.specs.Manifest.{entries_after, stated_entries, lay
 use crate::entries::{ENTRY_LIMIT, add, start};
 use crate::faults::LayerFault;
 use crate::fields::{is_made_of, read_entry};
+use crate::sheets::Sheet;
 use crate::sorted_layers::read_sorted;
 use crate::trees::Layer;
 use serde_json::{Category, Value};
@@ -19,13 +20,27 @@ pub fn read_layer(alloc: Global, bytes: &[u8]) -> Result<Layer, LayerFault>
         (λ layer. layer_stated bytes.now ≡ Ok layer)
         (λ fault. IsFaultOf (layer_stated bytes.now) fault) }
 {
-    if let Some(layer) = read_sorted(alloc, bytes) {
-        return Ok(layer);
-    }
     match Value::from_slice(alloc, bytes) {
         Ok(value) => read_value(alloc, &value),
         Err(fault) if fault.classify() == Category::Memory => Err(LayerFault::Memory),
         Err(_) => Err(LayerFault::NotJson),
+    }
+}
+
+/// The sheet of the layer that the bytes of a manifest state, refused as [`read_layer`] refuses it. A manifest whose
+/// members stand in the byte order of their names is read at once; others by way of a value.
+pub fn read_sheet(alloc: Global, bytes: &[u8]) -> Result<Sheet, LayerFault>
+    ensures { MatchResult result
+        (λ sheet. layer_stated bytes.now ≡ Ok sheet)
+        (λ fault. IsFaultOf (layer_stated bytes.now) fault) }
+{
+    if let Some(sheet) = read_sorted(alloc, bytes) {
+        return Ok(sheet);
+    }
+    let layer = read_layer(alloc, bytes)?;
+    match Sheet::of(alloc, layer) {
+        Ok(sheet) => Ok(sheet),
+        Err(_) => Err(LayerFault::Memory),
     }
 }
 

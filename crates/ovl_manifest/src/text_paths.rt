@@ -1,7 +1,7 @@
 //! Paths as their texts, each beside the path that comes before it.
 ghost use Rattle.std.specs.Prelude.{◌≡◌, ◌≤◌, IfSome, IsTrue, length, take};
 ghost use Rattle.ovl_names.specs.Paths.{PathNames, child_path, has_names};
-ghost use Rattle.ovl_manifest.specs.Drafts.{slashed, slash_count as slashes};
+ghost use Rattle.ovl_manifest.specs.TextPaths.{slashed, slash_count as slashes};
 
 /// Where the path of a text stands beside the last path, whose text is given and the number of its names: how many of
 /// those names lead to the directory of the path, and the path's own name. The text of the root is empty here. Gives

@@ -2,7 +2,7 @@ use Rattle.std.proofs.Common.{◌≡◌, ◌≤◌, ◌∙◌, ℕ, ap, arith, l
 use Rattle.std.proofs.Math.Seq.{take-length}
 use Rattle.std.specs.Prelude.{nat_le}
 use Rattle.ovl_names.specs.Paths.{PathNames, text_limit}
-use Rattle.ovl_manifest.specs.Drafts.{slashed}
+use Rattle.ovl_manifest.specs.TextPaths.{slashed}
 use Rattle.ovl_manifest.proofs.EntryLemmas.{name_length, slashed-more, limits}
 use Rattle.ovl_manifest.proofs.entries.is_within_limits.Goals as goal
 

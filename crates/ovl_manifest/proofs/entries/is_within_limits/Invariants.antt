@@ -1,5 +1,5 @@
 use Rattle.std.proofs.Common.{◌≡◌, ◌*◌, ◌≤◌, length, take}
-use Rattle.ovl_manifest.specs.Drafts.{slashed}
+use Rattle.ovl_manifest.specs.TextPaths.{slashed}
 use Rattle.ovl_manifest.proofs.entries.is_within_limits.Given as goal
 
 -- the bytes of the names so far, each with its separator

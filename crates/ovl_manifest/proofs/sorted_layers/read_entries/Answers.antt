@@ -10,38 +10,31 @@ use Rattle.serde_json.specs.Data.{array}
 use Rattle.ovl_manifest.specs.Layers.{Entry, Entries}
 use Rattle.ovl_manifest.specs.Manifest.{is_statable}
 use Rattle.ovl_manifest.specs.Text.{entry_items}
-use Rattle.ovl_manifest.specs.Drafts.{draft_entries, slashed}
+use Rattle.ovl_manifest.specs.TextPaths.{slashed}
+use Rattle.ovl_manifest.specs.SheetDrafts.{drafted}
 use Rattle.ovl_manifest.specs.Sorted.{Spells}
-use Rattle.ovl_manifest.proofs.DraftLemmas.{alone}
 use Rattle.ovl_manifest.proofs.SortedLemmas.{AddsEntries, adds-no_entries, one_entry_more, spells-entries, last_entry}
 use Rattle.ovl_manifest.proofs.sorted_layers.read_entries.Goals as goal
-
-pub start-requires : goal.start-requires
-start-requires c =
-    let root : is_statable ([], c.in-Some.root) ≡ true = (c.in-Some.ensures).sound in
-    subst (λ (path : PathNames). is_statable (path, c.in-Some.root) ≡ true) (sym c.root.ensures) root
 
 pub entries-init : goal.entries-init
 entries-init c =
     let root : Inode = c.in-Some.root in
     let opened = c.in-Some-BeginArray.ensures.value ∙ ap (λ t. token_of t ∷ c.next.new.self) c.in-Some-BeginArray.field-0-is in
-    let same : draft_entries c.in-Ok.draft ≡ ([], root) ∷ [] =
-    last_entry [] (c.root.result, root) (draft_entries c.in-Ok.draft) c.in-Ok.ensures.0 ∙ (λ j. (c.root.ensures j, root) ∷ []) in
-    let text : c.in-Some.text.now ≡ path_text [] = (bytes_decides c.in-Some.text.now (path_text [])).0 (not_false _ (sym c.if-ne.ensures)) in
-    let one = one_entry_more (adds-no_entries 2 c.next.new.self) ([], root) ((c.in-Some.ensures).value [] (sym text)) in
+    let begun = c.in_ok-draft.ensures in
+    let one = one_entry_more (adds-no_entries 2 c.next.new.self) ([], root) ((c.in-Some.ensures).value [] (sym begun.root)) in
     record {
-      draft = c.in-Ok.ensures.1;
-      spelled = (c.next.new.self, opened, subst (λ (entries : Entries). AddsEntries 2 c.next.new.self entries c.read_entry.new.reader) (sym same) one);
+      draft = begun.draft;
+      spelled = (c.next.new.self, opened, subst (λ (entries : Entries). AddsEntries 2 c.next.new.self entries c.read_entry.new.reader) (sym begun.entries) one);
       text = search rules;
-      last = ap slashed (alone c.in-Ok.draft c.in-Ok.ensures.1 root same);
-      count = ap length same;
+      last = ap slashed begun.last;
+      count = ap length begun.entries;
       limit = omega arith;
     }
 
 pub entries-preserved : goal.entries-preserved
 entries-preserved c =
     let so_far = c.entries.invariant.spelled in
-    let before = draft_entries c.entries.draft in
+    let before = drafted c.entries.draft in
     let added = c.in_ok-add_beside.ensures in
     let entry : Entry = (c.add_beside.new.draft.last, c.in-Some-read_entry.inode) in
     let here = subst (λ (later : List Token). AddsEntries 2 so_far.0 before later) (sym c.entries-test.ensures.1) so_far.2 in
@@ -55,7 +48,7 @@ entries-preserved c =
       limit = omega (arith, c.entries.invariant.limit, c.if-number-eq-ENTRY_LIMIT.false);
     }
 
-pub returns-in-Ok-finish-clause-value : goal.returns-in-Ok-finish-clause-value
-returns-in-Ok-finish-clause-value c =
+pub returns-in-Ok-clause-value : goal.returns-in-Ok-clause-value
+returns-in-Ok-clause-value c =
     let all = spells-entries c.entries.invariant.spelled.1 c.entries.invariant.spelled.2 (closed_array c.entries.reader c.take_end_array.new.self c.entries-test.ensures) in
-    subst (λ (entries : Entries). Spells 3 c.args.reader.now (array (entry_items entries)) c.take_end_array.new.self) (sym c.in-Ok-finish.ensures) all
+    subst (λ (entries : Entries). Spells 3 c.args.reader.now (array (entry_items entries)) c.take_end_array.new.self) (sym c.in-Ok.ensures) all

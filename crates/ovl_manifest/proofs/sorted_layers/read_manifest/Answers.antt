@@ -11,6 +11,6 @@ pub returns-then-version-eq1-clause-value : goal.returns-then-version-eq1-clause
 returns-then-version-eq1-clause-value c =
     let opened = c.in-Some-BeginObject.ensures.value ∙ ap (λ t. token_of t ∷ c.next.new.self) c.in-Some-BeginObject.field-0-is in
     let closed = c.in-Some-EndObject.ensures.value ∙ ap (λ t. token_of t ∷ c.next-2.new.self) c.in-Some-EndObject.field-0-is in
-    let entries = adds (omega arith) (record { after = c.take_key.new.reader; key = c.take_key.ensures (search rules); member = c.in_ok-layer.ensures.value }) no_members in
+    let entries = adds (omega arith) (record { after = c.take_key.new.reader; key = c.take_key.ensures (search rules); member = c.in_ok-sheet.ensures.value }) no_members in
     let all = spells-object opened (and_then entries (adds (omega arith) c.in_ok-version.ensures.member _)) closed in
-    subst (λ (version : ℕ). Spells 4 c.args.reader.now (object (put (codes "overlay-layer") (whole version) (put (codes "entries") (array (entry_items c.in_ok-layer.layer)) no_members))) c.next-2.new.self) c.if-version-eq1.true all
+    subst (λ (version : ℕ). Spells 4 c.args.reader.now (object (put (codes "overlay-layer") (whole version) (put (codes "entries") (array (entry_items c.in_ok-sheet.sheet)) no_members))) c.next-2.new.self) c.if-version-eq1.true all

@@ -4,7 +4,7 @@ use Rattle.std.proofs.lemmas.List.{take-append-drop}
 use Rattle.std.proofs.lemmas.Str.Pattern.{drop_at_char}
 use Rattle.std.specs.Cmp.Lexicographic.{bytes_decides}
 use Rattle.ovl_names.specs.Names.{slash}
-use Rattle.ovl_manifest.specs.Drafts.{slashed, slash_count}
+use Rattle.ovl_manifest.specs.TextPaths.{slashed, slash_count}
 use Rattle.ovl_manifest.proofs.WayLemmas.{slashed-child, slashed-cut, IsWayDown}
 use Rattle.ovl_manifest.proofs.text_paths.place_beside.Goals as goal
 use Rattle.ovl_manifest.proofs.text_paths.place_beside.Goals.{else-not-is_empty-via-then-not-is_empty+else-rest-ne47, else-not-is_empty-via-else-not-is_empty}

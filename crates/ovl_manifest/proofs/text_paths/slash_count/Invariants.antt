@@ -1,5 +1,5 @@
 use Rattle.std.proofs.Common.{◌≡◌, ◌≤◌, take}
-use Rattle.ovl_manifest.specs.Drafts.{slash_count}
+use Rattle.ovl_manifest.specs.TextPaths.{slash_count}
 use Rattle.ovl_manifest.proofs.text_paths.slash_count.Given as goal
 
 abbrev pub invariant-loop-byte : goal.invariant-loop-byte

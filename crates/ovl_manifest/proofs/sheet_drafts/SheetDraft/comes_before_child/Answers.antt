@@ -3,8 +3,8 @@ use Rattle.std.proofs.lemmas.Bool.{ltb-false}
 use Rattle.std.specs.Ordering.{is_lt}
 use Rattle.ovl_names.specs.Names.{PathName, name_cmp}
 use Rattle.ovl_names.specs.Paths.{PathNames, path_cmp, child_path}
-use Rattle.ovl_manifest.proofs.DraftLemmas.{child_after, child_after-end}
-use Rattle.ovl_manifest.proofs.drafts.Draft.comes_before_child.Goals as goal
+use Rattle.ovl_manifest.proofs.SheetDraftLemmas.{child_after, child_after-end}
+use Rattle.ovl_manifest.proofs.sheet_drafts.SheetDraft.comes_before_child.Goals as goal
 
 pub returns-in-Some : goal.returns-in-Some
 returns-in-Some c =
