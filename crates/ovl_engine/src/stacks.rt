@@ -3,8 +3,8 @@ ghost use Rattle.ovl_lookup.specs.Stacks.{layer_limit};
 ghost use Rattle.ovl_engine.specs.Refusals.{layers_from, IsUnread};
 
 use crate::faults::EngineFault;
-use ovl_lookup::{Stack, StackFault};
-use ovl_manifest::{Layer, read_layer};
+use ovl_lookup::Stack;
+use ovl_manifest::{Sheet, read_sheet};
 use std::alloc::Global;
 use std::thread::{Threads, map_chunks};
 
@@ -24,11 +24,10 @@ pub(crate) fn read_stack<R: Threads + Sync>(
     ensures count { IfOk result (λ stack. length stack.layers ≡ length manifests.now) }
 {
     let layers = read_layers(rt, alloc, manifests, workers)?;
-    match Stack::of(alloc, layers) {
+    match Stack::of_sheets(layers) {
         Ok(stack) => Ok(stack),
         // There are as many layers as manifests.
-        Err(StackFault::Layers) => Err(EngineFault::Layers),
-        Err(StackFault::Memory) => Err(EngineFault::Memory),
+        Err(_) => Err(EngineFault::Layers),
     }
 }
 
@@ -39,7 +38,7 @@ fn read_layers<R: Threads + Sync>(
     alloc: Global,
     manifests: &[Vec<u8>],
     workers: usize,
-) -> Result<Vec<Layer>, EngineFault>
+) -> Result<Vec<Sheet>, EngineFault>
     requires number { 0 < workers }
     requires some { 0 < length manifests.now }
     ensures { MatchResult result
@@ -47,7 +46,7 @@ fn read_layers<R: Threads + Sync>(
         (λ fault. IsUnread (layers_from 0 (map (λ manifest. manifest.items) manifests.now)) fault) }
 {
     let share = manifests.len().div_ceil(workers);
-    let read = |first: usize, manifests: &[Vec<u8>]| -> Result<Vec<Layer>, EngineFault>
+    let read = |first: usize, manifests: &[Vec<u8>]| -> Result<Vec<Sheet>, EngineFault>
         requires { first + length manifests.now < 2 ^ 64 }
         ensures { MatchResult result
             (λ layers. layers_from first (map (λ manifest. manifest.items) manifests.entry.now) ≡ Ok layers.items)
@@ -61,7 +60,7 @@ fn read_layers<R: Threads + Sync>(
 }
 
 // The layers that manifests state, whose indices begin with the first's.
-fn read_share(alloc: Global, first: usize, manifests: &[Vec<u8>]) -> Result<Vec<Layer>, EngineFault>
+fn read_share(alloc: Global, first: usize, manifests: &[Vec<u8>]) -> Result<Vec<Sheet>, EngineFault>
     requires { first + length manifests.now < 2 ^ 64 }
     ensures { MatchResult result
         (λ layers. layers_from first (map (λ manifest. manifest.items) manifests.now) ≡ Ok layers.items)
@@ -69,7 +68,7 @@ fn read_share(alloc: Global, first: usize, manifests: &[Vec<u8>]) -> Result<Vec<
 {
     let mut layers = Vec::new(alloc);
     for (index, manifest) in manifests.iter().enumerate() {
-        match read_layer(alloc, manifest.as_slice()) {
+        match read_sheet(alloc, manifest.as_slice()) {
             Ok(layer) => layers.push(layer)?,
             Err(fault) => return Err(EngineFault::unread(first + index, fault)),
         }

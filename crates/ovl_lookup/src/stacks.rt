@@ -67,7 +67,20 @@ impl Stack {
         if layers.is_empty() || layers.len() > LAYER_LIMIT {
             return Err(StackFault::Layers);
         }
-        let layers = sheets_of(alloc, layers)?;
+        let sheets = sheets_of(alloc, layers)?;
+        Stack::of_sheets(sheets)
+    }
+
+    /// The stack of layers that are sheets already, the topmost first; refused exactly where they are none or more than
+    /// [`LAYER_LIMIT`]. Takes no memory.
+    pub fn of_sheets(layers: Vec<Sheet>) -> Result<Stack, StackFault>
+        ensures { MatchResult result
+            (λ stack. stack.layers ≡ layers.items)
+            (λ fault. (fault ≡ Layers) × ((length layers.items ≡ 0) ⊎ (layer_limit < length layers.items))) }
+    {
+        if layers.is_empty() || layers.len() > LAYER_LIMIT {
+            return Err(StackFault::Layers);
+        }
         keep_layers(&layers);
         Ok(Stack { layers })
     }
