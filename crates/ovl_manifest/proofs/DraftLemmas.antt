@@ -1,26 +1,19 @@
 -- What a draft's spine says of its entries.
-use Rattle.std.proofs.Common.{◌≡◌, ℕ, zero, suc, ◌-◌, ◌<◌, ◌≤◌, length, take, drop, true, false, List, [], ◌∷◌, ◌++◌, map, refl, sym, ap, ◌∙◌, subst, append_assoc, vec_len, Option, Some, get_or, arith, length-append, length-take-le}
-use Rattle.std.proofs.Math.Seq.{take-append_seam}
+use Rattle.std.proofs.Common.{◌≡◌, ℕ, ◌-◌, ◌<◌, ◌≤◌, length, take, true, false, List, [], ◌∷◌, ◌++◌, map, refl, sym, ap, ◌∙◌, subst, append_assoc, vec_len, Option, Some}
 use Rattle.std.proofs.lemmas.List.{length-map}
 use Rattle.std.specs.Ordering.{is_lt}
-use Rattle.std.specs.declared.cmp.Ordering.{Ordering}
-use Rattle.std.specs.declared.cmp.Ordering.TheVariants.{Less, Equal, Greater}
 use Rattle.std.specs.Cmp.Lexicographic.{bytes_decides, pointwise_decides}
-use Rattle.ovl_names.specs.Names.{PathName, name_cmp}
-use Rattle.ovl_names.specs.Paths.{PathNames, path_cmp, path_eq, parent_path, child_path, has_names}
+use Rattle.ovl_names.specs.Names.{PathName}
+use Rattle.ovl_names.specs.Paths.{PathNames, path_cmp, path_eq, parent_path, child_path}
 use Rattle.ovl_names.specs.Order.{ascends}
-use Rattle.ovl_names.proofs.Ascending.{both, list_all-front}
-use Rattle.std.specs.List.{list_all}
 use Rattle.ovl_inode.specs.declared.inodes.Inode.{Inode}
-use Rattle.ovl_inode.specs.Attributes.{has_escaped_name}
 use Rattle.ovl_inode.specs.Marks.{is_directory}
-use Rattle.ovl_inode.specs.Sound.{is_sound_inode}
-use Rattle.ovl_manifest.specs.Layers.{Entry, Entries, entry_cmp, entry_at, is_directory_at, is_within_limits, entry_limit}
+use Rattle.ovl_manifest.specs.Layers.{Entries, entry_cmp, entry_at, is_directory_at}
 use Rattle.ovl_manifest.specs.LayerTrees.{NodeView, entries_from, entries_of_nodes}
 use Rattle.ovl_manifest.specs.Manifest.{comes_after}
-use Rattle.ovl_manifest.specs.Drafts.{entries_of_open, draft_entries, inode_on_way, IsDraft, CanTake}
+use Rattle.ovl_manifest.specs.Drafts.{entries_of_open, draft_entries, inode_on_way, IsDraft}
 use Rattle.ovl_manifest.specs.declared.drafts.Draft.{Draft}
-use Rattle.ovl_manifest.proofs.OpenLemmas.{opened, entry_at-on_way, path_cmp-under}
+use Rattle.ovl_manifest.proofs.OpenLemmas.{opened, entry_at-on_way}
 use Rattle.ovl_manifest.proofs.LayerLemmas.{parent_on_way, no_parent-deep, no_parent-other, comes_after-last}
 
 -- the names of a spine, as a path

@@ -1,5 +1,5 @@
 -- Rows of which one more comes at the end, and the numbers of those on the way to it.
-use Rattle.std.proofs.Common.{◌≡◌, ℕ, zero, suc, ◌+◌, ◌<◌, ◌≤◌, length, map, take, Bool, true, false, Option, Some, None, List, [], ◌∷◌, ◌++◌, refl, sym, ap, ◌∙◌, subst, arith, get_or, inl, inr, ◌⊎◌, length-append, length-take-le}
+use Rattle.std.proofs.Common.{◌≡◌, ℕ, zero, suc, ◌+◌, ◌<◌, ◌≤◌, length, map, take, true, false, Option, Some, None, List, [], ◌∷◌, ◌++◌, refl, sym, ap, ◌∙◌, subst, arith, get_or, inl, inr, ◌⊎◌, length-append, length-take-le}
 use Rattle.std.specs.Prelude.{nat_lt, is_some, slice_get, IsSomeAnd}
 use Rattle.std.specs.List.{list_all}
 use Rattle.std.specs.Ordering.{is_lt}
@@ -10,7 +10,7 @@ use Rattle.std.proofs.lemmas.Bool.{cases_lt, lt-ltb}
 use Rattle.std.proofs.lemmas.List.{length-map, map-append}
 use Rattle.std.proofs.lemmas.List.Folds.{list_all-append}
 use Rattle.ovl_names.specs.Names.{PathName, name_cmp, is_name}
-use Rattle.ovl_names.specs.Paths.{PathNames, path_cmp, child_path, parent_path, has_names}
+use Rattle.ovl_names.specs.Paths.{PathNames, path_cmp, child_path, has_names}
 use Rattle.ovl_names.specs.Order.{ascends}
 use Rattle.ovl_names.proofs.Ascending.{both, list_all-front}
 use Rattle.ovl_names.proofs.NameLemmas.{has_names-child, has_names-take}

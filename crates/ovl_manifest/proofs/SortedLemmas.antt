@@ -32,8 +32,7 @@ use Rattle.ovl_inode.specs.Hexadecimal.{is_lower_digit, bytes_of_digits, digest_
 use Rattle.ovl_inode.specs.Kinds.{kind_word}
 use Rattle.ovl_manifest.specs.Layers.{Entry, Entries, IsLayer}
 use Rattle.ovl_manifest.specs.Fields.{attribute_after}
-use Rattle.ovl_manifest.specs.Manifest.{entry_fault, entry_after, read_layer}
-use Rattle.ovl_manifest.specs.declared.faults.LayerFault.{LayerFault}
+use Rattle.ovl_manifest.specs.Manifest.{read_layer}
 use Rattle.ovl_manifest.specs.Text.{whole, hexadecimal, with_blob, with_kind, attribute_members, common_members, entry_value, entry_items, layer_value}
 use Rattle.ovl_manifest.specs.Sorted.{Spells, HasMember, Adds, with_device, with_contents, blob_of_kind, device_of_kind, IsKindOf}
 use Rattle.ovl_manifest.proofs.ReadLemmas.{if-Some, text_read}
@@ -171,14 +170,6 @@ spells-entries {limit} {all} {tokens} {end} {later} {entries} begins adds ends =
       states = ap (option_map array) whole.states ∙ ap (λ (own : Items). Some (array own)) (entries_onto-none entries);
       nests = omega (arith, whole.nests);
     }
-
--- an entry that is taken stands last
-pub last_entry : (before : Entries) (entry : Entry) (entries : Entries) → entry_after before (Some entry) ≡ Ok entries → entries ≡ before ++ entry ∷ []
-last_entry before entry entries is = by (entry_fault before entry) refl
-  where
-    by : (o : Option LayerFault) → entry_fault before entry ≡ o → entries ≡ before ++ entry ∷ []
-    by None e = let made : Ok (before ++ entry ∷ []) ≡ Ok entries = rw (e, entry_after) at is in cc
-    by (Some fault) e = let bad : Err fault ≡ Ok entries = rw (e, entry_after) at is in cc
 
 -- ---- digits
 

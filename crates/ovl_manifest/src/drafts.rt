@@ -1,5 +1,4 @@
-ghost use Rattle.std.specs.Prelude.{◌≡◌, ◌≤◌, ◌+◌, ◌-◌, true, false, [], ◌∷◌, ◌++◌, IsTrue, IfOk, length, map, take, vec_len};
-ghost use Rattle.std.specs.Bool.{OnTrue};
+ghost use Rattle.std.specs.Prelude.{◌≡◌, ◌≤◌, ◌+◌, ◌-◌, true, false, [], ◌∷◌, ◌++◌, IsTrue, IfOk, map, take, vec_len};
 ghost use Rattle.ovl_names.specs.Order.{ascends};
 ghost use Rattle.ovl_names.specs.Paths.{path_cmp, parent_path};
 ghost use Rattle.ovl_inode.specs.Attributes.{has_escaped_name};
@@ -55,9 +54,7 @@ impl Draft {
     pub(crate) fn has_parent(&self, path: &Path) -> bool
         requires draft { IsDraft self.now }
         requires after { IsTrue (is_lt (path_cmp self.now.last path.now)) }
-        ensures value { result ≡ is_directory_at (draft_entries self.now) (parent_path path.now) }
-        ensures depth { OnTrue result ((length path.now ≤ vec_len self.now.spine + 1)
-            × (take (length path.now - 1) self.now.last ≡ parent_path path.now)) }
+        ensures { result ≡ is_directory_at (draft_entries self.now) (parent_path path.now) }
     {
         let depth = path.len() - 1;
         if depth > self.spine.len() {
@@ -124,7 +121,6 @@ impl Draft {
         ensures spine { IfOk result (λ _. map (λ node. node.name) self.new.spine.items
             ≡ take depth (map (λ node. node.name) self.old.spine.items)) }
         ensures count { IfOk result (λ _. vec_len self.new.spine ≡ depth) }
-        ensures last { IfOk result (λ _. self.new.last ≡ self.old.last) }
     {
         while self.spine.len() > depth {
             self.close_last()?;
@@ -140,7 +136,6 @@ impl Draft {
         ensures spine { IfOk result (λ _. map (λ node. node.name) self.new.spine.items
             ≡ take (vec_len self.old.spine - 1) (map (λ node. node.name) self.old.spine.items)) }
         ensures count { IfOk result (λ _. vec_len self.new.spine + 1 ≡ vec_len self.old.spine) }
-        ensures last { IfOk result (λ _. self.new.last ≡ self.old.last) }
     {
         let node = self.spine.pop().unwrap();
         let Some(parent) = self.spine.pop() else {

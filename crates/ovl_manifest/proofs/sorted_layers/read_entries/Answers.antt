@@ -1,19 +1,15 @@
-use Rattle.std.proofs.Common.{◌≡◌, ◌∙◌, ◌+◌, [], ◌∷◌, List, true, sym, ap, subst, arith, length, length-append, rules}
-use Rattle.std.specs.Cmp.Lexicographic.{bytes_decides}
-use Rattle.ovl_names.specs.Paths.{PathNames, path_text}
-use Rattle.ovl_names.proofs.Ascending.{not_false}
+use Rattle.std.proofs.Common.{◌∙◌, ◌+◌, [], ◌∷◌, List, sym, ap, subst, arith, length, length-append, rules}
 use Rattle.ovl_inode.specs.declared.inodes.Inode.{Inode}
 use Rattle.json.specs.Token.{Token}
 use Rattle.json.specs.Reads.{token_of}
 use Rattle.json.proofs.Grammar.{closed_array}
 use Rattle.serde_json.specs.Data.{array}
 use Rattle.ovl_manifest.specs.Layers.{Entry, Entries}
-use Rattle.ovl_manifest.specs.Manifest.{is_statable}
 use Rattle.ovl_manifest.specs.Text.{entry_items}
 use Rattle.ovl_manifest.specs.TextPaths.{slashed}
 use Rattle.ovl_manifest.specs.SheetDrafts.{drafted}
 use Rattle.ovl_manifest.specs.Sorted.{Spells}
-use Rattle.ovl_manifest.proofs.SortedLemmas.{AddsEntries, adds-no_entries, one_entry_more, spells-entries, last_entry}
+use Rattle.ovl_manifest.proofs.SortedLemmas.{AddsEntries, adds-no_entries, one_entry_more, spells-entries}
 use Rattle.ovl_manifest.proofs.sorted_layers.read_entries.Goals as goal
 
 pub entries-init : goal.entries-init

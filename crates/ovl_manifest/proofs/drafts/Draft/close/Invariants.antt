@@ -6,7 +6,6 @@ abbrev pub invariant-loop-self : goal.invariant-loop-self
 invariant-loop-self l = record {
   entries : draft_entries l.self ≡ draft_entries l.fn.self;
   spelled : map (λ node. node.name) l.self.spine.items ≡ take (vec_len l.self.spine) (map (λ node. node.name) l.fn.self.spine.items);
-  last : l.self.last ≡ l.fn.self.last;
   bound : l.depth ≤ vec_len l.self.spine;
 }
 
