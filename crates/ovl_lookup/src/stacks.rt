@@ -1,4 +1,4 @@
-ghost use Rattle.std.specs.Prelude.{◌≡◌, ◌<◌, ◌≤◌, ◌↔◌, ◌⊎◌, false, Some, Err, length, IfOk, MatchOption, MatchResult, slice_get, IfSome};
+ghost use Rattle.std.specs.Prelude.{◌≡◌, ◌<◌, ◌≤◌, ◌↔◌, ◌⊎◌, false, Some, Err, length, IsTrue, IfOk, MatchOption, MatchResult, slice_get, IfSome};
 ghost use Rattle.std.specs.Option.{option_map};
 ghost use Rattle.std.specs.List.{All};
 ghost use Rattle.ovl_manifest.specs.Layers.{IsLayer, entry_at, is_directory_at, names_below};
@@ -64,7 +64,7 @@ impl Stack {
         ensures value { IfOk result (λ stack. stack.layers ≡ layers.items) }
         ensures refused { (result ≡ Err Layers) ↔ ((length layers.items ≡ 0) ⊎ (layer_limit < length layers.items)) }
     {
-        if layers.is_empty() || layers.len() > LAYER_LIMIT {
+        if is_outside(layers.len()) {
             return Err(StackFault::Layers);
         }
         let sheets = sheets_of(alloc, layers)?;
@@ -78,7 +78,7 @@ impl Stack {
             (λ stack. stack.layers ≡ layers.items)
             (λ fault. (fault ≡ Layers) × ((length layers.items ≡ 0) ⊎ (layer_limit < length layers.items))) }
     {
-        if layers.is_empty() || layers.len() > LAYER_LIMIT {
+        if is_outside(layers.len()) {
             return Err(StackFault::Layers);
         }
         keep_layers(&layers);
@@ -182,6 +182,13 @@ impl Stack {
         let natural = step.next.joined(alloc, &path.names()[parent.len()..])?;
         Ok(Some(natural))
     }
+}
+
+// Whether so many layers are no stack.
+fn is_outside(number: usize) -> bool
+    ensures { IsTrue result ↔ ((number ≡ 0) ⊎ (layer_limit < number)) }
+{
+    number == 0 || number > LAYER_LIMIT
 }
 
 // A sheet of each layer, in their order; the layers are dropped where memory was short.

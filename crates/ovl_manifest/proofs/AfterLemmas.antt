@@ -1,5 +1,5 @@
 -- The numbers after the subtrees of rows, found from the last row on.
-use Rattle.std.proofs.Common.{◌≡◌, ℕ, zero, suc, ◌+◌, ◌-◌, ◌<◌, ◌≤◌, length, get_or, drop, map, set, Bool, true, false, cond, Option, Some, None, List, [], ◌∷◌, ◌++◌, refl, sym, ap, ◌∙◌, subst, arith, length-append, inl, inr, ◌⊎◌}
+use Rattle.std.proofs.Common.{◌≡◌, ℕ, zero, suc, ◌+◌, ◌<◌, ◌≤◌, length, get_or, drop, map, set, Bool, true, false, cond, Some, None, List, [], ◌∷◌, ◌++◌, refl, sym, ap, ◌∙◌, subst, arith, length-append, inl, inr, ◌⊎◌}
 use Rattle.std.specs.Prelude.{nat_lt, ◌&&◌, slice_get, is_some, IsSomeAnd}
 use Rattle.std.specs.List.{list_all}
 use Rattle.std.proofs.lemmas.Bool.{ltb-true, ltb-false, leb-true}
@@ -15,7 +15,7 @@ use Rattle.ovl_manifest.specs.declared.sheets.SheetRow.{SheetRow}
 use Rattle.ovl_manifest.specs.Layers.{Entry, Entries, IsLayer}
 use Rattle.ovl_manifest.specs.Sheets.{path_of, path_at, row_path, entries_with, entries_of_rows, count_deeper, afters_from, kid_numbers, parents_of, are_earlier, AreRows, IsSheet}
 use Rattle.ovl_manifest.specs.SheetPasses.{depths_of, with_afters}
-use Rattle.ovl_manifest.proofs.SheetLemmas.{some-same, afters-get, with-length, length-child, row-known, entry-of}
+use Rattle.ovl_manifest.proofs.SheetLemmas.{afters-get, with-length, length-child, row-known, entry-of}
 use Rattle.ovl_manifest.proofs.SheetPassLemmas.{afters-length}
 
 -- ---- entries that have more names than one before them

@@ -1,4 +1,4 @@
-use Rattle.std.proofs.Common.{◌≡◌, ◌<◌, ◌≤◌, ◌-◌, suc, length}
+use Rattle.std.proofs.Common.{◌≤◌, ◌-◌, length}
 use Rattle.ovl_manifest.specs.Sheets.{entries_of_rows}
 use Rattle.ovl_manifest.proofs.AfterLemmas.{AreSetFrom, IsUnderTo}
 use Rattle.ovl_manifest.proofs.sheets.set_afters.Given as goal

@@ -1,6 +1,5 @@
-use Rattle.std.proofs.Common.{◌≡◌, ◌∙◌, ◌<◌, ◌≤◌, ℕ, Some, List, length, map, drop, sym, ap, subst, arith}
+use Rattle.std.proofs.Common.{◌≡◌, ◌∙◌, ℕ, Some, List, length, map, drop, sym, ap, subst, arith}
 use Rattle.std.proofs.lemmas.List.{length-map, take_all, drop-map}
-use Rattle.ovl_inode.specs.declared.marks.Mark.{Mark}
 use Rattle.ovl_inode.specs.Marks.{mark_of}
 use Rattle.ovl_manifest.specs.declared.sheets.SheetRow.{SheetRow}
 use Rattle.ovl_manifest.specs.Sheets.{IsSheet, entries_of_rows, afters_from, kid_numbers, parents_of}
