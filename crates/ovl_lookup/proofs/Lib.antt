@@ -17,6 +17,7 @@ pub mod ChildLaws
 pub mod OwnLemmas
 pub mod ViewLemmas
 pub mod PlaceLemmas
+pub mod TopMerge
 pub mod TopLemmas
 pub mod DirViewLemmas
 pub mod ViewSteps

@@ -1,10 +1,10 @@
 -- What is shown at a name in a view, place by place.
 use Rattle.std.proofs.Common.{◌≡◌, ℕ, ◌+◌, ◌-◌, ◌<◌, ◌≤◌, length, arith, Bool, true, false, cond, Option, Some, None, List, [], ◌∷◌, ◌++◌, get_or, take, drop, map, refl, sym, ap, ◌∙◌, subst, zero, suc}
-use Rattle.std.specs.Prelude.{◌&&◌, not, slice_get, IsSomeAnd}
-use Rattle.std.proofs.lemmas.List.{append-nil, length-map, map-append, drop-map, take_all, take_more}
+use Rattle.std.specs.Prelude.{◌&&◌, not, slice_get, unwrap_or, IsSomeAnd}
+use Rattle.std.proofs.lemmas.List.{length-map, map-append, drop-map, take_all, take_more}
 use Rattle.ovl_names.specs.Names.{PathName}
-use Rattle.std.specs.List.{All, flat_map}
-use Rattle.std.proofs.lemmas.Option.{slice_get_read, slice_get_within, get_or_from_slice_get}
+use Rattle.std.specs.Option.{option_map}
+use Rattle.std.proofs.lemmas.Option.{slice_get_read, slice_get_within, get_or_from_slice_get, slice_get-map}
 use Rattle.ovl_names.specs.Paths.{PathNames, child_path}
 use Rattle.ovl_inode.specs.declared.inodes.Inode.{Inode}
 use Rattle.ovl_inode.specs.declared.marks.Mark.{Mark}
@@ -15,20 +15,22 @@ use Rattle.ovl_manifest.specs.Sheets.{last_name, path_at}
 use Rattle.ovl_manifest.proofs.SheetLemmas.{last_name-child}
 use Rattle.ovl_lookup.specs.declared.looks.Look.{Look}
 use Rattle.ovl_lookup.specs.declared.looks.Look.TheVariants.{Nothing, Shown, Broken}
+use Rattle.ovl_lookup.specs.declared.tops.Top.{Top}
 use Rattle.ovl_lookup.specs.declared.views.DirPlace.{DirPlace}
 use Rattle.ovl_lookup.specs.Stacks.{StackView}
 use Rattle.ovl_lookup.specs.Trace.{things_found}
 use Rattle.ovl_lookup.specs.Merged.{data_of, shown_of, is_nothing, without_blob}
 use Rattle.ovl_lookup.specs.Passes.{data_below, shown_with}
 use Rattle.ovl_lookup.specs.Views.{Reached, entry_in, below_entry, found_below}
-use Rattle.ovl_lookup.specs.ViewPasses.{names_in, put_top, put_tops, tops_of, look_from_top, looks_from_tops}
+use Rattle.ovl_lookup.specs.ViewPasses.{First, AreTops, top_told, tops_told, look_from_top, looks_from_tops}
 use Rattle.ovl_lookup.specs.DirViews.{place_in, places_in}
 use Rattle.ovl_lookup.proofs.FoundLemmas.{drop_past, bare_file, data_of-metacopy, data_of-bad, data_below-metacopy, data_below-data, data_below-other, shown_of-full}
 use Rattle.ovl_lookup.proofs.ChildLemmas.{any_found, shown-any}
 use Rattle.ovl_lookup.proofs.WalkFacts.{take-rest}
-use Rattle.ovl_lookup.proofs.ViewSteps.{found-whiteout, found-entry, put-next, looks-next}
-use Rattle.ovl_lookup.proofs.TopLemmas.{tops-inside}
-use Rattle.ovl_lookup.proofs.DirViewLemmas.{entry-here, place_read}
+use Rattle.ovl_lookup.proofs.ViewSteps.{found-whiteout, found-entry, looks-next}
+use Rattle.ovl_lookup.proofs.TopMerge.{names_of}
+use Rattle.ovl_lookup.proofs.TopLemmas.{IsFirst, all-first, names_in, StandHere, stand-more}
+use Rattle.ovl_lookup.proofs.DirViewLemmas.{entry-here}
 use Rattle.ovl_lookup.proofs.KidNames.{kid-path}
 
 -- ---- a file that lacks its contents
@@ -107,7 +109,7 @@ first-entry layers name (place ∷ rest) inode is = (place, refl, is)
 
 -- ---- the names at which something is shown
 
-pub names-next : (layers : List Entries) (places : List Reached) (tops : List (PathName × ℕ)) (top : PathName × ℕ) (shown : Bool) → shown ≡ not (is_nothing (look_from_top layers places top).1) → map (λ e. e.0) (looks_from_tops layers places (tops ++ top ∷ [])) ≡ map (λ e. e.0) (looks_from_tops layers places tops) ++ cond shown (top.0 ∷ []) []
+pub names-next : (layers : List Entries) (places : List Reached) (tops : List (PathName × First)) (top : PathName × First) (shown : Bool) → shown ≡ not (is_nothing (look_from_top layers places top).1) → map (λ e. e.0) (looks_from_tops layers places (tops ++ top ∷ [])) ≡ map (λ e. e.0) (looks_from_tops layers places tops) ++ cond shown (top.0 ∷ []) []
 names-next layers places tops top shown is =
     ap (map (λ e. e.0)) (looks-next layers places tops top)
     ∙ (map-append (λ e. e.0) (looks_from_tops layers places tops) (cond (not (is_nothing (look_from_top layers places top).1)) (look_from_top layers places top ∷ []) [])
@@ -130,100 +132,114 @@ get_or-any (x ∷ xs) (suc i) d e inside = get_or-any xs i d e (omega (arith, in
 kid-at : (kids : List ℕ) (j : ℕ) → j < length kids → slice_get kids j ≡ Some (get_or kids j 0)
 kid-at kids j inside = slice_get_read kids (length kids) j (get_or kids j 0) refl inside (sym (get_or-any kids j 0 (get_or kids j 0) inside))
 
--- the name of the row of number `j` among them, put
-pub kid-step : (stack : StackView) (place : DirPlace) (layer : Entries) → slice_get stack.layers place.layer ≡ Some layer → (kids : List ℕ) → map (path_at layer) kids ≡ map (child_path (path_at layer place.row)) (names_below layer (path_at layer place.row)) → (j number : ℕ) → j < length kids → (tops : List (PathName × ℕ))
-    → (name : PathName) × (last_name (path_at layer (get_or kids j 0)) ≡ Some name) × (put_tops tops number (drop j (names_in stack.layers (place_in stack place))) ≡ put_tops (put_top tops number name) number (drop (j + 1) (names_in stack.layers (place_in stack place))))
-kid-step stack place layer at kids paths j number inside tops =
-    let own = kid-path layer (path_at layer place.row) kids paths j (get_or kids j 0) (kid-at kids j inside) in (
-      own.0,
-      ap last_name own.2 ∙ last_name-child (path_at layer place.row) own.0,
-      put-next stack.layers tops (names_in stack.layers (place_in stack place)) number j own.0 (ap (λ (ns : List PathName). slice_get ns j) (names-here stack place layer at) ∙ own.1),
-    )
+-- the row of number `j` below a place has a name
+module _ (stack : StackView) (place : DirPlace) (layer : Entries) (at : slice_get stack.layers place.layer ≡ Some layer) (kids : List ℕ) (paths : map (path_at layer) kids ≡ map (child_path (path_at layer place.row)) (names_below layer (path_at layer place.row))) where
+  abbrev names : List PathName
+  names = names_in stack.layers (place_in stack place)
+
+  pub kid-named : (j : ℕ) → j < length kids → (name : PathName) × (last_name (path_at layer (get_or kids j 0)) ≡ Some name)
+  kid-named j inside =
+      let own = kid-path layer (path_at layer place.row) kids paths j (get_or kids j 0) (kid-at kids j inside) in
+      (own.0, ap last_name own.2 ∙ last_name-child (path_at layer place.row) own.0)
+
+  -- and its inode stands at that in the place
+  pub kid-stands : (j : ℕ) → j < length kids → (name : PathName) → Some name ≡ last_name (path_at layer (get_or kids j 0)) → (inode : Inode) → entry_at layer (path_at layer (get_or kids j 0)) ≡ Some inode
+      → (slice_get names j ≡ Some name) × (entry_in stack.layers name (place_in stack place) ≡ Some inode)
+  kid-stands j inside name named inode stands =
+      let own = kid-path layer (path_at layer place.row) kids paths j (get_or kids j 0) (kid-at kids j inside) in
+      let same : Some name ≡ Some own.0 = named ∙ (ap last_name own.2 ∙ last_name-child (path_at layer place.row) own.0) in
+      let is : own.0 ≡ name = sym (ap (λ o. unwrap_or o name) same) in (
+        ap (λ (ns : List PathName). slice_get ns j) (names-here stack place layer at) ∙ (own.1 ∙ ap (λ (n : PathName). Some n) is),
+        entry-here stack name place layer at ∙ (ap (entry_at layer) (ap (child_path (path_at layer place.row)) (sym is) ∙ sym own.2) ∙ stands),
+      )
+
+  -- one more row
+  pub kid-more : (j : ℕ) (name : PathName) → slice_get names j ≡ Some name → take (j + 1) names ≡ take j names ++ name ∷ []
+  kid-more j name here = take_more names j name (slice_get_within names j name here) ∙ ap (λ (n : PathName). take j names ++ n ∷ []) (get_or_from_slice_get names j name name here)
+
+  pub kid-told : (number j : ℕ) (tops : List Top) (top : Top) → names_of (tops_told tops) ≡ take j names → StandHere stack.layers number (place_in stack place) (tops_told tops) → top.place ≡ number
+      → (slice_get names j ≡ Some top.name.now) × (entry_in stack.layers top.name.now (place_in stack place) ≡ Some top.inode.now)
+      → (names_of (tops_told (tops ++ top ∷ [])) ≡ take (j + 1) names) × StandHere stack.layers number (place_in stack place) (tops_told (tops ++ top ∷ []))
+  kid-told number j tops top so_far stand placed own = (
+    ap names_of longer ∙ (map-append (λ t. t.0) (tops_told tops) (top_told top ∷ []) ∙ ((λ k. so_far k ++ top.name.now ∷ []) ∙ sym (kid-more j top.name.now own.0))),
+    subst (StandHere stack.layers number (place_in stack place)) (sym longer)
+    (subst (λ n. StandHere stack.layers number (place_in stack place) (tops_told tops ++ (top.name.now, record { place = n; inode = top.inode.now }) ∷ [])) (sym placed)
+    (stand-more stack.layers number (place_in stack place) (tops_told tops) top.name.now top.inode.now stand own.1)),
+  )
+    where
+      longer : tops_told (tops ++ top ∷ []) ≡ tops_told tops ++ top_told top ∷ []
+      longer = map-append top_told tops (top ∷ [])
+
+  -- the names are as many as the rows
+  pub kids-all : (n : ℕ) → length kids ≤ n → take n names ≡ names
+  kids-all n past =
+      let many : length names ≡ length kids =
+      ap length (names-here stack place layer at) ∙ sym (sym (length-map kids (path_at layer)) ∙ (ap length paths ∙ length-map (names_below layer (path_at layer place.row)) (child_path (path_at layer place.row)))) in
+      take_all n names (omega (arith, many, past))
 
 -- ---- the pass over the names
-
--- the number of each name is that of a place
-pub top-inside : (stack : StackView) (places : List DirPlace) (entries : List (PathName × ℕ)) (k : ℕ) (top : PathName × ℕ) → entries ≡ tops_of stack.layers (places_in stack places) → k < length entries → top ≡ get_or entries k top → top.1 < length places
-top-inside stack places entries k top is inside at =
-    let all = subst (λ (es : List (PathName × ℕ)). All (λ e. e.1 < length (places_in stack places)) es) (sym is) (tops-inside stack.layers (places_in stack places)) in
-    let less : top.1 < length (places_in stack places) = subst (λ (e : PathName × ℕ). e.1 < length (places_in stack places)) (sym at) (all k top inside) in
-    omega (arith, less, length-map places (λ own. place_in stack own))
-
-pub looks-more : (stack : StackView) (places : List DirPlace) (tops : List (PathName × ℕ)) (name : PathName) (top : ℕ) (look : Look) (behind : List DirPlace) → behind ≡ drop top places → look ≡ shown_of (found_below stack.layers name (places_in stack behind))
-    → looks_from_tops stack.layers (places_in stack places) (tops ++ (name, top) ∷ []) ≡ looks_from_tops stack.layers (places_in stack places) tops ++ cond (not (is_nothing look)) ((name, look) ∷ []) []
-looks-more stack places tops name top look behind rest is =
-    let same : shown_of (found_below stack.layers name (drop top (places_in stack places))) ≡ look =
-    ap (λ (ps : List Reached). shown_of (found_below stack.layers name ps)) (drop-map (λ own. place_in stack own) top places ∙ ap (places_in stack) (sym rest)) ∙ sym is in
-    looks-next stack.layers (places_in stack places) tops (name, top)
-    ∙ ap (λ (l : Look). looks_from_tops stack.layers (places_in stack places) tops ++ cond (not (is_nothing l)) ((name, l) ∷ []) []) same
-
-pub names-more : (stack : StackView) (places : List DirPlace) (tops : List (PathName × ℕ)) (name : PathName) (top : ℕ) (shown : Bool) (behind : List DirPlace) → behind ≡ drop top places → shown ≡ not (is_nothing (shown_of (found_below stack.layers name (places_in stack behind))))
-    → map (λ e. e.0) (looks_from_tops stack.layers (places_in stack places) (tops ++ (name, top) ∷ [])) ≡ map (λ e. e.0) (looks_from_tops stack.layers (places_in stack places) tops) ++ cond shown (name ∷ []) []
-names-more stack places tops name top shown behind rest is =
-    names-next stack.layers (places_in stack places) tops (name, top) shown
-    (is ∙ ap (λ (ps : List Reached). not (is_nothing (shown_of (found_below stack.layers name ps)))) (ap (places_in stack) rest ∙ sym (drop-map (λ own. place_in stack own) top places)))
-
--- ---- the names of the only place
-
-abbrev pub alone : PathName → Look → List (PathName × Look)
-alone name look = (name, look) ∷ []
 
 not-cond : {X : Type 0} (b : Bool) (one other : X) → cond b one other ≡ cond (not b) other one
 not-cond true one other = refl
 not-cond false one other = refl
 
-alone-by : (name : PathName) (look told : Look) → look ≡ told → cond (is_nothing look) [] (alone name look) ≡ cond (not (is_nothing told)) (alone name told) []
-alone-by name look told same = ap (λ (l : Look). cond (is_nothing l) [] (alone name l)) same ∙ not-cond (is_nothing told) [] (alone name told)
+-- the names of a pass over the places of a view
+pub tops-lent : (stack : StackView) (lent places : List DirPlace) (items tops : List Top) → lent ≡ places → items ≡ tops → AreTops stack.layers 0 (places_in stack lent) (tops_told tops) → AreTops stack.layers 0 (places_in stack places) (tops_told items)
+tops-lent stack lent places items tops same is are =
+    subst (λ (ts : List Top). AreTops stack.layers 0 (places_in stack places) (tops_told ts)) (sym is)
+    (subst (λ (ps : List DirPlace). AreTops stack.layers 0 (places_in stack ps) (tops_told tops)) same are)
 
-pub alone-more : (layers : List Entries) (places : List Reached) (names : List PathName) (j : ℕ) (name : PathName) (look : Look) → slice_get names j ≡ Some name → look ≡ shown_of (found_below layers name places)
-    → looks_from_tops layers places (map (λ n. (n, zero)) (take j names)) ++ cond (is_nothing look) [] (alone name look) ≡ looks_from_tops layers places (map (λ n. (n, zero)) (take (j + 1) names))
-alone-more layers places names j name look at is =
-    let front : List (PathName × ℕ) = map (λ n. (n, zero)) (take j names) in
-    let more : take (j + 1) names ≡ take j names ++ name ∷ [] =
-    take_more names j name (slice_get_within names j name at) ∙ ap (λ (n : PathName). take j names ++ n ∷ []) (get_or_from_slice_get names j name name at) in
-    ap (λ (last : List (PathName × Look)). looks_from_tops layers places front ++ last) (alone-by name look (shown_of (found_below layers name places)) is)
-    ∙ sym (
-    ap (λ (ns : List PathName). looks_from_tops layers places (map (λ n. (n, zero)) ns)) more
-    ∙ (ap (looks_from_tops layers places) (map-append (λ n. (n, zero)) (take j names) (name ∷ []))
-    ∙ looks-next layers places front (name, zero))
-    )
+module _ (stack : StackView) (places : List DirPlace) (tops : List Top) (are : AreTops stack.layers 0 (places_in stack places) (tops_told tops)) (j : ℕ) (top : Top) (inside : j < length tops) (here : top ≡ get_or tops j top) where
+  abbrev told : List (PathName × First)
+  told = tops_told (take j tops)
 
-module _ (stack : StackView) where
-  abbrev names_all : List DirPlace → List PathName
-  names_all places = flat_map (names_in stack.layers) (places_in stack places)
+  first : IsFirst stack.layers top.name.now (top_told top).1 0 (places_in stack places)
+  first = subst (λ (t : PathName × First). IsFirst stack.layers t.0 t.1 0 (places_in stack places)) same (all-first stack.layers 0 (places_in stack places) (tops_told tops) are j (top_told top) (omega (arith, inside, length-map tops top_told)))
+    where
+      at : slice_get tops j ≡ Some top
+      at = slice_get_read tops (length tops) j top refl inside here
 
-  -- the names of the only place are those in its directory
-  names-alone : (first : DirPlace) (layer : Entries) → slice_get stack.layers first.layer ≡ Some layer → names_all (first ∷ []) ≡ names_below layer (path_at layer first.row)
-  names-alone first layer here = append-nil (names_in stack.layers (place_in stack first)) ∙ names-here stack first layer here
+      same : get_or (tops_told tops) j (top_told top) ≡ top_told top
+      same = get_or_from_slice_get (tops_told tops) j (top_told top) (top_told top) (slice_get-map top_told tops j ∙ ap (option_map top_told) at)
 
-  -- the row of number `j` below the only place has a name
-  pub kid-named : (places : List DirPlace) (layer : Entries) → length places ≡ 1 → slice_get stack.layers (place_read places zero).layer ≡ Some layer → (kids : List ℕ) → map (path_at layer) kids ≡ map (child_path (path_at layer (place_read places zero).row)) (names_below layer (path_at layer (place_read places zero).row))
-      → (j : ℕ) → j < length kids → (name : PathName) × (last_name (path_at layer (get_or kids j 0)) ≡ Some name)
-  kid-named places layer one here kids paths j inside =
-      let read = kid-path layer (path_at layer (place_read places zero).row) kids paths j (get_or kids j 0) (kid-at kids j inside) in
-      (read.0, ap last_name read.2 ∙ last_name-child (path_at layer (place_read places zero).row) read.0)
+  number : top.place ≡ first.past
+  number = omega (arith, first.number)
 
-  -- its name, and what stands there
-  pub kid-alone : (places : List DirPlace) (layer : Entries) → length places ≡ 1 → slice_get stack.layers (place_read places zero).layer ≡ Some layer → (kids : List ℕ) → map (path_at layer) kids ≡ map (child_path (path_at layer (place_read places zero).row)) (names_below layer (path_at layer (place_read places zero).row))
-      → (j : ℕ) → j < length kids → (inode : Inode) → entry_at layer (path_at layer (get_or kids j 0)) ≡ Some inode
-      → (name : PathName) × (last_name (path_at layer (get_or kids j 0)) ≡ Some name) × (slice_get (names_all places) j ≡ Some name) × IsSomeAnd (slice_get (places_in stack places) zero) (λ place. entry_in stack.layers name place ≡ Some inode)
-  kid-alone [] layer one here kids paths j inside inode stands = absurd (omega (arith, one))
-  kid-alone (first ∷ other ∷ rest) layer one here kids paths j inside inode stands = absurd (omega (arith, one))
-  kid-alone (first ∷ []) layer one here kids paths j inside inode stands =
-      let read = kid-path layer (path_at layer first.row) kids paths j (get_or kids j 0) (kid-at kids j inside) in (
-        read.0,
-        ap last_name read.2 ∙ last_name-child (path_at layer first.row) read.0,
-        ap (λ (ns : List PathName). slice_get ns j) (names-alone first layer here) ∙ read.1,
-        entry-here stack read.0 first layer here ∙ (ap (entry_at layer) (sym read.2) ∙ stands),
-      )
+  -- its number is that of a place
+  pub top-inside : top.place < length places
+  top-inside = omega (arith, number, first.inside, length-map places (λ own. place_in stack own))
 
-  -- the names are as many as the rows
-  pub kids-alone : (places : List DirPlace) (layer : Entries) → length places ≡ 1 → slice_get stack.layers (place_read places zero).layer ≡ Some layer → (kids : List ℕ) → map (path_at layer) kids ≡ map (child_path (path_at layer (place_read places zero).row)) (names_below layer (path_at layer (place_read places zero).row))
-      → (n : ℕ) → length kids ≤ n → take n (names_all places) ≡ names_all places
-  kids-alone [] layer one here kids paths n past = absurd (omega (arith, one))
-  kids-alone (first ∷ other ∷ rest) layer one here kids paths n past = absurd (omega (arith, one))
-  kids-alone (first ∷ []) layer one here kids paths n past =
-      let names : List PathName = names_below layer (path_at layer first.row) in
-      let many : length (names_all (first ∷ [])) ≡ length kids =
-      ap length (names-alone first layer here) ∙ sym (sym (length-map kids (path_at layer)) ∙ (ap length paths ∙ length-map names (child_path (path_at layer first.row)))) in
-      take_all n (names_all (first ∷ [])) (omega (arith, many, past))
+  module _ (behind : List DirPlace) (rest : behind ≡ drop top.place places) where
+    behind-is : places_in stack behind ≡ drop top.place (places_in stack places)
+    behind-is = ap (places_in stack) rest ∙ sym (drop-map (λ own. place_in stack own) top.place places)
+
+    -- which has its inode
+    pub top-stands : IsSomeAnd (slice_get (places_in stack behind) zero) (λ place. entry_in stack.layers top.name.now place ≡ Some top.inode.now)
+    top-stands = subst (λ (ps : List Reached). IsSomeAnd (slice_get ps zero) (λ place. entry_in stack.layers top.name.now place ≡ Some top.inode.now)) (sym (behind-is ∙ ap (λ n. drop n (places_in stack places)) number)) first.here
+
+  told-more : tops_told (take (j + 1) tops) ≡ told ++ top_told top ∷ []
+  told-more = ap tops_told (take_more tops j top inside ∙ ap (λ (t : Top). take j tops ++ t ∷ []) (sym here)) ∙ map-append top_told (take j tops) (top ∷ [])
+
+  abbrev shown : Look
+  shown = shown_of (found_below stack.layers top.name.now (drop top.place (places_in stack places)))
+
+  pub looks-more : (behind : List DirPlace) → behind ≡ drop top.place places → (look : Look) → look ≡ shown_of (found_below stack.layers top.name.now (places_in stack behind))
+      → looks_from_tops stack.layers (places_in stack places) told ++ cond (is_nothing look) [] ((top.name.now, look) ∷ []) ≡ looks_from_tops stack.layers (places_in stack places) (tops_told (take (j + 1) tops))
+  looks-more behind rest look is =
+      let same : look ≡ shown = is ∙ ap (λ (ps : List Reached). shown_of (found_below stack.layers top.name.now ps)) (behind-is behind rest) in
+      ap (λ (last : List (PathName × Look)). looks_from_tops stack.layers (places_in stack places) told ++ last) (ap (λ (l : Look). cond (is_nothing l) [] ((top.name.now, l) ∷ [])) same ∙ not-cond (is_nothing shown) [] ((top.name.now, shown) ∷ []))
+      ∙ sym (ap (looks_from_tops stack.layers (places_in stack places)) told-more ∙ looks-next stack.layers (places_in stack places) told (top_told top))
+
+  -- something is shown where the inode is no whiteout
+  is-shown : (b : Bool) → is_whiteout top.inode.now ≡ b → not b ≡ not (is_nothing shown)
+  is-shown b e = by b e (first-entry stack.layers top.name.now (drop top.place (places_in stack places)) top.inode.now stands)
+    where
+      stands : IsSomeAnd (slice_get (drop top.place (places_in stack places)) zero) (λ place. entry_in stack.layers top.name.now place ≡ Some top.inode.now)
+      stands = subst (λ (ps : List Reached). IsSomeAnd (slice_get ps zero) (λ place. entry_in stack.layers top.name.now place ≡ Some top.inode.now)) (behind-is (drop top.place places) refl) (top-stands (drop top.place places) refl)
+
+      by : (b : Bool) → is_whiteout top.inode.now ≡ b → (place : Reached) × (slice_get (drop top.place (places_in stack places)) zero ≡ Some place) × (entry_in stack.layers top.name.now place ≡ Some top.inode.now) → not b ≡ not (is_nothing shown)
+      by true w own = sym (ap (λ (look : Look). not (is_nothing look)) (whiteout-shows stack.layers top.name.now (drop top.place (places_in stack places)) zero own.0 own.1 top.inode.now (mark_of top.inode.now) own.2 refl w))
+      by false w own = sym (entry-shows stack.layers top.name.now (drop top.place (places_in stack places)) zero own.0 own.1 top.inode.now (mark_of top.inode.now) own.2 refl w)
+
+  pub names-more : (b : Bool) → b ≡ is_whiteout top.inode.now → map (λ e. e.0) (looks_from_tops stack.layers (places_in stack places) (tops_told (take (j + 1) tops))) ≡ map (λ e. e.0) (looks_from_tops stack.layers (places_in stack places) told) ++ cond (not b) (top.name.now ∷ []) []
+  names-more b e = ap (λ (ts : List (PathName × First)). map (λ e. e.0) (looks_from_tops stack.layers (places_in stack places) ts)) told-more ∙ names-next stack.layers (places_in stack places) told (top_told top) (not b) (is-shown b (sym e))

@@ -13,7 +13,7 @@ use Rattle.ovl_lookup.specs.Walk.{walk}
 use Rattle.ovl_lookup.specs.Trace.{things_found}
 use Rattle.ovl_lookup.specs.Views.{Reached, reached, entry_in, entered, below_entry, reached_below, found_below}
 use Rattle.ovl_lookup.specs.Merged.{is_nothing}
-use Rattle.ovl_lookup.specs.ViewPasses.{names_in, put_top, put_tops, tops_along, look_from_top, looks_from_tops}
+use Rattle.ovl_lookup.specs.ViewPasses.{First, look_from_top, looks_from_tops}
 use Rattle.ovl_lookup.proofs.WalkLaws.{directory_found}
 use Rattle.ovl_lookup.proofs.ViewLemmas.{reached_below_by, found_below_by}
 
@@ -88,16 +88,8 @@ module _ (all : List Entries) (name : PathName) (places : List Reached) (k : ℕ
       ∙ ((λ j. cond (w j) [] (inode ∷ below_entry (m j) name (things_found (drop (suc place.layer) all)) (λ other. found_below all other (drop (k + 1) places))))
       ∙ ap (λ n. inode ∷ below_entry mark name (things_found (drop n all)) (λ other. found_below all other (drop (k + 1) places))) next)
 
--- ---- the names of the places, each put with its first one
-module _ (layers : List Entries) (tops : List (PathName × ℕ)) where
-  pub tops-next : (places : List Reached) (k : ℕ) (place : Reached) → slice_get places k ≡ Some place → tops_along layers tops k (drop k places) ≡ tops_along layers (put_tops tops k (names_in layers place)) (k + 1) (drop (k + 1) places)
-  tops-next places k place here = ap (tops_along layers tops k) (drop-here places k place here) ∙ rw add-one refl
-
-  pub put-next : (names : List PathName) (k j : ℕ) (name : PathName) → slice_get names j ≡ Some name → put_tops tops k (drop j names) ≡ put_tops (put_top tops k name) k (drop (j + 1) names)
-  put-next names k j name here = ap (put_tops tops k) (drop-here names j name here)
-
 -- the looks at one more name
-pub looks-next : (layers : List Entries) (places : List Reached) (tops : List (PathName × ℕ)) (top : PathName × ℕ) → looks_from_tops layers places (tops ++ top ∷ []) ≡ looks_from_tops layers places tops ++ cond (not (is_nothing (look_from_top layers places top).1)) (look_from_top layers places top ∷ []) []
+pub looks-next : (layers : List Entries) (places : List Reached) (tops : List (PathName × First)) (top : PathName × First) → looks_from_tops layers places (tops ++ top ∷ []) ≡ looks_from_tops layers places tops ++ cond (not (is_nothing (look_from_top layers places top).1)) (look_from_top layers places top ∷ []) []
 looks-next layers places tops top =
     ap (filter (λ e. not (is_nothing e.1))) (map-append (look_from_top layers places) tops (top ∷ []))
     ∙ filter-append (λ e. not (is_nothing e.1)) (map (look_from_top layers places) tops) (look_from_top layers places top ∷ [])

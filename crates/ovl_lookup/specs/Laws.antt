@@ -1,5 +1,5 @@
 -- Laws of the merged tree.
-use Rattle.std.specs.Prelude.{◌≡◌, ℕ, ◌*◌, ◌≤◌, true, length, drop}
+use Rattle.std.specs.Prelude.{◌≡◌, ℕ, ◌*◌, ◌≤◌, true, List, length, drop}
 use Rattle.std.specs.List.{All}
 use Rattle.ovl_names.specs.Names.{PathName}
 use Rattle.ovl_names.specs.Paths.{PathNames, child_path, depth_limit}
@@ -8,7 +8,7 @@ use Rattle.ovl_lookup.specs.Stacks.{StackView, from_layer}
 use Rattle.ovl_lookup.specs.Trace.{things_found}
 use Rattle.ovl_lookup.specs.Merged.{shows, shows_directory}
 use Rattle.ovl_lookup.specs.Views.{IsPlace, EndsWhereClosed, reached, is_reached, reached_below, found_below}
-use Rattle.ovl_lookup.specs.ViewPasses.{AreLooks, tops_of, looks_from_tops}
+use Rattle.ovl_lookup.specs.ViewPasses.{First, AreTops, AreLooks, looks_from_tops}
 
 -- where something is shown in a directory, the directory is shown
 abbrev pub ShowsParents : Type 0
@@ -42,6 +42,6 @@ ViewsFind = (stack : StackView) → All IsLayer stack.layers → (from : ℕ) (p
 
 -- the looks of all names in a directory, each from the first place of the view that has the name
 abbrev pub ViewsLook : Type 0
-ViewsLook = (stack : StackView) → All IsLayer stack.layers → (from : ℕ) (path : PathNames) →
+ViewsLook = (stack : StackView) → All IsLayer stack.layers → (from : ℕ) (path : PathNames) (tops : List (PathName × First)) →
     let places = reached (drop from stack.layers) from path in
-    AreLooks (from_layer from stack) path (looks_from_tops stack.layers places (tops_of stack.layers places))
+    AreTops stack.layers 0 places tops → AreLooks (from_layer from stack) path (looks_from_tops stack.layers places tops)

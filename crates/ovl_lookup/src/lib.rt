@@ -7,6 +7,7 @@ mod looks;
 mod own_directories;
 mod stacks;
 mod steps;
+mod tops;
 mod trails;
 mod view_looks;
 mod views;

@@ -6,8 +6,8 @@ ghost use Rattle.ovl_manifest.specs.Sheets.{path_at};
 ghost use Rattle.ovl_lookup.specs.Passes.{IsDescent, IsArrival, IsOwnDirectory, IsMarked, own_of, step_of, entered_path, entered_closed};
 ghost use Rattle.ovl_lookup.specs.Walk.{walk as the_walk, walk_beyond, walk_to_file};
 
+use crate::tops::name_at;
 use crate::trails::Trail;
-use crate::view_looks::name_at;
 use ovl_inode::{Inode, Mark, Redirect, is_directory, is_whiteout};
 use ovl_manifest::Sheet;
 use ovl_names::{Name, Path};

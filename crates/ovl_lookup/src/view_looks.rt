@@ -1,26 +1,23 @@
-ghost use Rattle.std.specs.Prelude.{◌≡◌, ◌<◌, ◌++◌, [], ◌∷◌, if◌then◌else◌, Some, drop, length, map, not, slice_get, IfOk, IsSomeAnd, OnOk};
-ghost use Rattle.std.specs.Option.{option_map};
+ghost use Rattle.std.specs.Prelude.{◌≡◌, ◌<◌, ◌++◌, [], ◌∷◌, if◌then◌else◌, Some, drop, length, not, slice_get, IfOk, IsSomeAnd, OnOk};
 ghost use Rattle.std.specs.List.{All};
 ghost use Rattle.ovl_names.specs.Paths.{child_path};
 ghost use Rattle.ovl_inode.specs.Marks.{is_metacopy_mark};
-ghost use Rattle.ovl_manifest.specs.Sheets.{path_at, last_name};
 ghost use Rattle.ovl_lookup.specs.Stacks.{from_layer};
 ghost use Rattle.ovl_lookup.specs.Trace.{things_found};
 ghost use Rattle.ovl_lookup.specs.Merged.{AreKids, look as the_look, shows as shows_there, shown_of, is_nothing as nothing_test};
 ghost use Rattle.ovl_lookup.specs.Passes.{data_below};
 ghost use Rattle.ovl_lookup.specs.Views.{entry_in, found_below};
-ghost use Rattle.ovl_lookup.specs.ViewPasses.{AreLooks, looks_alone, names_in, put_top, put_tops, tops_of};
-ghost use Rattle.ovl_lookup.specs.DirViews.{IsViewOver, IsPlaceOver, place_in, places_in};
+ghost use Rattle.ovl_lookup.specs.ViewPasses.{AreLooks};
+ghost use Rattle.ovl_lookup.specs.DirViews.{IsViewOver, IsPlaceOver, places_in};
 
 use crate::looks::{is_meta, lacks_contents, metacopy_shown};
+use crate::tops::tops_of;
 use crate::trails::Trail;
 use crate::views::{DirPlace, goes_on_at, goes_on_by};
 use crate::{DirView, Look, Stack};
 use ovl_inode::{Inode, Mark, is_data, is_whiteout, visible};
-use ovl_manifest::{Sheet, SheetRow};
 use ovl_names::Name;
 use std::alloc::{AllocError, Global};
-use std::collections::BTreeMap;
 
 impl DirView {
     /// What is shown at a name in this directory. The name is sought in the directory of each layer; a layer is walked
@@ -65,18 +62,12 @@ impl DirView {
         ensures { IfOk result (λ looks. AreLooks (from_layer self.now.from stack.now) self.now.path looks.items) }
     {
         let _ = &stack.layers;
-        if self.places.len() == 1 {
-            let looks = looks_of_one(alloc, stack, &self.places)?;
-            return Ok(looks);
-        }
-        let tops = self.tops(alloc, stack)?;
+        let tops = tops_of(alloc, stack, &self.places, 0)?;
         let mut looks = Vec::with_capacity(alloc, tops.len())?;
-        for (name, top) in tops {
-            let look = look_in(alloc, stack, self.places_from(top), &name)?;
-            if look.is_nothing() {
-                continue;
-            }
-            looks.push((name, look))?;
+        for top in &tops {
+            let places = self.places_from(top.place);
+            let look = look_at(alloc, stack, places, top.name, top.inode)?;
+            push_look(alloc, top.name, look, &mut looks)?;
         }
         Ok(looks)
     }
@@ -87,13 +78,12 @@ impl DirView {
         ensures { IfOk result (λ names. AreKids (from_layer self.now.from stack.now) self.now.path names.items) }
     {
         let _ = &stack.layers;
-        let tops = self.tops(alloc, stack)?;
+        let tops = tops_of(alloc, stack, &self.places, 0)?;
         let mut names = Vec::with_capacity(alloc, tops.len())?;
-        for (name, top) in tops {
-            if !shows_in(stack, self.places_from(top), &name) {
-                continue;
+        for top in &tops {
+            if !is_whiteout(top.inode) {
+                names.push(top.name.copy(alloc)?)?;
             }
-            names.push(name)?;
         }
         Ok(names)
     }
@@ -105,72 +95,6 @@ impl DirView {
     {
         &self.places[number..]
     }
-
-    // The names in the directories of all layers in order, each with the number of the first place that has it.
-    fn tops(&self, alloc: Global, stack: &Stack) -> Result<BTreeMap<Name, usize>, AllocError>
-        requires { All (IsPlaceOver stack.now) self.now.places.items }
-        ensures { IfOk result (λ tops. tops.entries ≡ tops_of stack.now.layers (places_in stack.now self.now.places.items)) }
-    {
-        let mut tops = BTreeMap::new(alloc);
-        for i in 0..self.places.len() {
-            self.places[i].put_names(alloc, stack, i, &mut tops)?;
-        }
-        Ok(tops)
-    }
-}
-
-impl DirPlace {
-    // Puts the number at each name in this place's directory that has none yet.
-    fn put_names(
-        &self,
-        alloc: Global,
-        stack: &Stack,
-        number: usize,
-        tops: &mut BTreeMap<Name, usize>,
-    ) -> Result<(), AllocError>
-        requires { IsPlaceOver stack.now self.now }
-        ensures { OnOk result (tops.new.entries ≡ put_tops tops.old.entries number (names_in stack.now.layers (place_in stack.now self.now))) }
-    {
-        let sheet = stack.sheet(self.layer);
-        let kids = sheet.kids(self.row);
-        for kid in kids {
-            if let Some(name) = name_at(sheet, *kid) {
-                put_name(alloc, name, number, tops)?;
-            }
-        }
-        Ok(())
-    }
-}
-
-// The last name of the path of a row; the root has none.
-pub(crate) fn name_at(sheet: &Sheet, number: u32) -> Option<&Name>
-    requires { number < length sheet.now }
-    ensures { option_map (λ name. name.now) result ≡ last_name (path_at sheet.now number) }
-{
-    match sheet.row(number) {
-        Some(
-            SheetRow {
-                name: Some(name),
-                ..
-            },
-        ) => Some(name),
-        _ => None,
-    }
-}
-
-// Puts a number at a name that has none yet.
-fn put_name(
-    alloc: Global,
-    name: &Name,
-    number: usize,
-    tops: &mut BTreeMap<Name, usize>,
-) -> Result<(), AllocError>
-    ensures { OnOk result (tops.new.entries ≡ put_top tops.old.entries number name.now) }
-{
-    if !tops.contains_key(name) {
-        tops.insert(name.copy(alloc)?, number)?;
-    }
-    Ok(())
 }
 
 // Whether something is shown at a name, by these places: where the first entry is no whiteout.
@@ -184,30 +108,6 @@ fn shows_in(stack: &Stack, places: &[DirPlace], name: &Name) -> bool
         }
     }
     false
-}
-
-// The names in the directory of the only place at which something is shown, in the order of its rows, each with what is
-// shown there.
-fn looks_of_one(
-    alloc: Global,
-    stack: &Stack,
-    places: &[DirPlace],
-) -> Result<Vec<(Name, Look)>, AllocError>
-    requires one { length places.now ≡ 1 }
-    requires over { All (IsPlaceOver stack.now) places.now }
-    ensures { IfOk result (λ looks. looks.items ≡ looks_alone stack.now.layers (places_in stack.now places.now)) }
-{
-    let place = &places[0];
-    let sheet = stack.sheet(place.layer);
-    let kids = sheet.kids(place.row);
-    let mut looks = Vec::with_capacity(alloc, kids.len())?;
-    for kid in kids {
-        if let Some(name) = name_at(sheet, *kid) {
-            let look = look_at(alloc, stack, places, name, sheet.inode(*kid))?;
-            push_look(alloc, name, look, &mut looks)?;
-        }
-    }
-    Ok(looks)
 }
 
 // Adds a name with what is shown there, where something is.
