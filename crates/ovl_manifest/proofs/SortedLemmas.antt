@@ -13,8 +13,8 @@ use Rattle.std.proofs.lemmas.Bool.Decides.{nat_tests}
 use Rattle.std.proofs.Math.IntN.{+ℤ_idl}
 use Rattle.std.proofs.lemmas.Int.{to_z-of_z, to_z_pos}
 use Rattle.std.proofs.lemmas.Str.Parse.{digit_at, digits_value_short, numerals_by_value, tells_digits}
-use Rattle.fast_float.specs.Text.{minus, Parts, scan, IsWellFormed}
-use Rattle.fast_float.proofs.Writing.{scan-text_of}
+use Rattle.std.specs.Float.Numeral.{minus, Parts, scan_numeral, IsWellFormed}
+use Rattle.std.proofs.lemmas.Float.Parse.{scan_numeral-text_of}
 use Rattle.hex.specs.Hex.{lower_digits, hex_digit_value, decode_pairs, encode_with, encode_lower}
 use Rattle.hex.specs.declared.error.FromHexError.{FromHexError}
 use Rattle.hex.specs.declared.error.FromHexError.TheVariants.{InvalidHexCharacter, OddLength}
@@ -56,10 +56,10 @@ spells-number {digits} first is = record { spelled = json.number digits; first =
 abbrev whole_parts : List ℕ → Parts
 whole_parts ds = record { whole = ds; point = false; fraction = []; exponent_negative = false; exponent = []; len = length (ds ++ []) }
 
-scan-digits : (ds : List ℕ) → AllDigits 10 ds → scan ds ≡ whole_parts ds
-scan-digits ds all =
+scan_numeral-digits : (ds : List ℕ) → AllDigits 10 ds → scan_numeral ds ≡ whole_parts ds
+scan_numeral-digits ds all =
     let formed : IsWellFormed (whole_parts ds) = record { whole_digits = all; fraction_digits = tt; exponent_digits = tt; no_point = λ _. refl; no_exponent = λ _. refl; len_is = refl } in
-    ap scan (sym (append-nil ds)) ∙ scan-text_of (whole_parts ds) formed
+    ap scan_numeral (sym (append-nil ds)) ∙ scan_numeral-text_of (whole_parts ds) formed
 
 pub digits-below : (ds : List ℕ) (count : ℕ) → AllDigits 10 ds → length ds ≤ count → digits_value 10 ds < 10 ^ count
 digits-below ds count all short = digits_value_short (numerals_by_value (AllDigits 10) tells_digits) ds count all short
@@ -70,7 +70,7 @@ plain-read ds is =
     let first = digit_at ds 0 is.0.1 is.0.0 in
     let plain : (slice_index ds 0 == minus) ≡ false = ne_eqb (slice_index ds 0) 45 (λ e. omega (arith, first, e)) in
     let fits : digits_value 10 ds < 2 ^ 64 = omega (arith, digits-below ds 19 is.0.1 is.1) in
-    let read : number_of ds ≡ number_from false (whole_parts ds) = rw plain (ap (number_from false) (scan-digits ds is.0.1)) in
+    let read : number_of ds ≡ number_from false (whole_parts ds) = rw plain (ap (number_from false) (scan_numeral-digits ds is.0.1)) in
     read ∙ rw (lt-ltb _ _ is.0.0, append-nil, lt-ltb _ _ fits) refl
 
 pub natural-read : (ds : List ℕ) (number : Option ℕ) → SomeIff number (IsNumeral 10 ds × (length ds ≤ 19)) (digits_value 10 ds) → IfSome number (λ n. number_of ds ≡ Some (unsigned n))
@@ -83,7 +83,7 @@ negative-read ds zero signed is some within = absurd (omega (arith, some))
 negative-read ds (suc n) signed is some within =
     let value : digits_value 10 (drop 1 ds) ≡ suc n = sym is.1 in
     let least : suc n ≤ 2 ^ 63 = omega (arith, within) in
-    let read : number_of ds ≡ number_from true (whole_parts (drop 1 ds)) = rw signed (ap (number_from true) (scan-digits (drop 1 ds) is.0.0.1)) in
+    let read : number_of ds ≡ number_from true (whole_parts (drop 1 ds)) = rw signed (ap (number_from true) (scan_numeral-digits (drop 1 ds) is.0.0.1)) in
     let told : number_of ds ≡ Some (negative (negsuc n)) = read ∙ rw (lt-ltb _ _ is.0.0.0, append-nil, value, lt-ltb 0 (suc n) some, le-leb _ _ least) refl in
     let fits : FitsSigned w64 (negsuc n) = record { sfits = least } in
     let stored : to_z w64 (of_z w64 (pos 0 -ℤ to_z w64 (suc n))) ≡ negsuc n = ap (λ z. to_z w64 (of_z w64 (pos 0 -ℤ z))) (to_z_pos w64 (suc n) within) ∙ (ap (λ z. to_z w64 (of_z w64 z)) (+ℤ_idl (negsuc n)) ∙ to_z-of_z w64 (negsuc n) fits) in

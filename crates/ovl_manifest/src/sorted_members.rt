@@ -1,7 +1,7 @@
 //! Members of an object as a reader's tokens give them, each wanted by its name.
 ghost use Rattle.std.specs.Prelude.{◌≡◌, ◌≤◌, ◌==◌, ◌∷◌, length, Some, SomeIff, IfSome, IsTrue, MatchOption, slice_index};
 ghost use Rattle.std.specs.Str.Parse.{digits_value, IsNumeral};
-ghost use Rattle.fast_float.specs.Text.{minus};
+ghost use Rattle.std.specs.Float.Numeral.{minus};
 ghost use Rattle.json.specs.Token.{key, end_object};
 ghost use Rattle.serde_json.specs.Data.{number, unsigned, string};
 ghost use Rattle.serde_json.specs.Find.{of_integer};

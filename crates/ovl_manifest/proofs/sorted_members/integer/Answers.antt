@@ -2,7 +2,7 @@ use Rattle.std.proofs.Common.{◌≡◌, ◌∙◌, ◌≤◌, ◌<◌, ◌^◌,
 use Rattle.std.proofs.lemmas.Bool.Decides.{nat_tests}
 use Rattle.std.specs.Prelude.{◌==◌, slice_index}
 use Rattle.std.specs.Str.Parse.{digits_value, IsNumeral}
-use Rattle.fast_float.specs.Text.{minus}
+use Rattle.std.specs.Float.Numeral.{minus}
 use Rattle.serde_json.specs.Read.{number_of}
 use Rattle.ovl_manifest.proofs.SortedLemmas.{positive-read, negative-read}
 use Rattle.ovl_manifest.proofs.sorted_members.integer.Goals as goal
