@@ -1,5 +1,5 @@
 -- Tokens that spell values, put together member by member and entry by entry.
-use Rattle.std.proofs.Common.{◌≡◌, ◌∙◌, ℕ, zero, suc, ◌+◌, ◌*◌, ◌/◌, ◌%◌, ◌≤◌, ◌<◌, ◌^◌, pos, negsuc, ℤ, neg_ℤ, w64, ◌≢◌, drop, FitsSigned, le-leb, List, [], ◌∷◌, ◌++◌, length, Bool, true, false, Option, Some, None, Result, Ok, Err, IfSome, SomeIff, refl, sym, ap, subst, append_assoc, arith, lt-ltb, ltb-true, eqb-true, eq-eqb}
+use Rattle.std.proofs.Common.{◌≡◌, ◌∙◌, ℕ, zero, suc, ◌+◌, ◌*◌, ◌/◌, ◌%◌, ◌≤◌, ◌<◌, ◌^◌, pos, negsuc, ℤ, ◌-ℤ◌, w64, to_z, of_z, FitsSigned, drop, le-leb, ne_eqb, append-nil, List, [], ◌∷◌, ◌++◌, length, Bool, true, false, Option, Some, None, Result, Ok, Err, IfSome, SomeIff, refl, sym, ap, subst, append_assoc, arith, lt-ltb, ltb-true, eqb-true}
 use Rattle.std.specs.Prelude.{◌==◌, not, ◌&&◌, ◌||◌, nat_eq, nat_lt, slice_index, codes, if◌then◌else◌, option_and_then}
 use Rattle.std.specs.Option.{option_map}
 use Rattle.std.specs.List.{list_all}
@@ -7,9 +7,14 @@ use Rattle.std.specs.Ordering.{match_ordering}
 use Rattle.std.specs.declared.cmp.Ordering.{Ordering}
 use Rattle.std.specs.declared.cmp.Ordering.TheVariants.{Less, Equal, Greater}
 use Rattle.std.specs.Str.{IsUtf8}
+use Rattle.std.specs.Str.Parse.{AllDigits, IsNumeral, digits_value}
 use Rattle.std.proofs.lemmas.Option.{option_and_then_some}
 use Rattle.std.proofs.lemmas.Bool.Decides.{nat_tests}
-use Rattle.fast_float.specs.Text.{minus, Parts, scan, digits_of, IsInteger}
+use Rattle.std.proofs.Math.IntN.{+ℤ_idl}
+use Rattle.std.proofs.lemmas.Int.{to_z-of_z, to_z_pos}
+use Rattle.std.proofs.lemmas.Str.Parse.{digit_at, digits_value_short, numerals_by_value, tells_digits}
+use Rattle.std.specs.Float.Numeral.{minus, Parts, scan_numeral, IsWellFormed}
+use Rattle.std.proofs.lemmas.Float.Parse.{scan_numeral-text_of}
 use Rattle.hex.specs.Hex.{lower_digits, hex_digit_value, decode_pairs, encode_with, encode_lower}
 use Rattle.hex.specs.declared.error.FromHexError.{FromHexError}
 use Rattle.hex.specs.declared.error.FromHexError.TheVariants.{InvalidHexCharacter, OddLength}
@@ -47,41 +52,49 @@ spells-text {text} first = record { spelled = json.string text; first = first; s
 pub spells-number : {digits : List ℕ} {value : Num} {tokens rest : List Token} → tokens ≡ Token.number digits ∷ rest → number_of digits ≡ Some value → Spells 0 tokens (number value) rest
 spells-number {digits} first is = record { spelled = json.number digits; first = first; states = ap (option_map Data.number) is; nests = omega arith }
 
-pub natural-read : (digits : List ℕ) (parts : Parts) (number : Option ℕ) → parts ≡ scan digits → (slice_index digits 0 == minus) ≡ false → SomeIff number (IsInteger parts × (digits_of parts < 2 ^ 64)) (digits_of parts) → IfSome number (λ n. number_of digits ≡ Some (unsigned n))
+-- digits that have neither a fraction nor an exponent
+abbrev whole_parts : List ℕ → Parts
+whole_parts ds = record { whole = ds; point = false; fraction = []; exponent_negative = false; exponent = []; len = length (ds ++ []) }
+
+scan_numeral-digits : (ds : List ℕ) → AllDigits 10 ds → scan_numeral ds ≡ whole_parts ds
+scan_numeral-digits ds all =
+    let formed : IsWellFormed (whole_parts ds) = record { whole_digits = all; fraction_digits = tt; exponent_digits = tt; no_point = λ _. refl; no_exponent = λ _. refl; len_is = refl } in
+    ap scan_numeral (sym (append-nil ds)) ∙ scan_numeral-text_of (whole_parts ds) formed
+
+pub digits-below : (ds : List ℕ) (count : ℕ) → AllDigits 10 ds → length ds ≤ count → digits_value 10 ds < 10 ^ count
+digits-below ds count all short = digits_value_short (numerals_by_value (AllDigits 10) tells_digits) ds count all short
+
+plain-read : (ds : List ℕ) → IsNumeral 10 ds × (length ds ≤ 19) → number_of ds ≡ Some (unsigned (digits_value 10 ds))
 unfolding number_of
-natural-read digits parts None is plain exact = tt
-natural-read digits parts (Some n) is plain exact =
-    let read : number_of digits ≡ number_from false parts = rw plain (ap (number_from false) (sym is)) in
-    let tested : number_from false parts ≡ Some (unsigned (digits_of parts)) = rw (lt-ltb _ _ exact.0.0.0, exact.0.0.1, eq-eqb _ _ exact.0.0.2, lt-ltb _ _ exact.0.1) refl in
-    read ∙ tested ∙ ap (λ m. Some (unsigned m)) (sym exact.1)
+plain-read ds is =
+    let first = digit_at ds 0 is.0.1 is.0.0 in
+    let plain : (slice_index ds 0 == minus) ≡ false = ne_eqb (slice_index ds 0) 45 (λ e. omega (arith, first, e)) in
+    let fits : digits_value 10 ds < 2 ^ 64 = omega (arith, digits-below ds 19 is.0.1 is.1) in
+    let read : number_of ds ≡ number_from false (whole_parts ds) = rw plain (ap (number_from false) (scan_numeral-digits ds is.0.1)) in
+    read ∙ rw (lt-ltb _ _ is.0.0, append-nil, lt-ltb _ _ fits) refl
+
+pub natural-read : (ds : List ℕ) (number : Option ℕ) → SomeIff number (IsNumeral 10 ds × (length ds ≤ 19)) (digits_value 10 ds) → IfSome number (λ n. number_of ds ≡ Some (unsigned n))
+natural-read ds None exact = tt
+natural-read ds (Some n) exact = plain-read ds exact.0 ∙ ap (λ m. Some (unsigned m)) (sym exact.1)
+
+pub negative-read : (ds : List ℕ) (n : ℕ) → (slice_index ds 0 == minus) ≡ true → (IsNumeral 10 (drop 1 ds) × (length (drop 1 ds) ≤ 19)) × (n ≡ digits_value 10 (drop 1 ds)) → 0 < n → n < 2 ^ 63 → number_of ds ≡ Some (of_integer (to_z w64 (of_z w64 (pos 0 -ℤ to_z w64 n))))
+unfolding number_of
+negative-read ds zero signed is some within = absurd (omega (arith, some))
+negative-read ds (suc n) signed is some within =
+    let value : digits_value 10 (drop 1 ds) ≡ suc n = sym is.1 in
+    let least : suc n ≤ 2 ^ 63 = omega (arith, within) in
+    let read : number_of ds ≡ number_from true (whole_parts (drop 1 ds)) = rw signed (ap (number_from true) (scan_numeral-digits (drop 1 ds) is.0.0.1)) in
+    let told : number_of ds ≡ Some (negative (negsuc n)) = read ∙ rw (lt-ltb _ _ is.0.0.0, append-nil, value, lt-ltb 0 (suc n) some, le-leb _ _ least) refl in
+    let fits : FitsSigned w64 (negsuc n) = record { sfits = least } in
+    let stored : to_z w64 (of_z w64 (pos 0 -ℤ to_z w64 (suc n))) ≡ negsuc n = ap (λ z. to_z w64 (of_z w64 (pos 0 -ℤ z))) (to_z_pos w64 (suc n) within) ∙ (ap (λ z. to_z w64 (of_z w64 z)) (+ℤ_idl (negsuc n)) ∙ to_z-of_z w64 (negsuc n) fits) in
+    told ∙ ap (λ z. Some (of_integer z)) (sym stored)
+
+pub positive-read : (ds : List ℕ) (n : ℕ) → (IsNumeral 10 ds × (length ds ≤ 19)) × (n ≡ digits_value 10 ds) → n < 2 ^ 63 → number_of ds ≡ Some (of_integer (to_z w64 n))
+positive-read ds n is within = natural-read ds (Some n) is ∙ ap (λ z. Some (of_integer z)) (sym (to_z_pos w64 n within))
 
 pub spells-integer : {digits : List ℕ} {tokens rest : List Token} (value : Option ℤ) → tokens ≡ Token.number digits ∷ rest → IfSome value (λ z. number_of digits ≡ Some (of_integer z)) → IfSome value (λ z. Spells 0 tokens (number (of_integer z)) rest)
 spells-integer None first is = tt
 spells-integer (Some z) first is = spells-number first is
-
-pub positive-read : (digits : List ℕ) (parts : Parts) (value : Option ℤ) → parts ≡ scan digits → (slice_index digits 0 == minus) ≡ false → SomeIff value (IsInteger parts × FitsSigned w64 (pos (digits_of parts))) (pos (digits_of parts)) → IfSome value (λ z. number_of digits ≡ Some (of_integer z))
-unfolding number_of
-positive-read digits parts None is plain exact = tt
-positive-read digits parts (Some z) is plain exact =
-    let fits : digits_of parts < 2 ^ 64 = omega (arith, exact.0.1.sfits) in
-    let read : number_of digits ≡ number_from false parts = rw plain (ap (number_from false) (sym is)) in
-    let tested : number_from false parts ≡ Some (unsigned (digits_of parts)) = rw (lt-ltb _ _ exact.0.0.0, exact.0.0.1, eq-eqb _ _ exact.0.0.2, lt-ltb _ _ fits) refl in
-    read ∙ tested ∙ ap (λ n. Some (of_integer n)) (sym exact.1)
-
-pub negative-read : (digits : List ℕ) (parts : Parts) (value : ℤ) → parts ≡ scan (drop 1 digits) → (slice_index digits 0 == minus) ≡ true → (IsInteger parts × FitsSigned w64 (neg_ℤ (pos (digits_of parts)))) → value ≡ neg_ℤ (pos (digits_of parts)) → value ≢ pos 0 → number_of digits ≡ Some (of_integer value)
-unfolding number_of
-negative-read digits parts value is signed exact same other = by (digits_of parts) refl
-  where
-    read : number_of digits ≡ number_from true parts
-    read = rw signed (ap (number_from true) (sym is))
-
-    by : (n : ℕ) → digits_of parts ≡ n → number_of digits ≡ Some (of_integer value)
-    by zero e = absurd (other (same ∙ ap (λ m. neg_ℤ (pos m)) e))
-    by (suc n) e =
-        let fits : FitsSigned w64 (negsuc n) = rw e at exact.1 in
-        let within : suc n ≤ 2 ^ 63 = omega (arith, fits.sfits) in
-        let tested : number_from true parts ≡ Some (negative (negsuc n)) = rw (lt-ltb _ _ exact.0.0, exact.0.1, eq-eqb _ _ exact.0.2, e, lt-ltb 0 (suc n) (omega arith), le-leb _ _ within) refl in
-        read ∙ tested ∙ ap (λ z. Some (of_integer z)) (sym (same ∙ ap (λ m. neg_ℤ (pos m)) e))
 
 -- ---- members
 

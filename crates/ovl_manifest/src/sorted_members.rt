@@ -1,6 +1,7 @@
 //! Members of an object as a reader's tokens give them, each wanted by its name.
-ghost use Rattle.std.specs.Prelude.{◌≡◌, ◌≤◌, ◌==◌, ◌∷◌, Some, IfSome, IsTrue, MatchOption, slice_index};
-ghost use Rattle.fast_float.specs.Text.{minus};
+ghost use Rattle.std.specs.Prelude.{◌≡◌, ◌≤◌, ◌==◌, ◌∷◌, length, Some, SomeIff, IfSome, IsTrue, MatchOption, slice_index};
+ghost use Rattle.std.specs.Str.Parse.{digits_value, IsNumeral};
+ghost use Rattle.std.specs.Float.Numeral.{minus};
 ghost use Rattle.json.specs.Token.{key, end_object};
 ghost use Rattle.serde_json.specs.Data.{number, unsigned, string};
 ghost use Rattle.serde_json.specs.Find.{of_integer};
@@ -8,7 +9,6 @@ ghost use Rattle.serde_json.specs.Read.{number_of};
 ghost use Rattle.ovl_manifest.specs.Text.{whole};
 ghost use Rattle.ovl_manifest.specs.Sorted.{Spells, HasMember};
 
-use fast_float::Numeral;
 use json::{Reader, Token};
 
 /// Takes the next token, and answers whether it is a key of this name.
@@ -134,21 +134,43 @@ fn integer(digits: &str) -> Option<i64>
 {
     let digits = digits.as_bytes();
     if !has_minus(digits) {
-        return Numeral::scan(digits).to_i64(false);
+        let size = decimal(digits)?;
+        return if size <= i64::MAX as u64 {
+            Some(size as i64)
+        } else {
+            None
+        };
     }
-    let value = Numeral::scan(&digits[1..]).to_i64(true)?;
-    if value == 0 { None } else { Some(value) }
+    let size = decimal(&digits[1..])?;
+    if size == 0 || size > i64::MAX as u64 {
+        None
+    } else {
+        Some(-(size as i64))
+    }
 }
 
 // The whole number that digits without a sign write.
 fn natural(digits: &str) -> Option<u64>
     ensures { IfSome result (λ number. number_of digits.now ≡ Some (unsigned number)) }
 {
-    let digits = digits.as_bytes();
-    if has_minus(digits) {
+    decimal(digits.as_bytes())
+}
+
+// The number that 1 to 19 decimal digits write, which always fits. Any other text gives none.
+fn decimal(digits: &[u8]) -> Option<u64>
+    ensures { SomeIff result (IsNumeral 10 digits.now × (length digits.now ≤ 19)) (digits_value 10 digits.now) }
+{
+    if digits.is_empty() || digits.len() > 19 {
         return None;
     }
-    Numeral::scan(digits).to_u64()
+    let mut value = 0;
+    for byte in digits {
+        if !byte.is_ascii_digit() {
+            return None;
+        }
+        value = value * 10 + u64::from(*byte - b'0');
+    }
+    Some(value)
 }
 
 fn has_minus(digits: &[u8]) -> bool

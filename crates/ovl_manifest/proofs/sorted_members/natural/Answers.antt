@@ -1,10 +1,9 @@
-use Rattle.std.proofs.Common.{◌∙◌, List, ℕ, sym, ap}
-use Rattle.std.specs.Prelude.{◌==◌, slice_index}
-use Rattle.fast_float.specs.Text.{minus, scan}
+use Rattle.std.proofs.Common.{◌≡◌, List, ℕ, Some, IfSome, subst}
+use Rattle.serde_json.specs.Data.{unsigned}
+use Rattle.serde_json.specs.Read.{number_of}
 use Rattle.ovl_manifest.proofs.SortedLemmas.{natural-read}
 use Rattle.ovl_manifest.proofs.sorted_members.natural.Goals as goal
 
 pub returns : goal.returns
 returns c =
-    let plain = ap (λ (digits : List ℕ). slice_index digits 0 == minus) (sym c.as_bytes-digits.ensures.value) ∙ sym c.if-has_minus.ensures in
-    natural-read c.args.digits.now c.scan.result c.to_u64.result (c.scan.ensures.parts ∙ ap scan c.as_bytes-digits.ensures.value) plain c.to_u64.ensures
+    subst (λ (ds : List ℕ). IfSome c.decimal.result (λ n. number_of ds ≡ Some (unsigned n))) c.as_bytes.ensures.value (natural-read c.as_bytes.result.now c.decimal.result c.decimal.ensures)
