@@ -6,7 +6,6 @@ use Rattle.std.specs.Float.Numeral.{minus}
 use Rattle.serde_json.specs.Read.{number_of}
 use Rattle.ovl_manifest.proofs.SortedLemmas.{positive-read, negative-read}
 use Rattle.ovl_manifest.proofs.sorted_members.integer.Goals as goal
-use Rattle.ovl_manifest.proofs.sorted_members.integer.Goals.{then-size-eq0, else-size-eq0}
 
 pub returns-then-size : goal.returns-then-size
 returns-then-size c =
