@@ -159,8 +159,8 @@ module _ (stack : StackView) (place : DirPlace) (layer : Entries) (at : slice_ge
   kid-told number j tops top so_far stand placed own = (
     ap names_of longer ∙ (map-append (λ t. t.0) (tops_told tops) (top_told top ∷ []) ∙ ((λ k. so_far k ++ top.name.now ∷ []) ∙ sym (kid-more j top.name.now own.0))),
     subst (StandHere stack.layers number (place_in stack place)) (sym longer)
-    (subst (λ n. StandHere stack.layers number (place_in stack place) (tops_told tops ++ (top.name.now, record { place = n; inode = top.inode.now }) ∷ [])) (sym placed)
-    (stand-more stack.layers number (place_in stack place) (tops_told tops) top.name.now top.inode.now stand own.1)),
+        (subst (λ n. StandHere stack.layers number (place_in stack place) (tops_told tops ++ (top.name.now, record { place = n; inode = top.inode.now }) ∷ [])) (sym placed)
+        (stand-more stack.layers number (place_in stack place) (tops_told tops) top.name.now top.inode.now stand own.1)),
   )
     where
       longer : tops_told (tops ++ top ∷ []) ≡ tops_told tops ++ top_told top ∷ []
