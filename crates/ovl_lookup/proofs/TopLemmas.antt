@@ -1,8 +1,9 @@
 -- The names in the directories of a view, each with the first place that has it, and what is shown there.
 use Rattle.std.proofs.Common.{◌≡◌, ℕ, zero, suc, ◌+◌, ◌<◌, length, arith, Bool, true, false, cond, Option, Some, None, is_some, List, [], ◌∷◌, ◌++◌, drop, map, refl, sym, ap, ◌∙◌, subst}
 use Rattle.std.specs.Prelude.{◌||◌, ◌&&◌, not, filter, slice_get, unwrap_or, IsSomeAnd}
-use Rattle.std.specs.List.{All, AllByRecursion, list_any}
+use Rattle.std.specs.List.{All, AllByRecursion, list_all, list_any}
 use Rattle.std.specs.Option.{option_or}
+use Rattle.std.specs.Ordering.{is_lt}
 use Rattle.std.specs.Cmp.Lexicographic.{bytes_decides}
 use Rattle.std.proofs.Math.Bool.{and-false}
 use Rattle.std.proofs.lemmas.Option.{get_or_from_slice_get, slice_get_within}
@@ -11,7 +12,7 @@ use Rattle.std.proofs.lemmas.Map.Made.{is_some-lookup}
 use Rattle.ovl_names.specs.Names.{PathName, name_eq, name_cmp}
 use Rattle.ovl_names.specs.Paths.{PathNames, child_path}
 use Rattle.ovl_names.specs.Order.{ascends}
-use Rattle.ovl_names.proofs.Ascending.{ascends-filter}
+use Rattle.ovl_names.proofs.Ascending.{both, ascends-filter}
 use Rattle.ovl_inode.specs.declared.inodes.Inode.{Inode}
 use Rattle.ovl_manifest.specs.Layers.{Entries, IsLayer, entry_at, names_below}
 use Rattle.ovl_lookup.specs.declared.looks.Look.{Look}
@@ -19,11 +20,11 @@ use Rattle.ovl_lookup.specs.Stacks.{StackView, from_layer}
 use Rattle.ovl_lookup.specs.Merged.{look, shown_of, is_nothing}
 use Rattle.ovl_lookup.specs.Laws.{ViewsLook}
 use Rattle.ovl_lookup.specs.Views.{Reached, reached, entry_in, found_below}
-use Rattle.ovl_lookup.specs.ViewPasses.{First, first_in, AreTops, AreMerged, looks_from_tops, AreLooks}
+use Rattle.ovl_lookup.specs.ViewPasses.{First, first_in, AreInOrder, AreTops, AreMerged, looks_from_tops, AreLooks}
 use Rattle.ovl_lookup.proofs.ChildLemmas.{any_found, shown-any, names_below-has}
 use Rattle.ovl_lookup.proofs.KidLemmas.{any-filter}
 use Rattle.ovl_lookup.proofs.KidNames.{kid-names-ascend}
-use Rattle.ovl_lookup.proofs.TopMerge.{at, names_of, each-own}
+use Rattle.ovl_lookup.proofs.TopMerge.{at, names_of, is_before, each-own, merge, are-merged}
 use Rattle.ovl_lookup.proofs.ViewLemmas.{found_below_by, views-find}
 
 -- ---- the first place that has a name
@@ -164,20 +165,88 @@ module _ (layers : List Entries) (i : ℕ) (place : Reached) where
       by None e = refl
       by (Some inode) e = let bad : true ≡ false = sym (entry-named layers name place inode e) ∙ absent in cc
 
+  named-or-none : (name : PathName) (b : Bool) → list_any (name_eq name) (names_in layers place) ≡ b → cond b (first_here name) None ≡ first_here name
+  named-or-none name true e = refl
+  named-or-none name false e = none-here name e
+
   pub tops-here : All IsLayer layers → (tops : List (PathName × First)) → names_of tops ≡ names_in layers place → StandHere tops → AreTops layers i (place ∷ []) tops
   tops-here each tops names all = record {
     in_order = ap (ascends name_cmp) names ∙ names_in-ascend layers each place;
-    each = λ name. named-here name tops all ∙ (ap (λ ns. cond (list_any (name_eq name) ns) (first_here name) None) names ∙ by name (list_any (name_eq name) (names_in layers place)) refl);
+    each = λ name. named-here name tops all ∙ (ap (λ ns. cond (list_any (name_eq name) ns) (first_here name) None) names ∙ named-or-none name (list_any (name_eq name) (names_in layers place)) refl);
   }
-    where
-      by : (name : PathName) (b : Bool) → list_any (name_eq name) (names_in layers place) ≡ b → cond b (first_here name) None ≡ first_here name
-      by name true e = refl
-      by name false e = none-here name e
 
   -- one more that stands there
   pub stand-more : (tops : List (PathName × First)) (name : PathName) (inode : Inode) → StandHere tops → entry_in layers name place ≡ Some inode → StandHere (tops ++ (name, record { place = i; inode = inode }) ∷ [])
   stand-more [] name inode all here = (ap (first_by layers i [] name) here, tt)
   stand-more (top ∷ tops) name inode all here = (all.0, stand-more tops name inode all.1 here)
+
+  -- the names in the directory, with what stands there
+  abbrev with_first : PathName → Option First → List (PathName × First) → List (PathName × First)
+  with_first name None tops = tops
+  with_first name (Some first) tops = (name, first) ∷ tops
+
+  abbrev picked : List PathName → List (PathName × First)
+  picked [] = []
+  picked (name ∷ names) = with_first name (first_here name) (picked names)
+
+  picked-before : (one : PathName) (names : List PathName) → list_all (λ later. is_lt (name_cmp one later)) names ≡ true → is_before one (picked names) ≡ true
+  picked-before one [] before = refl
+  picked-before one (name ∷ names) before = by (picked-before one names parts.1) (first_here name)
+    where
+      parts : (is_lt (name_cmp one name) ≡ true) × (list_all (λ later. is_lt (name_cmp one later)) names ≡ true)
+      parts = both {a = is_lt (name_cmp one name)} {b = list_all (λ later. is_lt (name_cmp one later)) names} before
+
+      by : is_before one (picked names) ≡ true → (o : Option First) → is_before one (with_first name o (picked names)) ≡ true
+      by later None = later
+      by later (Some first) = (λ j. parts.0 j && later j)
+
+  picked-order : (names : List PathName) → ascends name_cmp names ≡ true → AreInOrder (picked names)
+  picked-order [] up = refl
+  picked-order (name ∷ names) up = by (picked-order names parts.1) (first_here name)
+    where
+      parts : (list_all (λ later. is_lt (name_cmp name later)) names ≡ true) × (ascends name_cmp names ≡ true)
+      parts = both {a = list_all (λ later. is_lt (name_cmp name later)) names} {b = ascends name_cmp names} up
+
+      by : AreInOrder (picked names) → (o : Option First) → AreInOrder (with_first name o (picked names))
+      by later None = later
+      by later (Some first) = (λ j. picked-before name names parts.0 j && later j)
+
+  named-picked : (q : PathName) (names : List PathName) → at q (picked names) ≡ cond (list_any (name_eq q) names) (first_here q) None
+  named-picked q [] = refl
+  named-picked q (name ∷ names) = by (named-picked q names) (first_here name) refl (name_eq q name) refl
+    where
+      cond_same : {X : Type 0} (b : Bool) (x : X) → cond b x x ≡ x
+      cond_same true x = refl
+      cond_same false x = refl
+
+      by : at q (picked names) ≡ cond (list_any (name_eq q) names) (first_here q) None → (o : Option First) → first_here name ≡ o → (b : Bool) → name_eq q name ≡ b → at q (with_first name o (picked names)) ≡ cond (b || list_any (name_eq q) names) (first_here q) None
+      by later None e true is =
+          let none : first_here q ≡ None = ap first_here ((bytes_decides q name).0 is) ∙ e in
+          later ∙ (ap (λ o. cond (list_any (name_eq q) names) o None) none ∙ (cond_same (list_any (name_eq q) names) None ∙ sym none))
+      by later None e false is = later
+      by later (Some first) e true is = ap (λ b. cond b (Some first) (at q (picked names))) is ∙ sym (ap first_here ((bytes_decides q name).0 is) ∙ e)
+      by later (Some first) e false is = ap (λ b. cond b (Some first) (at q (picked names))) is ∙ later
+
+  tops-of_place : All IsLayer layers → AreTops layers i (place ∷ []) (picked (names_in layers place))
+  tops-of_place each = record {
+    in_order = picked-order (names_in layers place) (names_in-ascend layers each place);
+    each = λ name. named-picked name (names_in layers place) ∙ named-or-none name (list_any (name_eq name) (names_in layers place)) refl;
+  }
+
+-- there are such tops of all places
+tops-exist : (layers : List Entries) → All IsLayer layers → (i : ℕ) (places : List Reached) → (tops : List (PathName × First)) × AreTops layers i places tops
+tops-exist layers each i [] = ([], no-tops layers i)
+tops-exist layers each i (place ∷ rest) = by (tops-exist layers each (suc i) rest)
+  where
+    upper : List (PathName × First)
+    upper = picked layers i place (names_in layers place)
+
+    by : (tops : List (PathName × First)) × AreTops layers (suc i) rest tops → (tops : List (PathName × First)) × AreTops layers i (place ∷ rest) tops
+    by lower =
+        let one = tops-of_place layers i place each in
+        let next : suc i ≡ i + 1 = omega arith in
+        let behind = subst (λ n. AreTops layers n rest lower.0) next lower.1 in
+        (merge upper lower.0, merged-tops layers i (place ∷ []) rest upper lower.0 (merge upper lower.0) one behind (are-merged upper lower.0 one.in_order lower.1.in_order))
 
 -- ---- what is shown at each name
 
@@ -211,7 +280,7 @@ module _ (layers : List Entries) (places : List Reached) where
   each-with_look P (name ∷ names) holds = (holds name, each-with_look P names holds)
 
 module _ (stack : StackView) (each : All IsLayer stack.layers) (from : ℕ) (path : PathNames) (tops : List (PathName × First)) (are : AreTops stack.layers 0 (reached (drop from stack.layers) from path) tops) where
-  looks-of-tops : AreLooks (from_layer from stack) path (looks_from_tops stack.layers (reached (drop from stack.layers) from path) tops)
+  pub looks-of-tops : AreLooks (from_layer from stack) path (looks_from_tops stack.layers (reached (drop from stack.layers) from path) tops)
   looks-of-tops = subst (AreLooks (from_layer from stack) path) (sym (looks-are layers places tops found)) (record {
     names = record {
       in_order = ap (ascends name_cmp) listed ∙ ascends-filter name_cmp (is_shown_at layers places) (names_of tops) are.in_order;
@@ -251,4 +320,4 @@ module _ (stack : StackView) (each : All IsLayer stack.layers) (from : ℕ) (pat
       by name false e = ap (λ b. is_some (first_in layers 0 places name) && b) e ∙ (and-false (is_some (first_in layers 0 places name)) ∙ sym e)
 
 pub views-look : ViewsLook
-views-look stack each from path tops are = looks-of-tops stack each from path tops are
+views-look stack each from path = (tops-exist stack.layers each 0 (reached (drop from stack.layers) from path), looks-of-tops stack each from path)

@@ -59,10 +59,6 @@ shown-lacking inode below lacks = ap (λ b. cond b (by_data inode (data_of (inod
 pub slice-places : (stack : StackView) (places : List DirPlace) (i : ℕ) → places_in stack (take (length places - i) (drop i places)) ≡ drop i (places_in stack places)
 slice-places stack places i = ap (places_in stack) (take-rest places i) ∙ sym (drop-map (λ own. place_in stack own) i places)
 
-pub none-left : (layers : List Entries) (stack : StackView) (name : PathName) (places : List DirPlace) (i : ℕ) → length places ≤ i → found_below layers name (drop i (places_in stack places)) ≡ []
-none-left layers stack name places i past =
-    ap (found_below layers name) (drop_past (places_in stack places) i (omega (arith, past, length-map places (λ own. place_in stack own))))
-
 module _ (layers : List Entries) (name : PathName) (places : List Reached) (k : ℕ) (place : Reached) (at : slice_get places k ≡ Some place) (inode : Inode) (mark : Mark) (here : entry_in layers name place ≡ Some inode) (marked : mark ≡ mark_of inode) where
   abbrev onward : List Inode
   onward = below_entry mark name (things_found (drop (place.layer + 1) layers)) (λ other. found_below layers other (drop (k + 1) places))
@@ -163,8 +159,8 @@ module _ (stack : StackView) (place : DirPlace) (layer : Entries) (at : slice_ge
   kid-told number j tops top so_far stand placed own = (
     ap names_of longer ∙ (map-append (λ t. t.0) (tops_told tops) (top_told top ∷ []) ∙ ((λ k. so_far k ++ top.name.now ∷ []) ∙ sym (kid-more j top.name.now own.0))),
     subst (StandHere stack.layers number (place_in stack place)) (sym longer)
-    (subst (λ n. StandHere stack.layers number (place_in stack place) (tops_told tops ++ (top.name.now, record { place = n; inode = top.inode.now }) ∷ [])) (sym placed)
-    (stand-more stack.layers number (place_in stack place) (tops_told tops) top.name.now top.inode.now stand own.1)),
+        (subst (λ n. StandHere stack.layers number (place_in stack place) (tops_told tops ++ (top.name.now, record { place = n; inode = top.inode.now }) ∷ [])) (sym placed)
+        (stand-more stack.layers number (place_in stack place) (tops_told tops) top.name.now top.inode.now stand own.1)),
   )
     where
       longer : tops_told (tops ++ top ∷ []) ≡ tops_told tops ++ top_told top ∷ []

@@ -42,6 +42,7 @@ ViewsFind = (stack : StackView) → All IsLayer stack.layers → (from : ℕ) (p
 
 -- the looks of all names in a directory, each from the first place of the view that has the name
 abbrev pub ViewsLook : Type 0
-ViewsLook = (stack : StackView) → All IsLayer stack.layers → (from : ℕ) (path : PathNames) (tops : List (PathName × First)) →
+ViewsLook = (stack : StackView) → All IsLayer stack.layers → (from : ℕ) (path : PathNames) →
     let places = reached (drop from stack.layers) from path in
-    AreTops stack.layers 0 places tops → AreLooks (from_layer from stack) path (looks_from_tops stack.layers places tops)
+    ((tops : List (PathName × First)) × AreTops stack.layers 0 places tops)
+    × ((tops : List (PathName × First)) → AreTops stack.layers 0 places tops → AreLooks (from_layer from stack) path (looks_from_tops stack.layers places tops))

@@ -11,7 +11,7 @@ use Rattle.ovl_lookup.specs.Merged.{AreKids}
 use Rattle.ovl_lookup.specs.Views.{Reached}
 use Rattle.ovl_lookup.specs.ViewPasses.{AreTops, tops_told, looks_from_tops}
 use Rattle.ovl_lookup.specs.DirViews.{places_in}
-use Rattle.ovl_lookup.proofs.TopLemmas.{views-look}
+use Rattle.ovl_lookup.proofs.TopLemmas.{looks-of-tops}
 use Rattle.ovl_lookup.proofs.ViewLookLemmas.{tops-lent, names-more}
 use Rattle.ovl_lookup.proofs.views.DirView.names.Goals as goal
 use Rattle.ovl_lookup.proofs.views.DirView.names.Goals.{then-not-is_whiteout+in_ok-copy+in_ok-push, else-not-is_whiteout}
@@ -47,4 +47,4 @@ returns c =
     let all : take c.loop-top.top-index tops ≡ tops = take_all c.loop-top.top-index tops c.loop-top-test.false in
     subst (λ (names : List PathName). AreKids (from_layer c.args.self.now.from stack) c.args.self.now.path names)
     (sym (c.loop-top.invariant ∙ (λ j. map (λ e. e.0) (looks_from_tops stack.layers (c.requires.reached j) (tops_told (all j))))))
-    (views-look stack each c.args.self.now.from c.args.self.now.path (tops_told tops) (subst (λ (ps : List Reached). AreTops stack.layers 0 ps (tops_told tops)) c.requires.reached are)).names
+    (looks-of-tops stack each c.args.self.now.from c.args.self.now.path (tops_told tops) (subst (λ (ps : List Reached). AreTops stack.layers 0 ps (tops_told tops)) c.requires.reached are)).names
