@@ -1,5 +1,5 @@
 use ovl_inode::{Attrs, Inode, Kind};
-use ovl_manifest::{Layer, LayerFault, Sheet, from_entries, read_layer, write_layer};
+use ovl_manifest::{Layer, LayerFault, Sheet, from_entries, read_layer, read_sheet, write_layer};
 use ovl_names::{Name, Path};
 use std::alloc::{AllocError, Global};
 use std::test::Fail;
@@ -526,13 +526,18 @@ fn inodes_that_no_manifest_states_are_refused(rt: HostRuntime) -> Result<(), Fai
     Ok(())
 }
 
-// The sheet of two directories, each with a file.
-fn sheet_of_two(alloc: Global) -> Result<Sheet, Fail> {
+// The manifest of two directories, each with a file.
+fn manifest_of_two(alloc: Global) -> Result<String, AllocError> {
     let n = DIR.replace(alloc, "/d", "/n")?;
     let z = FILE.replace(alloc, "/f", "/n/z")?;
     let x = DIR.replace(alloc, "/d", "/x")?;
     let k = FILE.replace(alloc, "/f", "/x/k")?;
-    let text = with_root(alloc, &[n.as_str(), z.as_str(), x.as_str(), k.as_str()])?;
+    with_root(alloc, &[n.as_str(), z.as_str(), x.as_str(), k.as_str()])
+}
+
+// Its sheet, by way of a layer.
+fn sheet_of_two(alloc: Global) -> Result<Sheet, Fail> {
+    let text = manifest_of_two(alloc)?;
     match Sheet::of(alloc, read_layer(alloc, text.as_bytes())?) {
         Ok(sheet) => Ok(sheet),
         Err(_) => Err(Fail::from(AllocError)),
@@ -554,7 +559,8 @@ fn row_of(alloc: Global, sheet: &Sheet, number: u32) -> Result<Option<String>, A
 #[test]
 fn a_sheet_has_a_row_for_each_entry(rt: HostRuntime) -> Result<(), Fail> {
     let alloc = rt.alloc();
-    let sheet = sheet_of_two(alloc)?;
+    let text = manifest_of_two(alloc)?;
+    let sheet = read_sheet(alloc, text.as_bytes())?;
     for (number, row) in [
         (0, Some("/ 0 5")),
         (1, Some("n 0 3")),
