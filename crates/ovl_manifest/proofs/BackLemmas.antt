@@ -104,16 +104,20 @@ first-taken entry more is =
     ∙ ap (λ b. if b then None else Some Root) (root-first entry.0 entry.1 more is.in_order is.rooted) in
     rw (none, entry_after) refl
 
-all-taken : (before rest : Entries) → IsLayer (before ++ rest) → entries_after before (map (λ entry. Some entry) rest) ≡ Ok (before ++ rest)
-all-taken before [] is = ap (λ (es : Entries). Ok es) (sym (append-nil before))
-all-taken [] (entry ∷ more) is =
-    one_taken [] (Some entry) (map (λ e. Some e) more) (entry ∷ []) (first-taken entry more is) ∙ all-taken (entry ∷ []) more is
-all-taken (first ∷ others) (entry ∷ more) is =
+-- the next entry of a layer is taken
+pub next-taken : (before : Entries) (entry : Entry) (more : Entries) → IsLayer (before ++ entry ∷ more) → entry_after before (Some entry) ≡ Ok (before ++ entry ∷ [])
+next-taken [] entry more is = first-taken entry more is
+next-taken (first ∷ others) entry more is =
     let before : Entries = first ∷ others in
     let comes = after before entry more is in
     let some = after-some first.0 entry.0 (both {a = is_lt (path_cmp first.0 entry.0)} {b = comes_after others entry.0} comes).0 in
+    taken first others entry (unescaped before entry more is) comes (parent before entry more is some)
+
+all-taken : (before rest : Entries) → IsLayer (before ++ rest) → entries_after before (map (λ entry. Some entry) rest) ≡ Ok (before ++ rest)
+all-taken before [] is = ap (λ (es : Entries). Ok es) (sym (append-nil before))
+all-taken before (entry ∷ more) is =
     let same : (before ++ entry ∷ []) ++ more ≡ before ++ entry ∷ more = append_assoc before (entry ∷ []) more in
-    one_taken before (Some entry) (map (λ e. Some e) more) (before ++ entry ∷ []) (taken first others entry (unescaped before entry more is) comes (parent before entry more is some))
+    one_taken before (Some entry) (map (λ e. Some e) more) (before ++ entry ∷ []) (next-taken before entry more is)
     ∙ (all-taken (before ++ entry ∷ []) more (subst IsLayer (sym same) is) ∙ ap (λ (es : Entries). Ok es) same)
 
 layer-counted : (layer : Entries) → IsLayer layer → layer_of_entries (map (λ entry. Some entry) layer) ≡ Ok layer
@@ -132,14 +136,15 @@ layer-counted layer is =
 pub layer-back : (layer : Entries) → IsLayer layer → layer_of_value (layer_value layer) ≡ Ok layer
 layer-back layer is = ap layer_of_entries (entries-stated layer is.named is.limited is.sound) ∙ layer-counted layer is
 
+pub stated-own : (entry : Entry) → is_within_limits entry.0 ≡ true → is_sound_inode entry.1 ≡ true → stated_pair entry ≡ Some entry
+stated-own entry limited sound = ap (λ b. if b && is_sound_inode entry.1 then Some entry else None) limited ∙ ap (λ b. if b then Some entry else None) sound
+
 pairs-stated : (entries : Entries) → list_all (λ entry. is_within_limits entry.0) entries ≡ true → list_all (λ entry. is_sound_inode entry.1) entries ≡ true → map stated_pair entries ≡ map (λ entry. Some entry) entries
 pairs-stated [] limited sound = refl
 pairs-stated (entry ∷ entries) limited sound =
     let limits = both {a = is_within_limits entry.0} {b = list_all (λ e. is_within_limits e.0) entries} limited in
     let sounds = both {a = is_sound_inode entry.1} {b = list_all (λ e. is_sound_inode e.1) entries} sound in
-    let own : stated_pair entry ≡ Some entry =
-    ap (λ b. if b && is_sound_inode entry.1 then Some entry else None) limits.0 ∙ ap (λ b. if b then Some entry else None) sounds.0 in
-    λ j. own j ∷ pairs-stated entries limits.1 sounds.1 j
+    λ j. stated-own entry limits.0 sounds.0 j ∷ pairs-stated entries limits.1 sounds.1 j
 
 pub pairs-back : (layer : Entries) → IsLayer layer → layer_of_pairs layer ≡ Ok layer
 pairs-back layer is = ap layer_of_entries (pairs-stated layer is.limited is.sound) ∙ layer-counted layer is

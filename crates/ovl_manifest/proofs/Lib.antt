@@ -15,6 +15,7 @@ pub mod ValueLemmas
 pub mod WayLemmas
 pub mod StatedLemmas
 pub mod BackLemmas
+pub mod BuilderLemmas
 pub mod SortedLemmas
 pub mod SheetLemmas
 pub mod SheetPassLemmas

@@ -6,6 +6,7 @@ pub mod Manifest
 pub mod Text
 pub mod TextPaths
 pub mod Drafts
+pub mod Builders
 pub mod Sheets
 pub mod SheetPasses
 pub mod SheetDrafts

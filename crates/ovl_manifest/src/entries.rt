@@ -93,8 +93,8 @@ pub(crate) fn add(
     Ok(draft.with(alloc, path, inode)?)
 }
 
-// The entry that a pair states, and `None` where a manifest can't state it.
-fn stated(entry: (Path, Inode)) -> Option<(Path, Inode)>
+/// The entry that a pair states, and `None` where a manifest can't state it.
+pub(crate) fn stated(entry: (Path, Inode)) -> Option<(Path, Inode)>
     ensures { result ≡ stated_pair entry }
 {
     if is_within_limits(&entry.0) && sound(&entry.1) {

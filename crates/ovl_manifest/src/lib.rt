@@ -1,6 +1,7 @@
 //! Layers as trees of sorted children, seen as finite maps from paths to inodes, and the manifests that state them.
 #![tactic(auto)]
 
+mod builders;
 mod drafts;
 mod entries;
 mod faults;
@@ -16,6 +17,7 @@ mod trees;
 mod writing;
 mod written_entries;
 
+pub use builders::LayerBuilder;
 pub use entries::{ENTRY_LIMIT, from_entries};
 pub use faults::LayerFault;
 pub use reading::{read_layer, read_sheet};

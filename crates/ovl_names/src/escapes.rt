@@ -8,15 +8,23 @@ use std::alloc::{AllocError, Global};
 pub fn escaped(alloc: Global, text: &str) -> Result<String, AllocError>
     ensures { IfOk result (λ written. string_bytes written ≡ escaped_text text.now) }
 {
+    let mut written = String::new(alloc);
+    push_escaped(alloc, &mut written, text)?;
+    Ok(written)
+}
+
+/// Appends a text as [`escaped`] gives it. Fails only for want of memory; a part may be appended then.
+pub fn push_escaped(alloc: Global, written: &mut String, text: &str) -> Result<(), AllocError>
+    ensures { OnOk result (string_bytes written.new ≡ string_bytes written.old ++ escaped_text text.now) }
+{
     let bytes = text.as_bytes();
     if bytes.iter().all(|byte| is_plain(*byte)) {
-        return String::from_str(alloc, text);
+        return written.push_str(text);
     }
-    let mut written = String::new(alloc);
     for byte in bytes {
-        push_escaped(alloc, &mut written, *byte)?;
+        push_byte(alloc, written, *byte)?;
     }
-    Ok(written)
+    Ok(())
 }
 
 fn is_plain(byte: u8) -> bool
@@ -25,7 +33,7 @@ fn is_plain(byte: u8) -> bool
     0x20 < byte && byte < 0x7f && byte != b'\\'
 }
 
-fn push_escaped(alloc: Global, written: &mut String, byte: u8) -> Result<(), AllocError>
+fn push_byte(alloc: Global, written: &mut String, byte: u8) -> Result<(), AllocError>
     ensures { OnOk result (string_bytes written.new ≡ string_bytes written.old ++ escaped_byte byte) }
 {
     if is_plain(byte) {

@@ -6,6 +6,6 @@ mod names;
 mod paths;
 mod texts;
 
-pub use escapes::escaped;
+pub use escapes::{escaped, push_escaped};
 pub use names::{NAME_LIMIT, Name, NameFault};
 pub use paths::{DEPTH_LIMIT, Path, PathFault, TEXT_LIMIT, has_empty_part};

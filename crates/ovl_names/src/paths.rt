@@ -8,7 +8,7 @@ ghost use Rattle.ovl_names.specs.declared.paths.PathFault.TheVariants.{Memory};
 ghost use Rattle.ovl_names.specs.Paths.{child_path, parent_of, path_eq, path_cmp, path_fault, path_refusal, text_parts, parts_between, has_names, depth_limit, text_limit};
 ghost use Rattle.ovl_names.specs.Escapes.{shown_path};
 
-use crate::escaped;
+use crate::push_escaped;
 use crate::names::{Name, first_name_fault};
 use std::alloc::{AllocError, AllocFailed, Global};
 use std::cmp::Ordering;
@@ -205,7 +205,7 @@ impl Path {
         Ok(Some(parent))
     }
 
-    /// The path as reports write it: `/` before each name, see [`escaped`], and `/` for the root.
+    /// The path as reports write it: `/` before each name, see [`escaped`](crate::escaped), and `/` for the root.
     /// Fails only for want of memory.
     pub fn shown(&self, alloc: Global) -> Result<String, AllocError>
         ensures { IfOk result (λ text. string_bytes text ≡ shown_path self.now) }
@@ -216,7 +216,7 @@ impl Path {
         let mut text = String::new(alloc);
         for name in &self.names {
             text.push_str("/")?;
-            text.push_str(name.shown(alloc)?.as_str())?;
+            push_escaped(alloc, &mut text, name.as_str())?;
         }
         Ok(text)
     }

@@ -1,21 +1,23 @@
 -- From the parcels to the new layer.
 use Rattle.std.proofs.Common.{◌≡◌, ℕ, suc, ◌+◌, ◌-◌, ◌<◌, Bool, true, false, cond, Option, Some, None, List, [], ◌∷◌, ◌++◌, length, map, get_or, drop, refl, sym, ap, ◌∙◌, subst, append_assoc, arith}
-use Rattle.std.specs.Prelude.{Vec, Result, Ok, Err}
+use Rattle.std.specs.Prelude.{Vec, Result, Ok, Err, nat_lt}
 use Rattle.std.specs.Global.{Global}
 use Rattle.std.proofs.lemmas.List.{append-nil, drop-map, drop_more}
 use Rattle.ovl_names.specs.Order.{ascends}
 use Rattle.ovl_inode.specs.declared.inodes.Inode.{Inode}
-use Rattle.ovl_manifest.specs.Layers.{Entries, entry_cmp, IsLayer}
-use Rattle.ovl_manifest.specs.Manifest.{entry_fault, entries_after, is_miscounted, is_statable, stated_pair, layer_of_pairs, IsFaultOf}
+use Rattle.ovl_manifest.specs.Layers.{Entry, Entries, entry_cmp, entry_limit, IsLayer}
+use Rattle.ovl_manifest.specs.Manifest.{entry_fault, entry_after, entries_after, is_miscounted, is_statable, stated_pair, layer_of_pairs, IsFaultOf}
 use Rattle.ovl_manifest.specs.declared.faults.LayerFault.{LayerFault}
 use Rattle.ovl_manifest.specs.declared.faults.LayerFault.TheVariants.{NotJson, Shape, Version, Count, Entry as WrongEntry, Order, NoParent, Root, Escaped, Memory}
+use Rattle.ovl_manifest.specs.Builders.{pair_after}
 use Rattle.ovl_manifest.proofs.BackLemmas.{pairs-back}
+use Rattle.ovl_manifest.proofs.BuilderLemmas.{pair-room, pair-taken}
 use Rattle.ovl_board.specs.declared.works.Parcel.{Parcel}
 use Rattle.ovl_board.specs.Parcels.{parcel_view, parcel_views, IsPlain}
 use Rattle.ovl_board.proofs.WalkLemmas.{IsPlain-from_preorder}
 use Rattle.ovl_board.proofs.LawLemmas.{HasReachedPieces-holds}
 use Rattle.ovl_rewrite.specs.Directories.{NamedInode, inodes_seen}
-use Rattle.ovl_rewrite.specs.Passes.{Tree, IsTree, tree_kids, tree_out, entries_under, View, views_under, WalksUnder}
+use Rattle.ovl_rewrite.specs.Passes.{Tree, IsTree, tree_kids, tree_out, entries_under, View, views_under, WalksUnder, StopsUnder}
 use Rattle.ovl_rewrite.specs.NewLayers.{NewLayer, IsOf, IsToldBy, tree_by, root_piece}
 use Rattle.ovl_rewrite.proofs.TreeLemmas.{told-ascend, told-of, is-tree}
 
@@ -66,6 +68,34 @@ told-memory layer (Escaped n) told = let bad : Ok layer ≡ Err (Escaped n) = to
 pub layer-refused : (entries : Entries) (fault : LayerFault) → IsLayer entries → IsFaultOf (layer_of_pairs entries) fault → fault ≡ Memory
 layer-refused entries fault is told = told-memory entries fault (subst (λ (r : Result Entries LayerFault). IsFaultOf r fault) (pairs-back entries is) told)
 
+-- ---- an entry that is taken stands behind the others, and one that is a layer's next is taken
+
+pub taken-is : (before : Entries) (pair : Entry) (entries : Entries) → entry_after before (stated_pair pair) ≡ Ok entries → entries ≡ before ++ pair ∷ []
+taken-is before pair entries e = by (is_statable pair) (entry_fault before pair) refl e
+  where
+    after : Option LayerFault → Result Entries LayerFault
+    after o = elim o as (λ _. Result Entries LayerFault) [ Some found ↦ Err found | None ↦ Ok (before ++ pair ∷ []) ]
+
+    by : (b : Bool) (fault : Option LayerFault) → entry_fault before pair ≡ fault → entry_after before (cond b (Some pair) None) ≡ Ok entries → entries ≡ before ++ pair ∷ []
+    by false fault f e = let bad : Err (WrongEntry (length before)) ≡ Ok entries = e in cc
+    by true (Some fault) f e = let bad : Err fault ≡ Ok entries = sym (ap after f) ∙ e in cc
+    by true None f e = let same : Ok (before ++ pair ∷ []) ≡ Ok entries = sym (ap after f) ∙ e in cc
+
+pub pair-is : (before : Entries) (pair : Entry) (entries : Entries) → pair_after before pair ≡ Ok entries → entries ≡ before ++ pair ∷ []
+pair-is before pair entries e = by (nat_lt (length before) entry_limit) e
+  where
+    by : (b : Bool) → cond b (entry_after before (stated_pair pair)) (Err Count) ≡ Ok entries → entries ≡ before ++ pair ∷ []
+    by true e = taken-is before pair entries e
+    by false e = let bad : Err Count ≡ Ok entries = e in cc
+
+pub next-refused : (before : Entries) (pair : Entry) (more : Entries) (fault : LayerFault) → IsLayer (before ++ pair ∷ more) → IsFaultOf (pair_after before pair) fault → fault ≡ Memory
+next-refused before pair more fault is told = told-memory (before ++ pair ∷ []) fault (subst (λ (r : Result Entries LayerFault). IsFaultOf r fault) (pair-taken before pair more is) told)
+
+pub root-refused : (root : Inode) (more : Entries) (fault : LayerFault) → IsLayer (([], root) ∷ more) → entry_after [] (stated_pair ([], root)) ≡ Err fault → ⊥
+root-refused root more fault is refused =
+    let room : 0 < entry_limit = omega arith in
+    let bad : Err fault ≡ Ok (([], root) ∷ []) = sym refused ∙ (sym (pair-room [] ([], root) room) ∙ pair-taken [] ([], root) more is) in cc
+
 -- ---- the entries that the parcels tell
 
 -- the plain walk has the parcels under the root
@@ -82,16 +112,26 @@ entries-whole views after old new under tree deepest is plain =
     (under tree deepest is root_piece [] (walk-under tree deepest is views plain ∙ sym (append-nil (views_under tree deepest root_piece)))).1
     ∙ ap (λ n. old ++ entries_under tree n []) whole
 
--- entries that are those of each tree of which the parcels are the plain walk
-abbrev pub AreTold : Inode → List View → Entries → Type 0
-AreTold root views entries =
-    (tree : Tree) (deepest : ℕ) → IsTree tree deepest → IsPlain (tree_kids tree) (tree_out tree) root_piece views → entries ≡ ([], root) ∷ entries_under tree deepest []
+-- those of its tree are in order, and have at each path what the new layer has
+module _ (root : Inode) (views : List View) (new : NewLayer) (by : IsToldBy new root views) where
+  abbrev tree : Tree
+  tree = tree_by new by.names
 
--- they are in order, and have at each path what the new layer has
-pub entries-of : (root : Inode) (views : List View) (entries : Entries) → AreTold root views entries → (new : NewLayer) → IsToldBy new root views
-    → (ascends entry_cmp entries ≡ true) × IsOf new entries
-entries-of root views entries are new by =
-    let same = are (tree_by new by.names) (suc by.deepest) (is-tree new by.names by.deepest by.told) by.walk in (
-      ap (ascends entry_cmp) same ∙ told-ascend new by.names by.deepest by.told root by.rooted,
-      subst (IsOf new) (sym same) (told-of new by.names by.deepest by.told root by.rooted),
-    )
+  abbrev pub told_entries : Entries
+  told_entries = ([], root) ∷ entries_under tree (suc by.deepest) []
+
+  pub told-entries : (ascends entry_cmp told_entries ≡ true) × IsOf new told_entries
+  told-entries = (told-ascend new by.names by.deepest by.told root by.rooted, told-of new by.names by.deepest by.told root by.rooted)
+
+  is : IsTree tree (suc by.deepest)
+  is = is-tree new by.names by.deepest by.told
+
+  pub told-whole : (after : List View) (entries : Entries) → WalksUnder views after (([], root) ∷ []) entries → entries ≡ told_entries
+  told-whole after entries under = entries-whole views after (([], root) ∷ []) entries under tree (suc by.deepest) is by.walk
+
+  -- no layer has them where none goes on with them
+  pub told-stops : StopsUnder views (([], root) ∷ []) → IsLayer told_entries → ⊥
+  told-stops stops layer =
+      let all : List View = views_under tree (suc by.deepest) root_piece in
+      stops tree (suc by.deepest) is root_piece [] (walk-under tree (suc by.deepest) is views by.walk ∙ sym (append-nil all)) []
+          (subst IsLayer (ap (λ (entries : Entries). ([], root) ∷ entries) (sym (append-nil (entries_under tree (suc by.deepest) [])))) layer)

@@ -2,19 +2,19 @@
 use Rattle.std.proofs.Common.{◌≡◌, ℕ, zero, suc, ◌+◌, ◌-◌, ◌≤◌, ◌<◌, true, false, cond, List, [], ◌∷◌, ◌++◌, length, map, get_or, take, drop, refl, sym, ap, ◌∙◌, subst, append_assoc, arith, length-append}
 use Rattle.std.specs.Prelude.{filter}
 use Rattle.std.specs.List.{flat_map}
-use Rattle.std.proofs.lemmas.List.{append-nil, map-append, drop_more, take_more, take_all}
+use Rattle.std.proofs.lemmas.List.{append-nil, map-append, drop_more, take_more, take_all, take-append-drop}
 use Rattle.std.proofs.lemmas.List.Concat.{flat_map-append}
 use Rattle.std.proofs.Math.ListN.{drop_of_length-le}
 use Rattle.ovl_names.specs.Paths.{PathNames, child_path}
 use Rattle.ovl_inode.specs.Marks.{is_directory}
-use Rattle.ovl_manifest.specs.Layers.{Entries}
+use Rattle.ovl_manifest.specs.Layers.{Entries, IsLayer}
 use Rattle.ovl_board.specs.declared.pieces.Piece.{Piece}
 use Rattle.ovl_board.specs.Walks.{preorder}
 use Rattle.ovl_board.specs.Parcels.{own_view}
 use Rattle.ovl_board.proofs.Members.{get_or-In, Contains-In, In}
 use Rattle.ovl_board.proofs.WalkLemmas.{preorder_step}
 use Rattle.ovl_rewrite.specs.Directories.{NamedInode, piece_in, directories_among}
-use Rattle.ovl_rewrite.specs.Passes.{Tree, IsTree, tree_kids, tree_out, entries_under, View, views_under, WalksUnder}
+use Rattle.ovl_rewrite.specs.Passes.{Tree, IsTree, tree_kids, tree_out, entries_under, View, views_under, WalksUnder, StopsUnder}
 
 module _ (tree : Tree) (deepest : ℕ) where
   abbrev own : Piece → View
@@ -147,16 +147,20 @@ module _ (before : List View) (view : View) (later : List View) (first : before 
         ∙ ap (λ (entries : Entries). old ++ entries)
         (sym (more-entries tree deepest piece (take i (tree piece.dir)) entry) ∙ ap (entries_among tree deepest piece) (sym a.longer)))))
 
+    -- the parcels that are left, where the entry is a directory: those at and under it first
+    left-first : (tree : Tree) (deepest : ℕ) (piece : Piece) (rest : List View) → At tree deepest piece rest → is_directory entry.1 ≡ true
+        → after ≡ views_under tree deepest (piece_in piece entry) ++ (views_among tree deepest piece (drop (i + 1) (tree piece.dir)) ++ rest)
+    left-first tree deepest piece rest a directory =
+        a.left
+        ∙ (ap (λ (views : List View). views ++ rest) (directory-views tree deepest piece entry (drop (i + 1) (tree piece.dir)) directory)
+        ∙ append_assoc (views_under tree deepest (piece_in piece entry)) (views_among tree deepest piece (drop (i + 1) (tree piece.dir))) rest)
+
     pub walk-directory : is_directory entry.1 ≡ true → (further : List View) (new : Entries)
         → WalksUnder after further (mid ++ (child_path view.piece.dir entry.0, entry.1) ∷ []) new → WalksAmong before further (i + 1) old new
     walk-directory directory further new under tree deepest is piece rest is_under =
         let a = at tree deepest is piece rest is_under in
         let more : List View = views_among tree deepest piece (drop (i + 1) (tree piece.dir)) in
-        let split : after ≡ views_under tree deepest (piece_in piece entry) ++ (more ++ rest) =
-        a.left
-        ∙ (ap (λ (views : List View). views ++ rest) (directory-views tree deepest piece entry (drop (i + 1) (tree piece.dir)) directory)
-        ∙ append_assoc (views_under tree deepest (piece_in piece entry)) more rest) in
-        let done = under tree deepest is (piece_in piece entry) (more ++ rest) split in (
+        let done = under tree deepest is (piece_in piece entry) (more ++ rest) (left-first tree deepest piece rest a directory) in (
           done.0,
           grown tree deepest piece rest a (entries_under tree (deepest - length (child_path piece.dir entry.0)) (child_path piece.dir entry.0)) new refl done.1,
         )
@@ -169,3 +173,38 @@ module _ (before : List View) (view : View) (later : List View) (first : before 
               (nothing-under tree deepest is (deepest - length (child_path piece.dir entry.0)) (child_path piece.dir entry.0) (is.files piece.dir entry (Contains-In entry (tree piece.dir) a.among) file))
               (sym (append-nil (mid ++ (child_path view.piece.dir entry.0, entry.1) ∷ []))),
         )
+
+    -- ---- no layer goes on
+
+    -- the entries under the directory are those that are done, this one, what lies under it, and those after it
+    whole : (tree : Tree) (deepest : ℕ) (is : IsTree tree deepest) (piece : Piece) (rest : List View) → At tree deepest piece rest → (more : Entries)
+        → old ++ (entries_under tree (deepest - length piece.dir) piece.dir ++ more)
+        ≡ (mid ++ (child_path view.piece.dir entry.0, entry.1) ∷ [])
+        ++ (entries_under tree (deepest - length (child_path piece.dir entry.0)) (child_path piece.dir entry.0) ++ (entries_among tree deepest piece (drop (i + 1) (tree piece.dir)) ++ more))
+    whole tree deepest is piece rest a more =
+        let so_far : Entries = entries_among tree deepest piece (take (i + 1) (tree piece.dir)) in
+        let later : Entries = entries_among tree deepest piece (drop (i + 1) (tree piece.dir)) in
+        let own : Entries = mid ++ (child_path view.piece.dir entry.0, entry.1) ∷ [] in
+        let under : Entries = entries_under tree (deepest - length (child_path piece.dir entry.0)) (child_path piece.dir entry.0) in
+        let parts : entries_under tree (deepest - length piece.dir) piece.dir ≡ so_far ++ later =
+        entries-first tree deepest is piece
+        ∙ (ap (entries_among tree deepest piece) (sym (take-append-drop (i + 1) (tree piece.dir)))
+        ∙ flat_map-append (told tree deepest (room tree deepest piece - 1) piece.dir) (take (i + 1) (tree piece.dir)) (drop (i + 1) (tree piece.dir))) in
+        ap (λ (entries : Entries). old ++ (entries ++ more)) parts
+        ∙ (ap (λ (entries : Entries). old ++ entries) (append_assoc so_far later more)
+        ∙ (sym (append_assoc old so_far (later ++ more))
+        ∙ (ap (λ (entries : Entries). entries ++ (later ++ more)) (sym (grown tree deepest piece rest a under (own ++ under) refl refl))
+        ∙ append_assoc own under (later ++ more))))
+
+    pub stops-entry : ((more : Entries) → IsLayer (mid ++ (child_path view.piece.dir entry.0, entry.1) ∷ more) → ⊥) → StopsUnder before old
+    stops-entry none tree deepest is piece rest is_under more layer =
+        let under : Entries = entries_under tree (deepest - length (child_path piece.dir entry.0)) (child_path piece.dir entry.0) in
+        let further : Entries = under ++ (entries_among tree deepest piece (drop (i + 1) (tree piece.dir)) ++ more) in
+        none further
+            (subst IsLayer (whole tree deepest is piece rest (at tree deepest is piece rest is_under) more ∙ append_assoc mid ((child_path view.piece.dir entry.0, entry.1) ∷ []) further) layer)
+
+    pub stops-directory : is_directory entry.1 ≡ true → StopsUnder after (mid ++ (child_path view.piece.dir entry.0, entry.1) ∷ []) → StopsUnder before old
+    stops-directory directory stops tree deepest is piece rest is_under more layer =
+        let a = at tree deepest is piece rest is_under in
+        stops tree deepest is (piece_in piece entry) (views_among tree deepest piece (drop (i + 1) (tree piece.dir)) ++ rest) (left-first tree deepest piece rest a directory)
+            (entries_among tree deepest piece (drop (i + 1) (tree piece.dir)) ++ more) (subst IsLayer (whole tree deepest is piece rest a more) layer)

@@ -3,7 +3,7 @@ use Rattle.std.specs.Prelude.{◌≡◌, ◌≤◌, ℕ, zero, suc, ◌-◌, fal
 use Rattle.std.specs.List.{flat_map}
 use Rattle.ovl_names.specs.Paths.{PathNames, child_path}
 use Rattle.ovl_inode.specs.Marks.{is_directory}
-use Rattle.ovl_manifest.specs.Layers.{Entries}
+use Rattle.ovl_manifest.specs.Layers.{Entries, IsLayer}
 use Rattle.ovl_board.specs.declared.pieces.Piece.{Piece}
 use Rattle.ovl_board.specs.Pieces.{HasLawfulKids}
 use Rattle.ovl_board.specs.Walks.{preorder}
@@ -45,3 +45,9 @@ abbrev pub WalksUnder : List View → List View → Entries → Entries → Type
 WalksUnder before after old new =
     (tree : Tree) (deepest : ℕ) → IsTree tree deepest → (piece : Piece) (rest : List View) → before ≡ views_under tree deepest piece ++ rest →
     (after ≡ rest) × (new ≡ old ++ entries_under tree (deepest - length piece.dir) piece.dir)
+
+-- where parcels begin with those of a directory of a tree, no layer goes on with the entries under it
+abbrev pub StopsUnder : List View → Entries → Type 0
+StopsUnder before old =
+    (tree : Tree) (deepest : ℕ) → IsTree tree deepest → (piece : Piece) (rest : List View) → before ≡ views_under tree deepest piece ++ rest →
+    (more : Entries) → IsLayer (old ++ (entries_under tree (deepest - length piece.dir) piece.dir ++ more)) → ⊥

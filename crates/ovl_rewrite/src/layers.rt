@@ -1,19 +1,19 @@
-ghost use Rattle.std.specs.Prelude.{◌≡◌, ◌≤◌, true, Err, IfOk, OnOk, [], ◌∷◌, ℕ, length};
+ghost use Rattle.std.specs.Prelude.{◌≡◌, ◌≤◌, true, Err, IfOk, OnOk, [], ◌∷◌, ◌++◌, length};
 ghost use Rattle.std.specs.Vec.Iter.{into_iter_items};
 ghost use Rattle.ovl_names.specs.Order.{ascends};
 ghost use Rattle.ovl_names.specs.Paths.{child_path};
 ghost use Rattle.ovl_manifest.specs.declared.faults.LayerFault.TheVariants.{Memory as NoMemory};
 ghost use Rattle.ovl_manifest.specs.Layers.{Entries, entry_cmp, IsLayer};
-ghost use Rattle.ovl_board.specs.Parcels.{parcel_views, IsPlain};
+ghost use Rattle.ovl_board.specs.Parcels.{parcel_views};
 ghost use Rattle.ovl_rewrite.specs.declared.faults.RewriteFault.TheVariants.{LimitOut};
 ghost use Rattle.ovl_rewrite.specs.Directories.{inodes_seen};
-ghost use Rattle.ovl_rewrite.specs.Passes.{Tree, IsTree, tree_kids, tree_out, entries_under, WalksUnder};
-ghost use Rattle.ovl_rewrite.specs.NewLayers.{NewLayer, IsOf, IsToldBy, root_piece};
+ghost use Rattle.ovl_rewrite.specs.Passes.{WalksUnder, StopsUnder};
+ghost use Rattle.ovl_rewrite.specs.NewLayers.{NewLayer, IsOf, IsToldBy};
 
 use crate::RewriteFault;
 use ovl_board::Parcel;
 use ovl_inode::{Inode, is_directory};
-use ovl_manifest::{Layer, LayerFault, from_entries};
+use ovl_manifest::{Layer, LayerBuilder, LayerFault, from_entries};
 use ovl_names::{Name, Path};
 use std::alloc::{AllocError, Global};
 use std::vec::IntoIter;
@@ -30,8 +30,13 @@ pub fn layer_told(
     ensures limit { result ≡ Err LimitOut → (new : NewLayer) → IsToldBy new root (parcel_views inodes_seen parcels.items)
         → (entries : Entries) × (ascends entry_cmp entries ≡ true) × IsOf new entries × (IsLayer entries → ⊥) }
 {
-    let entries = entries_told(alloc, root, parcels)?;
-    layer_of(alloc, entries)
+    let builder = begun(alloc, root)?;
+    let mut rest = parcels.into_iter();
+    let builder = with_under(alloc, builder, &mut rest)?;
+    let layer = builder.finish()?;
+    // The type keeps that it is a layer.
+    let _root = layer.root();
+    Ok(layer)
 }
 
 /// The layer of these entries; `LimitOut` comes only where they are none.
@@ -59,43 +64,57 @@ fn refusal(fault: LayerFault) -> RewriteFault
     }
 }
 
-// The root and all entries under it, in path order.
-fn entries_told(
-    alloc: Global,
-    root: Inode,
-    parcels: Vec<Parcel<Vec<(Name, Inode)>>>,
-) -> Result<Vec<(Path, Inode)>, AllocError>
-    ensures { IfOk result (λ entries. (tree : Tree) (deepest : ℕ) → IsTree tree deepest → IsPlain (tree_kids tree) (tree_out tree) root_piece (parcel_views inodes_seen parcels.items)
-        → entries.items ≡ ([], root) ∷ entries_under tree deepest []) }
+// The new layer of this root alone; `LimitOut` comes only where no layer has it.
+fn begun(alloc: Global, root: Inode) -> Result<LayerBuilder, RewriteFault>
+    ensures entries { IfOk result (λ builder. builder ≡ ([], root) ∷ []) }
+    ensures limit { result ≡ Err LimitOut → (more : Entries) → IsLayer (([], root) ∷ more) → ⊥ }
 {
-    let mut entries = Vec::new(alloc);
-    entries.push((Path::root(alloc), root))?;
-    let mut rest = parcels.into_iter();
-    push_under(alloc, &mut rest, &mut entries)?;
-    Ok(entries)
+    match LayerBuilder::new(alloc, root) {
+        Ok(builder) => Ok(builder),
+        Err(fault) => Err(refusal(fault)),
+    }
 }
 
-// Adds the entries under the directory of the next parcel, and takes its parcel and those of what lies under it.
-fn push_under(
+// The new layer with the entries under the directory of the next parcel; its parcel and those of what lies under it are
+// taken. `LimitOut` comes only where no layer goes on with them.
+fn with_under(
     alloc: Global,
+    builder: LayerBuilder,
     rest: &mut IntoIter<Parcel<Vec<(Name, Inode)>>>,
-    entries: &mut Vec<(Path, Inode)>,
-) -> Result<(), AllocError>
+) -> Result<LayerBuilder, RewriteFault>
     ensures fewer { OnOk result (length (into_iter_items rest.new) ≤ length (into_iter_items rest.old)) }
-    ensures entries { OnOk result (WalksUnder (parcel_views inodes_seen (into_iter_items rest.old)) (parcel_views inodes_seen (into_iter_items rest.new)) entries.old.items entries.new.items) }
+    ensures entries { IfOk result (WalksUnder (parcel_views inodes_seen (into_iter_items rest.old)) (parcel_views inodes_seen (into_iter_items rest.new)) builder) }
+    ensures limit { result ≡ Err LimitOut → StopsUnder (parcel_views inodes_seen (into_iter_items rest.old)) builder }
 {
+    let mut builder = builder;
     let Some(Parcel { piece, out, .. }) = rest.next() else {
-        return Ok(());
+        return Ok(builder);
     };
     for (name, inode) in out {
         let path = entry_path(alloc, &piece.dir, name)?;
         let is_above = is_directory(&inode);
-        entries.push((path, inode))?;
+        builder = with_entry(alloc, builder, path, inode)?;
         if is_above {
-            push_under(alloc, rest, entries)?;
+            builder = with_under(alloc, builder, rest)?;
         }
     }
-    Ok(())
+    Ok(builder)
+}
+
+// The new layer with one more entry; `LimitOut` comes only where no layer goes on with it.
+fn with_entry(
+    alloc: Global,
+    builder: LayerBuilder,
+    path: Path,
+    inode: Inode,
+) -> Result<LayerBuilder, RewriteFault>
+    ensures entries { IfOk result (λ more. more ≡ builder ++ (path, inode) ∷ []) }
+    ensures limit { result ≡ Err LimitOut → (more : Entries) → IsLayer (builder ++ (path, inode) ∷ more) → ⊥ }
+{
+    match builder.with_entry(alloc, path, inode) {
+        Ok(more) => Ok(more),
+        Err(fault) => Err(refusal(fault)),
+    }
 }
 
 // The path of the entry of this name in a directory.

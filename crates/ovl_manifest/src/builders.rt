@@ -1,0 +1,75 @@
+ghost use Rattle.std.specs.Prelude.{◌≡◌, [], Ok, Err, IfOk, MatchResult};
+ghost use Rattle.ovl_manifest.specs.Manifest.{entry_after, stated_pair, IsFaultOf};
+ghost use Rattle.ovl_manifest.specs.Builders.{pair_after};
+
+use crate::drafts::Draft;
+use crate::entries::{ENTRY_LIMIT, add, start, stated};
+use crate::faults::LayerFault;
+use crate::trees::Layer;
+use ovl_inode::Inode;
+use ovl_names::Path;
+use std::alloc::{AllocError, Global};
+use std::marker::Model;
+
+/// A layer while its entries come one after another, in path order, seen as those so far.
+#[derive(Drop)]
+pub struct LayerBuilder {
+    draft: Draft,
+    count: u32,
+}
+
+impl Model for LayerBuilder {
+    ghost use Rattle.std.specs.Prelude.{◌≡◌, ◌≤◌, length};
+    ghost use Rattle.ovl_manifest.specs.Layers.{Entries, entry_limit};
+    ghost use Rattle.ovl_manifest.specs.Drafts.{draft_entries, IsDraft};
+
+    ghost Value = { Entries };
+
+    ghost view = { λ a. draft_entries a.draft };
+
+    ghost invariant = { λ a. IsDraft a.draft × (a.count ≡ length (draft_entries a.draft)) × (a.count ≤ entry_limit) };
+}
+
+impl LayerBuilder {
+    /// The layer of a root alone, refused as [`from_entries`](crate::from_entries) refuses a first entry.
+    pub fn new(alloc: Global, root: Inode) -> Result<LayerBuilder, LayerFault>
+        ensures { MatchResult result
+            (λ builder. entry_after [] (stated_pair ([], root)) ≡ Ok builder)
+            (λ fault. entry_after [] (stated_pair ([], root)) ≡ Err fault) }
+    {
+        let draft = start(alloc, stated((Path::root(alloc), root)))?;
+        Ok(LayerBuilder { draft, count: 1 })
+    }
+
+    /// The layer with one more entry. It is refused with `Count` behind [`ENTRY_LIMIT`] entries, and else as
+    /// [`from_entries`](crate::from_entries) refuses the entry that comes after those so far; `Memory` can come at any
+    /// time.
+    pub fn with_entry(
+        self,
+        alloc: Global,
+        path: Path,
+        inode: Inode,
+    ) -> Result<LayerBuilder, LayerFault>
+        ensures { MatchResult result
+            (λ builder. pair_after self (path, inode) ≡ Ok builder)
+            (λ fault. IsFaultOf (pair_after self (path, inode)) fault) }
+    {
+        let LayerBuilder { draft, count } = self;
+        if count as usize == ENTRY_LIMIT {
+            return Err(LayerFault::Count);
+        }
+        let draft = add(alloc, draft, count, stated((path, inode)))?;
+        Ok(LayerBuilder {
+            draft,
+            count: count + 1,
+        })
+    }
+
+    /// The finished layer; fails only for want of memory.
+    pub fn finish(self) -> Result<Layer, AllocError>
+        ensures { IfOk result (λ layer. layer ≡ self) }
+    {
+        let LayerBuilder { draft, .. } = self;
+        draft.finish()
+    }
+}
