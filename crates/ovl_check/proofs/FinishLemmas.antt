@@ -2,7 +2,9 @@
 use Rattle.std.proofs.Common.{◌≡◌, ℕ, zero, suc, ◌+◌, inl, inr, Bool, true, false, cond, Option, Some, None, List, [], ◌∷◌, ◌++◌, map, drop, length, refl, sym, ap, ◌∙◌, subst, arith, append_assoc, add-one}
 use Rattle.std.specs.Prelude.{◌||◌, ◌&&◌, slice_get, unwrap_or}
 use Rattle.std.specs.List.{flat_map, list_any, All}
+use Rattle.std.specs.List.Sorted.{IsPermutation}
 use Rattle.std.proofs.lemmas.List.{flat_map_more}
+use Rattle.std.proofs.lemmas.List.Sorted.{IsPermutation-trans, IsPermutation-append_left}
 use Rattle.ovl_manifest.specs.Layers.{Entries, IsLayer}
 use Rattle.ovl_lookup.proofs.ChildLemmas.{all-first, all-rest}
 use Rattle.ovl_names.specs.Paths.{PathNames}
@@ -18,11 +20,15 @@ use Rattle.ovl_check.specs.Walks.{View, AreLayerWalks, is_among, double_at, plac
 use Rattle.ovl_check.proofs.MemberLemmas.{along-sound, along-whole}
 
 -- one more list of parcels
-pub found-more : {X : Type 0} (along : X → List Finding) (ys : List X) (x : X) (so_far middle new doubles outs : List Finding) → so_far ≡ flat_map along ys → middle ≡ so_far ++ doubles → new ≡ middle ++ outs → doubles ++ outs ≡ along x → new ≡ flat_map along (ys ++ x ∷ [])
-found-more along ys x so_far middle new doubles outs a b c d =
-    c ∙ (ap (λ (xs : List Finding). xs ++ outs) b
-    ∙ (append_assoc so_far doubles outs
-    ∙ ((λ j. a j ++ d j) ∙ flat_map_more along [] ys x)))
+pub found-more : {X : Type 0} (along : X → List Finding) (ys : List X) (x : X) (so_far middle new doubles outs : List Finding) → IsPermutation (flat_map along ys) so_far → middle ≡ so_far ++ doubles → IsPermutation (middle ++ outs) new → doubles ++ outs ≡ along x → IsPermutation (flat_map along (ys ++ x ∷ [])) new
+found-more along ys x so_far middle new doubles outs before added moved parts =
+    let split : flat_map along ys ++ (doubles ++ outs) ≡ flat_map along (ys ++ x ∷ []) = ap (λ (l : List Finding). flat_map along ys ++ l) parts ∙ flat_map_more along [] ys x in
+    let joined : so_far ++ (doubles ++ outs) ≡ middle ++ outs = sym (append_assoc so_far doubles outs) ∙ ap (λ (l : List Finding). l ++ outs) (sym added) in
+    IsPermutation-trans (flat_map along (ys ++ x ∷ [])) (middle ++ outs) new
+    (subst (λ (l : List Finding). IsPermutation l (middle ++ outs)) split
+    (subst (λ (l : List Finding). IsPermutation (flat_map along ys ++ (doubles ++ outs)) l) joined
+    (IsPermutation-append_left (doubles ++ outs) (flat_map along ys) so_far before)))
+    moved
 
 -- the layer at a place, and the layers below it
 at-drop : (layers : List Entries) (i : ℕ) (layer : Entries) (rest : List Entries) → All IsLayer layers → drop i layers ≡ layer ∷ rest → (unwrap_or (slice_get layers i) [] ≡ layer) × ((drop (suc i) layers ≡ rest) × IsLayer layer)

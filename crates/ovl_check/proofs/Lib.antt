@@ -1,5 +1,6 @@
 mod Ascent
 mod Plain
+mod Moves
 mod BlobLemmas
 mod BlobRanges
 mod DataLemmas

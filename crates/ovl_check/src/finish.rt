@@ -1,16 +1,18 @@
 ghost use Rattle.std.specs.Prelude.{◌≡◌, ◌++◌, [], length, map, IfOk, OnOk};
 ghost use Rattle.std.specs.List.{flat_map, list_any};
+ghost use Rattle.std.specs.List.Sorted.{IsPermutation};
 ghost use Rattle.ovl_board.specs.Parcels.{parcel_view, parcel_views};
 ghost use Rattle.ovl_check.specs.Blobs.{blob_views};
 ghost use Rattle.ovl_check.specs.Findings.{findings as all_findings};
 ghost use Rattle.ovl_check.specs.Checks.{check_seen};
 ghost use Rattle.ovl_check.specs.CheckViews.{check_view};
-ghost use Rattle.ovl_check.specs.Walks.{AreLayerWalks, double_at, places_with, doubles_after, found_along};
+ghost use Rattle.ovl_check.specs.Walks.{AreLayerWalks, double_at, places_with, doubles_after, found_along, all_left};
 
 use crate::findings::{Code, Finding};
 use crate::subjects::{CheckOut, CheckWork};
 use ovl_board::Parcel;
 use ovl_lookup::Trail;
+use ovl_names::Path;
 use std::alloc::{AllocError, Global};
 use std::collections::BTreeSet;
 
@@ -38,27 +40,73 @@ fn found_in(
     alloc: Global,
     layers: Vec<Vec<Parcel<CheckOut<'_>>>>,
 ) -> Result<Vec<Finding>, AllocError>
-    ensures { IfOk result (λ found. found.items ≡ flat_map (λ parcels. found_along (parcel_views check_seen parcels.items)) layers.entry.items) }
+    ensures { IfOk result (λ found. IsPermutation (flat_map (λ parcels. found_along (parcel_views check_seen parcels.items)) layers.entry.items) found.items) }
 {
     let mut found = Vec::new(alloc);
     for parcels in layers {
         push_doubles(alloc, &parcels, &mut found)?;
-        push_outputs(parcels, &mut found)?;
+        push_outputs(alloc, parcels, &mut found)?;
     }
     Ok(found)
 }
 
-// Adds the outputs of all directories.
+// Adds the outputs of all directories. Where these are in the order of a walk, what is found in a directory stands among
+// what is found below it, in path order.
 fn push_outputs(
+    alloc: Global,
     parcels: Vec<Parcel<CheckOut<'_>>>,
     findings: &mut Vec<Finding>,
 ) -> Result<(), AllocError>
-    ensures { OnOk result (findings.new.items ≡ findings.old.items ++ flat_map (λ parcel. parcel.out.findings.items) parcels.entry.items) }
+    ensures { OnOk result (IsPermutation (findings.old.items ++ flat_map (λ parcel. parcel.out.findings.items) parcels.entry.items) findings.new.items) }
 {
+    let mut open = Vec::new(alloc);
     for parcel in parcels {
-        let out = parcel.out;
+        let Parcel { piece, out, .. } = parcel;
+        push_before(&mut open, &piece.dir, findings)?;
         let mut found = out.findings;
-        findings.append(&mut found)?;
+        found.reverse();
+        open.push(found)?;
+    }
+    while let Some(mut left) = open.pop() {
+        left.reverse();
+        findings.append(&mut left)?;
+    }
+    Ok(())
+}
+
+// Adds those findings in open directories that come before a directory, from the last one opened on, and closes those
+// directories that have none left. The findings of each stand from the last to the first.
+fn push_before(
+    open: &mut Vec<Vec<Finding>>,
+    directory: &Path,
+    findings: &mut Vec<Finding>,
+) -> Result<(), AllocError>
+    ensures { OnOk result (IsPermutation (findings.old.items ++ all_left open.old.items) (findings.new.items ++ all_left open.new.items)) }
+{
+    while let Some(mut left) = open.pop() {
+        move_before(&mut left, directory, findings)?;
+        if !left.is_empty() {
+            open.push(left)?;
+            return Ok(());
+        }
+    }
+    Ok(())
+}
+
+// Moves findings from the end of a list while they come before a directory.
+fn move_before(
+    left: &mut Vec<Finding>,
+    directory: &Path,
+    findings: &mut Vec<Finding>,
+) -> Result<(), AllocError>
+    ensures { OnOk result (IsPermutation (findings.old.items ++ left.old.items) (findings.new.items ++ left.new.items)) }
+{
+    while let Some(finding) = left.pop() {
+        if finding.path > *directory {
+            left.push(finding)?;
+            return Ok(());
+        }
+        findings.push(finding)?;
     }
     Ok(())
 }
