@@ -1,9 +1,12 @@
-ghost use Rattle.std.specs.Prelude.{◌≡◌, ◌++◌, IfOk, OnOk, string_bytes};
+ghost use Rattle.std.specs.Prelude.{◌≡◌, ◌++◌, [], IfOk, OnOk, string_bytes};
+ghost use Rattle.ovl_names.specs.Escapes.{shown_path};
 ghost use Rattle.ovl_engine.specs.FsckReports.{code_word as the_code_word, weight_word as the_weight_word, finding_line, fault_count, note_count, is_clean as clean_test, fsck_report};
 
-use crate::reports::{push_number, push_path, push_word};
+use crate::reports::{push_name, push_number, push_word};
 use ovl_check::{Code, Finding};
+use ovl_names::{Name, Path};
 use std::alloc::{AllocError, Global};
+use std::marker::Model;
 
 /// The report of `fsck`: a line for each finding, in their order, and how many are faults and how many notes.
 /// Fails only for want of memory.
@@ -11,8 +14,9 @@ pub fn fsck_report_of(alloc: Global, found: &[Finding]) -> Result<Vec<u8>, Alloc
     ensures { IfOk result (λ report. report.items ≡ fsck_report found.now) }
 {
     let mut report = String::new(alloc);
+    let mut above = Above::root(alloc);
     for finding in found {
-        push_finding(alloc, &mut report, finding)?;
+        push_finding(alloc, &mut report, &mut above, finding)?;
     }
     report.push_str("faults ")?;
     push_number(&mut report, count_of_faults(found))?;
@@ -29,14 +33,82 @@ pub fn is_clean(found: &[Finding]) -> bool
     count_of_faults(found) == 0
 }
 
+// A directory, with what stands in a report before the names in it. It is kept from line to line, since what is found in
+// one directory mostly comes together.
+#[derive(Drop)]
+struct Above<'a> {
+    directory: &'a [Name],
+    text: String,
+}
+
+impl<'a> Model for Above<'a> {
+    ghost use Rattle.std.specs.Prelude.{◌≡◌, string_bytes};
+    ghost use Rattle.ovl_names.specs.Paths.{PathNames};
+    ghost use Rattle.ovl_engine.specs.Reports.{shown_names};
+
+    ghost Value = { PathNames };
+
+    ghost view = { λ a. a.directory.now };
+
+    ghost invariant = { λ a. string_bytes a.text ≡ shown_names a.directory.now };
+}
+
+impl<'a> Above<'a> {
+    fn root(alloc: Global) -> Above<'a>
+        ensures { result ≡ [] }
+    {
+        Above {
+            directory: &[],
+            text: String::new(alloc),
+        }
+    }
+
+    // Goes to a directory; the text is made anew where it is another one.
+    fn go_to(&mut self, alloc: Global, directory: &'a [Name]) -> Result<(), AllocError>
+        ensures { OnOk result (self.new ≡ directory.now) }
+    {
+        if self.directory == directory {
+            return Ok(());
+        }
+        let mut text = String::new(alloc);
+        for name in directory {
+            push_name(alloc, &mut text, name.as_str())?;
+        }
+        *self = Above { directory, text };
+        Ok(())
+    }
+
+    // Appends a path, whose directory it goes to.
+    fn push_path(
+        &mut self,
+        alloc: Global,
+        report: &mut String,
+        path: &'a Path,
+    ) -> Result<(), AllocError>
+        ensures { OnOk result (string_bytes report.new ≡ string_bytes report.old ++ shown_path path.now) }
+    {
+        let Some((name, directory)) = path.names().split_last() else {
+            return report.push_str("/");
+        };
+        self.go_to(alloc, directory)?;
+        report.push_str(self.text.as_str())?;
+        push_name(alloc, report, name.as_str())
+    }
+}
+
 // Appends the line of a finding.
-fn push_finding(alloc: Global, report: &mut String, finding: &Finding) -> Result<(), AllocError>
+fn push_finding<'a>(
+    alloc: Global,
+    report: &mut String,
+    above: &mut Above<'a>,
+    finding: &'a Finding,
+) -> Result<(), AllocError>
     ensures { OnOk result (string_bytes report.new ≡ string_bytes report.old ++ finding_line finding.now) }
 {
     push_word(report, weight_word(finding.code))?;
     push_word(report, code_word(finding.code))?;
     push_word(report, itoa::Buffer::new().format(finding.layer))?;
-    push_path(alloc, report, &finding.path)?;
+    above.push_path(alloc, report, &finding.path)?;
     report.push_str("\n")
 }
 

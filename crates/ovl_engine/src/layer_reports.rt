@@ -8,9 +8,10 @@ ghost use Rattle.ovl_engine.specs.Reports.{shown_names};
 ghost use Rattle.ovl_manifest.specs.Layers.{IsLayer};
 
 use crate::listings::{one_more, text_of};
-use crate::reports::{push_count, push_escaped, push_path, push_word};
+use crate::reports::{push_count, push_path, push_word};
 use ovl_inode::{Inode, Mark, Redirect, mark_of};
 use ovl_manifest::{Layer, Node};
+use ovl_names::push_escaped;
 use std::alloc::{AllocError, Global};
 
 /// The report of a new layer: a line for each entry below its root, in their order, by what it means to the overlay, and

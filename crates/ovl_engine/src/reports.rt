@@ -8,7 +8,7 @@ ghost use Rattle.ovl_engine.specs.Reports.{octal_digit as last_digit, octal, siz
 
 use ovl_inode::{Attrs, Digest, Inode, Kind};
 use ovl_lookup::Look;
-use ovl_names::{Path, escaped};
+use ovl_names::{Path, push_escaped};
 use std::alloc::{AllocError, Global};
 
 /// The report of `show`: a line for each path of the merged tree, in their order, and their number.
@@ -216,10 +216,4 @@ fn push_attribute(
     push_escaped(alloc, report, name)?;
     report.push_str("=")?;
     report.push_str(hex::encode(alloc, value)?.as_str())
-}
-
-pub(crate) fn push_escaped(alloc: Global, report: &mut String, text: &str) -> Result<(), AllocError>
-    ensures { OnOk result (string_bytes report.new ≡ string_bytes report.old ++ escaped_text text.now) }
-{
-    report.push_str(escaped(alloc, text)?.as_str())
 }
