@@ -94,7 +94,8 @@ next-refused before pair more fault is told = told-memory (before ++ pair ∷ []
 pub root-refused : (root : Inode) (more : Entries) (fault : LayerFault) → IsLayer (([], root) ∷ more) → entry_after [] (stated_pair ([], root)) ≡ Err fault → ⊥
 root-refused root more fault is refused =
     let room : 0 < entry_limit = omega arith in
-    let bad : Err fault ≡ Ok (([], root) ∷ []) = sym refused ∙ (sym (pair-room [] ([], root) room) ∙ pair-taken [] ([], root) more is) in cc
+    let fails : Result Entries LayerFault → Bool = λ r. elim r as (λ _. Bool) [ Err found ↦ true | Ok entries ↦ false ] in
+    let bad : true ≡ false = ap fails (sym refused ∙ (sym (pair-room [] ([], root) room) ∙ pair-taken [] ([], root) more is)) in absurd (cc)
 
 -- ---- the entries that the parcels tell
 
@@ -133,5 +134,9 @@ module _ (root : Inode) (views : List View) (new : NewLayer) (by : IsToldBy new 
   pub told-stops : StopsUnder views (([], root) ∷ []) → IsLayer told_entries → ⊥
   told-stops stops layer =
       let all : List View = views_under tree (suc by.deepest) root_piece in
+      let whole : suc by.deepest ≡ suc by.deepest - length root_piece.dir = omega arith in
       stops tree (suc by.deepest) is root_piece [] (walk-under tree (suc by.deepest) is views by.walk ∙ sym (append-nil all)) []
-          (subst IsLayer (ap (λ (entries : Entries). ([], root) ∷ entries) (sym (append-nil (entries_under tree (suc by.deepest) [])))) layer)
+          (subst IsLayer
+          (ap (λ (n : ℕ). ([], root) ∷ entries_under tree n []) whole
+          ∙ ap (λ (entries : Entries). ([], root) ∷ entries) (sym (append-nil (entries_under tree (suc by.deepest - length root_piece.dir) []))))
+          layer)

@@ -1,20 +1,40 @@
-use Rattle.std.proofs.Common.{List, sym, subst}
-use Rattle.std.proofs.lemmas.Result.{IfOk-weaker}
+use Rattle.std.proofs.Common.{◌≡◌, ◌∙◌, suc, List, [], ◌∷◌, Err, sym, ap, subst}
+use Rattle.std.proofs.lemmas.Result.{err_from_is_err_and}
+use Rattle.std.specs.Vec.Iter.{into_iter_items}
+use Rattle.ovl_manifest.specs.Layers.{Entries}
 use Rattle.ovl_board.specs.Parcels.{parcel_views}
 use Rattle.ovl_rewrite.specs.Directories.{inodes_seen}
-use Rattle.ovl_rewrite.specs.Passes.{View}
-use Rattle.ovl_rewrite.specs.NewLayers.{IsOf}
-use Rattle.ovl_rewrite.proofs.LayerLemmas.{entries-of}
+use Rattle.ovl_rewrite.specs.Passes.{View, WalksUnder, StopsUnder, entries_under}
+use Rattle.ovl_rewrite.specs.NewLayers.{IsOf, tree_by}
+use Rattle.ovl_rewrite.proofs.LayerLemmas.{told_entries, told-entries, told-whole, told-stops}
 use Rattle.ovl_rewrite.proofs.layers.layer_told.Goals as goal
 
-pub returns-clause-layer : goal.returns-clause-layer
-returns-clause-layer c =
+pub returns-in_err-builder-clause-limit : goal.returns-in_err-builder-clause-limit
+returns-in_err-builder-clause-limit c is new by =
     let views : List View = parcel_views inodes_seen c.args.parcels.items in
-    IfOk-weaker c.layer_of.result _ _ (λ layer h new by. subst (IsOf new) (sym h.0) (entries-of c.args.root views c.in_ok-entries.entries.items c.in_ok-entries.ensures new by).1)
-    c.layer_of.ensures.layer
+    let out = err_from_is_err_and c.from_residual.result c.from_residual.ensures.1 in
+    let told = sym (out.1 ∙ ap Err out.2) ∙ is in
+    let parts = told-entries c.args.root views new by in
+    (told_entries c.args.root views new by, parts.0, parts.1, c.in_err-builder.ensures.limit told (entries_under (tree_by new by.names) (suc by.deepest) []))
 
-pub returns-clause-limit : goal.returns-clause-limit
-returns-clause-limit c out new by =
+pub returns-in_err-builder-2-clause-limit : goal.returns-in_err-builder-2-clause-limit
+returns-in_err-builder-2-clause-limit c is new by =
     let views : List View = parcel_views inodes_seen c.args.parcels.items in
-    let told = entries-of c.args.root views c.in_ok-entries.entries.items c.in_ok-entries.ensures new by in
-    (c.in_ok-entries.entries.items, told.0, told.1, c.layer_of.ensures.limit out)
+    let out = err_from_is_err_and c.from_residual-in_err-builder-2.result c.from_residual-in_err-builder-2.ensures.1 in
+    let told = sym (out.1 ∙ ap Err out.2) ∙ is in
+    let parts = told-entries c.args.root views new by in
+    let given = c.into_iter-rest.ensures.rest in
+    let stops : StopsUnder views (([], c.args.root) ∷ []) =
+    subst (λ (old : Entries). StopsUnder views old) c.in_ok-builder.ensures.entries
+    (subst (λ parcels. StopsUnder (parcel_views inodes_seen parcels) c.in_ok-builder.builder) given (c.in_err-builder-2.ensures.limit told)) in
+    (told_entries c.args.root views new by, parts.0, parts.1, told-stops c.args.root views new by stops)
+
+pub returns-clause-layer : goal.returns-clause-layer
+returns-clause-layer c new by =
+    let views : List View = parcel_views inodes_seen c.args.parcels.items in
+    let after : List View = parcel_views inodes_seen (into_iter_items c.with_under.new.rest) in
+    let given = c.into_iter-rest.ensures.rest in
+    let walks : WalksUnder views after (([], c.args.root) ∷ []) c.in_ok-builder-2.builder =
+    subst (λ (old : Entries). WalksUnder views after old c.in_ok-builder-2.builder) c.in_ok-builder.ensures.entries
+    (subst (λ parcels. WalksUnder (parcel_views inodes_seen parcels) after c.in_ok-builder.builder c.in_ok-builder-2.builder) given c.in_ok-builder-2.ensures.entries) in
+    subst (IsOf new) (sym (c.in_ok-layer.ensures ∙ told-whole c.args.root views new by after c.in_ok-builder-2.builder walks)) (told-entries c.args.root views new by).1
