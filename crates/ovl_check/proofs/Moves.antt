@@ -1,9 +1,10 @@
 -- Findings that are moved from lists to a list, of which none is lost.
-use Rattle.std.proofs.Common.{◌≡◌, List, [], ◌∷◌, ◌++◌, refl, sym, ap, ◌∙◌, subst, append_assoc}
-use Rattle.std.specs.Prelude.{Vec}
+use Rattle.std.proofs.Common.{◌≡◌, true, List, [], ◌∷◌, ◌++◌, length, vec_len, refl, sym, ap, ◌∙◌, subst, append_assoc, arith}
+use Rattle.std.specs.Prelude.{Vec, ◌==◌}
 use Rattle.std.specs.Global.{Global}
 use Rattle.std.specs.List.{flat_map}
 use Rattle.std.specs.List.Sorted.{IsPermutation}
+use Rattle.std.proofs.lemmas.Bool.{eqb-true}
 use Rattle.std.proofs.lemmas.List.{append-nil}
 use Rattle.std.proofs.lemmas.List.Concat.{flat_map-append}
 use Rattle.std.proofs.lemmas.List.Sorted.{IsPermutation-refl, IsPermutation-trans, IsPermutation-append_comm, IsPermutation-append_left, IsPermutation-append_right}
@@ -28,10 +29,22 @@ moved-last all findings left rest finding is last =
     (subst (λ (l : Findings). IsPermutation all (findings ++ l)) last is)
     (swapped findings rest (finding ∷ []))
 
+-- the findings of a last list
+pub left-last : (lists more : List (Vec Finding Global)) (last : Vec Finding Global) → more ≡ lists ++ last ∷ [] → all_left more ≡ all_left lists ++ last.items
+left-last lists more last parts = ap all_left parts ∙ (flat_map-append (λ (left : Vec Finding Global). left.items) lists (last ∷ []) ∙ ap (λ (l : Findings). all_left lists ++ l) (append-nil last.items))
+
+-- a list without findings
+pub none-left : (left : Vec Finding Global) → (vec_len left == 0) ≡ true → left.items ≡ []
+none-left left empty = by left.items (omega (arith, left.ok.0, eqb-true (vec_len left) 0 empty))
+  where
+    by : (l : Findings) → length l ≡ 0 → l ≡ []
+    by [] none = refl
+    by (finding ∷ l) none = absurd (omega (arith, none))
+
 -- some of the last open directory's findings are moved
-module _ (all findings : Findings) (open rest : List (Vec Finding Global)) (last : Vec Finding Global) (is : IsPermutation all (findings ++ all_left open)) (parts : open ≡ rest ++ last ∷ []) where
-  split : all_left open ≡ all_left rest ++ last.items
-  split = ap all_left parts ∙ (flat_map-append (λ (left : Vec Finding Global). left.items) rest (last ∷ []) ∙ ap (λ (l : Findings). all_left rest ++ l) (append-nil last.items))
+module _ (all findings : Findings) (lists rest : List (Vec Finding Global)) (last : Vec Finding Global) (is : IsPermutation all (findings ++ all_left lists)) (parts : lists ≡ rest ++ last ∷ []) where
+  split : all_left lists ≡ all_left rest ++ last.items
+  split = left-last rest lists last parts
 
   pub moved-some : (new left : Findings) → IsPermutation (findings ++ last.items) (new ++ left) → IsPermutation all (new ++ (all_left rest ++ left))
   moved-some new left moved =
@@ -50,11 +63,11 @@ module _ (all findings : Findings) (open rest : List (Vec Finding Global)) (last
       (moved-some new [] (same refl (append-nil new ∙ added) (IsPermutation-append_right findings last.items turned is)))
 
 -- one more directory is opened
-pub opened : (before all findings : Findings) (open more : List (Vec Finding Global)) (found : Findings) (last : Vec Finding Global) → IsPermutation (before ++ all) (findings ++ all_left open) → IsPermutation found last.items → more ≡ open ++ last ∷ []
+pub opened : (before all findings : Findings) (lists more : List (Vec Finding Global)) (found : Findings) (last : Vec Finding Global) → IsPermutation (before ++ all) (findings ++ all_left lists) → IsPermutation found last.items → more ≡ lists ++ last ∷ []
     → IsPermutation (before ++ (all ++ found)) (findings ++ all_left more)
-opened before all findings open more found last is turned parts =
-    let split : all_left more ≡ all_left open ++ last.items = ap all_left parts ∙ (flat_map-append (λ (left : Vec Finding Global). left.items) open (last ∷ []) ∙ ap (λ (l : Findings). all_left open ++ l) (append-nil last.items)) in
-    same (sym (append_assoc before all found)) (ap (λ (l : Findings). findings ++ l) split ∙ sym (append_assoc findings (all_left open) last.items))
-    (IsPermutation-trans ((before ++ all) ++ found) ((findings ++ all_left open) ++ found) ((findings ++ all_left open) ++ last.items)
-    (IsPermutation-append_left found (before ++ all) (findings ++ all_left open) is)
-    (IsPermutation-append_right (findings ++ all_left open) found last.items turned))
+opened before all findings lists more found last is turned parts =
+    let split = left-last lists more last parts in
+    same (sym (append_assoc before all found)) (ap (λ (l : Findings). findings ++ l) split ∙ sym (append_assoc findings (all_left lists) last.items))
+    (IsPermutation-trans ((before ++ all) ++ found) ((findings ++ all_left lists) ++ found) ((findings ++ all_left lists) ++ last.items)
+    (IsPermutation-append_left found (before ++ all) (findings ++ all_left lists) is)
+    (IsPermutation-append_right (findings ++ all_left lists) found last.items turned))

@@ -48,4 +48,4 @@ found_along views = doubles_after [] views ++ flat_map (λ view. view.seen.findi
 
 -- what is left of the findings of open directories
 abbrev pub all_left : List (Vec Finding Global) → List Finding
-all_left open = flat_map (λ left. left.items) open
+all_left lists = flat_map (λ left. left.items) lists

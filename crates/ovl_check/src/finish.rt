@@ -77,16 +77,16 @@ fn push_outputs(
 // Adds those findings in open directories that come before a directory, from the last one opened on, and closes those
 // directories that have none left. The findings of each stand from the last to the first.
 fn push_before(
-    open: &mut Vec<Vec<Finding>>,
+    opened: &mut Vec<Vec<Finding>>,
     directory: &Path,
     findings: &mut Vec<Finding>,
 ) -> Result<(), AllocError>
-    ensures { OnOk result (IsPermutation (findings.old.items ++ all_left open.old.items) (findings.new.items ++ all_left open.new.items)) }
+    ensures { OnOk result (IsPermutation (findings.old.items ++ all_left opened.old.items) (findings.new.items ++ all_left opened.new.items)) }
 {
-    while let Some(mut left) = open.pop() {
+    while let Some(mut left) = opened.pop() {
         move_before(&mut left, directory, findings)?;
         if !left.is_empty() {
-            open.push(left)?;
+            opened.push(left)?;
             return Ok(());
         }
     }
