@@ -1,5 +1,7 @@
 use ovl_inode::{Attrs, Inode, Kind};
-use ovl_manifest::{Layer, LayerFault, Sheet, from_entries, read_layer, read_sheet, write_layer};
+use ovl_manifest::{
+    Layer, LayerBuilder, LayerFault, Sheet, from_entries, read_layer, read_sheet, write_layer,
+};
 use ovl_names::{Name, Path};
 use std::alloc::{AllocError, Global};
 use std::test::Fail;
@@ -341,6 +343,18 @@ fn a_lone_root_is_made_of_its_entry(rt: HostRuntime) -> Result<(), Fail> {
     let entries = layer.entries(rt.alloc())?;
     assert_eq!(rt; entries.len(), 1);
     assert!(rt; entries[0].0.is_empty());
+    Ok(())
+}
+
+#[test]
+fn a_layer_is_built_entry_by_entry(rt: HostRuntime) -> Result<(), Fail> {
+    let alloc = rt.alloc();
+    let root = LayerBuilder::new(alloc, directory(alloc, 493))?;
+    let path = Path::parse(alloc, "/d")?;
+    let layer = root
+        .with_entry(alloc, path.copy(alloc)?, directory(alloc, 493))?
+        .finish()?;
+    assert!(rt; layer.at(&path).is_some());
     Ok(())
 }
 
