@@ -8,8 +8,8 @@ ghost use Rattle.ovl_names.specs.declared.paths.PathFault.TheVariants.{Memory};
 ghost use Rattle.ovl_names.specs.Paths.{child_path, parent_of, path_eq, path_cmp, path_fault, path_refusal, text_parts, parts_between, has_names, depth_limit, text_limit};
 ghost use Rattle.ovl_names.specs.Escapes.{shown_path};
 
-use crate::push_escaped;
 use crate::names::{Name, first_name_fault};
+use crate::push_escaped;
 use std::alloc::{AllocError, AllocFailed, Global};
 use std::cmp::Ordering;
 use std::marker::Model;

@@ -136,7 +136,7 @@ module _ (root : Inode) (views : List View) (new : NewLayer) (by : IsToldBy new 
       let all : List View = views_under tree (suc by.deepest) root_piece in
       let whole : suc by.deepest ≡ suc by.deepest - length root_piece.dir = omega arith in
       stops tree (suc by.deepest) is root_piece [] (walk-under tree (suc by.deepest) is views by.walk ∙ sym (append-nil all)) []
-          (subst IsLayer
-          (ap (λ (n : ℕ). ([], root) ∷ entries_under tree n []) whole
-          ∙ ap (λ (entries : Entries). ([], root) ∷ entries) (sym (append-nil (entries_under tree (suc by.deepest - length root_piece.dir) []))))
-          layer)
+      (subst IsLayer
+      (ap (λ (n : ℕ). ([], root) ∷ entries_under tree n []) whole
+      ∙ ap (λ (entries : Entries). ([], root) ∷ entries) (sym (append-nil (entries_under tree (suc by.deepest - length root_piece.dir) []))))
+      layer)

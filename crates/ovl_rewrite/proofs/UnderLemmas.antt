@@ -201,10 +201,10 @@ module _ (before : List View) (view : View) (later : List View) (first : before 
         let under : Entries = entries_under tree (deepest - length (child_path piece.dir entry.0)) (child_path piece.dir entry.0) in
         let further : Entries = under ++ (entries_among tree deepest piece (drop (i + 1) (tree piece.dir)) ++ more) in
         none further
-            (subst IsLayer (whole tree deepest is piece rest (at tree deepest is piece rest is_under) more ∙ append_assoc mid ((child_path view.piece.dir entry.0, entry.1) ∷ []) further) layer)
+        (subst IsLayer (whole tree deepest is piece rest (at tree deepest is piece rest is_under) more ∙ append_assoc mid ((child_path view.piece.dir entry.0, entry.1) ∷ []) further) layer)
 
     pub stops-directory : is_directory entry.1 ≡ true → StopsUnder after (mid ++ (child_path view.piece.dir entry.0, entry.1) ∷ []) → StopsUnder before old
     stops-directory directory stops tree deepest is piece rest is_under more layer =
         let a = at tree deepest is piece rest is_under in
         stops tree deepest is (piece_in piece entry) (views_among tree deepest piece (drop (i + 1) (tree piece.dir)) ++ rest) (left-first tree deepest piece rest a directory)
-            (entries_among tree deepest piece (drop (i + 1) (tree piece.dir)) ++ more) (subst IsLayer (whole tree deepest is piece rest a more) layer)
+        (entries_among tree deepest piece (drop (i + 1) (tree piece.dir)) ++ more) (subst IsLayer (whole tree deepest is piece rest a more) layer)

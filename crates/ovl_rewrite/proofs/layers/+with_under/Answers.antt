@@ -56,9 +56,9 @@ returns-in_err-builder-clause-limit t c is =
     let left : List NamedInode = into_iter_items c.next-in-loop-name.new.self in
     let given = c.loop-name.invariant.2 ∙ ap (λ (es : List NamedInode). done ++ es) c.in-Some-2.ensures.steps.0 in
     stops-next (parcel_views inodes_seen (into_iter_items c.args.rest.now)) (parcel_view inodes_seen c.in-Some.field-0) (parcel_views inodes_seen (into_iter_items c.next.new.self))
-        (ap (parcel_views inodes_seen) c.in-Some.ensures.items) (parcel_views inodes_seen (into_iter_items c.loop-name.rest)) done left entry
-        (sym c.into_iter-name-iterator.ensures.into_iter_gives.0 ∙ given) c.args.builder c.loop-name.builder c.loop-name.invariant.1
-        (λ more layer. c.in_err-builder.ensures.limit told more (subst (λ (path : PathNames). IsLayer (c.loop-name.builder ++ (path, entry.1) ∷ more)) (sym c.in_ok-path.ensures) layer))
+    (ap (parcel_views inodes_seen) c.in-Some.ensures.items) (parcel_views inodes_seen (into_iter_items c.loop-name.rest)) done left entry
+    (sym c.into_iter-name-iterator.ensures.into_iter_gives.0 ∙ given) c.args.builder c.loop-name.builder c.loop-name.invariant.1
+    (λ more layer. c.in_err-builder.ensures.limit told more (subst (λ (path : PathNames). IsLayer (c.loop-name.builder ++ (path, entry.1) ∷ more)) (sym c.in_ok-path.ensures) layer))
 
 pub returns-in_err-builder-2-clause-limit : goal.returns-in_err-builder-2-clause-limit
 returns-in_err-builder-2-clause-limit t c is =
@@ -69,10 +69,10 @@ returns-in_err-builder-2-clause-limit t c is =
     let left : List NamedInode = into_iter_items c.next-in-loop-name.new.self in
     let given = c.loop-name.invariant.2 ∙ ap (λ (es : List NamedInode). done ++ es) c.in-Some-2.ensures.steps.0 in
     stops-below (parcel_views inodes_seen (into_iter_items c.args.rest.now)) (parcel_view inodes_seen c.in-Some.field-0) (parcel_views inodes_seen (into_iter_items c.next.new.self))
-        (ap (parcel_views inodes_seen) c.in-Some.ensures.items) (parcel_views inodes_seen (into_iter_items c.loop-name.rest)) done left entry
-        (sym c.into_iter-name-iterator.ensures.into_iter_gives.0 ∙ given) c.args.builder c.loop-name.builder c.loop-name.invariant.1
-        c.in_ok-builder.builder (c.in_ok-builder.ensures.entries ∙ ap (λ path. c.loop-name.builder ++ (path, entry.1) ∷ []) c.in_ok-path.ensures) (sym c.if-is_above.ensures)
-        (c.in_err-builder-2.ensures.limit told)
+    (ap (parcel_views inodes_seen) c.in-Some.ensures.items) (parcel_views inodes_seen (into_iter_items c.loop-name.rest)) done left entry
+    (sym c.into_iter-name-iterator.ensures.into_iter_gives.0 ∙ given) c.args.builder c.loop-name.builder c.loop-name.invariant.1
+    c.in_ok-builder.builder (c.in_ok-builder.ensures.entries ∙ ap (λ path. c.loop-name.builder ++ (path, entry.1) ∷ []) c.in_ok-path.ensures) (sym c.if-is_above.ensures)
+    (c.in_err-builder-2.ensures.limit told)
 
 pub returns-clause-entries : goal.returns-clause-entries
 returns-clause-entries t c =

@@ -20,7 +20,7 @@ returns c =
     (λ j. text j ++ (codes "/" ++ escaped (c.as_str-2.ensures.value j))) ∙ (sym (shown-child directory name) ∙ ap shown_path (sym path)) in
     IfOk-weaker c.push_name.result _ _
     (λ _ added.
-        added
-        ∙ (ap (λ (l : List ℕ). l ++ tail) c.in_ok-push_str.ensures.bytes
-        ∙ (append_assoc report c.as_str.result.now tail ∙ ap (λ (l : List ℕ). report ++ l) whole)))
+    added
+    ∙ (ap (λ (l : List ℕ). l ++ tail) c.in_ok-push_str.ensures.bytes
+    ∙ (append_assoc report c.as_str.result.now tail ∙ ap (λ (l : List ℕ). report ++ l) whole)))
     c.push_name.ensures
