@@ -1,6 +1,6 @@
 -- What one more pair makes of a layer that is built.
-use Rattle.std.proofs.Common.{◌≡◌, ◌∙◌, ◌+◌, ◌<◌, ◌≤◌, ℕ, [], ◌∷◌, ◌++◌, true, false, Ok, Err, ap, sym, subst, length, length-append, arith, leb-true}
-use Rattle.std.specs.Prelude.{Result, nat_lt, if◌then◌else◌}
+use Rattle.std.proofs.Common.{◌≡◌, ◌∙◌, ◌<◌, ◌≤◌, [], ◌∷◌, ◌++◌, true, false, Ok, Err, ap, length, length-append, arith, leb-true}
+use Rattle.std.specs.Prelude.{nat_lt, if◌then◌else◌}
 use Rattle.std.specs.List.{list_all}
 use Rattle.std.proofs.lemmas.Bool.Decides.{nat_tests}
 use Rattle.ovl_names.proofs.Ascending.{both, list_all-front}
@@ -8,7 +8,6 @@ use Rattle.ovl_inode.specs.Sound.{is_sound_inode}
 use Rattle.ovl_manifest.specs.Layers.{Entry, Entries, IsLayer, is_within_limits, entry_limit}
 use Rattle.ovl_manifest.specs.Manifest.{entry_after, stated_pair}
 use Rattle.ovl_manifest.specs.Builders.{pair_after}
-use Rattle.ovl_manifest.specs.declared.faults.LayerFault.{LayerFault}
 use Rattle.ovl_manifest.specs.declared.faults.LayerFault.TheVariants.{Count}
 use Rattle.ovl_manifest.proofs.BackLemmas.{next-taken, stated-own}
 

@@ -1,17 +1,17 @@
 -- From the parcels to the new layer.
 use Rattle.std.proofs.Common.{◌≡◌, ℕ, suc, ◌+◌, ◌-◌, ◌<◌, Bool, true, false, cond, Option, Some, None, List, [], ◌∷◌, ◌++◌, length, map, get_or, drop, refl, sym, ap, ◌∙◌, subst, append_assoc, arith}
-use Rattle.std.specs.Prelude.{Vec, Result, Ok, Err, nat_lt}
+use Rattle.std.specs.Prelude.{Vec, Result, Ok, Err}
 use Rattle.std.specs.Global.{Global}
 use Rattle.std.proofs.lemmas.List.{append-nil, drop-map, drop_more}
 use Rattle.ovl_names.specs.Order.{ascends}
 use Rattle.ovl_inode.specs.declared.inodes.Inode.{Inode}
-use Rattle.ovl_manifest.specs.Layers.{Entry, Entries, entry_cmp, entry_limit, IsLayer}
-use Rattle.ovl_manifest.specs.Manifest.{entry_fault, entry_after, entries_after, is_miscounted, is_statable, stated_pair, layer_of_pairs, IsFaultOf}
+use Rattle.ovl_manifest.specs.Layers.{Entry, Entries, entry_cmp, IsLayer}
+use Rattle.ovl_manifest.specs.Manifest.{entry_fault, entries_after, is_miscounted, is_statable, stated_pair, layer_of_pairs, IsFaultOf}
 use Rattle.ovl_manifest.specs.declared.faults.LayerFault.{LayerFault}
 use Rattle.ovl_manifest.specs.declared.faults.LayerFault.TheVariants.{NotJson, Shape, Version, Count, Entry as WrongEntry, Order, NoParent, Root, Escaped, Memory}
 use Rattle.ovl_manifest.specs.Builders.{pair_after}
 use Rattle.ovl_manifest.proofs.BackLemmas.{pairs-back}
-use Rattle.ovl_manifest.proofs.BuilderLemmas.{pair-room, pair-taken}
+use Rattle.ovl_manifest.proofs.BuilderLemmas.{pair-taken}
 use Rattle.ovl_board.specs.declared.works.Parcel.{Parcel}
 use Rattle.ovl_board.specs.Parcels.{parcel_view, parcel_views, IsPlain}
 use Rattle.ovl_board.proofs.WalkLemmas.{IsPlain-from_preorder}
@@ -68,34 +68,10 @@ told-memory layer (Escaped n) told = let bad : Ok layer ≡ Err (Escaped n) = to
 pub layer-refused : (entries : Entries) (fault : LayerFault) → IsLayer entries → IsFaultOf (layer_of_pairs entries) fault → fault ≡ Memory
 layer-refused entries fault is told = told-memory entries fault (subst (λ (r : Result Entries LayerFault). IsFaultOf r fault) (pairs-back entries is) told)
 
--- ---- an entry that is taken stands behind the others, and one that is a layer's next is taken
-
-pub taken-is : (before : Entries) (pair : Entry) (entries : Entries) → entry_after before (stated_pair pair) ≡ Ok entries → entries ≡ before ++ pair ∷ []
-taken-is before pair entries e = by (is_statable pair) (entry_fault before pair) refl e
-  where
-    after : Option LayerFault → Result Entries LayerFault
-    after o = elim o as (λ _. Result Entries LayerFault) [ Some found ↦ Err found | None ↦ Ok (before ++ pair ∷ []) ]
-
-    by : (b : Bool) (fault : Option LayerFault) → entry_fault before pair ≡ fault → entry_after before (cond b (Some pair) None) ≡ Ok entries → entries ≡ before ++ pair ∷ []
-    by false fault f e = let bad : Err (WrongEntry (length before)) ≡ Ok entries = e in cc
-    by true (Some fault) f e = let bad : Err fault ≡ Ok entries = sym (ap after f) ∙ e in cc
-    by true None f e = let same : Ok (before ++ pair ∷ []) ≡ Ok entries = sym (ap after f) ∙ e in cc
-
-pub pair-is : (before : Entries) (pair : Entry) (entries : Entries) → pair_after before pair ≡ Ok entries → entries ≡ before ++ pair ∷ []
-pair-is before pair entries e = by (nat_lt (length before) entry_limit) e
-  where
-    by : (b : Bool) → cond b (entry_after before (stated_pair pair)) (Err Count) ≡ Ok entries → entries ≡ before ++ pair ∷ []
-    by true e = taken-is before pair entries e
-    by false e = let bad : Err Count ≡ Ok entries = e in cc
+-- ---- an entry that is a layer's next is taken
 
 pub next-refused : (before : Entries) (pair : Entry) (more : Entries) (fault : LayerFault) → IsLayer (before ++ pair ∷ more) → IsFaultOf (pair_after before pair) fault → fault ≡ Memory
 next-refused before pair more fault is told = told-memory (before ++ pair ∷ []) fault (subst (λ (r : Result Entries LayerFault). IsFaultOf r fault) (pair-taken before pair more is) told)
-
-pub root-refused : (root : Inode) (more : Entries) (fault : LayerFault) → IsLayer (([], root) ∷ more) → entry_after [] (stated_pair ([], root)) ≡ Err fault → ⊥
-root-refused root more fault is refused =
-    let room : 0 < entry_limit = omega arith in
-    let fails : Result Entries LayerFault → Bool = λ r. elim r as (λ _. Bool) [ Err found ↦ true | Ok entries ↦ false ] in
-    let bad : true ≡ false = ap fails (sym refused ∙ (sym (pair-room [] ([], root) room) ∙ pair-taken [] ([], root) more is)) in absurd (cc)
 
 -- ---- the entries that the parcels tell
 

@@ -1,4 +1,4 @@
-use Rattle.std.proofs.Common.{rules, tests, ◌++◌, ◌∙◌, List, ℕ, sym, ap, string_bytes}
+use Rattle.std.proofs.Common.{rules, tests, ◌∙◌, sym, ap}
 use Rattle.std.proofs.lemmas.Iterator.{YieldsList-from_slice}
 use Rattle.std.proofs.lemmas.Iterator.Search.{all_from_yields_List}
 use Rattle.std.specs.List.{list_all}

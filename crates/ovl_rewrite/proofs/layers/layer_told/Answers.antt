@@ -1,4 +1,4 @@
-use Rattle.std.proofs.Common.{◌≡◌, ◌∙◌, suc, List, [], ◌∷◌, Err, sym, ap, subst}
+use Rattle.std.proofs.Common.{◌∙◌, suc, List, [], ◌∷◌, Err, sym, ap, subst}
 use Rattle.std.proofs.lemmas.Result.{err_from_is_err_and}
 use Rattle.std.specs.Vec.Iter.{into_iter_items}
 use Rattle.ovl_manifest.specs.Layers.{Entries}

@@ -1,6 +1,6 @@
 use Rattle.std.proofs.Common.{◌≡◌}
 use Rattle.ovl_rewrite.specs.declared.faults.RewriteFault.TheVariants.{LimitOut}
-use Rattle.ovl_rewrite.proofs.LayerLemmas.{pair-is, next-refused}
+use Rattle.ovl_rewrite.proofs.LayerLemmas.{next-refused}
 use Rattle.ovl_rewrite.proofs.layers.with_entry.Goals as goal
 
 pub returns-in-Err-clause-limit : goal.returns-in-Err-clause-limit

@@ -1,4 +1,4 @@
-use Rattle.std.proofs.Common.{◌≡◌, ◌<◌, ◌∙◌, Result, Err, sym, ap, subst, arith, length}
+use Rattle.std.proofs.Common.{◌<◌, ◌∙◌, Result, Err, sym, ap, subst, arith, length}
 use Rattle.std.proofs.lemmas.Result.{err_from_is_err_and}
 use Rattle.ovl_manifest.specs.Layers.{Entry, Entries, entry_limit}
 use Rattle.ovl_manifest.specs.Manifest.{entry_after, IsFaultOf}
