@@ -16,7 +16,7 @@ pub mod WayLemmas
 pub mod StatedLemmas
 pub mod BackLemmas
 pub mod BuilderLemmas
-pub mod SortedLemmas
+pub mod CompactLemmas
 pub mod SheetLemmas
 pub mod SheetPassLemmas
 pub mod AfterLemmas

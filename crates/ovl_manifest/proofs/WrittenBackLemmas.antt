@@ -3,9 +3,15 @@ use Rattle.std.proofs.Common.{◌≡◌, ◌∙◌, ℕ, ◌≤◌, ◌<◌, ◌
 use Rattle.std.specs.Prelude.{option_and_then, nat_le}
 use Rattle.std.specs.Option.{option_map}
 use Rattle.std.specs.List.{list_all}
-use Rattle.std.specs.Ordering.{is_lt}
+use Rattle.std.specs.Ordering.{is_lt, nat_cmp, match_ordering}
+use Rattle.std.specs.Cmp.Lexicographic.{slice_cmp}
+use Rattle.std.specs.declared.cmp.Ordering.{Ordering}
+use Rattle.std.specs.declared.cmp.Ordering.TheVariants.{Less, Equal, Greater}
 use Rattle.std.specs.Cmp.Lexicographic.{nat_list_cmp_total}
+use Rattle.json.specs.Print.{IsNumber}
 use Rattle.json.specs.Tree as tree
+use Rattle.json.specs.Tree.{HasNumbers, ItemsHaveNumbers, MembersHaveNumbers}
+use Rattle.json.proofs.Printed.Decimals.{IsNumber-decimal, IsNumber-signed_decimal}
 use Rattle.serde_json.specs.Data.{Data, number, unsigned, object, array, string, boolean, null, Items, no_items, item, Members, no_members, member, put, depth, items_depth, members_depth}
 use Rattle.serde_json.specs.Find.{of_integer}
 use Rattle.serde_json.specs.Read.{number_of, of_json, of_items, of_members}
@@ -37,7 +43,30 @@ seconds_back : (z : ℤ) → is_seconds z ≡ true → number_of (number_text (o
 seconds_back (pos n) is = number_of-decimal n (omega (arith, ltb-true n (2 ^ 63) is))
 seconds_back (negsuc n) is = number_of-negative n (ltb-true n (2 ^ 63) is)
 
+word_number : (n : ℕ) → is_word n ≡ true → IsNumber (decimal n)
+word_number n is = IsNumber-decimal n (omega (arith, ltb-true n (2 ^ 32) is))
+
+size_number : (n : ℕ) → nat_le n size_limit ≡ true → IsNumber (decimal n)
+size_number n small = IsNumber-decimal n (omega (arith, leb-true n size_limit small))
+
+seconds_number : (z : ℤ) → is_seconds z ≡ true → IsNumber (number_text (of_integer z))
+seconds_number (pos n) is = IsNumber-decimal n (omega (arith, ltb-true n (2 ^ 63) is))
+seconds_number (negsuc n) is = IsNumber-signed_decimal (negsuc n) (ltb-true n (2 ^ 63) is)
+
 -- ---- attributes
+
+put-numbers : (k : List ℕ) (d : Data) (ms : Members) → HasNumbers (outline d) → MembersHaveNumbers (members_outline ms) → MembersHaveNumbers (members_outline (put k d ms))
+put-numbers k d no_members own others = (own, others)
+put-numbers k d (member l e ms) own others = by (slice_cmp nat_cmp k l) (put-numbers k d ms own others.1)
+  where
+    by : (o : Ordering) → MembersHaveNumbers (members_outline (put k d ms)) → MembersHaveNumbers (members_outline (match_ordering o (member k d (member l e ms)) (member l d ms) (member l e (put k d ms))))
+    by Less later = (own, others)
+    by Equal later = (own, others.1)
+    by Greater later = (others.0, later)
+
+attribute_numbers : (attrs : Attributes) → MembersHaveNumbers (members_outline (attribute_members attrs))
+attribute_numbers [] = tt
+attribute_numbers (attr ∷ attrs) = put-numbers attr.0 (hexadecimal attr.1) (attribute_members attrs) tt (attribute_numbers attrs)
 
 all-behind : {X : Type 0} (test : X → Bool) (done : List X) (x : X) (left : List X) → list_all test (done ++ x ∷ left) ≡ true → test x ≡ true
 all-behind test [] x left all = (both {a = test x} {b = list_all test left} all).0
@@ -111,6 +140,44 @@ module _ (path : PathNames) (mode uid gid : ℕ) (mtime : ℤ) (attrs : Attribut
       let small = both {a = nat_le size size_limit} {b = has_sound_blob size (Some blob) (has_metacopy (of_kind kind))} (facts_of (of_kind kind) sound).kind in
       rw (gid_read kind sound, mode_read kind sound, mtime_read kind sound, natural_back size size_limit (leb-true size size_limit small.0) (omega arith), uid_read kind sound, attrs_read kind sound) refl
 
+  -- its numbers are numbers of JSON
+  module _ (kind : Kind) (sound : is_sound_inode (of_kind kind) ≡ true) where
+    mode_number : IsNumber (decimal mode)
+    mode_number = IsNumber-decimal mode (omega (arith, leb-true mode mode_limit (facts_of (of_kind kind) sound).mode))
+
+    uid_number : IsNumber (decimal uid)
+    uid_number = word_number uid (facts_of (of_kind kind) sound).uid
+
+    gid_number : IsNumber (decimal gid)
+    gid_number = word_number gid (facts_of (of_kind kind) sound).gid
+
+    mtime_number : IsNumber (number_text (of_integer mtime))
+    mtime_number = seconds_number mtime (facts_of (of_kind kind) sound).mtime
+
+  kind_numbers : (kind : Kind) → is_sound_inode (of_kind kind) ≡ true → HasNumbers (outline (entry_value (path, of_kind kind)))
+  kind_numbers Dir sound = (gid_number Dir sound, (tt, (mode_number Dir sound, (mtime_number Dir sound, (tt, (uid_number Dir sound, (attribute_numbers attrs, tt)))))))
+  kind_numbers Fifo sound = (gid_number Fifo sound, (tt, (mode_number Fifo sound, (mtime_number Fifo sound, (tt, (uid_number Fifo sound, (attribute_numbers attrs, tt)))))))
+  kind_numbers Socket sound = (gid_number Socket sound, (tt, (mode_number Socket sound, (mtime_number Socket sound, (tt, (uid_number Socket sound, (attribute_numbers attrs, tt)))))))
+  kind_numbers (Symlink target) sound =
+      let kind = Symlink target in
+      (gid_number kind sound, (tt, (mode_number kind sound, (mtime_number kind sound, (tt, (tt, (uid_number kind sound, (attribute_numbers attrs, tt))))))))
+  kind_numbers (Char major minor) sound =
+      let kind = Char major minor in
+      let words = both {a = is_word major} {b = is_word minor} (facts_of (of_kind kind) sound).kind in
+      (gid_number kind sound, (tt, (word_number major words.0, (word_number minor words.1, (mode_number kind sound, (mtime_number kind sound, (tt, (uid_number kind sound, (attribute_numbers attrs, tt)))))))))
+  kind_numbers (Block major minor) sound =
+      let kind = Block major minor in
+      let words = both {a = is_word major} {b = is_word minor} (facts_of (of_kind kind) sound).kind in
+      (gid_number kind sound, (tt, (word_number major words.0, (word_number minor words.1, (mode_number kind sound, (mtime_number kind sound, (tt, (uid_number kind sound, (attribute_numbers attrs, tt)))))))))
+  kind_numbers (File size None) sound =
+      let kind = File size None in
+      let small = both {a = nat_le size size_limit} {b = has_sound_blob size None (has_metacopy (of_kind kind))} (facts_of (of_kind kind) sound).kind in
+      (gid_number kind sound, (tt, (mode_number kind sound, (mtime_number kind sound, (tt, (size_number size small.0, (uid_number kind sound, (attribute_numbers attrs, tt))))))))
+  kind_numbers (File size (Some blob)) sound =
+      let kind = File size (Some blob) in
+      let small = both {a = nat_le size size_limit} {b = has_sound_blob size (Some blob) (has_metacopy (of_kind kind))} (facts_of (of_kind kind) sound).kind in
+      (tt, (gid_number kind sound, (tt, (mode_number kind sound, (mtime_number kind sound, (tt, (size_number size small.0, (uid_number kind sound, (attribute_numbers attrs, tt)))))))))
+
 entries_back : (entries : Entries) → list_all (λ entry. is_sound_inode entry.1) entries ≡ true → of_items (items_outline (entry_items entries)) ≡ Some (entry_items entries)
 entries_back [] sound = refl
 entries_back (entry ∷ entries) sound =
@@ -119,7 +186,16 @@ entries_back (entry ∷ entries) sound =
     ap (option_and_then (λ d. option_map (item d) (of_items (items_outline (entry_items entries))))) own
     ∙ ap (option_map (item (entry_value entry))) (entries_back entries parts.1)
 
+entries_numbers : (entries : Entries) → list_all (λ entry. is_sound_inode entry.1) entries ≡ true → ItemsHaveNumbers (items_outline (entry_items entries))
+entries_numbers [] sound = tt
+entries_numbers (entry ∷ entries) sound =
+    let parts = both {a = is_sound_inode entry.1} {b = list_all (λ entry. is_sound_inode entry.1) entries} sound in
+    (kind_numbers entry.0 entry.1.mode entry.1.uid entry.1.gid entry.1.mtime entry.1.attrs entry.1.kind parts.0, entries_numbers entries parts.1)
+
 -- ---- layers
+
+pub layer_numbers : (layer : Entries) → IsLayer layer → HasNumbers (outline (layer_value layer))
+layer_numbers layer is = (entries_numbers layer is.sound, (IsNumber-decimal 1 (omega arith), tt))
 
 pub layer_states : (layer : Entries) → IsLayer layer → of_json (outline (layer_value layer)) ≡ Some (layer_value layer)
 layer_states layer is =

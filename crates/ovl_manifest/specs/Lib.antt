@@ -10,5 +10,5 @@ pub mod Builders
 pub mod Sheets
 pub mod SheetPasses
 pub mod SheetDrafts
-pub mod Sorted
+pub mod Compact
 pub mod Tokens

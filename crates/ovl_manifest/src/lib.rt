@@ -2,6 +2,9 @@
 #![tactic(auto)]
 
 mod builders;
+mod compact_entries;
+mod compact_layers;
+mod compact_texts;
 mod drafts;
 mod entries;
 mod faults;
@@ -9,9 +12,6 @@ mod fields;
 mod reading;
 mod sheet_drafts;
 mod sheets;
-mod sorted_entries;
-mod sorted_layers;
-mod sorted_members;
 mod text_paths;
 mod trees;
 mod writing;

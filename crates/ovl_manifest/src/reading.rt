@@ -3,11 +3,11 @@ ghost use Rattle.serde_json.specs.View.{view, items_view};
 ghost use Rattle.ovl_manifest.specs.Layers.{entry_limit};
 ghost use Rattle.ovl_manifest.specs.Manifest.{entries_after, stated_entries, layer_of_value, read_layer as layer_stated, IsFaultOf};
 
+use crate::compact_layers::read_compact;
 use crate::entries::{ENTRY_LIMIT, add, start};
 use crate::faults::LayerFault;
 use crate::fields::{is_made_of, read_entry};
 use crate::sheets::Sheet;
-use crate::sorted_layers::read_sorted;
 use crate::trees::Layer;
 use serde_json::{Category, Value};
 use std::alloc::Global;
@@ -27,14 +27,14 @@ pub fn read_layer(alloc: Global, bytes: &[u8]) -> Result<Layer, LayerFault>
     }
 }
 
-/// The sheet of the layer that the bytes of a manifest state, refused as [`read_layer`] refuses it. A manifest whose
-/// members stand in the byte order of their names is read at once; others by way of a value.
+/// The sheet of the layer that the bytes of a manifest state, refused as [`read_layer`] refuses it. A manifest as
+/// [`write_layer`](crate::write_layer) writes it is read at once; others by way of a value.
 pub fn read_sheet(alloc: Global, bytes: &[u8]) -> Result<Sheet, LayerFault>
     ensures { MatchResult result
         (λ sheet. layer_stated bytes.now ≡ Ok sheet)
         (λ fault. IsFaultOf (layer_stated bytes.now) fault) }
 {
-    if let Some(sheet) = read_sorted(alloc, bytes) {
+    if let Some(sheet) = read_compact(alloc, bytes) {
         return Ok(sheet);
     }
     let layer = read_layer(alloc, bytes)?;

@@ -1,0 +1,55 @@
+use Rattle.std.proofs.Common.{◌≡◌, ◌∙◌, ◌++◌, List, ℕ, ℤ, w64, SFits, sym, ap, subst, rules}
+use Rattle.std.proofs.lemmas.Int.{to_z-of_z}
+use Rattle.std.specs.Prelude.{codes, decimal}
+use Rattle.std.specs.Fmt.{signed_decimal}
+use Rattle.json.specs.Print.{quoted}
+use Rattle.serde_json.specs.Data.{object}
+use Rattle.serde_json.specs.Written.{number_text, compact_text}
+use Rattle.serde_json.specs.Find.{of_integer}
+use Rattle.ovl_names.specs.Paths.{path_text}
+use Rattle.ovl_inode.specs.Kinds.{kind_word}
+use Rattle.ovl_manifest.specs.Text.{attribute_members, entry_value}
+use Rattle.ovl_manifest.specs.Compact.{group_text, device_text, contents_text, blob_of_kind, device_of_kind}
+use Rattle.ovl_manifest.proofs.TokenLemmas.{seconds_text}
+use Rattle.ovl_manifest.proofs.CompactLemmas.{in_turn, entry_text}
+use Rattle.ovl_manifest.proofs.compact_entries.read_entry.Goals as goal
+
+-- piece after piece
+behind : (piece : List ℕ) {all rest more : List ℕ} → all ≡ piece ++ rest → rest ≡ more → all ≡ piece ++ more
+behind piece first next = first ∙ ap (λ (t : List ℕ). piece ++ t) next
+
+pub returns-then-sound-clause-text : goal.returns-then-sound-clause-text
+returns-then-sound-clause-text c = λ path spelled.
+    let blob = c.in_ok-group.group.0 in
+    let gid = c.in_ok-group.group.1 in
+    let word : List ℕ = c.in_ok-word.word.now in
+    let device = c.in_ok-device.device in
+    let mode = c.in_ok-mode.mode in
+    let seconds : ℤ = c.in_ok-mtime.mtime in
+    let text : List ℕ = c.in_ok-path.path.now in
+    let kind = c.in_ok-kind.kind in
+    let uid = c.in_ok-uid.uid in
+    let attrs = c.in_ok-attrs.attrs in
+    let rest : List ℕ = c.take-7.new.self in
+    let taken : c.args.rest.now ≡ in_turn blob gid word device mode (signed_decimal seconds) text kind uid attrs rest =
+    behind (group_text blob gid) c.in_ok-group.ensures
+    (behind (codes ",\"kind\":") c.in_ok-take.ensures
+    (behind (quoted word) c.in_ok-word.ensures
+    (behind (device_text device) c.in_ok-device.ensures
+    (behind (codes ",\"mode\":") c.in_ok-take-2.ensures
+    (behind (decimal mode) c.in_ok-mode.ensures.text
+    (behind (codes ",\"mtime\":") c.in_ok-take-3.ensures
+    (behind (signed_decimal seconds) c.in_ok-mtime.ensures
+    (behind (codes ",\"path\":") c.in_ok-take-4.ensures
+    (behind (quoted text) c.in_ok-path.ensures
+    (behind (contents_text kind) c.in_ok-kind.ensures.contents
+    (behind (codes ",\"uid\":") c.in_ok-take-5.ensures
+    (behind (decimal uid) c.in_ok-uid.ensures.text
+    (behind (codes ",\"xattrs\":") c.in_ok-take-6.ensures
+    (behind (compact_text (object (attribute_members attrs))) c.in_ok-attrs.ensures c.in_ok-take-7.ensures)))))))))))))) in
+    let is = c.in_ok-kind.ensures.kind in
+    let own : in_turn blob gid word device mode (signed_decimal seconds) text kind uid attrs rest ≡ in_turn (blob_of_kind kind) gid (kind_word kind) (device_of_kind kind) mode (number_text (of_integer seconds)) (path_text path) kind uid attrs rest =
+    λ j. in_turn (sym is.same_blob j) gid (sym is.same_word j) (sym is.same_device j) mode (sym (seconds_text seconds) j) (sym spelled j) kind uid attrs rest in
+    let whole = taken ∙ (own ∙ entry_text path kind mode uid gid seconds attrs rest) in
+    let fits : SFits w64 seconds = search rules in
+    subst (λ (mtime : ℤ). c.args.rest.now ≡ compact_text (entry_value (path, record { kind = kind; mode = mode; uid = uid; gid = gid; mtime = mtime; attrs = attrs })) ++ rest) (sym (to_z-of_z w64 seconds fits)) whole

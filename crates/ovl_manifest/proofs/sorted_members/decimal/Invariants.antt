@@ -1,6 +1,0 @@
-use Rattle.std.proofs.Common.{◌≡◌, ◌≤◌, length, take}
-use Rattle.std.specs.Str.Parse.{AllDigits, digits_value}
-use Rattle.ovl_manifest.proofs.sorted_members.decimal.Given as goal
-
-abbrev pub invariant-loop-byte : goal.invariant-loop-byte
-invariant-loop-byte l = AllDigits 10 (take l.byte-index l.digits) × (l.value ≡ digits_value 10 (take l.byte-index l.digits)) × (length l.digits ≤ 19)

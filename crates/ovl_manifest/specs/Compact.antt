@@ -1,0 +1,62 @@
+-- The text of a layer as it is written, piece by piece, for private clauses.
+use Rattle.std.specs.Prelude.{◌≡◌, ℕ, Bool, true, Option, Some, None, List, [], ◌∷◌, ◌++◌, codes, decimal}
+use Rattle.hex.specs.Hex.{encode_lower}
+use Rattle.json.specs.Print.{quoted}
+use Rattle.serde_json.specs.Written.{comma_if, compact_text}
+use Rattle.ovl_inode.specs.declared.digests.Digest.{Digest}
+use Rattle.ovl_inode.specs.declared.inodes.Kind.{Kind}
+use Rattle.ovl_inode.specs.declared.inodes.Kind.TheVariants.{File, Symlink, Char, Block}
+use Rattle.ovl_inode.specs.Attributes.{Attributes}
+use Rattle.ovl_inode.specs.Kinds.{kind_word}
+use Rattle.ovl_manifest.specs.Layers.{Entries}
+use Rattle.ovl_manifest.specs.Text.{entry_value}
+
+-- how an entry begins: its blob, if it has one, and its group
+abbrev pub group_text : Option Digest → ℕ → List ℕ
+group_text None gid = codes "{\"gid\":" ++ decimal gid
+group_text (Some blob) gid = codes "{\"blob\":" ++ (quoted (encode_lower blob) ++ (codes ",\"gid\":" ++ decimal gid))
+
+-- the members that a kind has between `kind` and `mode`
+abbrev pub device_text : Option (ℕ × ℕ) → List ℕ
+device_text None = []
+device_text (Some numbers) = codes ",\"major\":" ++ (decimal numbers.0 ++ (codes ",\"minor\":" ++ decimal numbers.1))
+
+-- the members that a kind has between `path` and `uid`
+abbrev pub contents_text : Kind → List ℕ
+contents_text (File size blob) = codes ",\"size\":" ++ decimal size
+contents_text (Symlink target) = codes ",\"target\":" ++ quoted target
+contents_text _ = []
+
+abbrev pub blob_of_kind : Kind → Option Digest
+blob_of_kind (File size blob) = blob
+blob_of_kind _ = None
+
+abbrev pub device_of_kind : Kind → Option (ℕ × ℕ)
+device_of_kind (Char major minor) = Some (major, minor)
+device_of_kind (Block major minor) = Some (major, minor)
+device_of_kind _ = None
+
+-- the kind has this word, blob and numbers
+pub record IsKindOf (word : List ℕ) (blob : Option Digest) (device : Option (ℕ × ℕ)) (kind : Kind) : Type 0 where
+  pub same_word : kind_word kind ≡ word
+  pub same_blob : blob_of_kind kind ≡ blob
+  pub same_device : device_of_kind kind ≡ device
+
+-- an attribute, and attributes one after another, the first behind a comma if others come `before`
+abbrev pub attribute_text : List ℕ × List ℕ → List ℕ
+attribute_text attr = quoted attr.0 ++ 58 ∷ quoted (encode_lower attr.1)
+
+abbrev pub attributes_text : Bool → Attributes → List ℕ
+attributes_text before [] = []
+attributes_text before (attr ∷ attrs) = comma_if before ++ (attribute_text attr ++ attributes_text true attrs)
+
+-- the text begins with an attribute, which is put behind the others
+pub record TakesAttribute (text : List ℕ) (attrs : Attributes) (rest : List ℕ) (more : Attributes) : Type 0 where
+  pub attr : List ℕ × List ℕ
+  pub first : text ≡ attribute_text attr ++ rest
+  pub behind : more ≡ attrs ++ attr ∷ []
+
+-- the same of entries
+abbrev pub entries_text : Bool → Entries → List ℕ
+entries_text before [] = []
+entries_text before (entry ∷ entries) = comma_if before ++ (compact_text (entry_value entry) ++ entries_text true entries)

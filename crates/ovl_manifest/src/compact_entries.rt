@@ -1,0 +1,160 @@
+//! Entries as their texts are written: members in the order of their names, without space.
+ghost use Rattle.std.specs.Prelude.{◌≡◌, true, IsTrue, IfSome, ◌++◌};
+ghost use Rattle.serde_json.specs.Data.{object};
+ghost use Rattle.serde_json.specs.Written.{compact_text};
+ghost use Rattle.ovl_names.specs.Paths.{PathNames, path_text};
+ghost use Rattle.ovl_inode.specs.Attributes.{all_before};
+ghost use Rattle.ovl_inode.specs.Sound.{is_sound_inode};
+ghost use Rattle.ovl_manifest.specs.Text.{attribute_members, entry_value};
+ghost use Rattle.ovl_manifest.specs.Compact.{group_text, device_text, contents_text, IsKindOf, TakesAttribute};
+
+use crate::compact_texts::Rest;
+use crate::fields::put_digits;
+use ovl_inode::{Attrs, Digest, Inode, Kind, MODE_LIMIT, SIZE_LIMIT, Target, sound};
+use std::alloc::Global;
+
+/// The text of the path and the inode of the entry that comes next.
+pub(crate) fn read_entry<'a>(alloc: Global, rest: &mut Rest<'a>) -> Option<(&'a str, Inode)>
+    ensures text { IfSome result (λ entry. (path : PathNames) → path_text path ≡ entry.0.now
+        → rest.old ≡ compact_text (entry_value (path, entry.1)) ++ rest.new) }
+    ensures sound { IfSome result (λ entry. is_sound_inode entry.1 ≡ true) }
+{
+    let group = read_group(rest)?;
+    let (blob, gid) = group;
+    rest.take(",\"kind\":")?;
+    let word = rest.take_string()?;
+    let device = read_device(rest, word)?;
+    rest.take(",\"mode\":")?;
+    let mode = rest.take_natural(MODE_LIMIT as u64)?;
+    rest.take(",\"mtime\":")?;
+    let mtime = rest.take_integer()?;
+    rest.take(",\"path\":")?;
+    let path = rest.take_string()?;
+    let kind = read_kind(alloc, rest, word, blob, device)?;
+    rest.take(",\"uid\":")?;
+    let uid = rest.take_natural(u32::MAX as u64)?;
+    rest.take(",\"xattrs\":")?;
+    let attrs = read_attributes(alloc, rest)?;
+    rest.take("}")?;
+    let inode = Inode {
+        kind,
+        mode: mode as u16,
+        uid: uid as u32,
+        gid,
+        mtime,
+        attrs,
+    };
+    if sound(&inode) {
+        Some((path, inode))
+    } else {
+        None
+    }
+}
+
+// The beginning of an entry: the blob, where that member comes first, and the owning group.
+fn read_group(rest: &mut Rest<'_>) -> Option<(Option<Digest>, u32)>
+    ensures { IfSome result (λ read. rest.old ≡ group_text read.0 read.1 ++ rest.new) }
+{
+    if rest.take("{\"gid\":").is_some() {
+        let gid = rest.take_natural(u32::MAX as u64)?;
+        return Some((None, gid as u32));
+    }
+    rest.take("{\"blob\":")?;
+    let digest = rest.take_digest()?;
+    rest.take(",\"gid\":")?;
+    let gid = rest.take_natural(u32::MAX as u64)?;
+    Some((Some(digest), gid as u32))
+}
+
+// The two numbers of a device, and none of another kind.
+fn read_device(rest: &mut Rest<'_>, word: &str) -> Option<Option<(u32, u32)>>
+    ensures { IfSome result (λ device. rest.old ≡ device_text device ++ rest.new) }
+{
+    if word != "char" && word != "block" {
+        return Some(None);
+    }
+    rest.take(",\"major\":")?;
+    let major = rest.take_natural(u32::MAX as u64)?;
+    rest.take(",\"minor\":")?;
+    let minor = rest.take_natural(u32::MAX as u64)?;
+    Some(Some((major as u32, minor as u32)))
+}
+
+// The kind of this word, with the blob and the numbers that were read and the member after `path`.
+fn read_kind(
+    alloc: Global,
+    rest: &mut Rest<'_>,
+    word: &str,
+    blob: Option<Digest>,
+    device: Option<(u32, u32)>,
+) -> Option<Kind>
+    ensures kind { IfSome result (λ kind. IsKindOf word.now blob device kind) }
+    ensures contents { IfSome result (λ kind. rest.old ≡ contents_text kind ++ rest.new) }
+{
+    match (word, blob, device) {
+        ("file", blob, None) => {
+            rest.take(",\"size\":")?;
+            let size = rest.take_natural(SIZE_LIMIT)?;
+            Some(Kind::File { size, blob })
+        }
+        ("symlink", None, None) => {
+            rest.take(",\"target\":")?;
+            let text = rest.take_string()?;
+            let Ok(own) = String::from_str(alloc, text) else {
+                return None;
+            };
+            Some(Kind::Symlink {
+                target: Target::from(own),
+            })
+        }
+        ("char", None, Some((major, minor))) => Some(Kind::Char { major, minor }),
+        ("block", None, Some((major, minor))) => Some(Kind::Block { major, minor }),
+        ("dir", None, None) => Some(Kind::Dir),
+        ("fifo", None, None) => Some(Kind::Fifo),
+        ("socket", None, None) => Some(Kind::Socket),
+        _ => None,
+    }
+}
+
+// The attributes, in the order of their names.
+fn read_attributes(alloc: Global, rest: &mut Rest<'_>) -> Option<Attrs>
+    ensures { IfSome result (λ attrs. rest.old ≡ compact_text (object (attribute_members attrs)) ++ rest.new) }
+{
+    let mut attrs = Attrs::new(alloc);
+    if rest.take("{}").is_some() {
+        return Some(attrs);
+    }
+    rest.take("{")?;
+    read_attribute(alloc, rest, &mut attrs)?;
+    'attributes: while rest.take(",").is_some() {
+        read_attribute(alloc, rest, &mut attrs)?;
+    }
+    rest.take("}")?;
+    Some(attrs)
+}
+
+// Puts the attribute that comes next behind the others, if its name comes after theirs.
+fn read_attribute(alloc: Global, rest: &mut Rest<'_>, attrs: &mut Attrs) -> Option<()>
+    ensures { IfSome result (λ _. TakesAttribute rest.old attrs.old rest.new attrs.new) }
+{
+    let name = rest.take_string()?;
+    if !are_before(attrs, name) {
+        return None;
+    }
+    rest.take(":")?;
+    let digits = rest.take_string()?;
+    match put_digits(alloc, attrs, name, digits) {
+        Ok(true) => Some(()),
+        _ => None,
+    }
+}
+
+// Whether the names of all attributes come before this one.
+fn are_before(attrs: &Attrs, name: &str) -> bool
+    ensures { IsTrue result → IsTrue (all_before attrs.now name.now) }
+{
+    match attrs.pairs().last() {
+        Some((last, _)) => last.as_str().as_bytes().cmp(name.as_bytes()).is_lt(),
+        None => true,
+    }
+}

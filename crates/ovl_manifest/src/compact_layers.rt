@@ -1,0 +1,124 @@
+//! Manifests as they are written, read by their texts without a value in between.
+ghost use Rattle.std.specs.Prelude.{◌≡◌, ◌<◌, Ok, IfSome, true, [], ◌∷◌, ◌++◌, false, length};
+ghost use Rattle.serde_json.specs.Written.{items_text};
+ghost use Rattle.ovl_names.specs.Paths.{path_text};
+ghost use Rattle.ovl_inode.specs.Sound.{is_sound_inode};
+ghost use Rattle.ovl_manifest.specs.Layers.{IsLayer, entry_limit};
+ghost use Rattle.ovl_manifest.specs.Manifest.{read_layer as layer_stated};
+ghost use Rattle.ovl_manifest.specs.Text.{entry_items, manifest_text};
+ghost use Rattle.ovl_manifest.specs.TextPaths.{slashed};
+ghost use Rattle.ovl_manifest.specs.SheetDrafts.{drafted, IsSheetDraft};
+
+use crate::compact_entries::read_entry;
+use crate::compact_texts::Rest;
+use crate::entries::{ENTRY_LIMIT, has_escaped_name};
+use crate::sheet_drafts::SheetDraft;
+use crate::sheets::Sheet;
+use crate::text_paths::place_beside;
+use ovl_inode::{Inode, is_directory};
+use ovl_names::{DEPTH_LIMIT, Name, TEXT_LIMIT};
+use simdutf8::compat::from_utf8;
+use std::alloc::Global;
+
+/// The sheet of the layer whose manifest these bytes are, byte for byte as [`write_layer`](crate::write_layer) writes
+/// it. Gives none of manifests that are written in another way, of any fault and for want of memory.
+pub(crate) fn read_compact(alloc: Global, bytes: &[u8]) -> Option<Sheet>
+    ensures { IfSome result (λ sheet. layer_stated bytes.now ≡ Ok sheet) }
+{
+    let Ok(text) = from_utf8(bytes) else {
+        return None;
+    };
+    let mut rest = Rest::of(text);
+    let sheet = read_manifest(alloc, &mut rest)?;
+    if rest.is_empty() { Some(sheet) } else { None }
+}
+
+// The sheet of the layer whose manifest comes next.
+fn read_manifest(alloc: Global, rest: &mut Rest<'_>) -> Option<Sheet>
+    ensures text { IfSome result (λ sheet. rest.old ≡ manifest_text sheet ++ rest.new) }
+    ensures layer { IfSome result (λ sheet. IsLayer sheet) }
+{
+    rest.take("{\"entries\":[")?;
+    let sheet = read_entries(alloc, rest)?;
+    rest.take(",\"overlay-layer\":1}\n")?;
+    Some(sheet)
+}
+
+// The sheet of at least one entry and at most `ENTRY_LIMIT`.
+fn read_entries(alloc: Global, rest: &mut Rest<'_>) -> Option<Sheet>
+    ensures text { IfSome result (λ sheet. rest.old ≡ items_text false (entry_items sheet) ++ rest.new) }
+    ensures layer { IfSome result (λ sheet. IsLayer sheet) }
+{
+    let (text, root) = read_entry(alloc, rest)?;
+    let mut draft = start(alloc, text, root)?;
+    let mut last = "";
+    let mut number = 1;
+    'entries: while rest.take(",").is_some() {
+        if number == ENTRY_LIMIT {
+            return None;
+        }
+        let (path, inode) = read_entry(alloc, rest)?;
+        add_beside(alloc, &mut draft, last, path, inode)?;
+        last = path;
+        number += 1;
+    }
+    rest.take("]")?;
+    match draft.finish(alloc) {
+        Ok(sheet) => Some(sheet),
+        Err(_) => None,
+    }
+}
+
+// The draft of the entry of a sound inode, whose path a text spells, if it can be a layer's first.
+fn start(alloc: Global, text: &str, inode: Inode) -> Option<SheetDraft>
+    requires { is_sound_inode inode ≡ true }
+    ensures root { IfSome result (λ _. text.now ≡ path_text []) }
+    ensures draft { IfSome result (λ draft. IsSheetDraft draft) }
+    ensures entries { IfSome result (λ draft. drafted draft ≡ ([], inode) ∷ []) }
+    ensures last { IfSome result (λ draft. draft.last ≡ []) }
+{
+    if text != "/" || has_escaped_name(&inode.attrs) || !is_directory(&inode) {
+        return None;
+    }
+    match SheetDraft::start(alloc, inode) {
+        Ok(draft) => Some(draft),
+        Err(_) => None,
+    }
+}
+
+// Puts the entry of a sound inode, whose path a text spells, into the draft, whose last path has the text `last`; the
+// text of the root is empty here. Gives none of a path or an inode that no layer has there, and for want of memory.
+fn add_beside(
+    alloc: Global,
+    draft: &mut SheetDraft,
+    last: &str,
+    text: &str,
+    inode: Inode,
+) -> Option<()>
+    requires draft { IsSheetDraft draft.old }
+    requires room { length (drafted draft.old) < entry_limit }
+    requires last { slashed draft.old.last ≡ last.now }
+    requires sound { is_sound_inode inode ≡ true }
+    ensures draft { IfSome result (λ _. IsSheetDraft draft.new) }
+    ensures last { IfSome result (λ _. slashed draft.new.last ≡ text.now) }
+    ensures path { IfSome result (λ _. path_text draft.new.last ≡ text.now) }
+    ensures entries { IfSome result (λ _. drafted draft.new ≡ drafted draft.old ++ (draft.new.last, inode) ∷ []) }
+{
+    let (depth, name) = place_beside(last, draft.last().len(), text)?;
+    if depth >= DEPTH_LIMIT || text.len() > TEXT_LIMIT {
+        return None;
+    }
+    if has_escaped_name(&inode.attrs) {
+        return None;
+    }
+    let Ok(name) = Name::of(alloc, name) else {
+        return None;
+    };
+    if !draft.comes_before_child(depth, &name) || !draft.is_directory_above(depth) {
+        return None;
+    }
+    match draft.enter(alloc, depth, name, inode) {
+        Ok(()) => Some(()),
+        Err(_) => None,
+    }
+}

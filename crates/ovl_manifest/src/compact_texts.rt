@@ -1,0 +1,164 @@
+//! The text of a manifest as it is written, taken from its front piece by piece.
+ghost use Rattle.std.specs.Prelude.{◌≡◌, ◌≤◌, [], ◌++◌, IsTrue, IfSome, MatchOption, decimal, length, take};
+ghost use Rattle.std.specs.Fmt.{signed_decimal};
+ghost use Rattle.hex.specs.Hex.{encode_lower};
+ghost use Rattle.json.specs.Print.{escape, quoted};
+
+use ovl_inode::Digest;
+use std::marker::Model;
+
+const DIGEST_DIGITS: usize = 64;
+
+// The most digits of a number that surely fits 64 bits.
+const DIGIT_LIMIT: usize = 19;
+
+/// What is left of a text, seen as its bytes.
+#[derive(Drop)]
+pub(crate) struct Rest<'a> {
+    text: &'a str,
+}
+
+impl<'a> Model for Rest<'a> {
+    ghost use Rattle.std.specs.Prelude.{ℕ, List};
+
+    ghost Value = { List ℕ };
+
+    ghost view = { λ a. a.text.now };
+}
+
+impl<'a> Rest<'a> {
+    /// The whole text.
+    pub(crate) fn of(text: &'a str) -> Rest<'a>
+        ensures { result ≡ text.now }
+    {
+        Rest { text }
+    }
+
+    /// Whether nothing is left.
+    pub(crate) fn is_empty(&self) -> bool
+        ensures { IsTrue result → self.now ≡ [] }
+    {
+        self.text.is_empty()
+    }
+
+    /// Takes these bytes, and nothing where others come next.
+    #[inline(always)]
+    pub(crate) fn take(&mut self, own: &str) -> Option<()>
+        ensures { MatchOption result (self.new ≡ self.old) (λ _. self.old ≡ own.now ++ self.new) }
+    {
+        let (front, back) = self.text.split_at_checked(own.len())?;
+        if !is_same(front.as_bytes(), own.as_bytes()) {
+            return None;
+        }
+        self.text = back;
+        Some(())
+    }
+
+    /// Takes a string of which no byte is escaped, with its quotation marks.
+    pub(crate) fn take_string(&mut self) -> Option<&'a str>
+        ensures { IfSome result (λ text. self.old ≡ quoted text.now ++ self.new) }
+    {
+        self.take("\"")?;
+        let (text, back) = self
+            .text
+            .split_at_checked(plain_length(self.text.as_bytes()))?;
+        self.text = back;
+        self.take("\"")?;
+        Some(text)
+    }
+
+    /// Takes a string that is a digest, with its quotation marks.
+    pub(crate) fn take_digest(&mut self) -> Option<Digest>
+        ensures { IfSome result (λ digest. self.old ≡ quoted (encode_lower digest) ++ self.new) }
+    {
+        self.take("\"")?;
+        let (digits, back) = self.text.split_at_checked(DIGEST_DIGITS)?;
+        self.text = back;
+        self.take("\"")?;
+        match Digest::parse(digits) {
+            Ok(digest) => Some(digest),
+            Err(_) => None,
+        }
+    }
+
+    /// Takes a whole number from 0 to a limit.
+    pub(crate) fn take_natural(&mut self, limit: u64) -> Option<u64>
+        ensures text { IfSome result (λ number. self.old ≡ decimal number ++ self.new) }
+        ensures bound { IfSome result (λ number. number ≤ limit) }
+    {
+        let read = leading_number(self.text.as_bytes())?;
+        let (number, count) = read;
+        let (_, back) = self.text.split_at_checked(count)?;
+        self.text = back;
+        if number <= limit { Some(number) } else { None }
+    }
+
+    /// Takes a whole number of an `i64` but the least.
+    pub(crate) fn take_integer(&mut self) -> Option<i64>
+        ensures { IfSome result (λ number. self.old ≡ signed_decimal number ++ self.new) }
+    {
+        let is_negative = self.take("-").is_some();
+        let size = self.take_natural(i64::MAX as u64)?;
+        if !is_negative {
+            return Some(size as i64);
+        }
+        if size == 0 {
+            None
+        } else {
+            Some(-(size as i64))
+        }
+    }
+}
+
+// Whether the bytes are the same. No byte is a way out, so that at a literal text it becomes a comparison of words.
+#[inline(always)]
+fn is_same(own: &[u8], other: &[u8]) -> bool
+    ensures { IsTrue result → own.now ≡ other.now }
+{
+    if own.len() != other.len() {
+        return false;
+    }
+    let mut same = true;
+    let mut i = other.len();
+    while i > 0 {
+        i -= 1;
+        same = (own[i] == other[i]) & same;
+    }
+    same
+}
+
+// How many bytes come before the first that can't stand in a string unescaped, or that ends it.
+fn plain_length(bytes: &[u8]) -> usize
+    ensures { escape (take result bytes.now) ≡ take result bytes.now }
+{
+    let mut length = 0;
+    for byte in bytes {
+        if *byte == b'"' || *byte == b'\\' || *byte < b' ' {
+            return length;
+        }
+        length += 1;
+    }
+    length
+}
+
+// The number that the digits at the front write, without a zero before others, and how many they are.
+fn leading_number(bytes: &[u8]) -> Option<(u64, usize)>
+    ensures { IfSome result (λ read. decimal read.0 ≡ take read.1 bytes.now) }
+{
+    let mut number = 0;
+    let mut count = 0;
+    for byte in bytes {
+        if !byte.is_ascii_digit() {
+            break;
+        }
+        if count == DIGIT_LIMIT {
+            return None;
+        }
+        number = number * 10 + u64::from(*byte - b'0');
+        count += 1;
+    }
+    if count == 0 || (count > 1 && bytes[0] == b'0') {
+        return None;
+    }
+    Some((number, count))
+}
