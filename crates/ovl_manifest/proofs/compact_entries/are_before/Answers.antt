@@ -1,4 +1,4 @@
-use Rattle.std.proofs.Common.{◌≡◌, ◌-◌, true, ap, ap₂, sym, ◌∙◌, length, List, ℕ}
+use Rattle.std.proofs.Common.{◌-◌, ap, ap₂, sym, ◌∙◌, length, List, ℕ}
 use Rattle.std.specs.Prelude.{slice_get}
 use Rattle.std.specs.Option.{option_copied}
 use Rattle.std.specs.Ordering.{is_lt}

@@ -16,7 +16,7 @@ returns-in-Ok-true c =
     record {
       attr = (name, put.0);
       first = c.in_ok-name.ensures
-      ∙ (ap (λ (t : List ℕ). quoted name ++ t) (c.in_ok-take.ensures ∙ ap (λ (t : List ℕ). 58 ∷ t) (c.in_ok-digits.ensures ∙ ap (λ (own : List ℕ). quoted own ++ rest) (sym put.1)))
-      ∙ sym (append_assoc (quoted name) (58 ∷ quoted (encode_lower put.0)) rest));
+          ∙ (ap (λ (t : List ℕ). quoted name ++ t) (c.in_ok-take.ensures ∙ ap (λ (t : List ℕ). 58 ∷ t) (c.in_ok-digits.ensures ∙ ap (λ (own : List ℕ). quoted own ++ rest) (sym put.1)))
+          ∙ sym (append_assoc (quoted name) (58 ∷ quoted (encode_lower put.0)) rest));
       behind = put.2;
     }

@@ -3,7 +3,7 @@ use Rattle.std.specs.List.{list_all}
 use Rattle.ovl_names.specs.Order.{ascends}
 use Rattle.ovl_names.proofs.Ascending.{both}
 use Rattle.ovl_inode.specs.Attributes.{Attributes, attribute_cmp, is_attribute, are_attributes}
-use Rattle.ovl_manifest.specs.Compact.{attribute_text, attributes_text}
+use Rattle.ovl_manifest.specs.Compact.{attributes_text}
 use Rattle.ovl_manifest.proofs.CompactLemmas.{some-taken, none-taken, attributes-onto, attributes_object}
 use Rattle.ovl_manifest.proofs.compact_entries.read_attributes.Goals as goal
 
@@ -16,9 +16,9 @@ attributes-preserved c =
     record {
       some = omega (arith, ap length added.behind, length-append attrs (added.attr ∷ []));
       taken = c.attributes.invariant.taken
-      ∙ ap (λ (t : List ℕ). 123 ∷ t)
-      (ap (λ (t : List ℕ). attributes_text false attrs ++ t) (comma ∙ ap (λ (t : List ℕ). 44 ∷ t) added.first)
-      ∙ (attributes-onto attrs added.attr rest c.attributes.invariant.some ∙ ap (λ (all : Attributes). attributes_text false all ++ rest) (sym added.behind)));
+          ∙ ap (λ (t : List ℕ). 123 ∷ t)
+          (ap (λ (t : List ℕ). attributes_text false attrs ++ t) (comma ∙ ap (λ (t : List ℕ). 44 ∷ t) added.first)
+          ∙ (attributes-onto attrs added.attr rest c.attributes.invariant.some ∙ ap (λ (all : Attributes). attributes_text false all ++ rest) (sym added.behind)));
     }
 
 pub returns : goal.returns

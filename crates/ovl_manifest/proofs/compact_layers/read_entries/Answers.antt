@@ -1,7 +1,7 @@
-use Rattle.std.proofs.Common.{◌≡◌, ◌∙◌, ◌+◌, ◌++◌, ◌∷◌, [], ℕ, List, false, sym, ap, append_assoc, arith, length, length-append, rules}
-use Rattle.serde_json.specs.Written.{compact_text, items_text}
+use Rattle.std.proofs.Common.{◌∙◌, ◌+◌, ◌++◌, ◌∷◌, [], ℕ, List, false, sym, ap, append_assoc, arith, length, length-append, rules}
+use Rattle.serde_json.specs.Written.{items_text}
 use Rattle.ovl_manifest.specs.Layers.{Entry, Entries}
-use Rattle.ovl_manifest.specs.Text.{entry_items, entry_value}
+use Rattle.ovl_manifest.specs.Text.{entry_items}
 use Rattle.ovl_manifest.specs.SheetDrafts.{drafted}
 use Rattle.ovl_manifest.specs.Compact.{entries_text}
 use Rattle.ovl_manifest.proofs.CompactLemmas.{some-taken, none-taken, entries-onto, items-entries}
@@ -18,8 +18,8 @@ entries-preserved c =
     record {
       draft = added.draft;
       taken = c.entries.invariant.taken
-      ∙ (ap (λ (t : List ℕ). entries_text false before ++ t) (comma ∙ ap (λ (t : List ℕ). 44 ∷ t) own)
-      ∙ (entries-onto before entry rest (omega (arith, c.entries.invariant.count, c.entries.invariant.some)) ∙ ap (λ (all : Entries). entries_text false all ++ rest) (sym added.entries)));
+          ∙ (ap (λ (t : List ℕ). entries_text false before ++ t) (comma ∙ ap (λ (t : List ℕ). 44 ∷ t) own)
+          ∙ (entries-onto before entry rest (omega (arith, c.entries.invariant.count, c.entries.invariant.some)) ∙ ap (λ (all : Entries). entries_text false all ++ rest) (sym added.entries)));
       text = search rules;
       last = added.last;
       count = ap length added.entries ∙ (length-append before (entry ∷ []) ∙ ap (λ n. n + 1) c.entries.invariant.count);

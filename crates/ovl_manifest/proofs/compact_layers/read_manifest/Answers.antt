@@ -1,4 +1,4 @@
-use Rattle.std.proofs.Common.{◌≡◌, ◌∙◌, ◌++◌, List, ℕ, ap, false}
+use Rattle.std.proofs.Common.{◌∙◌, ◌++◌, List, ℕ, ap, false}
 use Rattle.std.specs.Prelude.{codes}
 use Rattle.serde_json.specs.Written.{items_text}
 use Rattle.ovl_manifest.specs.Text.{entry_items}
