@@ -10,7 +10,10 @@ pub mod ByteLemmas
 pub mod MergedEntries
 pub mod LayerLemmas
 pub mod DirectoryLemmas
+pub mod NameLists
 pub mod VisitLemmas
 pub mod WalkedLemmas
+pub mod Glances
+pub mod CandidateLemmas
 pub mod FinishLemmas
 mod Rows

@@ -4,3 +4,4 @@ pub mod Laws
 pub mod Directories
 pub mod Limits
 pub mod Reckoned
+pub mod Candidates

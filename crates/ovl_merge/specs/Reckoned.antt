@@ -1,9 +1,11 @@
 -- Paths of a merge, as the program reckons them.
-use Rattle.std.specs.Prelude.{◌≡◌, ℕ, ◌&&◌, Bool, true, false, IfSome, MatchOption, Option, Some, None, ◌∷◌, ◌++◌, if◌then◌else◌, is_some}
+use Rattle.std.specs.Option.{option_map}
+use Rattle.std.specs.Prelude.{◌≡◌, ℕ, ◌&&◌, not, Bool, true, false, IfSome, MatchOption, Option, Some, None, ◌∷◌, ◌++◌, if◌then◌else◌, is_some}
 use Rattle.ovl_names.specs.Names.{PathName}
 use Rattle.ovl_names.specs.Paths.{PathNames, child_path, path_eq}
 use Rattle.ovl_inode.specs.declared.inodes.Inode.{Inode}
 use Rattle.ovl_inode.specs.Marks.{is_directory, is_metacopy}
+use Rattle.ovl_inode.specs.Inodes.{visible}
 use Rattle.ovl_manifest.specs.Layers.{Entries}
 use Rattle.ovl_lookup.specs.declared.steps.Step.{Step}
 use Rattle.ovl_lookup.specs.declared.views.DirView.{DirView}
@@ -17,10 +19,12 @@ use Rattle.ovl_merge.specs.declared.places.Place.{Place}
 use Rattle.ovl_merge.specs.declared.walked.Walked.{Walked}
 use Rattle.ovl_merge.specs.declared.walked.Stand.{Stand}
 use Rattle.ovl_merge.specs.declared.walked.Stand.TheVariants.{Inside, Past}
+use Rattle.ovl_merge.specs.declared.walked.Glance.{Glance}
+use Rattle.ovl_merge.specs.declared.walked.Glance.TheVariants.{Plain, Passed, Unsaid}
 use Rattle.ovl_merge.specs.declared.near.Near.{Near}
 use Rattle.ovl_merge.specs.declared.directories.Directory.{Directory}
 use Rattle.ovl_merge.specs.Places.{Merge, merge_of, lower_path, first_hit, shows_own_directory, is_hidden, is_nothing_or, is_shown_regular, reach, natural, gets_opaque}
-use Rattle.ovl_merge.specs.MergeDown.{last_name}
+use Rattle.ovl_merge.specs.MergeDown.{last_name, merged_entry}
 
 -- the walks of a path: that in the upper layer, and where it is open that in the lower one
 pub record IsPassage (m : Merge) (path : PathNames) (passage : Passage) : Type 0 where
@@ -93,14 +97,45 @@ IsStand layer path (Past next closed) =
 abbrev pub IsWalked : Entries → Walked → Type 0
 IsWalked layer walked = IsStand layer walked.path walked.stand
 
+-- the walks of names that a layer doesn't have there go on, and those of names that neither layer has
+abbrev pub is_open_stand : Stand → Bool
+is_open_stand (Inside own) = not own.closed
+is_open_stand (Past next closed) = not closed
+
+abbrev pub is_open_at : Option Walked → Bool
+is_open_at None = false
+is_open_at (Some walked) = is_open_stand walked.stand
+
+abbrev pub is_open_near : Near → Bool
+is_open_near near = is_open_at near.upper && is_open_at near.lower
+
 -- what is kept of a directory for the names in it
 pub record IsNear (stack : StackView) (near : Near) : Type 0 where
   pub upper : IfSome near.upper (IsWalked (merge_of stack).upper)
   pub lower : IfSome near.lower (IsWalked (merge_of stack).lower)
   pub base : IfSome near.base (λ directory. IsViewIn stack directory near.view)
 
+-- what is kept is of the directory of a place
+pub record IsKept (place : Place) (near : Near) : Type 0 where
+  pub upper : IfSome near.upper (λ walked. walked.path ≡ place.path)
+  pub lower : option_map (λ walked. walked.path) near.lower ≡ place.lower
+
 -- a directory of the new lower layer, with what is kept of it
 pub record IsVisited (stack : StackView) (dir : PathNames) (directory : Directory) : Type 0 where
   pub place : IsDirectoryPlace (merge_of stack) dir directory.place
   pub near : IsNear stack directory.near
+  pub kept : IsKept directory.place directory.near
   pub base : directory.near.base ≡ base_in directory.place
+
+-- what a walk tells at a glance: it finds a thing that is neither a directory nor a metacopy file, or finds nothing and
+-- is open, or tells nothing yet
+abbrev pub IsGlance : Step → Glance → Type 0
+IsGlance step (Plain inode) = (step.found ≡ Some inode.now) × (is_directory inode.now ≡ false) × (is_metacopy inode.now ≡ false)
+IsGlance step Passed = (step.found ≡ None) × (step.closed ≡ false)
+IsGlance step Unsaid = Unit {0}
+
+-- what the walks of both layers tell of an entry of the new lower layer
+abbrev pub IsGlanceAt : Merge → PathNames → Glance → Type 0
+IsGlanceAt m path (Plain inode) = merged_entry m path ≡ Some (visible inode.now)
+IsGlanceAt m path Passed = merged_entry m path ≡ None
+IsGlanceAt m path Unsaid = Unit {0}

@@ -3,12 +3,13 @@ ghost use Rattle.ovl_names.specs.Paths.{child_path, path_text as text_of_path};
 ghost use Rattle.ovl_lookup.specs.Merged.{look as the_look};
 ghost use Rattle.ovl_merge.specs.Places.{merge_of};
 ghost use Rattle.ovl_merge.specs.MergeDown.{with_value as the_valued, redirected_from, with_contents as the_filled, new_whiteout as the_whiteout, merged_directory as the_directory, merged_metacopy as the_metacopy, merged_inode as the_inode, merged_entry};
-ghost use Rattle.ovl_merge.specs.Reckoned.{IsNear, IsPlace, IsDirectoryPlace, IsViewFrom};
+ghost use Rattle.ovl_merge.specs.Reckoned.{IsNear, IsKept, IsPlace, IsDirectoryPlace, IsViewFrom};
 
 use crate::near::Near;
 use crate::passages::is_metacopy;
 use crate::places::Place;
 use crate::rest::{name_in, shows_at};
+use crate::walked::Glance;
 use ovl_inode::{Attrs, Inode, Kind, is_directory, overlay, visible};
 use ovl_lookup::{DirView, Look, Stack};
 use ovl_names::{Name, Path};
@@ -16,6 +17,29 @@ use std::alloc::{AllocError, Global};
 
 // What the new lower layer has at a name in a directory of this place, which has this view in the whole stack.
 pub(crate) fn inode_in(
+    alloc: Global,
+    stack: &Stack,
+    near: &Near,
+    whole: &Option<DirView>,
+    above: &Place,
+    name: &Name,
+) -> Result<Option<Inode>, AllocError>
+    requires several { 1 < length stack.now.layers }
+    requires near { IsNear stack.now near.now }
+    requires kept { IsKept above.now near.now }
+    requires whole { IsViewFrom 0 stack.now above.now.path whole.now }
+    requires directory { IsDirectoryPlace (merge_of stack.now) above.now.path above.now }
+    ensures { IfOk result (λ found. found ≡ merged_entry (merge_of stack.now) (child_path above.now.path name.now)) }
+{
+    match near.glance(stack, above, name) {
+        Glance::Plain(inode) => Ok(Some(visible(alloc, inode)?)),
+        Glance::Passed => Ok(None),
+        Glance::Unsaid => inode_at(alloc, stack, near, whole, above, name),
+    }
+}
+
+// The same, by the place of the name.
+fn inode_at(
     alloc: Global,
     stack: &Stack,
     near: &Near,

@@ -1,6 +1,7 @@
 //! A stack's topmost layer put into the next, as work in pieces.
 #![tactic(auto)]
 
+mod candidates;
 mod directories;
 mod entries;
 mod faults;

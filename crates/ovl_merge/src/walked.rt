@@ -3,9 +3,10 @@ ghost use Rattle.ovl_names.specs.Paths.{child_path};
 ghost use Rattle.ovl_manifest.specs.Sheets.{path_at};
 ghost use Rattle.ovl_lookup.specs.Passes.{IsOwnDirectory};
 ghost use Rattle.ovl_lookup.specs.Walk.{walk as the_walk};
-ghost use Rattle.ovl_merge.specs.Reckoned.{IsStand, IsWalked};
+ghost use Rattle.ovl_merge.specs.Reckoned.{IsStand, IsWalked, IsGlance, is_open_stand};
 
 use crate::rest::name_below;
+use ovl_inode::{Inode, Mark};
 use ovl_lookup::{OwnDirectory, Step, walk};
 use ovl_manifest::Sheet;
 use ovl_names::{Name, Path};
@@ -25,6 +26,15 @@ pub(crate) enum Stand {
     Past { next: Path, closed: bool },
 }
 
+// What a walk tells of a path with nothing copied: a thing that is neither a directory nor a metacopy file, at which it
+// ends; or nothing there, so that it goes on; or no answer yet.
+#[derive(Drop)]
+pub(crate) enum Glance<'a> {
+    Plain(&'a Inode),
+    Passed,
+    Unsaid,
+}
+
 impl Walked {
     // That of a path, from a directory where it lies directly in that, and from the root else.
     pub(crate) fn of(
@@ -34,7 +44,8 @@ impl Walked {
         path: &Path,
     ) -> Result<Walked, AllocError>
         requires { IfSome near.now (IsWalked sheet.now) }
-        ensures { IfOk result (λ walked. IsWalked sheet.now walked) }
+        ensures walked { IfOk result (λ walked. IsWalked sheet.now walked) }
+        ensures path { IfOk result (λ walked. walked.path ≡ path.now) }
     {
         if let Some(walked) = near {
             if let Some(name) = name_below(&walked.path, path) {
@@ -50,7 +61,8 @@ impl Walked {
 
     // That of the root.
     fn root(alloc: Global, sheet: &Sheet) -> Walked
-        ensures { IsWalked sheet.now result }
+        ensures walked { IsWalked sheet.now result }
+        ensures path { result.path ≡ [] }
     {
         let root = OwnDirectory {
             row: sheet.root_number(),
@@ -66,7 +78,8 @@ impl Walked {
     // That of a name in this directory.
     fn child(&self, alloc: Global, sheet: &Sheet, name: &Name) -> Result<Walked, AllocError>
         requires { IsWalked sheet.now self.now }
-        ensures { IfOk result (λ walked. IsWalked sheet.now walked) }
+        ensures walked { IfOk result (λ walked. IsWalked sheet.now walked) }
+        ensures path { IfOk result (λ walked. walked.path ≡ child_path self.now.path name.now) }
     {
         let path = self.path.child(alloc, name)?;
         match &self.stand {
@@ -98,6 +111,53 @@ impl Walked {
                 closed: *closed,
             }),
         }
+    }
+
+    // Whether the walk of a name that the layer doesn't have here goes on.
+    pub(crate) fn is_open(&self) -> bool
+        ensures { result ≡ is_open_stand self.now.stand }
+    {
+        match &self.stand {
+            Stand::Inside(own) => !own.closed,
+            Stand::Past { closed, .. } => !*closed,
+        }
+    }
+
+    // What the walk of a name in this directory tells at a glance.
+    pub(crate) fn glance<'a>(&self, sheet: &'a Sheet, name: &Name) -> Glance<'a>
+        requires { IsWalked sheet.now self.now }
+        ensures { IsGlance (the_walk sheet.now (child_path self.now.path name.now)) result }
+    {
+        match &self.stand {
+            Stand::Inside(own) => glance_in(sheet, own, name),
+            Stand::Past { closed: false, .. } => Glance::Passed,
+            Stand::Past { closed: true, .. } => Glance::Unsaid,
+        }
+    }
+}
+
+// The same in a directory of the layer.
+fn glance_in<'a>(sheet: &'a Sheet, own: &OwnDirectory, name: &Name) -> Glance<'a>
+    requires { IsOwnDirectory sheet.now (path_at sheet.now own.now.row) own.now }
+    ensures { IsGlance (the_walk sheet.now (child_path (path_at sheet.now own.now.row) name.now)) result }
+{
+    // Each sheet is a layer.
+    let _root = sheet.root_number();
+    let Some(row) = sheet.child(own.row, name) else {
+        return if own.closed {
+            Glance::Unsaid
+        } else {
+            Glance::Passed
+        };
+    };
+    match sheet.mark(row) {
+        Mark::Leaf | Mark::MetaBad => Glance::Plain(sheet.inode(row)),
+        Mark::Whiteout
+        | Mark::DirOpaque
+        | Mark::DirMoved(_)
+        | Mark::DirBad
+        | Mark::DirPlain
+        | Mark::Meta(_) => Glance::Unsaid,
     }
 }
 

@@ -1,22 +1,19 @@
-ghost use Rattle.std.specs.Prelude.{◌≡◌, ◌↔◌, ◌<◌, [], Err, IfOk, IfErr, OnOk, length};
-ghost use Rattle.ovl_lookup.specs.Passes.{own_names_along, put_names};
+ghost use Rattle.std.specs.Prelude.{◌≡◌, ◌↔◌, ◌<◌, Err, IfOk, IfErr, length};
 ghost use Rattle.ovl_merge.specs.declared.faults.MergeFault.TheVariants.{NoLower};
-ghost use Rattle.ovl_merge.specs.Places.{merge_of, two_layers};
-ghost use Rattle.ovl_merge.specs.Directories.{candidate_names, entries_in};
-ghost use Rattle.ovl_merge.specs.Reckoned.{IsPlace, IsViewFrom, IsVisited};
+ghost use Rattle.ovl_merge.specs.Places.{merge_of};
+ghost use Rattle.ovl_merge.specs.Directories.{entries_in};
+ghost use Rattle.ovl_merge.specs.Reckoned.{IsViewFrom, IsVisited};
 
 use crate::MergeFault;
+use crate::candidates::candidates;
 use crate::directories::Directory;
 use crate::entries::inode_in;
-use crate::places::Place;
-use crate::rest::names_at;
 use ovl_board::{Piece, Work};
 use ovl_inode::Inode;
 use ovl_lookup::{DirView, Stack};
 use ovl_names::{DEPTH_LIMIT, Name, Path};
 use ovl_rewrite::directories;
 use std::alloc::{AllocError, Global};
-use std::collections::BTreeSet;
 use std::marker::Model;
 
 /// A stack as work of merge, whose pieces are the directories of its new lower layer, from `/` of space 0. The output
@@ -125,48 +122,4 @@ fn inodes_in(
         }
     }
     Ok(inodes)
-}
-
-// The names that may have an entry in a directory: those of the two layers, and those of its base.
-fn candidates(
-    alloc: Global,
-    stack: &Stack,
-    directory: &Directory,
-) -> Result<BTreeSet<Name>, AllocError>
-    requires several { 1 < length stack.now.layers }
-    requires visited { IsVisited stack.now directory.now.place.path directory.now }
-    ensures { IfOk result (λ names. names.keys ≡ candidate_names (merge_of stack.now) directory.now.place.path) }
-{
-    let mut names = own_names(alloc, stack, &directory.place)?;
-    let shown = names_at(alloc, stack, &directory.near)?;
-    put_all(&mut names, shown)?;
-    Ok(names)
-}
-
-// The names that the two layers have in a directory.
-fn own_names(alloc: Global, stack: &Stack, place: &Place) -> Result<BTreeSet<Name>, AllocError>
-    requires several { 1 < length stack.now.layers }
-    requires is { IsPlace (merge_of stack.now) place.now }
-    ensures { IfOk result (λ names. names.keys
-        ≡ put_names [] (own_names_along (two_layers (merge_of stack.now)).layers place.now.path)) }
-{
-    let mut names = BTreeSet::new(alloc);
-    let upper = stack.own_names(alloc, 0, &place.path)?;
-    put_all(&mut names, upper)?;
-    let Some(path) = &place.lower else {
-        return Ok(names);
-    };
-    let lower = stack.own_names(alloc, 1, path)?;
-    put_all(&mut names, lower)?;
-    Ok(names)
-}
-
-// Puts the names among those of the set.
-fn put_all(found: &mut BTreeSet<Name>, names: Vec<Name>) -> Result<(), AllocError>
-    ensures { OnOk result (found.new.keys ≡ put_names found.old.keys names.items) }
-{
-    for name in names {
-        found.insert(name)?;
-    }
-    Ok(())
 }

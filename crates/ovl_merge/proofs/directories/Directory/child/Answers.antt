@@ -18,5 +18,6 @@ returns c = record {
     is = c.in_ok-place.ensures.is;
   };
   near = c.in_ok-near.ensures.near;
+  kept = c.in_ok-near.ensures.kept;
   base = c.in_ok-near.ensures.base;
 }

@@ -14,5 +14,6 @@ returns c =
     record {
       place = record { path = c.in_ok-place.ensures.path; shown = ap (passes is_directory) shown.hit ∙ shown.directory; is = c.in_ok-place.ensures.is };
       near = c.in_ok-near.ensures.near;
+      kept = c.in_ok-near.ensures.kept;
       base = c.in_ok-near.ensures.base;
     }

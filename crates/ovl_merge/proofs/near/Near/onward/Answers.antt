@@ -9,14 +9,20 @@ of-requires c = near-upper c.args.stack.now c.args.self.now c.requires.near c.sh
 
 pub returns-in_default-clause-near : goal.returns-in_default-clause-near
 returns-in_default-clause-near c = record {
-  upper = walked-upper c.args.stack.now c.sheet.result.now c.sheet.ensures c.in_ok-upper.upper c.in_ok-upper.ensures;
-  lower = c.in_ok-lower.ensures;
+  upper = walked-upper c.args.stack.now c.sheet.result.now c.sheet.ensures c.in_ok-upper.upper c.in_ok-upper.ensures.walked;
+  lower = c.in_ok-lower.ensures.walked;
   base = tt;
 }
 
 pub returns-clause-near : goal.returns-clause-near
 returns-clause-near c = record {
-  upper = walked-upper c.args.stack.now c.sheet.result.now c.sheet.ensures c.in_ok-upper.upper c.in_ok-upper.ensures;
-  lower = c.in_ok-lower.ensures;
+  upper = walked-upper c.args.stack.now c.sheet.result.now c.sheet.ensures c.in_ok-upper.upper c.in_ok-upper.ensures.walked;
+  lower = c.in_ok-lower.ensures.walked;
   base = subst (λ (p : PathNames). IsViewIn c.args.stack.now p c.in_ok-view.view) (sym c.in_ok-copy.ensures) c.in_ok-view.ensures;
 }
+
+pub returns-in_default-clause-kept : goal.returns-in_default-clause-kept
+returns-in_default-clause-kept c = record { upper = c.in_ok-upper.ensures.path; lower = c.in_ok-lower.ensures.path }
+
+pub returns-clause-kept : goal.returns-clause-kept
+returns-clause-kept c = record { upper = c.in_ok-upper.ensures.path; lower = c.in_ok-lower.ensures.path }

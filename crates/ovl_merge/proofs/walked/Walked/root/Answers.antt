@@ -6,8 +6,8 @@ use Rattle.ovl_merge.specs.declared.walked.Stand.TheVariants.{Inside}
 use Rattle.ovl_merge.proofs.WalkedLemmas.{root-stands}
 use Rattle.ovl_merge.proofs.walked.Walked.root.Goals as goal
 
-pub returns : goal.returns
-returns c =
+pub returns-clause-walked : goal.returns-clause-walked
+returns-clause-walked c =
     let layer = c.args.sheet.now in
     let own : OwnDirectory = record { row = c.root_number.result; next = c.root.result; closed = false } in
     subst (λ (p : PathNames). IsStand layer p (Inside own)) (sym c.root-2.ensures)

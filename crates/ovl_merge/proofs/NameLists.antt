@@ -1,0 +1,178 @@
+-- Ascending lists of names: two of them as one, and names among them that have no entry.
+use Rattle.std.proofs.Common.{◌≡◌, inl, inr, Bool, true, false, Option, Some, None, List, [], ◌∷◌, ◌++◌, length, drop, refl, sym, ap, ◌∙◌, subst, arith}
+use Rattle.std.specs.Prelude.{◌||◌, ◌&&◌, MatchOption}
+use Rattle.std.specs.Option.{option_to_list}
+use Rattle.std.specs.List.{cons_option, filter_map, list_any, list_all}
+use Rattle.std.specs.BTreeSet.{insert_key}
+use Rattle.std.specs.Ordering.{is_lt, ordering_reverse, match_ordering}
+use Rattle.std.specs.declared.cmp.Ordering.{Ordering}
+use Rattle.std.specs.declared.cmp.Ordering.TheVariants.{Less, Equal, Greater}
+use Rattle.std.specs.Cmp.Lexicographic.{bytes_decides, nat_list_cmp_total}
+use Rattle.ovl_names.specs.Names.{PathName, name_eq, name_cmp}
+use Rattle.ovl_names.specs.Order.{ascends}
+use Rattle.ovl_names.proofs.Ascending.{both, is_lt-Less, list_all-before}
+use Rattle.ovl_inode.proofs.AttributeLemmas.{name_cmp-Equal}
+use Rattle.ovl_manifest.proofs.OpenLemmas.{name_cmp-same}
+use Rattle.ovl_lookup.specs.Passes.{put_names}
+use Rattle.ovl_lookup.proofs.KidLemmas.{ascends-insert, any-insert}
+use Rattle.ovl_board.proofs.Members.{In, rising_same}
+use Rattle.ovl_rewrite.specs.Directories.{NamedInode}
+use Rattle.ovl_merge.specs.Candidates.{first_order, IsFirstTaken}
+use Rattle.ovl_rewrite.proofs.Ascents.{NameBefore, rising-names, any-In}
+
+-- ---- two lists as one
+
+-- a name that comes before all that are put stays first
+put-after : (x : PathName) (names more : List PathName) → list_all (λ later. is_lt (name_cmp x later)) more ≡ true → put_names (x ∷ names) more ≡ x ∷ put_names names more
+put-after x names [] all = refl
+put-after x names (y ∷ more) all =
+    let parts = both {a = is_lt (name_cmp x y)} {b = list_all (λ later. is_lt (name_cmp x later)) more} all in
+    let after : name_cmp y x ≡ Greater = nat_list_cmp_total.antisymm y x ∙ ap ordering_reverse (is_lt-Less (name_cmp x y) parts.0) in
+    ap (λ (o : Ordering). put_names (match_ordering o (y ∷ x ∷ names) (x ∷ names) (x ∷ insert_key name_cmp names y)) more) after
+    ∙ put-after x (insert_key name_cmp names y) more parts.1
+
+module _ (y : PathName) (ys : List PathName) (up : ascends name_cmp (y ∷ ys) ≡ true) where
+  parts : (list_all (λ later. is_lt (name_cmp y later)) ys ≡ true) × (ascends name_cmp ys ≡ true)
+  parts = both {a = list_all (λ later. is_lt (name_cmp y later)) ys} {b = ascends name_cmp ys} up
+
+  pub later-ascend : ascends name_cmp ys ≡ true
+  later-ascend = parts.1
+
+  -- the first of both is next
+  pub put-alone : put_names [] (y ∷ ys) ≡ y ∷ put_names [] ys
+  put-alone = put-after y [] ys parts.0
+
+  module _ (x : PathName) (xs : List PathName) where
+    pub put-first : name_cmp x y ≡ Less → put_names (x ∷ xs) (y ∷ ys) ≡ x ∷ put_names xs (y ∷ ys)
+    put-first less =
+        let before : is_lt (name_cmp x y) ≡ true = ap is_lt less in
+        let rest = list_all-before nat_list_cmp_total x y ys before parts.0 in
+        put-after x xs (y ∷ ys) (λ j. before j && rest j)
+
+    reversed : (o : Ordering) → name_cmp x y ≡ o → name_cmp y x ≡ ordering_reverse o
+    reversed o e = nat_list_cmp_total.antisymm y x ∙ ap ordering_reverse e
+
+    put-by : (o : Ordering) → name_cmp x y ≡ o → put_names (x ∷ xs) (y ∷ ys) ≡ put_names (match_ordering (ordering_reverse o) (y ∷ x ∷ xs) (x ∷ xs) (x ∷ insert_key name_cmp xs y)) ys
+    put-by o e = ap (λ (p : Ordering). put_names (match_ordering p (y ∷ x ∷ xs) (x ∷ xs) (x ∷ insert_key name_cmp xs y)) ys) (reversed o e)
+
+    pub put-same : name_cmp x y ≡ Equal → put_names (x ∷ xs) (y ∷ ys) ≡ x ∷ put_names xs ys
+    put-same equal =
+        put-by Equal equal
+        ∙ put-after x xs ys (ap (λ (name : PathName). list_all (λ later. is_lt (name_cmp name later)) ys) (name_cmp-Equal x y equal) ∙ parts.0)
+
+    pub put-second : name_cmp x y ≡ Greater → put_names (x ∷ xs) (y ∷ ys) ≡ y ∷ put_names (x ∷ xs) ys
+    put-second greater = put-by Greater greater ∙ put-after y (x ∷ xs) ys parts.0
+
+-- put one after another, they are the same
+pub put-none : (names : List PathName) → ascends name_cmp names ≡ true → put_names [] names ≡ names
+put-none [] up = refl
+put-none (name ∷ names) up = put-alone name names up ∙ ap (λ (rest : List PathName). name ∷ rest) (put-none names (later-ascend name names up))
+
+-- ---- the first name of two lists is taken
+
+-- what is taken is the first of its list
+first-taken : (x : PathName) (xs rest : List PathName) (taken : Option PathName) → x ∷ xs ≡ option_to_list taken ++ rest → rest ≡ xs → taken ≡ Some x
+first-taken x xs rest None items is = let lengths = ap (λ (l : List PathName). length l) (items ∙ is) in absurd (omega (arith, lengths))
+first-taken x xs rest (Some y) items is = let same : x ≡ y = cc in ap (λ (name : PathName). Some name) (sym same)
+
+none-taken : (rest : List PathName) (taken : Option PathName) → [] ≡ option_to_list taken ++ rest → taken ≡ None
+none-taken rest None items = refl
+none-taken rest (Some y) items = let bad : [] ≡ y ∷ rest = items in cc
+
+module _ (one other : List PathName) (up : ascends name_cmp one ≡ true) (also : ascends name_cmp other ≡ true) where
+  abbrev pub IsNext : Option PathName → List PathName → List PathName → Type 0
+  IsNext taken rest more = MatchOption taken ((one ≡ []) × (other ≡ [])) (λ name. IsFirstTaken one other name rest more)
+
+pub one-taken : (one other : List PathName) (up : ascends name_cmp one ≡ true) (also : ascends name_cmp other ≡ true) → Less ≡ first_order one other
+    → (taken : Option PathName) (rest : List PathName) → one ≡ option_to_list taken ++ rest → rest ≡ drop 1 one → IsNext one other up also taken rest other
+one-taken [] other up also order taken rest items is = let bad : Less ≡ Greater = order in cc
+one-taken (x ∷ xs) [] up also order taken rest items is =
+    subst (λ (t : Option PathName). IsNext (x ∷ xs) [] up also t rest []) (sym (first-taken x xs rest taken items is))
+    (subst (λ (r : List PathName). IsFirstTaken (x ∷ xs) [] x r []) (sym is)
+    (record { first = refl; fewer = omega arith; one_ascends = later-ascend x xs up; other_ascends = refl }))
+one-taken (x ∷ xs) (y ∷ ys) up also order taken rest items is =
+    subst (λ (t : Option PathName). IsNext (x ∷ xs) (y ∷ ys) up also t rest (y ∷ ys)) (sym (first-taken x xs rest taken items is))
+    (subst (λ (r : List PathName). IsFirstTaken (x ∷ xs) (y ∷ ys) x r (y ∷ ys)) (sym is)
+    (record { first = put-first y ys also x xs (sym order); fewer = omega arith; one_ascends = later-ascend x xs up; other_ascends = also }))
+
+pub other-taken : (one other : List PathName) (up : ascends name_cmp one ≡ true) (also : ascends name_cmp other ≡ true) → Greater ≡ first_order one other
+    → (taken : Option PathName) (more : List PathName) → other ≡ option_to_list taken ++ more → more ≡ drop 1 other → IsNext one other up also taken one more
+other-taken [] [] up also order taken more items is =
+    subst (λ (t : Option PathName). IsNext [] [] up also t [] more) (sym (none-taken more taken items)) (refl, refl)
+other-taken [] (y ∷ ys) up also order taken more items is =
+    subst (λ (t : Option PathName). IsNext [] (y ∷ ys) up also t [] more) (sym (first-taken y ys more taken items is))
+    (subst (λ (m : List PathName). IsFirstTaken [] (y ∷ ys) y [] m) (sym is)
+    (record { first = put-alone y ys also; fewer = omega arith; one_ascends = refl; other_ascends = later-ascend y ys also }))
+other-taken (x ∷ xs) [] up also order taken more items is = let bad : Greater ≡ Less = order in cc
+other-taken (x ∷ xs) (y ∷ ys) up also order taken more items is =
+    subst (λ (t : Option PathName). IsNext (x ∷ xs) (y ∷ ys) up also t (x ∷ xs) more) (sym (first-taken y ys more taken items is))
+    (subst (λ (m : List PathName). IsFirstTaken (x ∷ xs) (y ∷ ys) y (x ∷ xs) m) (sym is)
+    (record { first = put-second y ys also x xs (sym order); fewer = omega arith; one_ascends = up; other_ascends = later-ascend y ys also }))
+
+pub both-taken : (one other : List PathName) (up : ascends name_cmp one ≡ true) (also : ascends name_cmp other ≡ true) → Equal ≡ first_order one other
+    → (taken : Option PathName) (rest more : List PathName) → one ≡ option_to_list taken ++ rest → rest ≡ drop 1 one → more ≡ drop 1 other → IsNext one other up also taken rest more
+both-taken [] other up also order taken rest more items is are = let bad : Equal ≡ Greater = order in cc
+both-taken (x ∷ xs) [] up also order taken rest more items is are = let bad : Equal ≡ Less = order in cc
+both-taken (x ∷ xs) (y ∷ ys) up also order taken rest more items is are =
+    subst (λ (t : Option PathName). IsNext (x ∷ xs) (y ∷ ys) up also t rest more) (sym (first-taken x xs rest taken items is))
+    (subst (λ (r : List PathName). IsFirstTaken (x ∷ xs) (y ∷ ys) x r more) (sym is)
+    (subst (λ (m : List PathName). IsFirstTaken (x ∷ xs) (y ∷ ys) x xs m) (sym are)
+    (record { first = put-same y ys also x xs (sym order); fewer = omega arith; one_ascends = later-ascend x xs up; other_ascends = later-ascend y ys also })))
+
+-- ---- lists with the same names
+
+In-any : (name : PathName) (names : List PathName) → In name names → list_any (name_eq name) names ≡ true
+In-any name [] h = absurd h
+In-any name (other ∷ names) (inl same) = ap (λ b. b || list_any (name_eq name) names) ((bytes_decides name other).1 same)
+In-any name (other ∷ names) (inr h) = by (name_eq name other) (In-any name names h)
+  where
+    by : (b : Bool) → list_any (name_eq name) names ≡ true → (b || list_any (name_eq name) names) ≡ true
+    by true any = refl
+    by false any = any
+
+pub same-names : (one other : List PathName) → ascends name_cmp one ≡ true → ascends name_cmp other ≡ true → ((name : PathName) → list_any (name_eq name) one ≡ list_any (name_eq name) other) → one ≡ other
+same-names one other up also same =
+    rising_same NameBefore never-itself nat_list_cmp_total.trans one other (rising-names one up) (rising-names other also)
+    (λ name h. any-In name other (sym (same name) ∙ In-any name one h))
+    (λ name h. any-In name one (same name ∙ In-any name other h))
+  where
+    never-itself : (name : PathName) → NameBefore name name → ⊥
+    never-itself name less = let bad : Less ≡ Equal = sym less ∙ name_cmp-same name in cc
+
+insert-has : (names : List PathName) (name : PathName) → ascends name_cmp names ≡ true → list_any (name_eq name) names ≡ true → insert_key name_cmp names name ≡ names
+insert-has names name up has =
+    same-names (insert_key name_cmp names name) names (ascends-insert name names up) up (λ other. any-insert other name names ∙ by other (name_eq other name) refl)
+  where
+    by : (other : PathName) → (b : Bool) → name_eq other name ≡ b → (b || list_any (name_eq other) names) ≡ list_any (name_eq other) names
+    by other true e = sym (ap (λ (n : PathName). list_any (name_eq n) names) ((bytes_decides other name).0 e) ∙ has)
+    by other false e = refl
+
+-- ---- names without an entry
+
+or_true : (b : Bool) → (b || true) ≡ true
+or_true true = refl
+or_true false = refl
+
+module _ (entry : PathName → Option NamedInode) where
+  insert-none : (names : List PathName) (name : PathName) → entry name ≡ None → filter_map entry (insert_key name_cmp names name) ≡ filter_map entry names
+  insert-none [] name none = ap (λ (o : Option NamedInode). cons_option o []) none
+  insert-none (first ∷ names) name none = by (name_cmp name first) (insert-none names name none)
+    where
+      by : (o : Ordering) → filter_map entry (insert_key name_cmp names name) ≡ filter_map entry names
+          → filter_map entry (match_ordering o (name ∷ first ∷ names) (first ∷ names) (first ∷ insert_key name_cmp names name)) ≡ filter_map entry (first ∷ names)
+      by Less later = ap (λ (o : Option NamedInode). cons_option o (filter_map entry (first ∷ names))) none
+      by Equal later = refl
+      by Greater later = ap (cons_option (entry first)) later
+
+  -- where each entry's name is there already, more names make no entry
+  pub put-unentered : (names more : List PathName) → ascends name_cmp names ≡ true → ((name : PathName) (own : NamedInode) → entry name ≡ Some own → list_any (name_eq name) names ≡ true)
+      → filter_map entry (put_names names more) ≡ filter_map entry names
+  put-unentered names [] up has = refl
+  put-unentered names (name ∷ more) up has =
+      put-unentered (insert_key name_cmp names name) more (ascends-insert name names up)
+      (λ other own is. any-insert other name names ∙ (ap (λ b. name_eq other name || b) (has other own is) ∙ or_true (name_eq other name)))
+      ∙ inserted (entry name) refl
+    where
+      inserted : (o : Option NamedInode) → entry name ≡ o → filter_map entry (insert_key name_cmp names name) ≡ filter_map entry names
+      inserted None e = insert-none names name e
+      inserted (Some own) e = ap (filter_map entry) (insert-has names name up (has name own e))

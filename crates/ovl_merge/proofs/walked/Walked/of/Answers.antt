@@ -1,0 +1,9 @@
+use Rattle.std.proofs.Common.{◌∙◌, sym}
+use Rattle.std.proofs.lemmas.Result.{IfOk-weaker}
+use Rattle.ovl_merge.proofs.VisitLemmas.{below-named}
+use Rattle.ovl_merge.proofs.walked.Walked.of.Goals as goal
+
+pub returns-in-Some-name_below-clause-path : goal.returns-in-Some-name_below-clause-path
+returns-in-Some-name_below-clause-path c =
+    IfOk-weaker c.child.result _ _
+    (λ walked here. here ∙ sym (below-named c.in-Some.walked.path c.args.path.now c.in-Some-name_below.name.now c.in-Some-name_below.ensures)) c.child.ensures.path
