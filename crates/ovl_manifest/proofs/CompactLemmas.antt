@@ -1,6 +1,6 @@
 -- The text of a layer, put together piece by piece, and read back.
 use Rattle.std.proofs.Common.{◌≡◌, ◌∙◌, ℕ, zero, suc, ◌+◌, ◌-◌, ◌*◌, ◌/◌, ◌%◌, ◌≤◌, ◌<◌, ◌^◌, ℤ, append-nil, List, [], ◌∷◌, ◌++◌, length, length-take, take, take_all, get_or, Bool, true, false, Option, Some, None, Result, Ok, Err, refl, sym, ap, ap₂, subst, append_assoc, arith, ltb-true, eqb-true, decimal}
-use Rattle.std.specs.Prelude.{◌==◌, not, ◌&&◌, ◌||◌, nat_eq, nat_lt, slice_index, codes, slice_get, option_and_then, if◌then◌else◌, is_some, MatchOption}
+use Rattle.std.specs.Prelude.{◌==◌, not, ◌&&◌, ◌||◌, nat_eq, nat_lt, slice_index, codes, slice_get, option_and_then, if◌then◌else◌, is_some, unwrap_or, MatchOption}
 use Rattle.std.specs.List.{list_all}
 use Rattle.std.specs.Ordering.{is_lt}
 use Rattle.std.specs.Cmp.Lexicographic.{nat_list_cmp_total}
@@ -23,8 +23,8 @@ use Rattle.json.specs.Tree.{json_tokens, depth as tree_depth}
 use Rattle.json.proofs.Printed.Strings.{escape_byte_plain}
 use Rattle.json.proofs.Printed.Tokens.{tokens-print}
 use Rattle.json.proofs.Printed.Trees.{ArePrintable-json_tokens, value-json_tokens}
-use Rattle.serde_json.specs.Data.{Data, string, object, Members}
-use Rattle.serde_json.specs.Find.{of_integer}
+use Rattle.serde_json.specs.Data.{Data, null, boolean, number, string, array, object, Members}
+use Rattle.serde_json.specs.Find.{as_str, of_integer}
 use Rattle.serde_json.specs.Read.{read, max_depth, of_json}
 use Rattle.serde_json.specs.Written.{outline, number_text, comma_if, compact_text, items_text, members_text}
 use Rattle.serde_json.proofs.Texts.{print-outline}
@@ -74,6 +74,15 @@ digits-written ds count inside all some short first =
     (λ zero. long ∙ first (sym head ∙ zero)) (omega (arith, digits-below (take count ds) 19 all (omega (arith, long, short))))
 
 -- ---- strings
+
+-- a value that is a text
+pub string-of : (value : Data) (text : List ℕ) → as_str value ≡ Some text → value ≡ string text
+string-of null text is = let bad : None ≡ Some text = is in cc
+string-of (boolean b) text is = let bad : None ≡ Some text = is in cc
+string-of (number n) text is = let bad : None ≡ Some text = is in cc
+string-of (string own) text is = ap (λ o. string (unwrap_or o own)) is
+string-of (array items) text is = let bad : None ≡ Some text = is in cc
+string-of (object own) text is = let bad : None ≡ Some text = is in cc
 
 -- bytes that need no escape, and one more
 pub escape-more : (bytes : List ℕ) (i : ℕ) → i < length bytes → escape (take i bytes) ≡ take i bytes → (get_or bytes i 0 ≡ 34 → ⊥) → (get_or bytes i 0 ≡ 92 → ⊥) → 32 ≤ get_or bytes i 0 → escape (take (i + 1) bytes) ≡ take (i + 1) bytes

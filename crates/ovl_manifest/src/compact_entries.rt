@@ -1,5 +1,6 @@
 //! Entries as their texts are written: members in the order of their names, without space.
 ghost use Rattle.std.specs.Prelude.{◌≡◌, true, IsTrue, IfSome, ◌++◌};
+ghost use Rattle.std.specs.Cow.{cow_str_bytes};
 ghost use Rattle.serde_json.specs.Data.{object};
 ghost use Rattle.serde_json.specs.Written.{compact_text};
 ghost use Rattle.ovl_names.specs.Paths.{PathNames, path_text};
@@ -12,10 +13,14 @@ use crate::compact_texts::Rest;
 use crate::fields::put_digits;
 use ovl_inode::{Attrs, Digest, Inode, Kind, MODE_LIMIT, SIZE_LIMIT, Target, sound};
 use std::alloc::Global;
+use std::borrow::CowStr;
 
 /// The text of the path and the inode of the entry that comes next.
-pub(crate) fn read_entry<'a>(alloc: Global, rest: &mut Rest<'a>) -> Option<(&'a str, Inode)>
-    ensures text { IfSome result (λ entry. (path : PathNames) → path_text path ≡ entry.0.now
+pub(crate) fn read_entry<'a>(
+    alloc: Global,
+    rest: &mut Rest<'a>,
+) -> Option<(CowStr<'a, Global>, Inode)>
+    ensures text { IfSome result (λ entry. (path : PathNames) → path_text path ≡ cow_str_bytes entry.0
         → rest.old ≡ compact_text (entry_value (path, entry.1)) ++ rest.new) }
     ensures sound { IfSome result (λ entry. is_sound_inode entry.1 ≡ true) }
 {
@@ -29,7 +34,7 @@ pub(crate) fn read_entry<'a>(alloc: Global, rest: &mut Rest<'a>) -> Option<(&'a 
     rest.take(",\"mtime\":")?;
     let mtime = rest.take_integer()?;
     rest.take(",\"path\":")?;
-    let path = rest.take_string()?;
+    let path = rest.take_text(alloc)?;
     let kind = read_kind(alloc, rest, word, blob, device)?;
     rest.take(",\"uid\":")?;
     let uid = rest.take_natural(u32::MAX as u64)?;
@@ -99,8 +104,8 @@ fn read_kind(
         }
         ("symlink", None, None) => {
             rest.take(",\"target\":")?;
-            let text = rest.take_string()?;
-            let Ok(own) = String::from_str(alloc, text) else {
+            let text = rest.take_text(alloc)?;
+            let Ok(own) = text.into_owned(alloc) else {
                 return None;
             };
             Some(Kind::Symlink {
@@ -137,7 +142,8 @@ fn read_attributes(alloc: Global, rest: &mut Rest<'_>) -> Option<Attrs>
 fn read_attribute(alloc: Global, rest: &mut Rest<'_>, attrs: &mut Attrs) -> Option<()>
     ensures { IfSome result (λ _. TakesAttribute rest.old attrs.old rest.new attrs.new) }
 {
-    let name = rest.take_string()?;
+    let text = rest.take_text(alloc)?;
+    let name = text.as_str();
     if !are_before(attrs, name) {
         return None;
     }

@@ -19,6 +19,7 @@ use ovl_inode::{Inode, is_directory};
 use ovl_names::{DEPTH_LIMIT, Name, TEXT_LIMIT};
 use simdutf8::compat::from_utf8;
 use std::alloc::Global;
+use std::borrow::CowStr;
 
 /// The sheet of the layer whose manifest these bytes are, byte for byte as [`write_layer`](crate::write_layer) writes
 /// it. Gives none of manifests that are written in another way, of any fault and for want of memory.
@@ -50,15 +51,15 @@ fn read_entries(alloc: Global, rest: &mut Rest<'_>) -> Option<Sheet>
     ensures layer { IfSome result (λ sheet. IsLayer sheet) }
 {
     let (text, root) = read_entry(alloc, rest)?;
-    let mut draft = start(alloc, text, root)?;
-    let mut last = "";
+    let mut draft = start(alloc, text.as_str(), root)?;
+    let mut last = CowStr::Borrowed("");
     let mut number = 1;
     'entries: while rest.take(",").is_some() {
         if number == ENTRY_LIMIT {
             return None;
         }
         let (path, inode) = read_entry(alloc, rest)?;
-        add_beside(alloc, &mut draft, last, path, inode)?;
+        add_beside(alloc, &mut draft, last.as_str(), path.as_str(), inode)?;
         last = path;
         number += 1;
     }

@@ -1,10 +1,14 @@
 //! The text of a manifest as it is written, taken from its front piece by piece.
-ghost use Rattle.std.specs.Prelude.{◌≡◌, ◌≤◌, [], ◌++◌, IsTrue, IfSome, MatchOption, decimal, length, take};
+ghost use Rattle.std.specs.Prelude.{◌≡◌, ◌≤◌, [], ◌++◌, IsTrue, IfSome, MatchOption, decimal, length, string_bytes, take};
 ghost use Rattle.std.specs.Fmt.{signed_decimal};
+ghost use Rattle.std.specs.Cow.{cow_str_bytes};
 ghost use Rattle.hex.specs.Hex.{encode_lower};
 ghost use Rattle.json.specs.Print.{escape, quoted};
 
 use ovl_inode::Digest;
+use serde_json::Value;
+use std::alloc::Global;
+use std::borrow::CowStr;
 use std::marker::Model;
 
 const DIGEST_DIGITS: usize = 64;
@@ -52,6 +56,20 @@ impl<'a> Rest<'a> {
         }
         self.text = back;
         Some(())
+    }
+
+    /// Takes a string with its quotation marks. It is copied where some of its bytes are escaped.
+    pub(crate) fn take_text(&mut self, alloc: Global) -> Option<CowStr<'a, Global>>
+        ensures { IfSome result (λ text. self.old ≡ quoted (cow_str_bytes text) ++ self.new) }
+    {
+        let text = self.text;
+        if let Some(plain) = self.take_string() {
+            return Some(CowStr::Borrowed(plain));
+        }
+        let (own, back) = text.split_at_checked(string_length(text.as_bytes()))?;
+        self.text = back;
+        let string = string_written(alloc, own)?;
+        Some(CowStr::Owned(string))
     }
 
     /// Takes a string of which no byte is escaped, with its quotation marks.
@@ -139,6 +157,43 @@ fn plain_length(bytes: &[u8]) -> usize
         length += 1;
     }
     length
+}
+
+// How long the string is that begins here, up to the first quotation mark behind its own that no backslash escapes.
+fn string_length(bytes: &[u8]) -> usize
+    ensures { result ≤ length bytes.now }
+{
+    let mut is_escaped = true;
+    for (place, byte) in bytes.iter().enumerate() {
+        if is_escaped {
+            is_escaped = false;
+        } else if *byte == b'"' {
+            return place + 1;
+        } else {
+            is_escaped = *byte == b'\\';
+        }
+    }
+    bytes.len()
+}
+
+// The text of the string that is written by these bytes.
+fn string_written(alloc: Global, own: &str) -> Option<String>
+    ensures { IfSome result (λ text. own.now ≡ quoted (string_bytes text)) }
+{
+    let Ok(value) = Value::from_str(alloc, own) else {
+        return None;
+    };
+    let text = value.as_str()?;
+    let Ok(written) = value.to_vec(alloc) else {
+        return None;
+    };
+    if written.as_slice() != own.as_bytes() {
+        return None;
+    }
+    match String::from_str(alloc, text) {
+        Ok(text) => Some(text),
+        Err(_) => None,
+    }
 }
 
 // The number that the digits at the front write, without a zero before others, and how many they are.

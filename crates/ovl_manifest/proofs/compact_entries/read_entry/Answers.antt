@@ -1,6 +1,7 @@
 use Rattle.std.proofs.Common.{◌≡◌, ◌∙◌, ◌++◌, List, ℕ, ℤ, w64, SFits, sym, ap, subst, rules}
 use Rattle.std.proofs.lemmas.Int.{to_z-of_z}
 use Rattle.std.specs.Prelude.{codes, decimal}
+use Rattle.std.specs.Cow.{cow_str_bytes}
 use Rattle.std.specs.Fmt.{signed_decimal}
 use Rattle.json.specs.Print.{quoted}
 use Rattle.serde_json.specs.Data.{object}
@@ -26,7 +27,7 @@ returns-then-sound-clause-text c = λ path spelled.
     let device = c.in_ok-device.device in
     let mode = c.in_ok-mode.mode in
     let seconds : ℤ = c.in_ok-mtime.mtime in
-    let text : List ℕ = c.in_ok-path.path.now in
+    let text : List ℕ = cow_str_bytes c.in_ok-path.path in
     let kind = c.in_ok-kind.kind in
     let uid = c.in_ok-uid.uid in
     let attrs = c.in_ok-attrs.attrs in

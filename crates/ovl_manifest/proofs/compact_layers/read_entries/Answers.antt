@@ -1,4 +1,4 @@
-use Rattle.std.proofs.Common.{◌∙◌, ◌+◌, ◌++◌, ◌∷◌, [], ℕ, List, false, sym, ap, append_assoc, arith, length, length-append, rules}
+use Rattle.std.proofs.Common.{◌∙◌, ◌+◌, ◌++◌, ◌∷◌, [], ℕ, List, false, sym, ap, append_assoc, arith, length, length-append}
 use Rattle.serde_json.specs.Written.{items_text}
 use Rattle.ovl_manifest.specs.Layers.{Entry, Entries}
 use Rattle.ovl_manifest.specs.Text.{entry_items}
@@ -14,14 +14,13 @@ entries-preserved c =
     let added = c.in_ok-add_beside.ensures in
     let entry : Entry = (c.add_beside.new.draft.last, c.in_ok-path.inode) in
     let comma = some-taken _ c.take.result c.take.ensures (sym c.is_some.ensures ∙ c.entries-test.true) in
-    let own = c.in_ok-path.ensures.text entry.0 added.path in
+    let own = c.in_ok-path.ensures.text entry.0 (added.path ∙ c.as_str-in-entries-2.ensures.value) in
     record {
       draft = added.draft;
       taken = c.entries.invariant.taken
           ∙ (ap (λ (t : List ℕ). entries_text false before ++ t) (comma ∙ ap (λ (t : List ℕ). 44 ∷ t) own)
           ∙ (entries-onto before entry rest (omega (arith, c.entries.invariant.count, c.entries.invariant.some)) ∙ ap (λ (all : Entries). entries_text false all ++ rest) (sym added.entries)));
-      text = search rules;
-      last = added.last;
+      last = added.last ∙ c.as_str-in-entries-2.ensures.value;
       count = ap length added.entries ∙ (length-append before (entry ∷ []) ∙ ap (λ n. n + 1) c.entries.invariant.count);
       some = omega arith;
       limit = omega (arith, c.entries.invariant.limit, c.if-number-eq-ENTRY_LIMIT.false);

@@ -1,6 +1,5 @@
 use Rattle.std.proofs.Common.{◌≡◌, ◌<◌, ◌-◌, ◌≤◌, ◌++◌, false, length}
-use denote.Shadow.{shadow}
-use denote.Text.{Utf8}
+use Rattle.std.specs.Cow.{cow_str_bytes}
 use Rattle.ovl_manifest.specs.Layers.{entry_limit}
 use Rattle.ovl_manifest.specs.TextPaths.{slashed}
 use Rattle.ovl_manifest.specs.SheetDrafts.{drafted, IsSheetDraft}
@@ -12,8 +11,7 @@ abbrev pub invariant-entries : goal.invariant-entries
 invariant-entries l = record {
   draft : IsSheetDraft l.draft;
   taken : l.fn.rest ≡ entries_text false (drafted l.draft) ++ l.rest;
-  text : shadow (Utf8 l.last);
-  last : slashed l.draft.last ≡ l.last;
+  last : slashed l.draft.last ≡ cow_str_bytes l.last;
   count : length (drafted l.draft) ≡ l.number;
   some : 0 < l.number;
   limit : l.number ≤ entry_limit;
