@@ -1,9 +1,8 @@
 ghost use Rattle.std.specs.Prelude.{◌≡◌, ◌<◌, IfOk, string_bytes, length};
 ghost use Rattle.ovl_names.specs.Paths.{child_path, path_text as text_of_path};
-ghost use Rattle.ovl_lookup.specs.Merged.{look as the_look};
 ghost use Rattle.ovl_merge.specs.Places.{merge_of};
 ghost use Rattle.ovl_merge.specs.MergeDown.{with_value as the_valued, redirected_from, with_contents as the_filled, new_whiteout as the_whiteout, merged_directory as the_directory, merged_metacopy as the_metacopy, merged_inode as the_inode, merged_entry};
-ghost use Rattle.ovl_merge.specs.Reckoned.{IsNear, IsKept, IsPlace, IsDirectoryPlace, IsViewFrom};
+ghost use Rattle.ovl_merge.specs.Reckoned.{IsNear, IsKept, IsPlace, IsDirectoryPlace};
 
 use crate::near::Near;
 use crate::passages::is_metacopy;
@@ -11,30 +10,28 @@ use crate::places::Place;
 use crate::rest::{name_in, shows_at};
 use crate::walked::Glance;
 use ovl_inode::{Attrs, Inode, Kind, is_directory, overlay, visible};
-use ovl_lookup::{DirView, Look, Stack};
+use ovl_lookup::{Look, Stack};
 use ovl_names::{Name, Path};
 use std::alloc::{AllocError, Global};
 
-// What the new lower layer has at a name in a directory of this place, which has this view in the whole stack.
+// What the new lower layer has at a name in a directory of this place.
 pub(crate) fn inode_in(
     alloc: Global,
     stack: &Stack,
     near: &Near,
-    whole: &Option<DirView>,
     above: &Place,
     name: &Name,
 ) -> Result<Option<Inode>, AllocError>
     requires several { 1 < length stack.now.layers }
     requires near { IsNear stack.now near.now }
     requires kept { IsKept above.now near.now }
-    requires whole { IsViewFrom 0 stack.now above.now.path whole.now }
     requires directory { IsDirectoryPlace (merge_of stack.now) above.now.path above.now }
     ensures { IfOk result (λ found. found ≡ merged_entry (merge_of stack.now) (child_path above.now.path name.now)) }
 {
     match near.glance(stack, above, name) {
         Glance::Plain(inode) => Ok(Some(visible(alloc, inode)?)),
         Glance::Passed => Ok(None),
-        Glance::Unsaid => inode_at(alloc, stack, near, whole, above, name),
+        Glance::Unsaid => inode_at(alloc, stack, near, above, name),
     }
 }
 
@@ -43,19 +40,17 @@ fn inode_at(
     alloc: Global,
     stack: &Stack,
     near: &Near,
-    whole: &Option<DirView>,
     above: &Place,
     name: &Name,
 ) -> Result<Option<Inode>, AllocError>
     requires several { 1 < length stack.now.layers }
     requires near { IsNear stack.now near.now }
-    requires whole { IsViewFrom 0 stack.now above.now.path whole.now }
     requires directory { IsDirectoryPlace (merge_of stack.now) above.now.path above.now }
     ensures { IfOk result (λ found. found ≡ merged_entry (merge_of stack.now) (child_path above.now.path name.now)) }
 {
     let place = above.child(alloc, stack, near, name)?;
     if let Some(inode) = &place.first {
-        return Ok(Some(merged_inode(alloc, stack, whole, above, name, &place, inode)?));
+        return Ok(Some(merged_inode(alloc, stack, above, name, &place, inode)?));
     }
     if !place.hidden {
         return Ok(None);
@@ -84,14 +79,12 @@ fn new_whiteout(alloc: Global) -> Inode
 fn merged_inode(
     alloc: Global,
     stack: &Stack,
-    whole: &Option<DirView>,
     above: &Place,
     name: &Name,
     place: &Place,
     inode: &Inode,
 ) -> Result<Inode, AllocError>
     requires several { 1 < length stack.now.layers }
-    requires whole { IsViewFrom 0 stack.now above.now.path whole.now }
     requires above { IsPlace (merge_of stack.now) above.now }
     requires path { place.now.path ≡ child_path above.now.path name.now }
     requires is { IsPlace (merge_of stack.now) place.now }
@@ -101,7 +94,7 @@ fn merged_inode(
         return merged_directory(alloc, stack, above, name, place, inode);
     }
     if is_metacopy(alloc, inode)? {
-        return merged_metacopy(alloc, stack, whole, above, name, place, inode);
+        return merged_metacopy(alloc, stack, above, name, place, inode);
     }
     visible(alloc, inode)
 }
@@ -137,14 +130,12 @@ fn merged_directory(
 fn merged_metacopy(
     alloc: Global,
     stack: &Stack,
-    whole: &Option<DirView>,
     above: &Place,
     name: &Name,
     place: &Place,
     inode: &Inode,
 ) -> Result<Inode, AllocError>
     requires several { 1 < length stack.now.layers }
-    requires whole { IsViewFrom 0 stack.now above.now.path whole.now }
     requires above { IsPlace (merge_of stack.now) above.now }
     requires path { place.now.path ≡ child_path above.now.path name.now }
     requires is { IsPlace (merge_of stack.now) place.now }
@@ -156,30 +147,7 @@ fn merged_metacopy(
             let copied = with_value(shown, overlay::METACOPY, b"")?;
             redirected(alloc, above, name, copied, reach)
         }
-        None => with_contents(
-            alloc,
-            shown,
-            &look_in_whole(alloc, stack, whole, above, name)?,
-        ),
-    }
-}
-
-// What the whole stack shows at a name in the directory of a place, which has this view there.
-fn look_in_whole(
-    alloc: Global,
-    stack: &Stack,
-    whole: &Option<DirView>,
-    _above: &Place,
-    name: &Name,
-) -> Result<Look, AllocError>
-    requires { IsViewFrom 0 stack.now _above.now.path whole.now }
-    ensures { IfOk result (λ look. look ≡ the_look stack.now (child_path _above.now.path name.now)) }
-{
-    // Each layer of a stack is one.
-    let _layers = stack.layers();
-    match whole {
-        Some(view) => view.look(alloc, stack, name),
-        None => Ok(Look::Nothing),
+        None => with_contents(alloc, shown, &stack.look(alloc, 0, &place.path)?),
     }
 }
 

@@ -2,7 +2,7 @@ ghost use Rattle.std.specs.Prelude.{◌≡◌, ◌↔◌, ◌<◌, Err, IfOk, If
 ghost use Rattle.ovl_merge.specs.declared.faults.MergeFault.TheVariants.{NoLower};
 ghost use Rattle.ovl_merge.specs.Places.{merge_of};
 ghost use Rattle.ovl_merge.specs.Directories.{entries_in};
-ghost use Rattle.ovl_merge.specs.Reckoned.{IsViewFrom, IsVisited};
+ghost use Rattle.ovl_merge.specs.Reckoned.{IsVisited};
 
 use crate::MergeFault;
 use crate::candidates::candidates;
@@ -10,7 +10,7 @@ use crate::directories::Directory;
 use crate::entries::inode_in;
 use ovl_board::{Piece, Work};
 use ovl_inode::Inode;
-use ovl_lookup::{DirView, Stack};
+use ovl_lookup::Stack;
 use ovl_names::{DEPTH_LIMIT, Name, Path};
 use ovl_rewrite::directories;
 use std::alloc::{AllocError, Global};
@@ -93,31 +93,26 @@ fn inodes_at(alloc: Global, stack: &Stack, dir: &Path) -> Result<Vec<(Name, Inod
     // Each layer of a stack is one.
     let _layers = stack.layers();
     match Directory::at(alloc, stack, dir)? {
-        Some(directory) => {
-            let whole = DirView::of(alloc, stack, 0, &directory.place.path)?;
-            inodes_in(alloc, stack, &directory, &whole)
-        }
+        Some(directory) => inodes_in(alloc, stack, &directory),
         None => Ok(Vec::new(alloc)),
     }
 }
 
-// The same, in a directory that they show, which has this view in the whole stack.
+// The same, in a directory that they show.
 fn inodes_in(
     alloc: Global,
     stack: &Stack,
     directory: &Directory,
-    whole: &Option<DirView>,
 ) -> Result<Vec<(Name, Inode)>, AllocError>
     requires several { 1 < length stack.now.layers }
     requires visited { IsVisited stack.now directory.now.place.path directory.now }
-    requires whole { IsViewFrom 0 stack.now directory.now.place.path whole.now }
     ensures { IfOk result (λ inodes. inodes.items ≡ entries_in (merge_of stack.now) directory.now.place.path) }
 {
     let Directory { place, near } = directory;
     let names = candidates(alloc, stack, directory)?;
     let mut inodes = Vec::with_capacity(alloc, names.len())?;
     for name in names {
-        if let Some(inode) = inode_in(alloc, stack, near, whole, place, &name)? {
+        if let Some(inode) = inode_in(alloc, stack, near, place, &name)? {
             inodes.push((name, inode))?;
         }
     }

@@ -10,8 +10,8 @@ use Rattle.ovl_merge.proofs.LayerLemmas.{upper, lower}
 use Rattle.ovl_merge.proofs.VisitLemmas.{no-entries}
 use Rattle.ovl_merge.proofs.works.inodes_at.Goals as goal
 
-pub returns-in_ok-whole-in-Some : goal.returns-in_ok-whole-in-Some
-returns-in_ok-whole-in-Some c =
+pub returns-in-Some : goal.returns-in-Some
+returns-in-Some c =
     let stack = c.args.stack.now in
     let m = merge_of stack in
     let dir = c.args.dir.now in
