@@ -22,7 +22,7 @@ use Rattle.ovl_engine.proofs.MergedLemmas.{at, with_look, paths_from, below, own
 
 -- ---- lists in a stack, the last one first
 
-abbrev stacked : {X Y : Type 0} → (X → List Y) → List X → List Y
+abbrev pub stacked : {X Y : Type 0} → (X → List Y) → List X → List Y
 stacked f [] = []
 stacked f (x ∷ xs) = stacked f xs ++ f x
 
@@ -52,7 +52,7 @@ module _ (stack : StackView) where
   whole = 64 * length stack.layers
 
   -- the paths that it has still to tell, and the pieces below it that are still to be opened
-  abbrev paths_left : OpenView → List PathNames
+  abbrev pub paths_left : OpenView → List PathNames
   paths_left opened = flat_map (λ entry. paths_from stack (whole - length opened.0) (child_path opened.0 entry.0)) opened.1
 
   abbrev pieces_left : OpenView → List Piece

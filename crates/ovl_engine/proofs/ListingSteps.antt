@@ -1,8 +1,10 @@
--- The report of the merged tree as far as it is written, and what each entry adds to it.
-use Rattle.std.proofs.Common.{◌≡◌, ℕ, suc, ◌+◌, ◌<◌, ◌≤◌, false, true, List, [], ◌∷◌, ◌++◌, length, get_or, map, drop, drop-cons, refl, sym, ap, ◌∙◌, arith, append-nil, length-append, string_bytes}
-use Rattle.std.specs.Prelude.{codes, decimal}
+-- The lines of the merged tree as far as they are written, from a number of its paths on, and what each entry adds to them.
+use Rattle.std.proofs.Common.{◌≡◌, ℕ, zero, suc, ◌+◌, ◌<◌, ◌≤◌, Bool, false, true, cond, List, [], ◌∷◌, ◌++◌, length, get_or, map, take, drop, drop-cons, refl, sym, ap, ◌∙◌, arith, append-nil, length-append, length-drop, string_bytes}
+use Rattle.std.specs.Prelude.{◌==◌, codes}
 use Rattle.std.specs.List.{flat_map, All}
-use Rattle.std.proofs.lemmas.List.{length-map}
+use Rattle.std.proofs.Math.Dec.{eqb-suc-zero}
+use Rattle.std.proofs.Math.Seq.{take-append_seam}
+use Rattle.std.proofs.lemmas.List.{drop-append-le, drop-map, drop-take, drop_all, take-map, take_all}
 use Rattle.std.proofs.lemmas.List.Concat.{flat_map-append}
 use Rattle.std.proofs.lemmas.List.Folds.{flat_map-map}
 use Rattle.ovl_names.specs.Names.{PathName}
@@ -15,9 +17,9 @@ use Rattle.ovl_board.proofs.Members.{Every}
 use Rattle.ovl_engine.specs.declared.listings.Open.{Open}
 use Rattle.ovl_engine.specs.Directories.{NamedLook, ShowParcel, IsShowWalk}
 use Rattle.ovl_engine.specs.Reports.{look_line, show_line, shown_names}
-use Rattle.ovl_engine.specs.Outcomes.{IsShowReport}
-use Rattle.ovl_engine.proofs.MergedLemmas.{with_look}
-use Rattle.ovl_engine.proofs.ListingLemmas.{OpenView, IsTold, all_paths, views_of, told_some, left-exhausted, left-look, left-told, next-path, left-entered, first-path, left-first, told-last, every-front, every-last, every-push}
+use Rattle.ovl_engine.specs.Listings.{merged_tree}
+use Rattle.ovl_engine.proofs.MergedLemmas.{with_look, tree_paths}
+use Rattle.ovl_engine.proofs.ListingLemmas.{OpenView, IsTold, stacked, paths_left, all_paths, views_of, left-exhausted, left-look, left-told, next-path, left-entered, first-path, left-first, every-front, every-last, every-push}
 
 abbrev pub view : Open → OpenView
 view o = (o.parcel.now.piece.dir, drop o.told o.parcel.now.out.items)
@@ -39,20 +41,17 @@ shown-child (first ∷ dir) name =
 pub text-child : (dir : PathNames) (name : PathName) → shown_names (child_path dir name) ≡ shown_names dir ++ (codes "/" ++ escaped name)
 text-child dir name = flat_map-append (λ own. codes "/" ++ escaped own) dir (name ∷ []) ∙ ap (λ l. shown_names dir ++ l) (append-nil (codes "/" ++ escaped name))
 
-module _ (stack : StackView) where
+module _ (stack : StackView) (first : ℕ) where
   abbrev line_at : PathNames → List ℕ
   line_at path = show_line (with_look stack path)
 
-  -- the report has the lines of the paths that are told, and is to have those of the others
+  -- the report has the lines of the paths that are told, but for the first ones, and is to have those of the others
   pub record IsListing (report : List ℕ) (entries : ℕ) (opens : List Open) (rest : List ShowParcel) : Type 0 where
     pub told : List PathNames
     pub is_told : IsTold stack (map view opens) told (views_of rest)
-    pub written : report ≡ flat_map line_at told
+    pub written : report ≡ flat_map line_at (drop first told)
     pub counted : entries ≡ length told
     pub texts : Every HasText opens
-
-  pub listed_some : {report : List ℕ} {entries : ℕ} {opens : List Open} {rest : List ShowParcel} → IsListing report entries opens rest → entries ≤ length (all_paths stack)
-  listed_some {opens = opens} {rest = rest} h = omega (arith, h.counted, told_some stack (map view opens) h.told (views_of rest) h.is_told)
 
   module _ (each : All IsLayer stack.layers) where
     -- the directory that was opened last has nothing left
@@ -68,19 +67,42 @@ module _ (stack : StackView) where
 
     -- ... or an entry
     module _ (report : List ℕ) (entries : ℕ) (opens : List Open) (o : Open) (rest : List ShowParcel) (h : IsListing report entries (opens ++ o ∷ []) rest) (entry : NamedLook) (left : List NamedLook)
-        (some : (view o).1 ≡ entry ∷ left) (longer : List ℕ) (more : longer ≡ report ++ look_line (string_bytes o.text ++ (codes "/" ++ escaped entry.0)) entry.1)
+        (some : (view o).1 ≡ entry ∷ left) (wanted : Bool) (is_wanted : wanted ≡ true → first ≤ entries) (unwanted : wanted ≡ false → entries < first)
+        (longer : List ℕ) (more : longer ≡ report ++ cond wanted (look_line (string_bytes o.text ++ (codes "/" ++ escaped entry.0)) entry.1) [])
         (o' : Open) (same : view o' ≡ ((view o).0, left)) (text : string_bytes o'.text ≡ string_bytes o.text) where
       abbrev child : PathNames
       child = child_path (view o).0 entry.0
 
-      written-next : longer ≡ flat_map line_at (h.told ++ child ∷ [])
-      written-next =
-          let path : string_bytes o.text ++ (codes "/" ++ escaped entry.0) ≡ shown_path child = ap (λ l. l ++ (codes "/" ++ escaped entry.0)) (every-last HasText opens o h.texts) ∙ sym (shown-child (view o).0 entry.0) in
-          more
-          ∙ (ap (λ l. report ++ look_line l entry.1) path
-          ∙ (ap (λ l. report ++ look_line (shown_path child) l) (left-look stack each view opens o entry left h.told rest h.is_told some)
-          ∙ (ap (λ l. l ++ line_at child) h.written
-          ∙ (ap (λ l. flat_map line_at h.told ++ l) (sym (append-nil (line_at child))) ∙ sym (flat_map-append line_at h.told (child ∷ []))))))
+      path_text : string_bytes o.text ++ (codes "/" ++ escaped entry.0) ≡ shown_path child
+      path_text = ap (λ l. l ++ (codes "/" ++ escaped entry.0)) (every-last HasText opens o h.texts) ∙ sym (shown-child (view o).0 entry.0)
+
+      line_text : look_line (string_bytes o.text ++ (codes "/" ++ escaped entry.0)) entry.1 ≡ line_at child
+      line_text =
+          ap (λ l. look_line l entry.1) path_text
+          ∙ ap (look_line (shown_path child)) (left-look stack each view opens o entry left h.told rest h.is_told some)
+
+      written-next : longer ≡ flat_map line_at (drop first (h.told ++ child ∷ []))
+      written-next = by wanted refl
+        where
+          by : (b : Bool) → wanted ≡ b → longer ≡ flat_map line_at (drop first (h.told ++ child ∷ []))
+          by true e =
+              let begun : first ≤ length h.told = omega (arith, is_wanted e, h.counted) in
+              more
+              ∙ (ap (λ b. report ++ cond b (look_line (string_bytes o.text ++ (codes "/" ++ escaped entry.0)) entry.1) []) e
+              ∙ (ap (λ l. report ++ l) line_text
+              ∙ (ap (λ l. l ++ line_at child) h.written
+              ∙ (ap (λ l. flat_map line_at (drop first h.told) ++ l) (sym (append-nil (line_at child)))
+              ∙ (sym (flat_map-append line_at (drop first h.told) (child ∷ []))
+              ∙ ap (flat_map line_at) (sym (drop-append-le first h.told (child ∷ []) begun)))))))
+          by false e =
+              let before : entries < first = unwanted e in
+              let none : drop first h.told ≡ [] = drop_all first h.told (omega (arith, before, h.counted)) in
+              let still : drop first (h.told ++ child ∷ []) ≡ [] = drop_all first (h.told ++ child ∷ []) (omega (arith, before, h.counted, length-append h.told (child ∷ []))) in
+              more
+              ∙ (ap (λ b. report ++ cond b (look_line (string_bytes o.text ++ (codes "/" ++ escaped entry.0)) entry.1) []) e
+              ∙ (append-nil report
+              ∙ (h.written
+              ∙ (ap (flat_map line_at) none ∙ sym (ap (flat_map line_at) still)))))
 
       counted-next : entries + 1 ≡ length (h.told ++ child ∷ [])
       counted-next = omega (arith, h.counted, length-append h.told (child ∷ []))
@@ -115,24 +137,45 @@ module _ (stack : StackView) where
     module _ (some : 0 < length stack.layers) where
       -- at first the root is told, and its directory is open
       pub listing-first : (parcel : ShowParcel) (parcels : List ShowParcel) → IsShowWalk stack (views_of (parcel ∷ parcels))
-          → (report : List ℕ) → report ≡ line_at [] → (o : Open) → o.parcel.now ≡ parcel → o.told ≡ 0 → string_bytes o.text ≡ [] → IsListing report 1 (o ∷ []) parcels
+          → (report : List ℕ) → report ≡ cond (first == 0) (line_at []) [] → (o : Open) → o.parcel.now ≡ parcel → o.told ≡ 0 → string_bytes o.text ≡ [] → IsListing report 1 (o ∷ []) parcels
       listing-first parcel parcels plain report line o its none its_text = record {
         told = [] ∷ [];
         is_told = left-first stack each some parcel parcels plain view o (λ j. ((its j).piece.dir, drop (none j) (its j).out.items));
-        written = line ∙ sym (append-nil (line_at []));
+        written = line ∙ root_line first;
         counted = refl;
         texts =
             let path : [] ≡ o.parcel.now.piece.dir = sym (ap (λ (p : ShowParcel). p.piece.dir) its ∙ first-path stack each some parcel parcels plain) in
             every-push HasText [] o (λ p i. absurd i) (its_text ∙ ap shown_names path);
       }
+        where
+          root_line : (n : ℕ) → cond (n == 0) (line_at []) [] ≡ flat_map line_at (drop n ([] ∷ []))
+          root_line zero = sym (append-nil (line_at []))
+          root_line (suc n) = ap (λ b. cond b (line_at []) []) (eqb-suc-zero n) ∙ ap (flat_map line_at) (sym (drop_all {X = PathNames} (suc n) ([] ∷ []) (omega arith)))
 
-      -- in the end all is told
-      pub listing-last : (report : List ℕ) (entries : ℕ) (rest : List ShowParcel) → IsListing report entries [] rest → IsShowReport stack.layers (report ++ codes "entries " ++ decimal entries ++ codes "\n")
-      listing-last report entries rest h = record {
-        looks = map (with_look stack) h.told;
-        merged = told-last stack each some h.told (views_of rest) h.is_told;
-        printed =
-            let count : entries ≡ length (map (with_look stack) h.told) = h.counted ∙ sym (length-map h.told (with_look stack)) in
-            ap (λ l. l ++ codes "entries " ++ decimal entries ++ codes "\n") (h.written ∙ sym (flat_map-map show_line (with_look stack) h.told))
-            ∙ ap (λ n. flat_map show_line (map (with_look stack) h.told) ++ codes "entries " ++ decimal n ++ codes "\n") count;
-      }
+      -- the lines of a share of the paths are written once as many paths are told, or all
+      shares_lines : (share : ℕ) → flat_map line_at (take share (drop first (all_paths stack))) ≡ flat_map show_line (take share (drop first (merged_tree stack)))
+      shares_lines share =
+          let paths = all_paths stack in
+          sym (flat_map-map show_line (with_look stack) (take share (drop first paths)))
+          ∙ ap (flat_map show_line)
+          (sym (take-map (with_look stack) share (drop first paths))
+          ∙ ap (take share) (sym (drop-map (with_look stack) first paths) ∙ ap (drop first) (sym (tree_paths stack each some))))
+
+      pub listing-share : (report : List ℕ) (entries : ℕ) (opens : List Open) (rest : List ShowParcel) → IsListing report entries opens rest
+          → (share : ℕ) → entries ≡ first + share → report ≡ flat_map show_line (take share (drop first (merged_tree stack)))
+      listing-share report entries opens rest h share full =
+          let paths = all_paths stack in
+          let left = stacked (paths_left stack) (map view opens) in
+          let front : h.told ≡ take (first + share) paths =
+          sym (take-append_seam h.told left) ∙ ((λ j. take (sym h.counted j) (h.is_told.paths j)) ∙ ap (λ n. take n paths) full) in
+          h.written ∙ (ap (λ l. flat_map line_at (drop first l)) front ∙ (ap (flat_map line_at) (drop-take first share paths) ∙ shares_lines share))
+
+      pub listing-last : (report : List ℕ) (entries : ℕ) (rest : List ShowParcel) → IsListing report entries [] rest
+          → (share : ℕ) → entries ≤ first + share → report ≡ flat_map show_line (take share (drop first (merged_tree stack)))
+      listing-last report entries rest h share few =
+          let paths = all_paths stack in
+          let all : h.told ≡ paths = sym (append-nil h.told) ∙ h.is_told.paths in
+          let within : length (drop first paths) ≤ share = omega (arith, few, h.counted, ap length all, length-drop first paths) in
+          h.written
+          ∙ (ap (λ l. flat_map line_at (drop first l)) all
+          ∙ (ap (flat_map line_at) (sym (take_all share (drop first paths) within)) ∙ shares_lines share))

@@ -1,8 +1,8 @@
 -- Layers that are read one after another.
 use Rattle.std.proofs.Common.{◌≡◌, ℕ, zero, suc, ◌+◌, ◌*◌, ◌<◌, ◌≤◌, List, [], ◌∷◌, ◌++◌, Result, Ok, Err, refl, sym, ap, ◌∙◌, length, take, drop, map, get_or, MatchResult, subst, arith, length-take-le}
-use native.Mathlib.Nat.{suc-mul, zero-mul}
+use native.Mathlib.Nat.{zero-mul}
 use Rattle.std.specs.Fork.{slice_chunk}
-use Rattle.std.proofs.lemmas.List.{take_more, take-take, drop-take, take-append-drop, map-append, length-map}
+use Rattle.std.proofs.lemmas.List.{take_more, take-append-drop, map-append, length-map}
 use Rattle.ovl_manifest.specs.Layers.{Entries}
 use Rattle.ovl_manifest.specs.Manifest.{read_layer, IsFaultOf}
 use Rattle.ovl_manifest.specs.declared.faults.LayerFault.{LayerFault}
@@ -10,6 +10,7 @@ use Rattle.ovl_manifest.specs.declared.faults.LayerFault.TheVariants.{NotJson, S
 use Rattle.ovl_engine.specs.declared.faults.EngineFault.{EngineFault}
 use Rattle.ovl_engine.specs.declared.faults.EngineFault.TheVariants.{Workers, Layers, Layer, BlobOrder, BlobSize, NoLower, Faulty, LimitOut, Run, Memory}
 use Rattle.ovl_engine.specs.Refusals.{layers_from, under_layer, unread_layer, IsUnread}
+use Rattle.ovl_engine.proofs.ShareLemmas.{share_here}
 
 -- layers on top of what others give
 abbrev over : List Entries → Result (List Entries) EngineFault → Result (List Entries) EngineFault
@@ -134,17 +135,9 @@ told_of_all read all fails (Run fault) is = absurd is
 
 -- one more share of the manifests, each share of the same size
 module _ {X : Type 0} (bytes : X → List ℕ) (xs : List X) (size n : ℕ) (inside : n * size ≤ length xs) (layers : List Entries) (so_far : layers_from 0 (map bytes (take (n * size) xs)) ≡ Ok layers) where
-  share_here : take (suc n * size) xs ≡ take (n * size) xs ++ slice_chunk xs size n
-  share_here =
-      let ys = take (n * size + size) xs in
-      ap (λ (k : ℕ). take k xs) (suc-mul n size)
-      ∙ (sym (take-append-drop (n * size) ys)
-      ∙ (ap (λ (front : List X). front ++ drop (n * size) ys) (take-take (n * size) (n * size + size) xs (omega arith))
-      ∙ ap (λ (back : List X). take (n * size) xs ++ back) (drop-take (n * size) size xs)))
-
   with_share : layers_from 0 (map bytes (take (suc n * size) xs)) ≡ over layers (layers_from (n * size) (map bytes (slice_chunk xs size n)))
   with_share =
-      ap (λ (front : List X). layers_from 0 (map bytes front)) share_here
+      ap (λ (front : List X). layers_from 0 (map bytes front)) (share_here xs size n)
       ∙ (ap (layers_from 0) (map-append bytes (take (n * size) xs) (slice_chunk xs size n))
       ∙ (behind 0 (map bytes (take (n * size) xs)) (map bytes (slice_chunk xs size n)) layers so_far
       ∙ ap (λ (k : ℕ). over layers (layers_from k (map bytes (slice_chunk xs size n)))) place))

@@ -3,8 +3,10 @@ pub mod Directories
 pub mod FsckReports
 pub mod Kept
 pub mod LayerReports
+pub mod Listings
 pub mod NamedBlobs
 pub mod Outcomes
 pub mod Refusals
 pub mod Reports
+pub mod Shares
 pub mod VacuumReports

@@ -12,8 +12,8 @@ ghost use Rattle.ovl_engine.specs.Kept.{KeepsTree, KeepsTreeOf, KeepsSoundness, 
 use crate::checks::findings_of;
 use crate::derefs::deref;
 use crate::faults::EngineFault;
-use crate::fsck_reports::{fsck_report_of, is_clean};
-use crate::listings::report_of_walk;
+use crate::fsck_reports::{fsck_report_by, is_clean};
+use crate::listings::report_by;
 use crate::merges::merge;
 use crate::requests::{Answer, Command};
 use crate::stacks::read_stack;
@@ -61,7 +61,7 @@ pub fn command<G: Gate + Sync, R: Threads + Wait + Sync>(
         ↔ ((outside_test worker_limit workers ≡ false) × (outside_test layer_limit (length manifests.now) ≡ true)) }
 {
     let stack = stack_for(rt, alloc, what, manifests, blobs, workers)?;
-    answer(rt, alloc, what, &stack, blobs, workers, gate)
+    answer(rt, alloc, what, stack, blobs, workers, gate)
 }
 
 /// What [`command`] gives, of manifests that nobody needs any more: they are let go once their layers are read, so that
@@ -86,7 +86,7 @@ pub fn command_of<G: Gate + Sync, R: Threads + Wait + Sync>(
 {
     let stack = stack_for(rt, alloc, what, &manifests, blobs, workers)?;
     drop(manifests);
-    answer(rt, alloc, what, &stack, blobs, workers, gate)
+    answer(rt, alloc, what, stack, blobs, workers, gate)
 }
 
 // The stack of the layers that the manifests state, where nothing refuses the command before its work.
@@ -132,17 +132,17 @@ fn answer<G: Gate + Sync, R: Threads + Wait + Sync>(
     rt: &R,
     alloc: Global,
     what: Command,
-    stack: &Stack,
+    stack: Stack,
     blobs: &[Blob],
     workers: usize,
     gate: &G,
 ) -> Result<Answer, EngineFault>
     requires number { (0 < workers) × (workers ≤ worker_limit) }
     requires ascend { are_in_order (blob_views blobs.now) ≡ true }
-    requires several { lower_test what ≡ true → 1 < length stack.now.layers }
-    ensures outcome { IsRun what stack.now.layers (blob_views blobs.now) (G.may_refuse gate.now) result }
-    ensures keeps { IfOk result (λ answer. makes_layers what ≡ true → KeepsTreeOf stack.now.layers answer) }
-    ensures sound { IfOk result (λ answer. stays_sound what ≡ true → KeepsSoundness stack.now.layers answer) }
+    requires several { lower_test what ≡ true → 1 < length stack.layers }
+    ensures outcome { IsRun what stack.layers (blob_views blobs.now) (G.may_refuse gate.now) result }
+    ensures keeps { IfOk result (λ answer. makes_layers what ≡ true → KeepsTreeOf stack.layers answer) }
+    ensures sound { IfOk result (λ answer. stays_sound what ≡ true → KeepsSoundness stack.layers answer) }
 {
     match what {
         Command::Show => show(rt, alloc, stack, workers, gate),
@@ -191,21 +191,23 @@ fn are_over_limit(blobs: &[Blob]) -> bool
 fn show<G: Gate + Sync, R: Threads + Wait + Sync>(
     rt: &R,
     alloc: Global,
-    stack: &Stack,
+    stack: Stack,
     workers: usize,
     gate: &G,
 ) -> Result<Answer, EngineFault>
     requires { (0 < workers) × (workers ≤ worker_limit) }
-    ensures { IsRun Show stack.now.layers [] (G.may_refuse gate.now) result }
+    ensures { IsRun Show stack.layers [] (G.may_refuse gate.now) result }
 {
-    let work = ShowWork::new(stack);
+    let work = ShowWork::new(&stack);
     let root = Piece {
         space: 0,
         dir: Path::root(alloc),
     };
     let (parcels, _) = run(rt, alloc, &work, root, workers, gate)?;
+    let look = work.root_look(alloc)?;
+    drop(stack);
     Ok(Answer {
-        report: report_of_walk(alloc, &work, &parcels)?,
+        report: report_by(rt, alloc, &look, &parcels, workers)?,
         layers: Vec::new(alloc),
         clean: true,
     })
@@ -215,18 +217,19 @@ fn show<G: Gate + Sync, R: Threads + Wait + Sync>(
 fn fsck<G: Gate + Sync, R: Threads + Wait + Sync>(
     rt: &R,
     alloc: Global,
-    stack: &Stack,
+    stack: Stack,
     blobs: &[Blob],
     workers: usize,
     gate: &G,
 ) -> Result<Answer, EngineFault>
     requires number { (0 < workers) × (workers ≤ worker_limit) }
     requires ascend { are_in_order (blob_views blobs.now) ≡ true }
-    ensures { IsRun Fsck stack.now.layers (blob_views blobs.now) (G.may_refuse gate.now) result }
+    ensures { IsRun Fsck stack.layers (blob_views blobs.now) (G.may_refuse gate.now) result }
 {
-    let found = findings_of(rt, alloc, stack, blobs, workers, gate)?;
+    let found = findings_of(rt, alloc, &stack, blobs, workers, gate)?;
+    drop(stack);
     Ok(Answer {
-        report: fsck_report_of(alloc, &found)?,
+        report: fsck_report_by(rt, alloc, &found, workers)?,
         layers: Vec::new(alloc),
         clean: is_clean(&found),
     })

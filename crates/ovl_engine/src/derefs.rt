@@ -32,24 +32,25 @@ use std::thread::Threads;
 pub(crate) fn deref<G: Gate + Sync, R: Threads + Wait + Sync>(
     rt: &R,
     alloc: Global,
-    stack: &Stack,
+    stack: Stack,
     blobs: &[Blob],
     workers: usize,
     gate: &G,
 ) -> Result<Answer, EngineFault>
     requires number { (0 < workers) × (workers ≤ worker_limit) }
     requires ascend { are_in_order (blob_views blobs.now) ≡ true }
-    ensures outcome { IsRun Deref stack.now.layers (blob_views blobs.now) (G.may_refuse gate.now) result }
-    ensures tree { IfOk result (KeepsTreeOf stack.now.layers) }
-    ensures sound { IfOk result (KeepsSoundness stack.now.layers) }
+    ensures outcome { IsRun Deref stack.layers (blob_views blobs.now) (G.may_refuse gate.now) result }
+    ensures tree { IfOk result (KeepsTreeOf stack.layers) }
+    ensures sound { IfOk result (KeepsSoundness stack.layers) }
 {
     let _layers = stack.layers();
     deref_keeps_the_tree();
     deref_keeps_soundness();
-    expect_clean(rt, alloc, stack, blobs, workers, gate)?;
-    let layer = dereferenced(rt, alloc, stack, workers, gate)?;
+    expect_clean(rt, alloc, &stack, blobs, workers, gate)?;
+    let layer = dereferenced(rt, alloc, &stack, workers, gate)?;
+    drop(stack);
     let report = layer_report_of(alloc, &layer)?;
-    Ok(rewritten(alloc, report, &[&layer])?)
+    Ok(rewritten(alloc, report, vec![in alloc; layer]?)?)
 }
 
 // What deref makes of the topmost layer of a sound stack.

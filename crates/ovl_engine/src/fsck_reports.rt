@@ -1,29 +1,72 @@
-ghost use Rattle.std.specs.Prelude.{◌≡◌, ◌++◌, [], IfOk, OnOk, string_bytes};
+ghost use Rattle.std.specs.Prelude.{◌≡◌, ◌<◌, ◌++◌, [], IfOk, OnOk, codes, decimal, string_bytes};
+ghost use Rattle.std.specs.List.{flat_map};
 ghost use Rattle.ovl_names.specs.Escapes.{shown_path};
 ghost use Rattle.ovl_engine.specs.FsckReports.{code_word as the_code_word, weight_word as the_weight_word, finding_line, fault_count, note_count, is_clean as clean_test, fsck_report};
 
 use crate::reports::{push_name, push_number, push_word};
+use crate::shares::{joined, share_of};
 use ovl_check::{Code, Finding};
 use ovl_names::{Name, Path};
 use std::alloc::{AllocError, Global};
 use std::marker::Model;
+use std::thread::{Threads, map_chunks};
 
 /// The report of `fsck`: a line for each finding, in their order, and how many are faults and how many notes.
 /// Fails only for want of memory.
 pub fn fsck_report_of(alloc: Global, found: &[Finding]) -> Result<Vec<u8>, AllocError>
     ensures { IfOk result (λ report. report.items ≡ fsck_report found.now) }
 {
-    let mut report = String::new(alloc);
+    let mut report = lines_of(alloc, found)?;
+    push_counts(&mut report, found)?;
+    Ok(report.into_bytes())
+}
+
+/// What [`fsck_report_of`] gives, written by at most as many threads as there are workers: each writes a share of the
+/// lines.
+pub(crate) fn fsck_report_by<R: Threads + Sync>(
+    rt: &R,
+    alloc: Global,
+    found: &[Finding],
+    workers: usize,
+) -> Result<Vec<u8>, AllocError>
+    requires { 0 < workers }
+    ensures { IfOk result (λ report. report.items ≡ fsck_report found.now) }
+{
+    let share = share_of(found.len(), workers);
+    if found.len() <= share {
+        return fsck_report_of(alloc, found);
+    }
+    let write = |_first: usize, found: &[Finding]| -> Result<String, AllocError>
+        ensures { IfOk result (λ lines. string_bytes lines ≡ flat_map finding_line found.entry.now) }
+    { lines_of(alloc, found) };
+    let parts = map_chunks(rt, alloc, found, share, &write)?;
+    let mut report = joined(alloc, parts)?;
+    push_counts(&mut report, found)?;
+    Ok(report.into_bytes())
+}
+
+// The lines of findings.
+fn lines_of(alloc: Global, found: &[Finding]) -> Result<String, AllocError>
+    ensures { IfOk result (λ lines. string_bytes lines ≡ flat_map finding_line found.now) }
+{
+    let mut lines = String::new(alloc);
     let mut above = Above::root(alloc);
     for finding in found {
-        push_finding(alloc, &mut report, &mut above, finding)?;
+        push_finding(alloc, &mut lines, &mut above, finding)?;
     }
+    Ok(lines)
+}
+
+// Appends the last line, by all findings.
+fn push_counts(report: &mut String, found: &[Finding]) -> Result<(), AllocError>
+    ensures { OnOk result (string_bytes report.new ≡ string_bytes report.old
+        ++ codes "faults " ++ decimal (fault_count found.now) ++ codes " notes " ++ decimal (note_count found.now) ++ codes "\n") }
+{
     report.push_str("faults ")?;
-    push_number(&mut report, count_of_faults(found))?;
+    push_number(report, count_of_faults(found))?;
     report.push_str(" notes ")?;
-    push_number(&mut report, count_of_notes(found))?;
-    report.push_str("\n")?;
-    Ok(report.into_bytes())
+    push_number(report, count_of_notes(found))?;
+    report.push_str("\n")
 }
 
 /// Whether no finding is a fault.

@@ -14,6 +14,7 @@ mod merges;
 mod reports;
 mod requests;
 mod rewrites;
+mod shares;
 mod stacks;
 mod vacuum_reports;
 mod vacuums;

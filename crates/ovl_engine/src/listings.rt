@@ -1,20 +1,24 @@
-ghost use Rattle.std.specs.Prelude.{◌≡◌, ◌+◌, ◌<◌, ◌≤◌, ◌++◌, ◌∷◌, [], List, All, codes, length, string_bytes, IfOk, OnOk};
+ghost use Rattle.std.specs.Prelude.{◌≡◌, ◌+◌, ◌*◌, ◌<◌, ◌≤◌, ◌++◌, ◌∷◌, [], List, IfOk, OnOk, codes, drop, if◌then◌else◌, length, string_bytes, take};
+ghost use Rattle.std.specs.Fork.{slice_chunk};
+ghost use Rattle.std.specs.List.{flat_map, sum_by};
 ghost use Rattle.ovl_names.specs.Escapes.{escaped as escaped_text};
-ghost use Rattle.ovl_manifest.specs.Layers.{IsLayer};
-ghost use Rattle.ovl_lookup.specs.Merged.{look as the_look};
+ghost use Rattle.ovl_lookup.specs.Stacks.{StackView};
 ghost use Rattle.ovl_board.specs.Parcels.{parcel_views};
 ghost use Rattle.ovl_engine.specs.declared.listings.Open.{Open};
 ghost use Rattle.ovl_engine.specs.Directories.{ShowParcel, IsShowWalk};
+ghost use Rattle.ovl_engine.specs.Listings.{IsTreeOf, merged_tree};
 ghost use Rattle.ovl_engine.specs.Reports.{line_of, look_line, show_line};
 ghost use Rattle.ovl_engine.specs.Outcomes.{IsShowReport};
 
 use crate::reports::{push_attributes, push_contents, push_count, push_name, push_status};
+use crate::shares::{joined, share_of};
 use crate::works::ShowWork;
 use ovl_board::Parcel;
 use ovl_inode::Inode;
 use ovl_lookup::Look;
 use ovl_names::Name;
 use std::alloc::{AllocError, Global};
+use std::thread::{Threads, map_indices};
 
 /// The report of `show` of the whole merged tree, with no list of its paths: see [`crate::report_of`].
 /// The parcels are the plain walk of the work from `/` of space 0. Fails only for want of memory.
@@ -26,22 +30,133 @@ pub fn report_of_walk(
     requires { IsShowWalk work.now (parcel_views (λ looks. looks.items) parcels.now) }
     ensures { IfOk result (λ report. IsShowReport work.now.layers report.items) }
 {
-    let mut report = report_of_root(alloc, work)?;
-    let mut entries: u64 = 1;
+    let root = work.root_look(alloc)?;
+    let report = report_of_tree(alloc, &root, parcels)?;
+    Ok(report)
+}
+
+// The report by what is shown at `/` and the parcels.
+fn report_of_tree(
+    alloc: Global,
+    root: &Look,
+    parcels: &[Parcel<Vec<(Name, Look)>>],
+) -> Result<Vec<u8>, AllocError>
+    ensures { IfOk result (λ report. (stack : StackView) → IsTreeOf stack root.now (parcel_views (λ looks. looks.items) parcels.now)
+        → IsShowReport stack.layers report.items) }
+{
+    let entries = entries_of(parcels)?;
+    let mut report = lines_from(alloc, root, parcels, 0, entries)?;
+    push_count(&mut report, entries as u64)?;
+    Ok(report.into_bytes())
+}
+
+/// The report of `show` by what is shown at `/` and the parcels of the walk, written by at most as many threads as there
+/// are workers: each writes a share of the lines.
+pub(crate) fn report_by<R: Threads + Sync>(
+    rt: &R,
+    alloc: Global,
+    root: &Look,
+    parcels: &[Parcel<Vec<(Name, Look)>>],
+    workers: usize,
+) -> Result<Vec<u8>, AllocError>
+    requires { 0 < workers }
+    ensures { IfOk result (λ report. (stack : StackView) → IsTreeOf stack root.now (parcel_views (λ looks. looks.items) parcels.now)
+        → IsShowReport stack.layers report.items) }
+{
+    let entries = entries_of(parcels)?;
+    let share = share_of(entries, workers);
+    if entries <= share {
+        return report_of_tree(alloc, root, parcels);
+    }
+    let mut report = lines_by(rt, alloc, root, parcels, share, entries.div_ceil(share))?;
+    push_count(&mut report, entries as u64)?;
+    Ok(report.into_bytes())
+}
+
+// The number of all paths: `/`, and what stands in the directories. Memory can't hold as many as have none.
+fn entries_of(parcels: &[Parcel<Vec<(Name, Look)>>]) -> Result<usize, AllocError>
+    ensures { IfOk result (λ entries. entries ≡ 1 + sum_by (λ parcel. length parcel.out.items) parcels.now) }
+{
+    let mut entries: usize = 1;
+    for parcel in parcels {
+        entries = entries.checked_add(parcel.out.len()).ok_or(AllocError)?;
+    }
+    Ok(entries)
+}
+
+// The lines of the first paths, in so many shares of `share` lines at most; each is written by a thread of its own.
+fn lines_by<R: Threads + Sync>(
+    rt: &R,
+    alloc: Global,
+    root: &Look,
+    parcels: &[Parcel<Vec<(Name, Look)>>],
+    share: usize,
+    shares: usize,
+) -> Result<String, AllocError>
+    requires { 0 < share }
+    ensures { IfOk result (λ lines. (stack : StackView) → IsTreeOf stack root.now (parcel_views (λ looks. looks.items) parcels.now)
+        → string_bytes lines ≡ flat_map show_line (take (shares * share) (merged_tree stack))) }
+{
+    let write = |index: usize| -> Result<String, AllocError>
+        requires { 0 < share }
+        ensures { IfOk result (λ lines. (stack : StackView) → IsTreeOf stack root.entry.now (parcel_views (λ looks. looks.items) parcels.entry.now)
+            → string_bytes lines ≡ flat_map show_line (slice_chunk (merged_tree stack) share index)) }
+    { lines_of_share(alloc, root, parcels, index, share) };
+    let parts = map_indices(rt, alloc, shares, &write)?;
+    let lines = joined(alloc, parts)?;
+    Ok(lines)
+}
+
+// The lines of the share of this number.
+fn lines_of_share(
+    alloc: Global,
+    root: &Look,
+    parcels: &[Parcel<Vec<(Name, Look)>>],
+    index: usize,
+    share: usize,
+) -> Result<String, AllocError>
+    requires { 0 < share }
+    ensures { IfOk result (λ lines. (stack : StackView) → IsTreeOf stack root.now (parcel_views (λ looks. looks.items) parcels.now)
+        → string_bytes lines ≡ flat_map show_line (slice_chunk (merged_tree stack) share index)) }
+{
+    let first = index.checked_mul(share).ok_or(AllocError)?;
+    lines_from(alloc, root, parcels, first, share)
+}
+
+// The lines of the paths of the merged tree from number `first` on, `share` at most; `/` has number 0.
+fn lines_from(
+    alloc: Global,
+    root: &Look,
+    parcels: &[Parcel<Vec<(Name, Look)>>],
+    first: usize,
+    share: usize,
+) -> Result<String, AllocError>
+    requires { 0 < share }
+    ensures { IfOk result (λ lines. (stack : StackView) → IsTreeOf stack root.now (parcel_views (λ looks. looks.items) parcels.now)
+        → string_bytes lines ≡ flat_map show_line (take share (drop first (merged_tree stack)))) }
+{
+    let end = first.checked_add(share).ok_or(AllocError)?;
+    let mut lines = String::new(alloc);
+    push_wanted(alloc, &mut lines, first == 0, "", "", root)?;
+    let mut told = 1;
     let mut open = Vec::new(alloc);
     let mut rest = enter(&mut open, parcels, String::new(alloc))?;
     while let Some(mut directory) = open.pop() {
+        if told == end {
+            break;
+        }
         let Some((name, look)) = directory.parcel.out.get(directory.told) else {
             continue;
         };
-        push_look(
+        push_wanted(
             alloc,
-            &mut report,
+            &mut lines,
+            first <= told,
             directory.text.as_str(),
             name.as_str(),
             look,
         )?;
-        entries = one_more(entries)?;
+        told += 1;
         directory.told += 1;
         if look.is_shown_directory() {
             let text = text_of(alloc, directory.text.as_str(), name.as_str())?;
@@ -51,20 +166,7 @@ pub fn report_of_walk(
             open.push(directory)?;
         }
     }
-    push_count(&mut report, entries)?;
-    Ok(report.into_bytes())
-}
-
-// The line of `/`.
-fn report_of_root(alloc: Global, work: &ShowWork<'_>) -> Result<String, AllocError>
-    ensures line { IfOk result (λ report. string_bytes report ≡ show_line ([], the_look work.now [])) }
-    ensures some { 0 < length work.now.layers }
-    ensures each { All IsLayer work.now.layers }
-{
-    let mut report = String::new(alloc);
-    let look = work.root_look(alloc)?;
-    push_look(alloc, &mut report, "", "", &look)?;
-    Ok(report)
+    Ok(lines)
 }
 
 // A directory whose entries are being told: its parcel, how many of them are told, and what stands before each of
@@ -112,6 +214,24 @@ pub(crate) fn text_of(alloc: Global, above: &str, name: &str) -> Result<String, 
     let mut text = String::new(alloc);
     push_place(alloc, &mut text, above, name)?;
     Ok(text)
+}
+
+// Appends the line of what is shown at a path, where it is wanted.
+fn push_wanted(
+    alloc: Global,
+    report: &mut String,
+    wanted: bool,
+    above: &str,
+    name: &str,
+    look: &Look,
+) -> Result<(), AllocError>
+    ensures { OnOk result (string_bytes report.new ≡ string_bytes report.old
+        ++ (if wanted then look_line (above.now ++ (codes "/" ++ escaped_text name.now)) look.now else [])) }
+{
+    if !wanted {
+        return Ok(());
+    }
+    push_look(alloc, report, above, name, look)
 }
 
 // Appends the line of what is shown at a path; `above` is the text of the path up to its last name.

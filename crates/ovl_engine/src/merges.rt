@@ -31,23 +31,24 @@ use std::thread::Threads;
 pub(crate) fn merge<G: Gate + Sync, R: Threads + Wait + Sync>(
     rt: &R,
     alloc: Global,
-    stack: &Stack,
+    stack: Stack,
     blobs: &[Blob],
     workers: usize,
     gate: &G,
 ) -> Result<Answer, EngineFault>
     requires number { (0 < workers) × (workers ≤ worker_limit) }
     requires ascend { are_in_order (blob_views blobs.now) ≡ true }
-    requires several { 1 < length stack.now.layers }
-    ensures outcome { IsRun Merge stack.now.layers (blob_views blobs.now) (G.may_refuse gate.now) result }
-    ensures tree { IfOk result (KeepsTreeOf stack.now.layers) }
+    requires several { 1 < length stack.layers }
+    ensures outcome { IsRun Merge stack.layers (blob_views blobs.now) (G.may_refuse gate.now) result }
+    ensures tree { IfOk result (KeepsTreeOf stack.layers) }
 {
     let _layers = stack.layers();
     merge_keeps_the_tree();
-    expect_clean(rt, alloc, stack, blobs, workers, gate)?;
-    let done = merged(rt, alloc, stack, workers, gate)?;
+    expect_clean(rt, alloc, &stack, blobs, workers, gate)?;
+    let done = merged(rt, alloc, &stack, workers, gate)?;
+    drop(stack);
     let report = layer_report_of(alloc, &done.lower)?;
-    Ok(rewritten(alloc, report, &[&done.top, &done.lower])?)
+    Ok(rewritten(alloc, report, vec![in alloc; done.top, done.lower]?)?)
 }
 
 // What merge makes of the two topmost layers of a sound stack.

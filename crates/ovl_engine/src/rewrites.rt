@@ -48,18 +48,18 @@ pub(crate) fn expect_clean<G: Gate + Sync, R: Threads + Wait + Sync>(
     Err(EngineFault::Faulty(fsck_report_of(alloc, &found)?))
 }
 
-/// The answer with this report and these new layers.
+/// The answer with this report and these new layers, each of which is let go once its text is written.
 pub(crate) fn rewritten(
     alloc: Global,
     report: Vec<u8>,
-    layers: &[&Layer],
+    layers: Vec<Layer>,
 ) -> Result<Answer, AllocError>
-    ensures answer { IfOk result (IsRewritten report.items (map (λ layer. layer.now) layers.now)) }
-    ensures back { IfOk result (λ answer. map read_layer (new_manifests answer) ≡ map (λ layer. Ok layer.now) layers.now) }
+    ensures answer { IfOk result (IsRewritten report.items layers.items) }
+    ensures back { IfOk result (λ answer. map read_layer (new_manifests answer) ≡ map (λ layer. Ok layer) layers.items) }
 {
     let mut manifests = Vec::with_capacity(alloc, layers.len())?;
     for layer in layers {
-        manifests.push(write_layer(alloc, layer)?)?;
+        manifests.push(write_layer(alloc, &layer)?)?;
     }
     Ok(Answer {
         report,

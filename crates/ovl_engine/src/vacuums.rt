@@ -25,25 +25,26 @@ use std::thread::Threads;
 pub(crate) fn vacuum<G: Gate + Sync, R: Threads + Wait + Sync>(
     rt: &R,
     alloc: Global,
-    stack: &Stack,
+    stack: Stack,
     blobs: &[Blob],
     workers: usize,
     gate: &G,
 ) -> Result<Answer, EngineFault>
     requires number { (0 < workers) × (workers ≤ worker_limit) }
     requires ascend { are_in_order (blob_views blobs.now) ≡ true }
-    ensures outcome { IsRun Vacuum stack.now.layers (blob_views blobs.now) (G.may_refuse gate.now) result }
-    ensures tree { IfOk result (KeepsTreeOf stack.now.layers) }
-    ensures sound { IfOk result (KeepsSoundness stack.now.layers) }
+    ensures outcome { IsRun Vacuum stack.layers (blob_views blobs.now) (G.may_refuse gate.now) result }
+    ensures tree { IfOk result (KeepsTreeOf stack.layers) }
+    ensures sound { IfOk result (KeepsSoundness stack.layers) }
 {
     let _layers = stack.layers();
     vacuum_keeps_the_tree();
     vacuum_keeps_soundness();
-    expect_clean(rt, alloc, stack, blobs, workers, gate)?;
-    let done = vacuumed(rt, alloc, stack, workers, gate)?;
+    expect_clean(rt, alloc, &stack, blobs, workers, gate)?;
+    let done = vacuumed(rt, alloc, &stack, workers, gate)?;
+    drop(stack);
     let kept = done.layer.entries(alloc)?.len() as u64;
     let report = vacuum_report_of(alloc, &done.removed, kept)?;
-    Ok(rewritten(alloc, report, &[&done.layer])?)
+    Ok(rewritten(alloc, report, vec![in alloc; done.layer]?)?)
 }
 
 // What vacuum leaves of the topmost layer, and what went, whatever the blobs.
