@@ -290,24 +290,37 @@ unfolding escape_byte digits
 in_brackets layer = refl
 
 -- the list of its entries, between what begins and what ends it
-pub layer_text : (layer : Entries) (rest : List ℕ) → codes "{\"entries\":[" ++ (items_text false (entry_items layer) ++ (codes ",\"overlay-layer\":1}\n" ++ rest)) ≡ manifest_text layer ++ rest
+pub layer_text : (layer : Entries) (rest : List ℕ) → codes "{\"entries\":[" ++ (items_text false (entry_items layer) ++ (codes ",\"overlay-layer\":1}" ++ rest)) ≡ compact_text (layer_value layer) ++ rest
 layer_text layer rest =
     let begin : List ℕ = codes "{\"entries\":[" in
     let items : List ℕ = items_text false (entry_items layer) in
     let end : List ℕ = codes ",\"overlay-layer\":1}" in
-    sym (ap (λ (t : List ℕ). (t ++ codes "\n") ++ rest) (in_brackets layer)
-    ∙ ap (λ (t : List ℕ). begin ++ t) (append_assoc (items ++ end) (codes "\n") rest ∙ append_assoc items end (codes "\n" ++ rest)))
+    sym (ap (λ (t : List ℕ). t ++ rest) (in_brackets layer) ∙ ap (λ (t : List ℕ). begin ++ t) (append_assoc items end rest))
 
--- the text of a layer states it
-pub text-back : (layer : Entries) → IsLayer layer → IsUtf8 (manifest_text layer) → read_layer (manifest_text layer) ≡ Ok layer
-text-back layer is utf8 =
-    let value : Data = layer_value layer in
-    let spelled : json.Json = outline value in
-    let text : List ℕ = compact_text value in
-    let printed : text ≡ print (json_tokens spelled) = sym (print-outline value) in
-    let own : tokens text ≡ json_tokens spelled = ap tokens printed ∙ tokens-print (json_tokens spelled) (ArePrintable-json_tokens spelled (layer_numbers layer is)) in
-    let ended : tokens (manifest_text layer) ≡ json_tokens spelled ++ [] = tokens-ended text value own (printed ∙ ap print (sym own)) ∙ (own ∙ sym (append-nil (json_tokens spelled))) in
-    let shallow : tree_depth spelled ≤ 4 = omega (arith, outline-depth value, layer-shallow layer) in
-    let parsed : json.value max_depth (tokens (manifest_text layer)) ≡ Some (spelled, []) = ap (json.value max_depth) ended ∙ value-json_tokens spelled max_depth [] (omega (arith, shallow)) in
-    let reads : read (manifest_text layer) ≡ Some value = ap (λ o. option_and_then of_json (option_and_then (λ p. json.if_last p.0 p.1) o)) parsed ∙ layer_states layer is in
-    text_read (manifest_text layer) value utf8 reads ∙ layer-back layer is
+-- the text of a layer states it, with a newline and without
+module _ (layer : Entries) (is : IsLayer layer) where
+  abbrev value : Data
+  value = layer_value layer
+
+  abbrev text : List ℕ
+  text = compact_text value
+
+  printed : text ≡ print (json_tokens (outline value))
+  printed = sym (print-outline value)
+
+  own : tokens text ≡ json_tokens (outline value)
+  own = ap tokens printed ∙ tokens-print (json_tokens (outline value)) (ArePrintable-json_tokens (outline value) (layer_numbers layer is))
+
+  told : (bytes : List ℕ) → IsUtf8 bytes → tokens bytes ≡ json_tokens (outline value) → read_layer bytes ≡ Ok layer
+  told bytes utf8 spelled =
+      let shallow : tree_depth (outline value) ≤ 4 = omega (arith, outline-depth value, layer-shallow layer) in
+      let parsed : json.value max_depth (tokens bytes) ≡ Some (outline value, []) =
+      ap (json.value max_depth) (spelled ∙ sym (append-nil (json_tokens (outline value)))) ∙ value-json_tokens (outline value) max_depth [] (omega (arith, shallow)) in
+      let reads : read bytes ≡ Some value = ap (λ o. option_and_then of_json (option_and_then (λ p. json.if_last p.0 p.1) o)) parsed ∙ layer_states layer is in
+      text_read bytes value utf8 reads ∙ layer-back layer is
+
+  pub text-alone : IsUtf8 text → read_layer text ≡ Ok layer
+  text-alone utf8 = told text utf8 own
+
+  pub text-back : IsUtf8 (manifest_text layer) → read_layer (manifest_text layer) ≡ Ok layer
+  text-back utf8 = told (manifest_text layer) utf8 (tokens-ended text value own (printed ∙ ap print (sym own)) ∙ own)

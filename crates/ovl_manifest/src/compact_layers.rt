@@ -1,11 +1,11 @@
 //! Manifests as they are written, read by their texts without a value in between.
 ghost use Rattle.std.specs.Prelude.{◌≡◌, ◌<◌, Ok, IfSome, true, [], ◌∷◌, ◌++◌, false, length};
-ghost use Rattle.serde_json.specs.Written.{items_text};
+ghost use Rattle.serde_json.specs.Written.{compact_text, items_text};
 ghost use Rattle.ovl_names.specs.Paths.{path_text};
 ghost use Rattle.ovl_inode.specs.Sound.{is_sound_inode};
 ghost use Rattle.ovl_manifest.specs.Layers.{IsLayer, entry_limit};
 ghost use Rattle.ovl_manifest.specs.Manifest.{read_layer as layer_stated};
-ghost use Rattle.ovl_manifest.specs.Text.{entry_items, manifest_text};
+ghost use Rattle.ovl_manifest.specs.Text.{entry_items, layer_value};
 ghost use Rattle.ovl_manifest.specs.TextPaths.{slashed};
 ghost use Rattle.ovl_manifest.specs.SheetDrafts.{drafted, IsSheetDraft};
 
@@ -22,7 +22,8 @@ use std::alloc::Global;
 use std::borrow::CowStr;
 
 /// The sheet of the layer whose manifest these bytes are, byte for byte as [`write_layer`](crate::write_layer) writes
-/// it. Gives none of manifests that are written in another way, of any fault and for want of memory.
+/// it; the newline at its end may be missing. Gives none of manifests that are written in another way, of any fault and
+/// for want of memory.
 pub(crate) fn read_compact(alloc: Global, bytes: &[u8]) -> Option<Sheet>
     ensures { IfSome result (λ sheet. layer_stated bytes.now ≡ Ok sheet) }
 {
@@ -31,17 +32,18 @@ pub(crate) fn read_compact(alloc: Global, bytes: &[u8]) -> Option<Sheet>
     };
     let mut rest = Rest::of(text);
     let sheet = read_manifest(alloc, &mut rest)?;
+    let _newline = rest.take("\n");
     if rest.is_empty() { Some(sheet) } else { None }
 }
 
 // The sheet of the layer whose manifest comes next.
 fn read_manifest(alloc: Global, rest: &mut Rest<'_>) -> Option<Sheet>
-    ensures text { IfSome result (λ sheet. rest.old ≡ manifest_text sheet ++ rest.new) }
+    ensures text { IfSome result (λ sheet. rest.old ≡ compact_text (layer_value sheet) ++ rest.new) }
     ensures layer { IfSome result (λ sheet. IsLayer sheet) }
 {
     rest.take("{\"entries\":[")?;
     let sheet = read_entries(alloc, rest)?;
-    rest.take(",\"overlay-layer\":1}\n")?;
+    rest.take(",\"overlay-layer\":1}")?;
     Some(sheet)
 }
 
