@@ -1,5 +1,7 @@
-ghost use Rattle.std.specs.Prelude.{◌≡◌, ◌<◌, IfOk, string_bytes, length};
+ghost use Rattle.std.specs.Prelude.{◌≡◌, ◌<◌, IfOk, IfSome, string_bytes, length};
 ghost use Rattle.ovl_names.specs.Paths.{child_path, path_text as text_of_path};
+ghost use Rattle.ovl_lookup.specs.Merged.{look as the_look};
+ghost use Rattle.ovl_lookup.specs.DirViews.{IsViewOf};
 ghost use Rattle.ovl_merge.specs.Places.{merge_of};
 ghost use Rattle.ovl_merge.specs.MergeDown.{with_value as the_valued, redirected_from, with_contents as the_filled, new_whiteout as the_whiteout, merged_directory as the_directory, merged_metacopy as the_metacopy, merged_inode as the_inode, merged_entry};
 ghost use Rattle.ovl_merge.specs.Reckoned.{IsNear, IsKept, IsPlace, IsDirectoryPlace};
@@ -10,7 +12,7 @@ use crate::places::Place;
 use crate::rest::{name_in, shows_at};
 use crate::walked::Glance;
 use ovl_inode::{Attrs, Inode, Kind, is_directory, overlay, visible};
-use ovl_lookup::{Look, Stack};
+use ovl_lookup::{DirView, Look, Stack};
 use ovl_names::{Name, Path};
 use std::alloc::{AllocError, Global};
 
@@ -19,19 +21,22 @@ pub(crate) fn inode_in(
     alloc: Global,
     stack: &Stack,
     near: &Near,
+    whole: &mut Option<DirView>,
     above: &Place,
     name: &Name,
 ) -> Result<Option<Inode>, AllocError>
     requires several { 1 < length stack.now.layers }
     requires near { IsNear stack.now near.now }
+    requires whole { IfSome whole.old (IsViewOf stack.now 0 above.now.path) }
     requires kept { IsKept above.now near.now }
     requires directory { IsDirectoryPlace (merge_of stack.now) above.now.path above.now }
-    ensures { IfOk result (λ found. found ≡ merged_entry (merge_of stack.now) (child_path above.now.path name.now)) }
+    ensures inode { IfOk result (λ found. found ≡ merged_entry (merge_of stack.now) (child_path above.now.path name.now)) }
+    ensures whole { IfSome whole.new (IsViewOf stack.now 0 above.now.path) }
 {
     match near.glance(stack, above, name) {
         Glance::Plain(inode) => Ok(Some(visible(alloc, inode)?)),
         Glance::Passed => Ok(None),
-        Glance::Unsaid => inode_at(alloc, stack, near, above, name),
+        Glance::Unsaid => inode_at(alloc, stack, near, whole, above, name),
     }
 }
 
@@ -40,17 +45,20 @@ fn inode_at(
     alloc: Global,
     stack: &Stack,
     near: &Near,
+    whole: &mut Option<DirView>,
     above: &Place,
     name: &Name,
 ) -> Result<Option<Inode>, AllocError>
     requires several { 1 < length stack.now.layers }
     requires near { IsNear stack.now near.now }
+    requires whole { IfSome whole.old (IsViewOf stack.now 0 above.now.path) }
     requires directory { IsDirectoryPlace (merge_of stack.now) above.now.path above.now }
-    ensures { IfOk result (λ found. found ≡ merged_entry (merge_of stack.now) (child_path above.now.path name.now)) }
+    ensures inode { IfOk result (λ found. found ≡ merged_entry (merge_of stack.now) (child_path above.now.path name.now)) }
+    ensures whole { IfSome whole.new (IsViewOf stack.now 0 above.now.path) }
 {
     let place = above.child(alloc, stack, near, name)?;
     if let Some(inode) = &place.first {
-        return Ok(Some(merged_inode(alloc, stack, above, name, &place, inode)?));
+        return Ok(Some(merged_inode(alloc, stack, whole, above, name, &place, inode)?));
     }
     if !place.hidden {
         return Ok(None);
@@ -79,22 +87,25 @@ fn new_whiteout(alloc: Global) -> Inode
 fn merged_inode(
     alloc: Global,
     stack: &Stack,
+    whole: &mut Option<DirView>,
     above: &Place,
     name: &Name,
     place: &Place,
     inode: &Inode,
 ) -> Result<Inode, AllocError>
     requires several { 1 < length stack.now.layers }
+    requires whole { IfSome whole.old (IsViewOf stack.now 0 above.now.path) }
     requires above { IsPlace (merge_of stack.now) above.now }
     requires path { place.now.path ≡ child_path above.now.path name.now }
     requires is { IsPlace (merge_of stack.now) place.now }
-    ensures { IfOk result (λ new. new ≡ the_inode (merge_of stack.now) place.now.path inode.now) }
+    ensures inode { IfOk result (λ new. new ≡ the_inode (merge_of stack.now) place.now.path inode.now) }
+    ensures whole { IfSome whole.new (IsViewOf stack.now 0 above.now.path) }
 {
     if is_directory(inode) {
         return merged_directory(alloc, stack, above, name, place, inode);
     }
     if is_metacopy(alloc, inode)? {
-        return merged_metacopy(alloc, stack, above, name, place, inode);
+        return merged_metacopy(alloc, stack, whole, above, name, place, inode);
     }
     visible(alloc, inode)
 }
@@ -130,16 +141,19 @@ fn merged_directory(
 fn merged_metacopy(
     alloc: Global,
     stack: &Stack,
+    whole: &mut Option<DirView>,
     above: &Place,
     name: &Name,
     place: &Place,
     inode: &Inode,
 ) -> Result<Inode, AllocError>
     requires several { 1 < length stack.now.layers }
+    requires whole { IfSome whole.old (IsViewOf stack.now 0 above.now.path) }
     requires above { IsPlace (merge_of stack.now) above.now }
     requires path { place.now.path ≡ child_path above.now.path name.now }
     requires is { IsPlace (merge_of stack.now) place.now }
-    ensures { IfOk result (λ new. new ≡ the_metacopy (merge_of stack.now) place.now.path inode.now place.now.reach) }
+    ensures inode { IfOk result (λ new. new ≡ the_metacopy (merge_of stack.now) place.now.path inode.now place.now.reach) }
+    ensures whole { IfSome whole.new (IsViewOf stack.now 0 above.now.path) }
 {
     let shown = visible(alloc, inode)?;
     match &place.reach {
@@ -147,8 +161,37 @@ fn merged_metacopy(
             let copied = with_value(shown, overlay::METACOPY, b"")?;
             redirected(alloc, above, name, copied, reach)
         }
-        None => with_contents(alloc, shown, &stack.look(alloc, 0, &place.path)?),
+        None => {
+            let found = look_in_whole(alloc, stack, whole, above, name)?;
+            with_contents(alloc, shown, &found)
+        }
     }
+}
+
+// What the whole stack shows at a name in the directory of a place, by the view of that, which is made with the first
+// name that is asked for and kept for the others.
+fn look_in_whole(
+    alloc: Global,
+    stack: &Stack,
+    whole: &mut Option<DirView>,
+    above: &Place,
+    name: &Name,
+) -> Result<Look, AllocError>
+    requires { IfSome whole.old (IsViewOf stack.now 0 above.now.path) }
+    ensures look { IfOk result (λ look. look ≡ the_look stack.now (child_path above.now.path name.now)) }
+    ensures whole { IfSome whole.new (IsViewOf stack.now 0 above.now.path) }
+{
+    // Each layer of a stack is one.
+    let _layers = stack.layers();
+    if let Some(view) = whole.as_ref() {
+        return view.look(alloc, stack, name);
+    }
+    let Some(view) = DirView::of(alloc, stack, 0, &above.path)? else {
+        return Ok(Look::Nothing);
+    };
+    let look = view.look(alloc, stack, name)?;
+    *whole = Some(view);
+    Ok(look)
 }
 
 // An entry `name` that goes on at `reach`, its directory being at `above`: with no redirect where the reach of the

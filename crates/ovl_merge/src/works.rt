@@ -110,9 +110,10 @@ fn inodes_in(
 {
     let Directory { place, near } = directory;
     let names = candidates(alloc, stack, directory)?;
+    let mut whole = None;
     let mut inodes = Vec::with_capacity(alloc, names.len())?;
     for name in names {
-        if let Some(inode) = inode_in(alloc, stack, near, place, &name)? {
+        if let Some(inode) = inode_in(alloc, stack, near, &mut whole, place, &name)? {
             inodes.push((name, inode))?;
         }
     }
