@@ -22,12 +22,11 @@ use Rattle.ovl_merge.specs.declared.walked.Walked.{Walked}
 use Rattle.ovl_merge.specs.declared.walked.Stand.{Stand}
 use Rattle.ovl_merge.specs.declared.walked.Stand.TheVariants.{Inside, Past}
 use Rattle.ovl_merge.specs.declared.walked.Glance.TheVariants.{Passed}
-use Rattle.ovl_merge.specs.declared.places.Place.{Place}
 use Rattle.ovl_merge.specs.declared.near.Near.{Near}
 use Rattle.ovl_merge.specs.Places.{Merge, two_layers, lower_path, base}
 use Rattle.ovl_merge.specs.MergeDown.{merged_entry}
 use Rattle.ovl_merge.specs.Directories.{named_inode, base_names, entries_in}
-use Rattle.ovl_merge.specs.Reckoned.{IsStand, IsWalked, IsPlace, IsKept, is_open_stand, is_open_at, is_open_near}
+use Rattle.ovl_merge.specs.Reckoned.{IsStand, IsWalked, is_open_stand, is_open_at, is_open_near}
 use Rattle.ovl_merge.proofs.NameLists.{put-unentered}
 use Rattle.ovl_merge.proofs.Glances.{lower-glance}
 
@@ -43,8 +42,8 @@ module _ (layer : Entries) (is : IsLayer layer) (path : PathNames) (name : PathN
         ap (λ (s : Step). s.closed) step ∙ (sym stands.closed ∙ not_true own.closed opened),
       )
   passed-by (Past next closed) stands opened none = (
-    ap (λ (s : Step). s.found) (stands name []),
-    ap (λ (s : Step). s.closed) (stands name []) ∙ not_true closed opened,
+    ap (λ (s : Step). s.found) (stands.below name []),
+    ap (λ (s : Step). s.closed) (stands.below name []) ∙ not_true closed opened,
   )
 
   unnamed : list_any (name_eq name) (names_below layer path) ≡ false → entry_at layer (child_path path name) ≡ None
@@ -117,19 +116,19 @@ module _ (m : Merge) (upper : IsLayer m.upper) (lower : IsLayer m.lower) (dir : 
             by (Some inode) f some = own-entry name inode f
 
   -- the same, by what is kept of the directory
-  pub open-entries : (kept : Place) (near : Near) → kept.path ≡ dir → IsPlace m kept → IsKept kept near → IfSome near.upper (IsWalked m.upper) → IfSome near.lower (IsWalked m.lower) → is_open_near near ≡ true
+  pub open-entries : (near : Near) → IfSome near.upper (λ walked. walked.path ≡ dir) → option_map (λ walked. walked.path) near.lower ≡ cond (walk m.upper dir).closed None (Some (lower_path m dir)) → IfSome near.upper (IsWalked m.upper) → IfSome near.lower (IsWalked m.lower) → is_open_near near ≡ true
       → filter_map (named_inode m dir) (put_names [] (own_names_along (two_layers m).layers dir)) ≡ entries_in m dir
-  open-entries kept near path is own above below opened =
+  open-entries near here there above below opened =
       let parts = both {a = is_open_at near.upper} {b = is_open_at near.lower} opened in
-      by near.upper above own.upper parts.0 near.lower below (own.lower ∙ (is.lower ∙ ap (λ (p : PathNames). cond (walk m.upper p).closed None (Some (lower_path m p))) path)) parts.1
+      by near.upper above here parts.0 near.lower below there parts.1
     where
-      by : (u : Option Walked) → IfSome u (IsWalked m.upper) → IfSome u (λ walked. walked.path ≡ kept.path) → is_open_at u ≡ true
+      by : (u : Option Walked) → IfSome u (IsWalked m.upper) → IfSome u (λ walked. walked.path ≡ dir) → is_open_at u ≡ true
           → (l : Option Walked) → IfSome l (IsWalked m.lower) → option_map (λ walked. walked.path) l ≡ cond (walk m.upper dir).closed None (Some (lower_path m dir)) → is_open_at l ≡ true
           → filter_map (named_inode m dir) (put_names [] (own_names_along (two_layers m).layers dir)) ≡ entries_in m dir
       by None above here open_above l below there open_below = let bad : false ≡ true = open_above in cc
       by (Some u) above here open_above None below there open_below = let bad : false ≡ true = open_below in cc
       by (Some u) above here open_above (Some l) below there open_below =
-          own-entries u.stand (subst (λ (p : PathNames). IsStand m.upper p u.stand) (here ∙ path) above) open_above l.path there l.stand below open_below
+          own-entries u.stand (subst (λ (p : PathNames). IsStand m.upper p u.stand) here above) open_above l.path there l.stand below open_below
 
 -- the names in a base are in order
 pub base-ascends : (rest : StackView) (place : Option PathNames) → ascends name_cmp (base_names rest place) ≡ true

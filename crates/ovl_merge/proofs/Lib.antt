@@ -13,6 +13,7 @@ pub mod DirectoryLemmas
 pub mod NameLists
 pub mod VisitLemmas
 pub mod WalkedLemmas
+pub mod Stands
 pub mod Glances
 pub mod CandidateLemmas
 pub mod FinishLemmas

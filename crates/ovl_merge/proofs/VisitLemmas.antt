@@ -32,12 +32,11 @@ use Rattle.ovl_board.proofs.Members.{In, rising_same}
 use Rattle.ovl_rewrite.specs.Directories.{NamedInode}
 use Rattle.ovl_rewrite.proofs.Ascents.{NameBefore, rising-names, any-In}
 use Rattle.ovl_merge.specs.declared.passages.Passage.{Passage}
-use Rattle.ovl_merge.specs.declared.places.Place.{Place}
 use Rattle.ovl_merge.specs.declared.near.Near.{Near}
-use Rattle.ovl_merge.specs.Places.{Merge, two_layers, merge_of, lower_path, first_hit, passes, shows_own_directory, reach, reach_of, shows_directory_at, gets_opaque_at, base}
+use Rattle.ovl_merge.specs.Places.{Merge, two_layers, merge_of, lower_path, first_hit, passes, shows_own_directory, reach, reach_of, shows_directory_at, gets_opaque_at}
 use Rattle.ovl_merge.specs.MergeDown.{with_value, with_contents, last_name, redirected, redirected_from, merged_directory, merged_metacopy, merged_inode, merged_entry, merged_entry_of}
 use Rattle.ovl_merge.specs.Directories.{named_inode, candidate_names, entries_in}
-use Rattle.ovl_merge.specs.Reckoned.{IsPassage, IsPlace, IsViewIn, IsNear, found_by, first_in, next_of, goes_on_at, base_in, name_directly_in}
+use Rattle.ovl_merge.specs.Reckoned.{IsPassage, IsViewIn, IsNear, found_by, first_in, goes_on_at, name_directly_in}
 use Rattle.ovl_merge.proofs.Firsts.{first_step, first_hit-steps}
 use Rattle.ovl_merge.proofs.Core.{last_name-child}
 use Rattle.ovl_merge.proofs.MergedEntries.{entry-stands}
@@ -93,12 +92,6 @@ reach-told m path passage is inode first lower there opened = by (walk m.upper p
         ∙ (λ j. cond (not (opened j) && goes_on_at m inode lower.found lower.next) (Some lower.next) None))
 
 -- ---- places
-
-pub base-told : (m : Merge) (place : Place) → IsPlace m place → base_in place ≡ base m place.path
-base-told m place is = λ j. cond (is_some (is.reach j)) (is.reach j) (cond (is.opaque j) None (is.natural j))
-
-pub lower-told : (m : Merge) (path : PathNames) (passage : Passage) → IsPassage m path passage → next_of (Some passage.upper) ≡ cond (walk m.upper path).closed None (Some (lower_path m path))
-lower-told m path passage is = ap (λ (step : Step). cond step.closed None (Some step.next)) is.upper
 
 pub opaque-unshown : (m : Merge) (path : PathNames) (place : Option PathNames) → shows_own_directory m path ≡ false → gets_opaque_at m path place ≡ false
 opaque-unshown m path place none =
@@ -333,7 +326,7 @@ module _ (m : Merge) (upper : IsLayer m.upper) (lower : IsLayer m.lower) where
       by (Some inode) e =
           let bad : None ≡ Some (merged_inode m (child_path path name) inode) = sym (nothing-in path name none) ∙ ap (merged_entry_of m (child_path path name)) e in cc
 
-  unshown-under : (path rest : PathNames) → shows_own_directory m path ≡ false → shows_own_directory m (path ++ rest) ≡ false
+  pub unshown-under : (path rest : PathNames) → shows_own_directory m path ≡ false → shows_own_directory m (path ++ rest) ≡ false
   unshown-under path [] none = ap (shows_own_directory m) (append-nil path) ∙ none
   unshown-under path (name ∷ rest) none =
       ap (shows_own_directory m) (sym (append_assoc path (name ∷ []) rest)) ∙ unshown-under (child_path path name) rest (unshown-child path name none)

@@ -1,9 +1,10 @@
 -- Where the walks of the two layers stand, with one more name.
 use Rattle.std.proofs.Common.{◌≡◌, ◌<◌, Bool, true, false, cond, Option, Some, None, [], ◌∷◌, ◌++◌, length, refl, sym, ap, ◌∙◌, subst, append_assoc}
-use Rattle.std.specs.Prelude.{slice_get, unwrap_or, IfSome}
+use Rattle.std.specs.Prelude.{◌||◌, is_some, slice_get, unwrap_or, IfSome}
 use Rattle.ovl_names.specs.Names.{PathName}
 use Rattle.ovl_names.specs.Paths.{PathNames, child_path}
 use Rattle.ovl_inode.specs.declared.inodes.Inode.{Inode}
+use Rattle.ovl_inode.specs.Marks.{is_directory, is_whiteout}
 use Rattle.ovl_manifest.specs.Layers.{Entries, IsLayer, entry_at, is_directory_at}
 use Rattle.ovl_manifest.specs.Sheets.{path_at}
 use Rattle.ovl_lookup.specs.declared.steps.OwnDirectory.{OwnDirectory}
@@ -14,10 +15,11 @@ use Rattle.ovl_lookup.specs.Passes.{IsOwnDirectory}
 use Rattle.ovl_lookup.proofs.WalkFacts.{walk-whole}
 use Rattle.ovl_lookup.proofs.WalkLaws.{directory_found}
 use Rattle.ovl_lookup.proofs.ChildLaws.{walk-child_end}
+use Rattle.ovl_lookup.proofs.PassLaws.{file-is_found, whiteout-closes}
 use Rattle.ovl_merge.specs.declared.walked.Walked.{Walked}
 use Rattle.ovl_merge.specs.declared.walked.Stand.TheVariants.{Past}
 use Rattle.ovl_merge.specs.declared.near.Near.{Near}
-use Rattle.ovl_merge.specs.Places.{Merge, merge_of, lower_path}
+use Rattle.ovl_merge.specs.Places.{Merge, merge_of, lower_path, passes}
 use Rattle.ovl_merge.specs.Reckoned.{IsPassage, IsStand, IsWalked, IsNear}
 use Rattle.ovl_merge.proofs.VisitLemmas.{lower-layer}
 
@@ -76,10 +78,17 @@ own-row layer path own is = subst (λ (p : PathNames). IsOwnDirectory layer p ow
 
 -- past what a layer has, everything under a name is too
 pub past-child : (layer : Entries) (path next : PathNames) (closed : Bool) (own : PathName) → IsStand layer path (Past next closed) → IsStand layer (child_path path own) (Past (child_path next own) closed)
-past-child layer path next closed own past name names =
-    ap (walk layer) (append_assoc path (own ∷ []) (name ∷ names))
-    ∙ (past own (name ∷ names)
-    ∙ ap (λ (p : PathNames). nothing_found p closed) (sym (append_assoc next (own ∷ []) (name ∷ names))))
+past-child layer path next closed own past =
+    let step = past.below own [] in
+    record {
+      below = λ name names.
+          ap (walk layer) (append_assoc path (own ∷ []) (name ∷ names))
+          ∙ (past.below own (name ∷ names)
+          ∙ ap (λ (p : PathNames). nothing_found p closed) (sym (append_assoc next (own ∷ []) (name ∷ names))));
+      no_directory = ap (λ (s : Step). passes is_directory s.found) step;
+      closes = sym (ap (λ (s : Step). is_some s.found || s.closed) step);
+      onward = λ opened. ap (λ (s : Step). s.next) step;
+    }
 
 -- in a directory, everything under a name that is no directory is past what the layer has
 module _ (layer : Entries) (path : PathNames) (own : PathName) (is : IsLayer layer) (directory : OwnDirectory) (stands : IsOwnDirectory layer path directory) (none : is_directory_at layer (child_path path own) ≡ false) where
@@ -90,12 +99,53 @@ module _ (layer : Entries) (path : PathNames) (own : PathName) (is : IsLayer lay
       ∙ (walk-child_end layer path own is found stands.directory here (sym (ap directory_found here) ∙ none) (name ∷ names)
       ∙ sym (λ j. walk_beyond found (stands.next j) (stands.closed j) own (name ∷ names)))
 
+  past-step : (found : Option Inode) → entry_at layer (child_path path own) ≡ found → walk layer (child_path path own) ≡ walk_beyond found directory.next directory.closed own []
+  past-step found here =
+      walk-child_end layer path own is found stands.directory here (sym (ap directory_found here) ∙ none) []
+      ∙ sym (λ j. walk_beyond found (stands.next j) (stands.closed j) own [])
+
   pub past-nothing : entry_at layer (child_path path own) ≡ None → IsStand layer (child_path path own) (Past (child_path directory.next own) directory.closed)
-  past-nothing here name names =
-      past-entry None here name names
-      ∙ ap (λ (p : PathNames). nothing_found p directory.closed) (sym (append_assoc directory.next (own ∷ []) (name ∷ names)))
+  past-nothing here =
+      let step = past-step None here in
+      record {
+        below = λ name names.
+            past-entry None here name names
+            ∙ ap (λ (p : PathNames). nothing_found p directory.closed) (sym (append_assoc directory.next (own ∷ []) (name ∷ names)));
+        no_directory = ap (λ (s : Step). passes is_directory s.found) step;
+        closes = sym (ap (λ (s : Step). is_some s.found || s.closed) step);
+        onward = λ opened. ap (λ (s : Step). s.next) step;
+      }
 
   pub past-file : (inode : Inode) → entry_at layer (child_path path own) ≡ Some inode → IsStand layer (child_path path own) (Past (child_path directory.next own) true)
-  past-file inode here name names =
-      past-entry (Some inode) here name names
-      ∙ ap (λ (p : PathNames). nothing_found p true) (sym (append_assoc directory.next (own ∷ []) (name ∷ names)))
+  past-file inode here = record {
+    below = λ name names.
+        past-entry (Some inode) here name names
+        ∙ ap (λ (p : PathNames). nothing_found p true) (sym (append_assoc directory.next (own ∷ []) (name ∷ names)));
+    no_directory = ap (λ (s : Step). passes is_directory s.found) step ∙ facts.0;
+    closes = sym (ap (λ (s : Step). is_some s.found || s.closed) step ∙ facts.1);
+    onward = λ opened. (let bad : true ≡ false = opened in cc);
+  }
+    where
+      step : walk layer (child_path path own) ≡ walk_beyond (Some inode) directory.next directory.closed own []
+      step = past-step (Some inode) here
+
+      file : is_directory inode ≡ false
+      file = sym (ap directory_found here) ∙ none
+
+      facts : (passes is_directory (walk_beyond (Some inode) directory.next directory.closed own []).found ≡ false)
+          × ((is_some (walk_beyond (Some inode) directory.next directory.closed own []).found || (walk_beyond (Some inode) directory.next directory.closed own []).closed) ≡ true)
+      facts = by (is_whiteout inode) refl
+        where
+          by : (b : Bool) → is_whiteout inode ≡ b
+              → (passes is_directory (walk_beyond (Some inode) directory.next directory.closed own []).found ≡ false)
+              × ((is_some (walk_beyond (Some inode) directory.next directory.closed own []).found || (walk_beyond (Some inode) directory.next directory.closed own []).closed) ≡ true)
+          by true white =
+              let hides = whiteout-closes inode directory.next directory.closed own white in (
+                ap (λ (s : Step). passes is_directory s.found) hides,
+                ap (λ (s : Step). is_some s.found || s.closed) hides,
+              )
+          by false other =
+              let found = file-is_found inode directory.next directory.closed own other in (
+                ap (passes is_directory) found ∙ file,
+                ap (λ (o : Option Inode). is_some o || (walk_beyond (Some inode) directory.next directory.closed own []).closed) found,
+              )

@@ -1,6 +1,6 @@
 -- Paths of a merge, as the program reckons them.
 use Rattle.std.specs.Option.{option_map}
-use Rattle.std.specs.Prelude.{◌≡◌, ℕ, ◌&&◌, not, Bool, true, false, IfSome, MatchOption, Option, Some, None, ◌∷◌, ◌++◌, if◌then◌else◌, is_some}
+use Rattle.std.specs.Prelude.{◌≡◌, ℕ, ◌&&◌, ◌||◌, not, Bool, true, false, IfSome, MatchOption, Option, Some, None, ◌∷◌, ◌++◌, if◌then◌else◌, is_some}
 use Rattle.ovl_names.specs.Names.{PathName}
 use Rattle.ovl_names.specs.Paths.{PathNames, child_path, path_eq}
 use Rattle.ovl_inode.specs.declared.inodes.Inode.{Inode}
@@ -23,7 +23,7 @@ use Rattle.ovl_merge.specs.declared.walked.Glance.{Glance}
 use Rattle.ovl_merge.specs.declared.walked.Glance.TheVariants.{Plain, Passed, Unsaid}
 use Rattle.ovl_merge.specs.declared.near.Near.{Near}
 use Rattle.ovl_merge.specs.declared.directories.Directory.{Directory}
-use Rattle.ovl_merge.specs.Places.{Merge, merge_of, lower_path, first_hit, shows_own_directory, is_hidden, is_nothing_or, is_shown_regular, reach, natural, gets_opaque}
+use Rattle.ovl_merge.specs.Places.{Merge, merge_of, lower_path, first_hit, passes, shows_own_directory, is_hidden, is_nothing_or, is_shown_regular, reach, natural, base, gets_opaque}
 use Rattle.ovl_merge.specs.MergeDown.{last_name, merged_entry}
 
 -- the walks of a path: that in the upper layer, and where it is open that in the lower one
@@ -54,29 +54,15 @@ goes_on_at m inode passed place =
 pub record IsPlace (m : Merge) (place : Place) : Type 0 where
   pub first : place.first ≡ first_hit m place.path
   pub hidden : place.hidden ≡ is_hidden m place.path
-  pub lower : place.lower ≡ (if (walk m.upper place.path).closed then None else Some (lower_path m place.path))
   pub natural : place.natural ≡ natural m place.path
   pub reach : place.reach ≡ reach m place.path
   pub opaque : place.opaque ≡ gets_opaque m place.path
-
--- the base of a shown directory
-abbrev pub base_in : Place → Option PathNames
-base_in place =
-    if is_some place.reach then place.reach
-    else if place.opaque then None
-    else place.natural
 
 -- the name by which a path lies directly in a directory, if there is one
 abbrev pub name_directly_in : Option PathNames → PathNames → Option PathName
 name_directly_in None path = None
 name_directly_in (Some directory) path =
     if path_eq path (child_path directory (last_name path)) then Some (last_name path) else None
-
--- the place of a directory of the new lower layer
-pub record IsDirectoryPlace (m : Merge) (dir : PathNames) (place : Place) : Type 0 where
-  pub path : place.path ≡ dir
-  pub shown : shows_own_directory m dir ≡ true
-  pub is : IsPlace m place
 
 -- a directory of a stack's layers from one on: its view, and none where no directory is shown there
 abbrev pub IsViewFrom : ℕ → StackView → PathNames → Option DirView → Type 0
@@ -87,12 +73,18 @@ IsViewFrom from stack directory found =
 abbrev pub IsViewIn : StackView → PathNames → Option DirView → Type 0
 IsViewIn stack directory found = IsViewFrom 2 stack directory found
 
--- where the walk of a directory's path stands in a layer: in a directory of it, or past what it has, where nothing is
--- found at any path below, and the layers below know that by the same names
+-- a path at which a layer has no directory stands past what it has: nothing is found at any path below, and the layers
+-- below know that by the same names below `next`, unless something is found at the path or its walk is closed
+pub record IsPast (layer : Entries) (path next : PathNames) (closed : Bool) : Type 0 where
+  pub below : (name : PathName) (names : PathNames) → walk layer (path ++ name ∷ names) ≡ nothing_found (next ++ name ∷ names) closed
+  pub no_directory : passes is_directory (walk layer path).found ≡ false
+  pub closes : closed ≡ (is_some (walk layer path).found || (walk layer path).closed)
+  pub onward : closed ≡ false → (walk layer path).next ≡ next
+
+-- where the walk of a directory's path stands in a layer: in a directory of it, or past what it has
 abbrev pub IsStand : Entries → PathNames → Stand → Type 0
 IsStand layer path (Inside own) = IsOwnDirectory layer path own
-IsStand layer path (Past next closed) =
-    (name : PathName) (names : PathNames) → walk layer (path ++ name ∷ names) ≡ nothing_found (next ++ name ∷ names) closed
+IsStand layer path (Past next closed) = IsPast layer path next closed
 
 abbrev pub IsWalked : Entries → Walked → Type 0
 IsWalked layer walked = IsStand layer walked.path walked.stand
@@ -115,17 +107,39 @@ pub record IsNear (stack : StackView) (near : Near) : Type 0 where
   pub lower : IfSome near.lower (IsWalked (merge_of stack).lower)
   pub base : IfSome near.base (λ directory. IsViewIn stack directory near.view)
 
--- what is kept is of the directory of a place
-pub record IsKept (place : Place) (near : Near) : Type 0 where
-  pub upper : IfSome near.upper (λ walked. walked.path ≡ place.path)
-  pub lower : option_map (λ walked. walked.path) near.lower ≡ place.lower
+-- it stands in a directory of the layer
+abbrev pub is_inside : Stand → Bool
+is_inside (Inside own) = true
+is_inside (Past next closed) = false
 
--- a directory of the new lower layer, with what is kept of it
+abbrev pub is_inside_at : Option Walked → Bool
+is_inside_at None = false
+is_inside_at (Some walked) = is_inside walked.stand
+
+-- the path by which the layer below knows the directory, where the walks of the names in it go on
+abbrev pub onward_from : Stand → Option PathNames
+onward_from (Inside own) = if own.closed then None else Some own.next
+onward_from (Past next closed) = if closed then None else Some next
+
+abbrev pub onward_at : Option Walked → Option PathNames
+onward_at None = None
+onward_at (Some walked) = onward_from walked.stand
+
+-- where a shown directory goes on in the rest that knows it by this path
+abbrev pub reach_from : StackView → Option PathNames → Option PathNames
+reach_from rest None = None
+reach_from rest (Some place) = if shows_directory rest place then Some place else None
+
+-- a directory of the new lower layer, with what is kept of it for the names in it
 pub record IsVisited (stack : StackView) (dir : PathNames) (directory : Directory) : Type 0 where
-  pub place : IsDirectoryPlace (merge_of stack) dir directory.place
+  pub path : directory.path ≡ dir
+  pub shown : shows_own_directory (merge_of stack) dir ≡ true
+  pub reach : directory.reach ≡ reach (merge_of stack) dir
   pub near : IsNear stack directory.near
-  pub kept : IsKept directory.place directory.near
-  pub base : directory.near.base ≡ base_in directory.place
+  pub upper : IfSome directory.near.upper (λ walked. walked.path ≡ dir)
+  pub lower : option_map (λ walked. walked.path) directory.near.lower
+      ≡ (if (walk (merge_of stack).upper dir).closed then None else Some (lower_path (merge_of stack) dir))
+  pub base : directory.near.base ≡ base (merge_of stack) dir
 
 -- what a walk tells at a glance: it finds a thing that is neither a directory nor a metacopy file, or finds nothing and
 -- is open, or tells nothing yet

@@ -5,14 +5,13 @@ ghost use Rattle.ovl_names.specs.Order.{ascends};
 ghost use Rattle.ovl_lookup.specs.Passes.{own_names_along, put_names};
 ghost use Rattle.ovl_merge.specs.Places.{merge_of, two_layers};
 ghost use Rattle.ovl_merge.specs.Directories.{entries_in, named_inode};
-ghost use Rattle.ovl_merge.specs.Reckoned.{IsPlace, IsVisited};
+ghost use Rattle.ovl_merge.specs.Reckoned.{IsVisited};
 ghost use Rattle.ovl_merge.specs.Candidates.{first_order, IsFirstTaken};
 
 use crate::directories::Directory;
-use crate::places::Place;
 use crate::rest::names_at;
 use ovl_lookup::Stack;
-use ovl_names::{Name, Path};
+use ovl_names::Name;
 use std::alloc::{AllocError, Global};
 use std::cmp::Ordering;
 use std::collections::VecDeque;
@@ -25,35 +24,34 @@ pub(crate) fn candidates(
     directory: &Directory,
 ) -> Result<Vec<Name>, AllocError>
     requires several { 1 < length stack.now.layers }
-    requires visited { IsVisited stack.now directory.now.place.path directory.now }
-    ensures { IfOk result (λ names. filter_map (named_inode (merge_of stack.now) directory.now.place.path) names.items
-        ≡ entries_in (merge_of stack.now) directory.now.place.path) }
+    requires visited { IsVisited stack.now directory.now.path directory.now }
+    ensures { IfOk result (λ names. filter_map (named_inode (merge_of stack.now) directory.now.path) names.items
+        ≡ entries_in (merge_of stack.now) directory.now.path) }
 {
     // Each layer of a stack is one.
     let _layers = stack.layers();
-    let Directory { place, near } = directory;
-    let names = own_names(alloc, stack, place)?;
-    if near.is_open() {
+    let names = own_names(alloc, stack, directory)?;
+    if directory.near.is_open() {
         return Ok(names);
     }
-    let shown = names_at(alloc, stack, near)?;
+    let shown = names_at(alloc, stack, &directory.near)?;
     merged(alloc, names, shown)
 }
 
 // The names that the two layers have in a directory.
-fn own_names(alloc: Global, stack: &Stack, place: &Place) -> Result<Vec<Name>, AllocError>
+fn own_names(alloc: Global, stack: &Stack, directory: &Directory) -> Result<Vec<Name>, AllocError>
     requires several { 1 < length stack.now.layers }
-    requires is { IsPlace (merge_of stack.now) place.now }
+    requires visited { IsVisited stack.now directory.now.path directory.now }
     ensures { IfOk result (λ names. names.items
-        ≡ put_names [] (own_names_along (two_layers (merge_of stack.now)).layers place.now.path)) }
+        ≡ put_names [] (own_names_along (two_layers (merge_of stack.now)).layers directory.now.path)) }
 {
     // Each layer of a stack is one.
     let _layers = stack.layers();
-    let upper = stack.own_names(alloc, 0, &place.path)?;
-    let Some(path) = &place.lower else {
+    let upper = stack.own_names(alloc, 0, &directory.path)?;
+    let Some(below) = &directory.near.lower else {
         return Ok(upper);
     };
-    let lower = stack.own_names(alloc, 1, path)?;
+    let lower = stack.own_names(alloc, 1, below.path())?;
     merged(alloc, upper, lower)
 }
 

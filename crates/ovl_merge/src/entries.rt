@@ -4,9 +4,9 @@ ghost use Rattle.ovl_lookup.specs.Merged.{look as the_look};
 ghost use Rattle.ovl_lookup.specs.DirViews.{IsViewOf};
 ghost use Rattle.ovl_merge.specs.Places.{merge_of};
 ghost use Rattle.ovl_merge.specs.MergeDown.{with_value as the_valued, redirected_from, with_contents as the_filled, new_whiteout as the_whiteout, merged_directory as the_directory, merged_metacopy as the_metacopy, merged_inode as the_inode, merged_entry};
-ghost use Rattle.ovl_merge.specs.Reckoned.{IsNear, IsKept, IsPlace, IsDirectoryPlace};
+ghost use Rattle.ovl_merge.specs.Reckoned.{IsPlace, IsVisited};
 
-use crate::near::Near;
+use crate::directories::Directory;
 use crate::passages::is_metacopy;
 use crate::places::Place;
 use crate::rest::{name_in, shows_at};
@@ -16,27 +16,24 @@ use ovl_lookup::{DirView, Look, Stack};
 use ovl_names::{Name, Path};
 use std::alloc::{AllocError, Global};
 
-// What the new lower layer has at a name in a directory of this place.
+// What the new lower layer has at a name in a directory.
 pub(crate) fn inode_in(
     alloc: Global,
     stack: &Stack,
-    near: &Near,
     whole: &mut Option<DirView>,
-    above: &Place,
+    above: &Directory,
     name: &Name,
 ) -> Result<Option<Inode>, AllocError>
     requires several { 1 < length stack.now.layers }
-    requires near { IsNear stack.now near.now }
     requires whole { IfSome whole.old (IsViewOf stack.now 0 above.now.path) }
-    requires kept { IsKept above.now near.now }
-    requires directory { IsDirectoryPlace (merge_of stack.now) above.now.path above.now }
+    requires above { IsVisited stack.now above.now.path above.now }
     ensures inode { IfOk result (λ found. found ≡ merged_entry (merge_of stack.now) (child_path above.now.path name.now)) }
     ensures whole { IfSome whole.new (IsViewOf stack.now 0 above.now.path) }
 {
-    match near.glance(stack, above, name) {
+    match above.glance(stack, name) {
         Glance::Plain(inode) => Ok(Some(visible(alloc, inode)?)),
         Glance::Passed => Ok(None),
-        Glance::Unsaid => inode_at(alloc, stack, near, whole, above, name),
+        Glance::Unsaid => inode_at(alloc, stack, whole, above, name),
     }
 }
 
@@ -44,26 +41,24 @@ pub(crate) fn inode_in(
 fn inode_at(
     alloc: Global,
     stack: &Stack,
-    near: &Near,
     whole: &mut Option<DirView>,
-    above: &Place,
+    above: &Directory,
     name: &Name,
 ) -> Result<Option<Inode>, AllocError>
     requires several { 1 < length stack.now.layers }
-    requires near { IsNear stack.now near.now }
     requires whole { IfSome whole.old (IsViewOf stack.now 0 above.now.path) }
-    requires directory { IsDirectoryPlace (merge_of stack.now) above.now.path above.now }
+    requires above { IsVisited stack.now above.now.path above.now }
     ensures inode { IfOk result (λ found. found ≡ merged_entry (merge_of stack.now) (child_path above.now.path name.now)) }
     ensures whole { IfSome whole.new (IsViewOf stack.now 0 above.now.path) }
 {
-    let place = above.child(alloc, stack, near, name)?;
+    let place = Place::within(alloc, stack, above, name)?;
     if let Some(inode) = &place.first {
         return Ok(Some(merged_inode(alloc, stack, whole, above, name, &place, inode)?));
     }
     if !place.hidden {
         return Ok(None);
     }
-    if !shows_at(alloc, stack, near, &place.natural)? {
+    if !shows_at(alloc, stack, &above.near, &place.natural)? {
         return Ok(None);
     }
     Ok(Some(new_whiteout(alloc)))
@@ -83,19 +78,19 @@ fn new_whiteout(alloc: Global) -> Inode
     }
 }
 
-// The new inode of what the two layers show at a name in a directory of the place `above`.
+// The new inode of what the two layers show at a name in the directory `above`.
 fn merged_inode(
     alloc: Global,
     stack: &Stack,
     whole: &mut Option<DirView>,
-    above: &Place,
+    above: &Directory,
     name: &Name,
     place: &Place,
     inode: &Inode,
 ) -> Result<Inode, AllocError>
     requires several { 1 < length stack.now.layers }
     requires whole { IfSome whole.old (IsViewOf stack.now 0 above.now.path) }
-    requires above { IsPlace (merge_of stack.now) above.now }
+    requires above { IsVisited stack.now above.now.path above.now }
     requires path { place.now.path ≡ child_path above.now.path name.now }
     requires is { IsPlace (merge_of stack.now) place.now }
     ensures inode { IfOk result (λ new. new ≡ the_inode (merge_of stack.now) place.now.path inode.now) }
@@ -115,12 +110,12 @@ fn merged_inode(
 fn merged_directory(
     alloc: Global,
     _stack: &Stack,
-    above: &Place,
+    above: &Directory,
     name: &Name,
     place: &Place,
     inode: &Inode,
 ) -> Result<Inode, AllocError>
-    requires above { IsPlace (merge_of _stack.now) above.now }
+    requires above { IsVisited _stack.now above.now.path above.now }
     requires path { place.now.path ≡ child_path above.now.path name.now }
     requires is { IsPlace (merge_of _stack.now) place.now }
     ensures { IfOk result (λ new. new ≡ the_directory (merge_of _stack.now) place.now.path inode.now place.now.reach) }
@@ -142,14 +137,14 @@ fn merged_metacopy(
     alloc: Global,
     stack: &Stack,
     whole: &mut Option<DirView>,
-    above: &Place,
+    above: &Directory,
     name: &Name,
     place: &Place,
     inode: &Inode,
 ) -> Result<Inode, AllocError>
     requires several { 1 < length stack.now.layers }
     requires whole { IfSome whole.old (IsViewOf stack.now 0 above.now.path) }
-    requires above { IsPlace (merge_of stack.now) above.now }
+    requires above { IsVisited stack.now above.now.path above.now }
     requires path { place.now.path ≡ child_path above.now.path name.now }
     requires is { IsPlace (merge_of stack.now) place.now }
     ensures inode { IfOk result (λ new. new ≡ the_metacopy (merge_of stack.now) place.now.path inode.now place.now.reach) }
@@ -168,13 +163,13 @@ fn merged_metacopy(
     }
 }
 
-// What the whole stack shows at a name in the directory of a place, by the view of that, which is made with the first
+// What the whole stack shows at a name in a directory, by the view of that, which is made with the first
 // name that is asked for and kept for the others.
 fn look_in_whole(
     alloc: Global,
     stack: &Stack,
     whole: &mut Option<DirView>,
-    above: &Place,
+    above: &Directory,
     name: &Name,
 ) -> Result<Look, AllocError>
     requires { IfSome whole.old (IsViewOf stack.now 0 above.now.path) }
@@ -194,11 +189,11 @@ fn look_in_whole(
     Ok(look)
 }
 
-// An entry `name` that goes on at `reach`, its directory being at `above`: with no redirect where the reach of the
+// An entry `name` of a directory that goes on at `reach`: with no redirect where the reach of the
 // directory has it by this name, with one name where it has it by another, else with the whole path.
 fn redirected(
     alloc: Global,
-    above: &Place,
+    above: &Directory,
     name: &Name,
     inode: Inode,
     reach: &Path,

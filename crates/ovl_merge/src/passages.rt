@@ -1,4 +1,4 @@
-ghost use Rattle.std.specs.Prelude.{◌≡◌, ◌<◌, Some, length, IfOk};
+ghost use Rattle.std.specs.Prelude.{◌≡◌, ◌<◌, length, IfOk};
 ghost use Rattle.std.specs.Option.{option_map};
 ghost use Rattle.ovl_inode.specs.Marks.{is_directory as directory_test, is_metacopy as metacopy_test};
 ghost use Rattle.ovl_merge.specs.Places.{merge_of, is_hidden as hidden_test, is_nothing_or, passes, is_shown_regular as regular_look, reach as the_reach};
@@ -63,16 +63,6 @@ impl Passage {
             Some(step) => if step.closed { None } else { Some(&step.next) },
             None => None,
         }
-    }
-
-    // Where the path goes on in the lower layer, if the upper one is open there.
-    pub(crate) fn lower_path(&self, alloc: Global) -> Result<Option<Path>, AllocError>
-        ensures { IfOk result (λ path. path ≡ next_of (Some self.now.upper)) }
-    {
-        if self.upper.closed {
-            return Ok(None);
-        }
-        Ok(Some(self.upper.next.copy(alloc)?))
     }
 
     // Whether the first thing that the two layers have there is a directory.

@@ -1,9 +1,10 @@
 ghost use Rattle.std.specs.Prelude.{◌≡◌, [], IfOk, IfSome};
+ghost use Rattle.std.specs.Option.{option_map};
 ghost use Rattle.ovl_names.specs.Paths.{child_path};
 ghost use Rattle.ovl_manifest.specs.Sheets.{path_at};
 ghost use Rattle.ovl_lookup.specs.Passes.{IsOwnDirectory};
 ghost use Rattle.ovl_lookup.specs.Walk.{walk as the_walk};
-ghost use Rattle.ovl_merge.specs.Reckoned.{IsStand, IsWalked, IsGlance, is_open_stand};
+ghost use Rattle.ovl_merge.specs.Reckoned.{IsStand, IsWalked, IsGlance, is_open_stand, is_inside as inside_test, onward_from};
 
 use crate::rest::name_below;
 use ovl_inode::{Inode, Mark};
@@ -110,6 +111,30 @@ impl Walked {
                 next: next.child(alloc, name)?,
                 closed: *closed,
             }),
+        }
+    }
+
+    // The directory's path.
+    pub(crate) fn path(&self) -> &Path
+        ensures { result.now ≡ self.now.path }
+    {
+        &self.path
+    }
+
+    // Whether it stands in a directory of the layer.
+    pub(crate) fn is_inside(&self) -> bool
+        ensures { result ≡ inside_test self.now.stand }
+    {
+        matches!(&self.stand, Stand::Inside(_))
+    }
+
+    // The path by which the layer below knows the directory, where the walks of the names in it go on.
+    pub(crate) fn onward(&self) -> Option<&Path>
+        ensures { option_map (λ path. path.now) result ≡ onward_from self.now.stand }
+    {
+        match &self.stand {
+            Stand::Inside(own) => if own.closed { None } else { Some(&own.next) },
+            Stand::Past { next, closed } => if *closed { None } else { Some(next) },
         }
     }
 

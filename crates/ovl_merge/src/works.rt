@@ -105,15 +105,14 @@ fn inodes_in(
     directory: &Directory,
 ) -> Result<Vec<(Name, Inode)>, AllocError>
     requires several { 1 < length stack.now.layers }
-    requires visited { IsVisited stack.now directory.now.place.path directory.now }
-    ensures { IfOk result (λ inodes. inodes.items ≡ entries_in (merge_of stack.now) directory.now.place.path) }
+    requires visited { IsVisited stack.now directory.now.path directory.now }
+    ensures { IfOk result (λ inodes. inodes.items ≡ entries_in (merge_of stack.now) directory.now.path) }
 {
-    let Directory { place, near } = directory;
     let names = candidates(alloc, stack, directory)?;
     let mut whole = None;
     let mut inodes = Vec::with_capacity(alloc, names.len())?;
     for name in names {
-        if let Some(inode) = inode_in(alloc, stack, near, &mut whole, place, &name)? {
+        if let Some(inode) = inode_in(alloc, stack, &mut whole, directory, &name)? {
             inodes.push((name, inode))?;
         }
     }

@@ -17,14 +17,14 @@ returns-then-is_open c =
     let m = merge_of stack in
     let each = merge-each stack stack refl c.requires.several c.layers-layers.ensures.each in
     let own = c.requires.visited in
-    let dir = c.args.directory.now.place.path in
+    let dir = c.args.directory.now.path in
     ap (filter_map (named_inode m dir)) c.in_ok-names.ensures
-    ∙ open-entries m (upper m each) (lower m each) dir c.args.directory.now.place c.args.directory.now.near refl own.place.is own.kept own.near.upper own.near.lower (sym c.if-is_open.ensures)
+    ∙ open-entries m (upper m each) (lower m each) dir c.args.directory.now.near own.upper own.lower own.near.upper own.near.lower (sym c.if-is_open.ensures)
 
 pub merged-requires-clause-one : goal.merged-requires-clause-one
 merged-requires-clause-one c =
     let m = merge_of c.args.stack.now in
-    ap (ascends name_cmp) c.in_ok-names.ensures ∙ ascends-put [] (own_names_along (two_layers m).layers c.args.directory.now.place.path) refl
+    ap (ascends name_cmp) c.in_ok-names.ensures ∙ ascends-put [] (own_names_along (two_layers m).layers c.args.directory.now.path) refl
 
 pub merged-requires-clause-other : goal.merged-requires-clause-other
 merged-requires-clause-other c =

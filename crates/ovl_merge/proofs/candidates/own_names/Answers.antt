@@ -1,4 +1,5 @@
 use Rattle.std.proofs.Common.{◌≡◌, ◌∙◌, Some, None, List, refl, sym, ap}
+use Rattle.std.specs.Option.{option_map}
 use Rattle.std.proofs.lemmas.Result.{IfOk-weaker}
 use Rattle.ovl_names.specs.Paths.{PathNames}
 use Rattle.ovl_names.specs.Names.{PathName, name_cmp}
@@ -6,6 +7,7 @@ use Rattle.ovl_names.specs.Order.{ascends}
 use Rattle.ovl_manifest.specs.Layers.{names_below}
 use Rattle.ovl_lookup.specs.Passes.{put_names}
 use Rattle.ovl_lookup.proofs.KidNames.{kid-names-ascend}
+use Rattle.ovl_merge.specs.declared.walked.Walked.{Walked}
 use Rattle.ovl_merge.specs.Places.{merge_of}
 use Rattle.ovl_merge.proofs.FinishLemmas.{merge-each}
 use Rattle.ovl_merge.proofs.LayerLemmas.{upper, lower}
@@ -18,18 +20,18 @@ returns-in_default c =
     let stack = c.args.stack.now in
     let m = merge_of stack in
     let each = merge-each stack stack refl c.requires.several c.layers-layers.ensures.each in
-    let path : PathNames = c.args.place.now.path in
+    let path : PathNames = c.args.directory.now.path in
     let names : c.in_ok-upper.upper.items ≡ names_below m.upper path = upper-layer stack c.requires.several (λ layer. c.in_ok-upper.upper.items ≡ names_below layer path) c.in_ok-upper.ensures in
     names
     ∙ (sym (put-none (names_below m.upper path) (kid-names-ascend m.upper path (upper m each).in_order))
-    ∙ own-names m path None (sym (not-some c.args.place.now.lower c.in_default.not-Some) ∙ c.requires.is.lower))
+    ∙ own-names m path None (sym (ap (option_map (λ (walked : Walked). walked.path)) (not-some c.args.directory.now.near.lower c.in_default.not-Some)) ∙ c.requires.visited.lower))
 
 pub merged-requires-clause-one : goal.merged-requires-clause-one
 merged-requires-clause-one c =
     let stack = c.args.stack.now in
     let m = merge_of stack in
     let each = merge-each stack stack refl c.requires.several c.layers-layers.ensures.each in
-    let path : PathNames = c.args.place.now.path in
+    let path : PathNames = c.args.directory.now.path in
     let names : c.in_ok-upper.upper.items ≡ names_below m.upper path = upper-layer stack c.requires.several (λ layer. c.in_ok-upper.upper.items ≡ names_below layer path) c.in_ok-upper.ensures in
     ap (ascends name_cmp) names ∙ kid-names-ascend m.upper path (upper m each).in_order
 
@@ -38,7 +40,7 @@ merged-requires-clause-other c =
     let stack = c.args.stack.now in
     let m = merge_of stack in
     let each = merge-each stack stack refl c.requires.several c.layers-layers.ensures.each in
-    let path : PathNames = c.in-Some.path in
+    let path : PathNames = c.path.result.now in
     let names : c.in_ok-lower.lower.items ≡ names_below m.lower path = lower-layer stack c.requires.several (λ layer. c.in_ok-lower.lower.items ≡ names_below layer path) c.in_ok-lower.ensures in
     ap (ascends name_cmp) names ∙ kid-names-ascend m.lower path (lower m each).in_order
 
@@ -47,11 +49,11 @@ returns c =
     let stack = c.args.stack.now in
     let m = merge_of stack in
     let each = merge-each stack stack refl c.requires.several c.layers-layers.ensures.each in
-    let path : PathNames = c.args.place.now.path in
-    let below : PathNames = c.in-Some.path in
+    let path : PathNames = c.args.directory.now.path in
+    let below : PathNames = c.path.result.now in
     let names : c.in_ok-upper.upper.items ≡ names_below m.upper path = upper-layer stack c.requires.several (λ layer. c.in_ok-upper.upper.items ≡ names_below layer path) c.in_ok-upper.ensures in
     let more : c.in_ok-lower.lower.items ≡ names_below m.lower below = lower-layer stack c.requires.several (λ layer. c.in_ok-lower.lower.items ≡ names_below layer below) c.in_ok-lower.ensures in
     IfOk-weaker c.merged.result _ _ (λ both are. are
     ∙ ((λ j. put_names (names j) (more j))
     ∙ (ap (λ (own : List PathName). put_names own (names_below m.lower below)) (sym (put-none (names_below m.upper path) (kid-names-ascend m.upper path (upper m each).in_order)))
-    ∙ own-names m path (Some below) (sym c.in-Some.is ∙ c.requires.is.lower)))) c.merged.ensures
+    ∙ own-names m path (Some below) (ap (λ (p : PathNames). Some p) c.path.ensures ∙ (sym (ap (option_map (λ (walked : Walked). walked.path)) c.in-Some.is) ∙ c.requires.visited.lower))))) c.merged.ensures

@@ -16,7 +16,7 @@ returns-in-Some c =
     let m = merge_of stack in
     let dir = c.args.dir.now in
     let is : IsVisited stack dir c.in-Some.directory = subst (λ (found : Option Directory). MatchOption found (shows_own_directory m dir ≡ false) (λ directory. IsVisited stack dir directory)) c.in-Some.is c.in_ok-directory.ensures in
-    subst (λ (p : PathNames). IfOk c.inodes_in.result (λ inodes. inodes.items ≡ entries_in m p)) is.place.path c.inodes_in.ensures
+    subst (λ (p : PathNames). IfOk c.inodes_in.result (λ inodes. inodes.items ≡ entries_in m p)) is.path c.inodes_in.ensures
 
 pub returns-in-None : goal.returns-in-None
 returns-in-None c =

@@ -8,5 +8,5 @@ use Rattle.ovl_merge.proofs.works.inodes_in.Given as goal
 
 abbrev pub invariant-loop-name : goal.invariant-loop-name
 invariant-loop-name l =
-    (l.inodes.items ≡ filter_map (named_inode (merge_of l.stack) l.directory.place.path) l.yielded)
-    × IfSome l.whole (IsViewOf l.stack 0 l.directory.place.path)
+    (l.inodes.items ≡ filter_map (named_inode (merge_of l.stack) l.directory.path) l.yielded)
+    × IfSome l.whole (IsViewOf l.stack 0 l.directory.path)
