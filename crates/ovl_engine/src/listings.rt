@@ -211,7 +211,9 @@ pub(crate) fn one_more(entries: u64) -> Result<u64, AllocError>
 pub(crate) fn text_of(alloc: Global, above: &str, name: &str) -> Result<String, AllocError>
     ensures { IfOk result (λ text. string_bytes text ≡ above.now ++ (codes "/" ++ escaped_text name.now)) }
 {
-    let mut text = String::new(alloc);
+    // Few names have characters that are escaped.
+    let room = above.len().saturating_add(1).saturating_add(name.len());
+    let mut text = String::with_capacity(alloc, room)?;
     push_place(alloc, &mut text, above, name)?;
     Ok(text)
 }

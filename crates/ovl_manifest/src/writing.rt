@@ -1,15 +1,16 @@
-ghost use Rattle.std.specs.Prelude.{◌≡◌, ◌++◌, Ok, IfOk, OnOk};
+ghost use Rattle.std.specs.Prelude.{◌≡◌, ◌∷◌, ◌++◌, Ok, IfOk, OnOk, string_bytes};
 ghost use Rattle.serde_json.specs.Data.{array};
-ghost use Rattle.ovl_names.specs.Paths.{child_path};
+ghost use Rattle.ovl_names.specs.Paths.{PathNames, child_path};
+ghost use Rattle.ovl_names.specs.Names.{slash};
 ghost use Rattle.ovl_manifest.specs.LayerTrees.{entries_from, placed};
 ghost use Rattle.ovl_manifest.specs.Manifest.{read_layer};
 ghost use Rattle.ovl_manifest.specs.Text.{manifest_text, layer_value, entry_items};
+ghost use Rattle.ovl_manifest.specs.TextPaths.{slashed};
 ghost use Rattle.ovl_manifest.specs.Tokens.{value_tokens, entries_tokens};
 
 use crate::trees::{Layer, Node};
 use crate::written_entries::put_entry;
 use json::Writer;
-use ovl_names::Path;
 use std::alloc::{AllocError, Global};
 
 /// The manifest of a layer: compact JSON whose objects have their members in the byte order of their names, and a
@@ -45,24 +46,35 @@ fn put_entries(alloc: Global, out: &mut Writer, layer: &Layer) -> Result<(), All
     ensures before { out.new.before ≡ out.old.before }
 {
     out.begin_array()?;
-    let root = Path::root(alloc);
-    put_entry(alloc, out, &root, &layer.inode)?;
+    put_entry(alloc, out, "/", &layer.inode)?;
     for child in &layer.children {
-        put_under(alloc, out, &root, child)?;
+        put_under(alloc, out, "", child)?;
     }
     out.end_array()
 }
 
-// The entries at and under a node of the directory `above`.
-fn put_under(alloc: Global, out: &mut Writer, above: &Path, node: &Node) -> Result<(), AllocError>
-    ensures tokens { OnOk result (out.new.tokens ≡ out.old.tokens
-        ++ entries_tokens (placed (child_path above.now node.now.name) (entries_from node.now.inode node.now.below))) }
+// The entries at and under a node; `above` is the text of its directory's path, where that of the root is empty.
+fn put_under(alloc: Global, out: &mut Writer, above: &str, node: &Node) -> Result<(), AllocError>
+    ensures tokens { OnOk result ((directory : PathNames) → above.now ≡ slashed directory → out.new.tokens ≡ out.old.tokens
+        ++ entries_tokens (placed (child_path directory node.now.name) (entries_from node.now.inode node.now.below))) }
     ensures before { out.new.before ≡ out.old.before }
 {
-    let path = above.child(alloc, &node.name)?;
-    put_entry(alloc, out, &path, &node.inode)?;
+    let path = path_below(alloc, above, node.name.as_str())?;
+    put_entry(alloc, out, path.as_str(), &node.inode)?;
     for child in &node.children {
-        put_under(alloc, out, &path, child)?;
+        put_under(alloc, out, path.as_str(), child)?;
     }
     Ok(())
+}
+
+// The text of the path of a name in a directory, by that of the directory.
+fn path_below(alloc: Global, above: &str, name: &str) -> Result<String, AllocError>
+    ensures { IfOk result (λ text. string_bytes text ≡ above.now ++ slash ∷ name.now) }
+{
+    let room = above.len().saturating_add(1).saturating_add(name.len());
+    let mut text = String::with_capacity(alloc, room)?;
+    text.push_str(above)?;
+    text.push_str("/")?;
+    text.push_str(name)?;
+    Ok(text)
 }

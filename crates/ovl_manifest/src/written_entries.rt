@@ -1,24 +1,24 @@
 //! Entries as JSON, written member by member in the byte order of the members' names.
-ghost use Rattle.std.specs.Prelude.{◌≡◌, ◌++◌, OnOk, codes, string_bytes, IfOk};
+ghost use Rattle.std.specs.Prelude.{◌≡◌, ◌++◌, OnOk};
 ghost use Rattle.serde_json.specs.Data.{object};
 ghost use Rattle.hex.specs.Hex.{encode_lower};
-ghost use Rattle.ovl_names.specs.Paths.{path_text as text_of_path};
+ghost use Rattle.ovl_names.specs.Paths.{PathNames, path_text as text_of_path};
 ghost use Rattle.ovl_manifest.specs.Text.{entry_value, attribute_members};
 ghost use Rattle.ovl_manifest.specs.Tokens.{value_tokens, number_member, text_member, blob_tokens, device_tokens, contents_tokens};
 
 use json::Writer;
 use ovl_inode::{Attrs, Digest, Inode, Kind};
-use ovl_names::Path;
 use std::alloc::{AllocError, Global};
 
-/// Writes the object of an entry; fails only for want of memory.
+/// Writes the object of an entry by the text of its path; fails only for want of memory.
 pub(crate) fn put_entry(
     alloc: Global,
     out: &mut Writer,
-    path: &Path,
+    path: &str,
     inode: &Inode,
 ) -> Result<(), AllocError>
-    ensures tokens { OnOk result (out.new.tokens ≡ out.old.tokens ++ value_tokens (entry_value (path.now, inode.now))) }
+    ensures tokens { OnOk result ((own : PathNames) → path.now ≡ text_of_path own
+        → out.new.tokens ≡ out.old.tokens ++ value_tokens (entry_value (own, inode.now))) }
     ensures before { out.new.before ≡ out.old.before }
 {
     out.begin_object()?;
@@ -29,7 +29,7 @@ pub(crate) fn put_entry(
     put_number(out, "mode", u64::from(inode.mode))?;
     out.key("mtime")?;
     out.i64(inode.mtime)?;
-    put_text(out, "path", path_text(alloc, path)?.as_str())?;
+    put_text(out, "path", path)?;
     put_contents(out, &inode.kind)?;
     put_number(out, "uid", u64::from(inode.uid))?;
     out.key("xattrs")?;
@@ -118,19 +118,4 @@ fn put_attributes(alloc: Global, out: &mut Writer, attrs: &Attrs) -> Result<(), 
         put_text(out, name.as_str(), digits.as_str())?;
     }
     out.end_object()
-}
-
-// The text of a path: a separator before each name, and one for the root.
-fn path_text(alloc: Global, path: &Path) -> Result<String, AllocError>
-    ensures { IfOk result (λ text. string_bytes text ≡ text_of_path path.now) }
-{
-    if path.is_empty() {
-        return String::from_str(alloc, "/");
-    }
-    let mut text = String::new(alloc);
-    for name in path.names() {
-        text.push_str("/")?;
-        text.push_str(name.as_str())?;
-    }
-    Ok(text)
 }
