@@ -1,10 +1,9 @@
 -- What the new layer has in a directory: its names are in order, and all that it has there has one of them.
-use Rattle.std.proofs.Common.{◌≡◌, ◌≤◌, ◌<◌, inl, inr, Bool, true, false, cond, Option, Some, None, List, [], ◌∷◌, length, refl, sym, ap, ◌∙◌, arith}
-use Rattle.std.specs.Prelude.{◌||◌, not, All}
+use Rattle.std.proofs.Common.{◌≡◌, ◌≤◌, ◌<◌, inl, inr, Bool, true, false, cond, Option, Some, None, [], ◌∷◌, length, refl, sym, ap, ◌∙◌, arith}
+use Rattle.std.specs.Prelude.{not, All}
 use Rattle.std.specs.Option.{option_map}
 use Rattle.std.specs.List.{list_any, list_all, cons_option}
 use Rattle.std.specs.Ordering.{is_lt}
-use Rattle.std.specs.declared.cmp.Ordering.TheVariants.{Less, Equal}
 use Rattle.std.specs.Cmp.Lexicographic.{nat_list_cmp_total, bytes_decides}
 use Rattle.ovl_names.specs.Names.{PathName, name_eq, name_cmp}
 use Rattle.ovl_names.specs.Order.{ascends}
@@ -12,47 +11,24 @@ use Rattle.ovl_names.specs.Paths.{PathNames, child_path, path_cmp}
 use Rattle.ovl_names.proofs.Ascending.{both, is_lt-Less}
 use Rattle.ovl_inode.specs.declared.inodes.Inode.{Inode}
 use Rattle.ovl_manifest.specs.Layers.{Entries, Entry, entry_at, entry_cmp, name_below, names_below, IsLayer}
-use Rattle.ovl_manifest.proofs.OpenLemmas.{name_cmp-same}
 use Rattle.ovl_lookup.specs.declared.looks.Look.{Look}
 use Rattle.ovl_lookup.specs.declared.looks.Look.TheVariants.{Nothing, Shown, Broken}
 use Rattle.ovl_lookup.specs.Stacks.{StackView}
 use Rattle.ovl_lookup.specs.Passes.{kids_along}
-use Rattle.ovl_lookup.specs.Merged.{look, is_nothing, AreKids}
+use Rattle.ovl_lookup.specs.Merged.{look, is_nothing}
 use Rattle.ovl_lookup.specs.Words.{over, top_layer, lower_layers}
 use Rattle.ovl_lookup.proofs.ChildLemmas.{entry-limited, names_below-has}
 use Rattle.ovl_lookup.proofs.KidLemmas.{kids-ascend, kids-same}
 use Rattle.ovl_lookup.proofs.LawLemmas.{ShowsWithinDepth-holds}
 use Rattle.ovl_lookup.proofs.TopLaws.{top-over, top-layer, lower-layers}
 use Rattle.ovl_lookup.proofs.WalkLaws.{directory_found}
-use Rattle.ovl_board.proofs.Members.{In, Rises, rising_same}
+use Rattle.ovl_board.proofs.Members.{In, Rises}
 use Rattle.ovl_board.proofs.PieceOrder.{siblings}
 use Rattle.ovl_rewrite.specs.NewLayers.{IsTold}
-use Rattle.ovl_rewrite.proofs.Ascents.{NameBefore, rising-names, rising-ascend, any-In}
+use Rattle.ovl_rewrite.proofs.Ascents.{NameBefore, rising-ascend}
 use Rattle.ovl_deref.specs.Deref.{is_in_moved, inode_shown, dereferenced_inode}
 use Rattle.ovl_deref.specs.Directories.{is_at_moved, new_at, names_in, deref_depth}
 use Rattle.ovl_deref.proofs.LayerLemmas.{in_moved-child, outside, within, parent-kept}
-
--- ---- the names of the merged tree
-
-In-any : (name : PathName) (names : List PathName) → In name names → list_any (name_eq name) names ≡ true
-In-any name [] h = absurd h
-In-any name (other ∷ names) (inl same) = ap (λ b. b || list_any (name_eq name) names) ((bytes_decides name other).1 same)
-In-any name (other ∷ names) (inr h) = by (name_eq name other) (In-any name names h)
-  where
-    by : (b : Bool) → list_any (name_eq name) names ≡ true → (b || list_any (name_eq name) names) ≡ true
-    by true any = refl
-    by false any = any
-
-never-itself : (name : PathName) → NameBefore name name → ⊥
-never-itself name less = let bad : Less ≡ Equal = sym less ∙ name_cmp-same name in cc
-
--- the names of a directory are the only ones that the merged tree has in it
-pub kids-unique : (stack : StackView) → All IsLayer stack.layers → (path : PathNames) (names : List PathName) → AreKids stack path names → names ≡ kids_along stack path
-kids-unique stack each path names are =
-    rising_same NameBefore never-itself nat_list_cmp_total.trans names (kids_along stack path)
-    (rising-names names are.in_order) (rising-names (kids_along stack path) (kids-ascend stack path))
-    (λ name h. any-In name (kids_along stack path) (kids-same stack each path name ∙ (sym (are.same name) ∙ In-any name names h)))
-    (λ name h. any-In name names (are.same name ∙ (sym (kids-same stack each path name) ∙ In-any name (kids_along stack path) h)))
 
 -- ---- the names of a layer in a directory
 

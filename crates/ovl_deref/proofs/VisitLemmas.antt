@@ -31,6 +31,7 @@ use Rattle.ovl_lookup.specs.ViewPasses.{AreLooks}
 use Rattle.ovl_lookup.specs.Sound.{is_moved}
 use Rattle.ovl_lookup.specs.Words.{over, top_layer, lower_layers}
 use Rattle.ovl_lookup.proofs.ChildLemmas.{all-first, all-rest}
+use Rattle.ovl_lookup.proofs.KidLaws.{kids-unique}
 use Rattle.ovl_lookup.proofs.LookLaws.{nothing-under}
 use Rattle.ovl_lookup.proofs.TopLaws.{top-over}
 use Rattle.ovl_lookup.proofs.WalkLaws.{mark-child}
@@ -39,7 +40,7 @@ use Rattle.ovl_deref.specs.Deref.{inode_shown, unfolded, full_attributes, filled
 use Rattle.ovl_deref.specs.Directories.{is_at_moved, new_at, names_in, named_inode, inodes_in}
 use Rattle.ovl_deref.specs.Visits.{IsSought, look_by, shown_inode}
 use Rattle.ovl_deref.proofs.DerefLemmas.{any_prefix-child, any_prefix-under}
-use Rattle.ovl_deref.proofs.DirectoryLemmas.{kids-unique, new-moved}
+use Rattle.ovl_deref.proofs.DirectoryLemmas.{new-moved}
 
 -- ---- the attributes of a full file, one after another
 

@@ -6,6 +6,7 @@ pub mod ChildLemmas
 pub mod KidLemmas
 pub mod ListLemmas
 pub mod LawLemmas
+pub mod KidLaws
 pub mod Notation
 pub mod RowStacks
 pub mod WalkLaws

@@ -103,6 +103,13 @@ impl Stack {
         &self.layers[i]
     }
 
+    /// The sheets of its layers, the topmost first.
+    pub fn into_sheets(self) -> Vec<Sheet>
+        ensures { result.items ≡ self.layers }
+    {
+        self.layers
+    }
+
     /// The inode that layer `i` has at a path, and `None` where it has no entry; `i` is below the number of layers.
     pub fn own_at(&self, i: usize, path: &Path) -> Option<&Inode>
         requires { i < length self.now.layers }

@@ -1,5 +1,5 @@
 -- Ascending lists of names: two of them as one, and names among them that have no entry.
-use Rattle.std.proofs.Common.{◌≡◌, inl, inr, Bool, true, false, Option, Some, None, List, [], ◌∷◌, ◌++◌, length, drop, refl, sym, ap, ◌∙◌, subst, arith}
+use Rattle.std.proofs.Common.{◌≡◌, Bool, true, false, Option, Some, None, List, [], ◌∷◌, ◌++◌, length, drop, refl, sym, ap, ◌∙◌, subst, arith}
 use Rattle.std.specs.Prelude.{◌||◌, ◌&&◌, MatchOption}
 use Rattle.std.specs.Option.{option_to_list}
 use Rattle.std.specs.List.{cons_option, filter_map, list_any, list_all}
@@ -12,13 +12,11 @@ use Rattle.ovl_names.specs.Names.{PathName, name_eq, name_cmp}
 use Rattle.ovl_names.specs.Order.{ascends}
 use Rattle.ovl_names.proofs.Ascending.{both, is_lt-Less, list_all-before}
 use Rattle.ovl_inode.proofs.AttributeLemmas.{name_cmp-Equal}
-use Rattle.ovl_manifest.proofs.OpenLemmas.{name_cmp-same}
 use Rattle.ovl_lookup.specs.Passes.{put_names}
 use Rattle.ovl_lookup.proofs.KidLemmas.{ascends-insert, any-insert}
-use Rattle.ovl_board.proofs.Members.{In, rising_same}
+use Rattle.ovl_lookup.proofs.KidLaws.{same-names}
 use Rattle.ovl_rewrite.specs.Directories.{NamedInode}
 use Rattle.ovl_merge.specs.Candidates.{first_order, IsFirstTaken}
-use Rattle.ovl_rewrite.proofs.Ascents.{NameBefore, rising-names, any-In}
 
 -- ---- two lists as one
 
@@ -119,25 +117,7 @@ both-taken (x ∷ xs) (y ∷ ys) up also order taken rest more items is are =
     (subst (λ (m : List PathName). IsFirstTaken (x ∷ xs) (y ∷ ys) x xs m) (sym are)
     (record { first = put-same y ys also x xs (sym order); fewer = omega arith; one_ascends = later-ascend x xs up; other_ascends = later-ascend y ys also })))
 
--- ---- lists with the same names
-
-In-any : (name : PathName) (names : List PathName) → In name names → list_any (name_eq name) names ≡ true
-In-any name [] h = absurd h
-In-any name (other ∷ names) (inl same) = ap (λ b. b || list_any (name_eq name) names) ((bytes_decides name other).1 same)
-In-any name (other ∷ names) (inr h) = by (name_eq name other) (In-any name names h)
-  where
-    by : (b : Bool) → list_any (name_eq name) names ≡ true → (b || list_any (name_eq name) names) ≡ true
-    by true any = refl
-    by false any = any
-
-pub same-names : (one other : List PathName) → ascends name_cmp one ≡ true → ascends name_cmp other ≡ true → ((name : PathName) → list_any (name_eq name) one ≡ list_any (name_eq name) other) → one ≡ other
-same-names one other up also same =
-    rising_same NameBefore never-itself nat_list_cmp_total.trans one other (rising-names one up) (rising-names other also)
-    (λ name h. any-In name other (sym (same name) ∙ In-any name one h))
-    (λ name h. any-In name one (same name ∙ In-any name other h))
-  where
-    never-itself : (name : PathName) → NameBefore name name → ⊥
-    never-itself name less = let bad : Less ≡ Equal = sym less ∙ name_cmp-same name in cc
+-- ---- a name among ascending ones
 
 insert-has : (names : List PathName) (name : PathName) → ascends name_cmp names ≡ true → list_any (name_eq name) names ≡ true → insert_key name_cmp names name ≡ names
 insert-has names name up has =

@@ -1,10 +1,9 @@
 -- What a visit of a merge reckons.
-use Rattle.std.proofs.Common.{◌≡◌, ℕ, ◌+◌, ◌<◌, inl, inr, get_or, subst, Bool, true, false, cond, Option, Some, None, is_some, List, [], ◌∷◌, ◌++◌, length, take, drop, refl, sym, ap, ◌∙◌, append_assoc, arith}
-use Rattle.std.specs.Prelude.{◌&&◌, ◌||◌, not, is_none, slice_get, unwrap_or, IfSome, MatchOption}
+use Rattle.std.proofs.Common.{◌≡◌, ℕ, ◌+◌, ◌<◌, get_or, subst, Bool, true, false, cond, Option, Some, None, is_some, List, [], ◌∷◌, ◌++◌, length, take, drop, refl, sym, ap, ◌∙◌, append_assoc, arith}
+use Rattle.std.specs.Prelude.{◌&&◌, not, is_none, slice_get, unwrap_or, IfSome, MatchOption}
 use Rattle.std.specs.Option.{option_map}
-use Rattle.std.specs.List.{cons_option, filter_map, list_any, All}
-use Rattle.std.specs.declared.cmp.Ordering.TheVariants.{Less, Equal}
-use Rattle.std.specs.Cmp.Lexicographic.{pointwise_decides, bytes_decides, nat_list_cmp_total}
+use Rattle.std.specs.List.{cons_option, filter_map, All}
+use Rattle.std.specs.Cmp.Lexicographic.{pointwise_decides, bytes_decides}
 use Rattle.std.proofs.lemmas.List.{append-nil, take-append-drop, take_more}
 use Rattle.std.proofs.lemmas.List.Elements.{filter_map-append}
 use Rattle.ovl_names.specs.Names.{PathName, name_eq}
@@ -14,7 +13,6 @@ use Rattle.ovl_inode.specs.Attributes.{redirect_name, metacopy_name}
 use Rattle.ovl_inode.specs.Marks.{is_directory}
 use Rattle.ovl_inode.specs.Inodes.{visible}
 use Rattle.ovl_manifest.specs.Layers.{Entries, IsLayer, names_below}
-use Rattle.ovl_manifest.proofs.OpenLemmas.{name_cmp-same}
 use Rattle.ovl_lookup.specs.declared.steps.Step.{Step}
 use Rattle.ovl_lookup.specs.declared.looks.Look.{Look}
 use Rattle.ovl_lookup.specs.declared.looks.Look.TheVariants.{Nothing}
@@ -24,13 +22,12 @@ use Rattle.ovl_lookup.proofs.LookLaws.{nothing-under}
 use Rattle.ovl_lookup.specs.Walk.{walk}
 use Rattle.ovl_lookup.specs.Stacks.{StackView, from_layer}
 use Rattle.ovl_lookup.specs.Passes.{own_names_along, put_names, kids_along}
-use Rattle.ovl_lookup.specs.Merged.{look, is_nothing, shows_directory, AreKids}
+use Rattle.ovl_lookup.specs.Merged.{look, shows_directory, AreKids}
 use Rattle.ovl_lookup.specs.Words.{top_layer, lower_layers}
 use Rattle.ovl_lookup.proofs.WalkFacts.{length-child, parent_path-child}
-use Rattle.ovl_lookup.proofs.KidLemmas.{put_names-append, kids-ascend, kids-same}
-use Rattle.ovl_board.proofs.Members.{In, rising_same}
+use Rattle.ovl_lookup.proofs.KidLemmas.{put_names-append}
+use Rattle.ovl_lookup.proofs.KidLaws.{kids-unique}
 use Rattle.ovl_rewrite.specs.Directories.{NamedInode}
-use Rattle.ovl_rewrite.proofs.Ascents.{NameBefore, rising-names, any-In}
 use Rattle.ovl_merge.specs.declared.passages.Passage.{Passage}
 use Rattle.ovl_merge.specs.declared.near.Near.{Near}
 use Rattle.ovl_merge.specs.Places.{Merge, two_layers, merge_of, lower_path, first_hit, passes, shows_own_directory, reach, reach_of, shows_directory_at, gets_opaque_at}
@@ -272,40 +269,13 @@ own-names m path lower is =
         ap (put_names (put_names [] (names_below m.upper path))) (last (walk m.lower (lower_path m path)).closed)
         ∙ sym (put_names-append [] (names_below m.upper path) (names_below m.lower (lower_path m path) ++ cond (walk m.lower (lower_path m path)).closed [] []))
 
--- the names of a directory are the only ones that the merged tree has in it
-pub kids-unique : (stack : StackView) → All IsLayer stack.layers → (path : PathNames) (names : List PathName) → AreKids stack path names → names ≡ kids_along stack path
-kids-unique stack each path names are =
-    rising_same NameBefore never-itself nat_list_cmp_total.trans names (kids_along stack path)
-    (rising-names names are.in_order) (rising-names (kids_along stack path) (kids-ascend stack path))
-    (λ name h. any-In name (kids_along stack path) (kids-same stack each path name ∙ (sym (are.same name) ∙ In-any name names h)))
-    (λ name h. any-In name names (are.same name ∙ (sym (kids-same stack each path name) ∙ In-any name (kids_along stack path) h)))
-  where
-    never-itself : (name : PathName) → NameBefore name name → ⊥
-    never-itself name less = let bad : Less ≡ Equal = sym less ∙ name_cmp-same name in cc
-
-    In-any : (name : PathName) (names : List PathName) → In name names → list_any (name_eq name) names ≡ true
-    In-any name [] h = absurd h
-    In-any name (other ∷ names) (inl same) = ap (λ b. b || list_any (name_eq name) names) ((bytes_decides name other).1 same)
-    In-any name (other ∷ names) (inr h) = by (name_eq name other) (In-any name names h)
-      where
-        by : (b : Bool) → list_any (name_eq name) names ≡ true → (b || list_any (name_eq name) names) ≡ true
-        by true any = refl
-        by false any = any
-
--- those in a base, by its view, and where no directory is shown there
+-- the names in a base, by its view
 pub view-kids : (stack : StackView) → All IsLayer (from_layer 2 stack).layers → (dir : PathNames) (view : DirView) → IsViewOf stack 2 dir view → (names : List PathName) → AreKids (from_layer view.from stack) view.path names
     → names ≡ kids_along (from_layer 2 stack) dir
 view-kids stack each dir view of names are =
     kids-unique (from_layer 2 stack) each dir names
     (subst (λ (d : PathNames). AreKids (from_layer 2 stack) d names) of.stands
     (subst (λ (n : ℕ). AreKids (from_layer n stack) view.path names) of.starts are))
-
-pub no-kids : (stack : StackView) → All IsLayer stack.layers → (dir : PathNames) → shows_directory stack dir ≡ false → [] ≡ kids_along stack dir
-no-kids stack each dir none =
-    kids-unique stack each dir [] (record {
-      in_order = refl;
-      same = λ name. sym (ap (λ (found : Look). not (is_nothing found)) (nothing-under stack each dir name [] none));
-    })
 
 -- ---- shown directories
 

@@ -1,5 +1,5 @@
 -- What a visit finds in its directory, and whether an entry is idle, by the walk of its directory.
-use Rattle.std.proofs.Common.{◌≡◌, ℕ, ◌<◌, Bool, true, false, Option, Some, None, List, [], ◌∷◌, length, drop, refl, sym, ap, ◌∙◌, arith}
+use Rattle.std.proofs.Common.{◌≡◌, ℕ, ◌<◌, Bool, true, false, Option, Some, None, [], length, sym, ap, ◌∙◌}
 use Rattle.std.specs.Prelude.{◌&&◌, not, All}
 use Rattle.std.proofs.lemmas.List.Elements.{All-drop}
 use Rattle.ovl_names.specs.Names.{PathName}

@@ -7,7 +7,8 @@ use Rattle.ovl_merge.specs.Directories.{base_names}
 use Rattle.ovl_merge.specs.Reckoned.{IsViewIn}
 use Rattle.ovl_merge.proofs.FinishLemmas.{merge-each}
 use Rattle.ovl_merge.proofs.LayerLemmas.{rest}
-use Rattle.ovl_merge.proofs.VisitLemmas.{view-kids, no-kids}
+use Rattle.ovl_lookup.proofs.KidLaws.{none-along}
+use Rattle.ovl_merge.proofs.VisitLemmas.{view-kids}
 use Rattle.ovl_merge.proofs.rest.names_at.Goals as goal
 
 pub names-requires : goal.names-requires
@@ -32,5 +33,5 @@ returns-in-None c =
     let each = rest (merge_of stack) (merge-each stack stack refl c.requires.several c.layers-layers.ensures.each) in
     let base = subst (λ (base : Option PathNames). IfSome base (λ d. IsViewIn stack d c.args.near.now.view)) c.in-Some.is c.requires.near.base in
     c.new-in-None.ensures.items
-    ∙ (no-kids (merge_of stack).rest each c.in-Some._base (subst (IsViewIn stack c.in-Some._base) c.in-None.is base)
+    ∙ (none-along (merge_of stack).rest each c.in-Some._base (subst (IsViewIn stack c.in-Some._base) c.in-None.is base)
     ∙ sym (ap (base_names (merge_of stack).rest) c.in-Some.is))

@@ -1,15 +1,15 @@
-use Rattle.std.proofs.Common.{◌≡◌, ◌∙◌, ℕ, Option, Bool, true, false, IfOk, List, [], refl, sym, subst}
+use Rattle.std.proofs.Common.{◌≡◌, ℕ, Option, false, IfOk, List, sym, subst}
 use Rattle.std.specs.Prelude.{MatchOption}
 use Rattle.std.specs.List.{All}
 use Rattle.std.proofs.lemmas.List.Elements.{All-drop}
 use Rattle.ovl_names.specs.Names.{PathName}
-use Rattle.ovl_names.specs.Paths.{PathNames, child_path}
+use Rattle.ovl_names.specs.Paths.{PathNames}
 use Rattle.ovl_manifest.specs.Layers.{IsLayer}
 use Rattle.ovl_lookup.specs.declared.views.DirView.{DirView}
 use Rattle.ovl_lookup.specs.DirViews.{IsViewOf}
 use Rattle.ovl_lookup.specs.Stacks.{StackView, from_layer}
-use Rattle.ovl_lookup.specs.Merged.{AreKids, shows, shows_directory}
-use Rattle.ovl_lookup.proofs.LawLemmas.{ShowsParents-holds}
+use Rattle.ovl_lookup.specs.Merged.{AreKids, shows_directory}
+use Rattle.ovl_lookup.proofs.KidLaws.{no-kids}
 use Rattle.ovl_lookup.proofs.stacks.Stack.names.Goals as goal
 
 -- what the view, or its absence, says
@@ -25,14 +25,6 @@ returns-in-Some c =
     let is = subst (Made c.args.self.now c.args.from c.args.path.now) c.in-Some.is c.in_ok-view.ensures in
     subst (λ (from : ℕ). IfOk c.names.result (λ names. AreKids (from_layer from c.args.self.now) c.args.path.now names.items)) is.starts
     (subst (λ (path : PathNames). IfOk c.names.result (λ names. AreKids (from_layer c.in-Some.view.from c.args.self.now) path names.items)) is.stands c.names.ensures)
-
--- where no directory is shown, nothing is shown in it
-no-kids : (stack : StackView) → All IsLayer stack.layers → (path : PathNames) → shows_directory stack path ≡ false → AreKids stack path []
-no-kids stack each path none = record { in_order = refl; same = λ name. by name (shows stack (child_path path name)) refl }
-  where
-    by : (name : PathName) (b : Bool) → shows stack (child_path path name) ≡ b → false ≡ shows stack (child_path path name)
-    by name true e = let bad : true ≡ false = sym (ShowsParents-holds stack each path name e) ∙ none in cc
-    by name false e = sym e
 
 pub returns-in-None : goal.returns-in-None
 returns-in-None c =

@@ -1,13 +1,8 @@
-use Rattle.std.proofs.Common.{◌∙◌, Option, sym, ap}
-use Rattle.ovl_names.specs.Paths.{PathNames}
-use Rattle.ovl_merge.specs.Places.{merge_of, child_of, natural}
-use Rattle.ovl_merge.proofs.Core.{natural-child}
+use Rattle.ovl_merge.specs.Places.{merge_of}
+use Rattle.ovl_merge.proofs.Core.{natural-in}
 use Rattle.ovl_merge.proofs.places.Place.within.Goals as goal
 
 pub of-requires-clause-natural : goal.of-requires-clause-natural
 of-requires-clause-natural c =
-    let m = merge_of c.args.stack.now in
-    c.in_ok-natural.ensures
-    ∙ (ap (λ (base : Option PathNames). child_of base c.args.name.now) c.requires.visited.base
-    ∙ (sym (natural-child m c.args.directory.now.path c.args.name.now)
-    ∙ ap (natural m) (sym c.in_ok-path.ensures)))
+    natural-in (merge_of c.args.stack.now) c.args.directory.now.path _ c.args.name.now c.args.directory.now.near.base _
+    c.in_ok-natural.ensures c.requires.visited.base c.in_ok-path.ensures
