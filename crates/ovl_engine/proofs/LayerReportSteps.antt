@@ -1,5 +1,5 @@
 -- The lines of a new layer, node by node.
-use Rattle.std.proofs.Common.{◌≡◌, ℕ, zero, suc, ◌<◌, List, [], ◌∷◌, ◌++◌, length, get_or, sym, ap, arith, length-append}
+use Rattle.std.proofs.Common.{◌≡◌, ℕ, zero, suc, ◌+◌, ◌<◌, List, [], ◌∷◌, ◌++◌, length, get_or, take, sym, ap, arith, length-append}
 use Rattle.std.specs.Prelude.{codes}
 use Rattle.std.proofs.lemmas.List.{length-map}
 use Rattle.ovl_names.specs.Names.{PathName}
@@ -7,8 +7,9 @@ use Rattle.ovl_names.specs.Paths.{PathNames, child_path}
 use Rattle.ovl_names.specs.Escapes.{escaped}
 use Rattle.ovl_inode.specs.declared.inodes.Inode.{Inode}
 use Rattle.ovl_inode.specs.Marks.{mark_of}
-use Rattle.ovl_manifest.specs.Layers.{Entry}
+use Rattle.ovl_manifest.specs.Layers.{Entry, Entries}
 use Rattle.ovl_manifest.specs.LayerTrees.{NodeView, under, entries_from, entries_of_nodes}
+use Rattle.ovl_manifest.proofs.NodeLemmas.{entries_of_nodes-more}
 use Rattle.ovl_engine.specs.Reports.{shown_names}
 use Rattle.ovl_engine.specs.LayerReports.{marked_line, entry_line}
 use Rattle.ovl_engine.proofs.ListingSteps.{shown-child}
@@ -20,6 +21,14 @@ fewer_below (first ∷ nodes) zero node inside is =
     omega (arith, ap (λ (n : NodeView). length n.below) is, length-append (under first.name (entries_from first.inode first.below)) (entries_of_nodes nodes), length-map {B = Entry} first.below (λ entry. (first.name ∷ entry.0, entry.1)))
 fewer_below (first ∷ nodes) (suc k) node inside is =
     omega (arith, fewer_below nodes k node (omega (arith, inside)) is, length-append (under first.name (entries_from first.inode first.below)) (entries_of_nodes nodes))
+
+-- a node more has as many entries more as are at and under it
+pub one_more_counted : (nodes : List NodeView) (k : ℕ) (node : NodeView) → k < length nodes → node ≡ get_or nodes k node
+    → length (entries_of_nodes (take (k + 1) nodes)) ≡ length (entries_of_nodes (take k nodes)) + length (entries_from node.inode node.below)
+one_more_counted nodes k node inside is =
+    let done : Entries = entries_of_nodes (take k nodes) in
+    let own : Entries = under node.name (entries_from node.inode node.below) in
+    omega (arith, ap length (entries_of_nodes-more nodes k node inside is), length-append done own, length-map {B = Entry} (entries_from node.inode node.below) (λ entry. (node.name ∷ entry.0, entry.1)))
 
 -- the line of an entry in a directory, by what stands before its name
 pub line_in : (dir : PathNames) (name : PathName) (inode : Inode) → marked_line (mark_of inode) (shown_names dir ++ (codes "/" ++ escaped name)) ≡ entry_line (child_path dir name, inode)

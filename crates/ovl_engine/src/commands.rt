@@ -16,7 +16,7 @@ use crate::fsck_reports::{fsck_report_by, is_clean};
 use crate::listings::report_by;
 use crate::merges::merge;
 use crate::requests::{Answer, Command};
-use crate::stacks::read_stack;
+use crate::stacks::{let_go, read_stack};
 use crate::vacuums::vacuum;
 use crate::works::ShowWork;
 use ovl_board::{Piece, WORKER_LIMIT};
@@ -205,7 +205,7 @@ fn show<G: Gate + Sync, R: Threads + Wait + Sync>(
     };
     let (parcels, _) = run(rt, alloc, &work, root, workers, gate)?;
     let look = work.root_look(alloc)?;
-    drop(stack);
+    let_go(rt, alloc, stack, workers);
     Ok(Answer {
         report: report_by(rt, alloc, &look, &parcels, workers)?,
         layers: Vec::new(alloc),
@@ -227,7 +227,7 @@ fn fsck<G: Gate + Sync, R: Threads + Wait + Sync>(
     ensures { IsRun Fsck stack.layers (blob_views blobs.now) (G.may_refuse gate.now) result }
 {
     let found = findings_of(rt, alloc, &stack, blobs, workers, gate)?;
-    drop(stack);
+    let_go(rt, alloc, stack, workers);
     Ok(Answer {
         report: fsck_report_by(rt, alloc, &found, workers)?,
         layers: Vec::new(alloc),

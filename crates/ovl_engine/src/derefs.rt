@@ -1,4 +1,5 @@
-ghost use Rattle.std.specs.Prelude.{◌≡◌, ◌<◌, ◌≤◌, true, List, IfOk, IfErr};
+ghost use Rattle.std.specs.Prelude.{◌≡◌, ◌<◌, ◌≤◌, true, List, IfOk, IfErr, OnOk};
+ghost use Rattle.ovl_manifest.specs.Layers.{IsLayer};
 ghost use Rattle.ovl_lookup.specs.Sound.{IsSoundStack};
 ghost use Rattle.ovl_lookup.specs.Words.{top_layer, lower_layers};
 ghost use Rattle.ovl_board.specs.Machine.{worker_limit};
@@ -9,12 +10,14 @@ ghost use Rattle.ovl_deref.specs.Limits.{PassesLimit};
 ghost use Rattle.ovl_engine.specs.declared.requests.Command.TheVariants.{Deref};
 ghost use Rattle.ovl_engine.specs.FsckReports.{is_clean};
 ghost use Rattle.ovl_engine.specs.Outcomes.{IsFailure, IsRun};
+ghost use Rattle.ovl_engine.specs.LayerReports.{layer_report};
 ghost use Rattle.ovl_engine.specs.Kept.{KeepsTreeOf, KeepsSoundness};
 
 use crate::faults::EngineFault;
 use crate::layer_reports::layer_report_of;
 use crate::requests::Answer;
 use crate::rewrites::{expect_clean, rewritten};
+use crate::stacks::let_go;
 use ovl_board::Piece;
 use ovl_check::Blob;
 use ovl_deref::laws::{deref_keeps_soundness, deref_keeps_the_tree};
@@ -23,7 +26,7 @@ use ovl_lookup::Stack;
 use ovl_manifest::Layer;
 use ovl_names::Path;
 use ovl_pool::{Gate, run};
-use std::alloc::Global;
+use std::alloc::{AllocError, Global};
 use std::sync::Wait;
 use std::thread::Threads;
 
@@ -48,9 +51,12 @@ pub(crate) fn deref<G: Gate + Sync, R: Threads + Wait + Sync>(
     deref_keeps_soundness();
     expect_clean(rt, alloc, &stack, blobs, workers, gate)?;
     let layer = dereferenced(rt, alloc, &stack, workers, gate)?;
-    drop(stack);
-    let report = layer_report_of(alloc, &layer)?;
-    Ok(rewritten(alloc, report, vec![in alloc; layer]?)?)
+    let_go(rt, alloc, stack, workers);
+    let report = || -> Result<Vec<u8>, AllocError>
+        ensures told { IfOk result (λ report. report.items ≡ layer_report layer) }
+        ensures layer { OnOk result (IsLayer layer) }
+    { layer_report_of(alloc, &layer) };
+    Ok(rewritten(rt, alloc, workers, report, &[&layer])?)
 }
 
 // What deref makes of the topmost layer of a sound stack.

@@ -1,4 +1,5 @@
-ghost use Rattle.std.specs.Prelude.{◌≡◌, ◌<◌, ◌≤◌, true, List, IfOk, IfErr, length};
+ghost use Rattle.std.specs.Prelude.{◌≡◌, ◌<◌, ◌≤◌, true, List, IfOk, IfErr, OnOk, length};
+ghost use Rattle.ovl_manifest.specs.Layers.{IsLayer};
 ghost use Rattle.ovl_lookup.specs.Sound.{IsSoundStack};
 ghost use Rattle.ovl_board.specs.Machine.{worker_limit};
 ghost use Rattle.ovl_check.specs.Blobs.{BlobView, blob_views, are_in_order};
@@ -9,12 +10,14 @@ ghost use Rattle.ovl_merge.specs.Limits.{PassesLimit};
 ghost use Rattle.ovl_engine.specs.declared.requests.Command.TheVariants.{Merge};
 ghost use Rattle.ovl_engine.specs.FsckReports.{is_clean};
 ghost use Rattle.ovl_engine.specs.Outcomes.{IsFailure, IsRun};
+ghost use Rattle.ovl_engine.specs.LayerReports.{layer_report};
 ghost use Rattle.ovl_engine.specs.Kept.{KeepsTreeOf};
 
 use crate::faults::EngineFault;
 use crate::layer_reports::layer_report_of;
 use crate::requests::Answer;
 use crate::rewrites::{expect_clean, rewritten};
+use crate::stacks::let_go;
 use ovl_board::Piece;
 use ovl_check::Blob;
 use ovl_lookup::Stack;
@@ -22,7 +25,7 @@ use ovl_merge::laws::merge_keeps_the_tree;
 use ovl_merge::{MergeDone, MergeWork, finish_merge};
 use ovl_names::Path;
 use ovl_pool::{Gate, run};
-use std::alloc::Global;
+use std::alloc::{AllocError, Global};
 use std::sync::Wait;
 use std::thread::Threads;
 
@@ -46,9 +49,13 @@ pub(crate) fn merge<G: Gate + Sync, R: Threads + Wait + Sync>(
     merge_keeps_the_tree();
     expect_clean(rt, alloc, &stack, blobs, workers, gate)?;
     let done = merged(rt, alloc, &stack, workers, gate)?;
-    drop(stack);
-    let report = layer_report_of(alloc, &done.lower)?;
-    Ok(rewritten(alloc, report, vec![in alloc; done.top, done.lower]?)?)
+    let_go(rt, alloc, stack, workers);
+    let MergeDone { top, lower } = done;
+    let report = || -> Result<Vec<u8>, AllocError>
+        ensures told { IfOk result (λ report. report.items ≡ layer_report lower) }
+        ensures layer { OnOk result (IsLayer lower) }
+    { layer_report_of(alloc, &lower) };
+    Ok(rewritten(rt, alloc, workers, report, &[&top, &lower])?)
 }
 
 // What merge makes of the two topmost layers of a sound stack.

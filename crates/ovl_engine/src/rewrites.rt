@@ -1,6 +1,7 @@
 //! What the commands that make new layers share.
 ghost use Rattle.std.specs.Prelude.{◌≡◌, ◌<◌, ◌≤◌, true, Ok, IfOk, IfErr, map};
 ghost use Rattle.ovl_manifest.specs.Manifest.{read_layer};
+ghost use Rattle.ovl_manifest.specs.Text.{manifest_text};
 ghost use Rattle.ovl_lookup.specs.Sound.{IsSoundStack};
 ghost use Rattle.ovl_board.specs.Machine.{worker_limit};
 ghost use Rattle.ovl_check.specs.Blobs.{blob_views, are_in_order};
@@ -14,6 +15,7 @@ use crate::checks::findings_of;
 use crate::faults::EngineFault;
 use crate::fsck_reports::{fsck_report_of, is_clean};
 use crate::requests::Answer;
+use crate::shares::side_by_side;
 use ovl_check::Blob;
 use ovl_check::laws::findings_tell_soundness;
 use ovl_lookup::Stack;
@@ -48,22 +50,40 @@ pub(crate) fn expect_clean<G: Gate + Sync, R: Threads + Wait + Sync>(
     Err(EngineFault::Faulty(fsck_report_of(alloc, &found)?))
 }
 
-/// The answer with this report and these new layers, each of which is let go once its text is written.
-pub(crate) fn rewritten(
+/// The answer with the report that `report` writes and these new layers, whose manifests are written beside it where there
+/// are several workers.
+pub(crate) fn rewritten<R: Threads, F: FnOnce() -> Result<Vec<u8>, AllocError> + Send>(
+    rt: &R,
     alloc: Global,
-    report: Vec<u8>,
-    layers: Vec<Layer>,
+    workers: usize,
+    report: F,
+    layers: &[&Layer],
 ) -> Result<Answer, AllocError>
-    ensures answer { IfOk result (IsRewritten report.items layers.items) }
-    ensures back { IfOk result (λ answer. map read_layer (new_manifests answer) ≡ map (λ layer. Ok layer) layers.items) }
+    requires { F.pre report }
+    ensures report { IfOk result (λ answer. F.post report (Ok answer.report)) }
+    ensures answer { IfOk result (λ answer. IsRewritten answer.report.items (map (λ layer. layer.now) layers.now) answer) }
+    ensures back { IfOk result (λ answer. map read_layer (new_manifests answer) ≡ map (λ layer. Ok layer.now) layers.now) }
+{
+    let write = || -> Result<Vec<Vec<u8>>, AllocError>
+        ensures texts { IfOk result (λ manifests. map (λ manifest. manifest.items) manifests.items ≡ map (λ layer. manifest_text layer.now) layers.entry.now) }
+        ensures back { IfOk result (λ manifests. map read_layer (map (λ manifest. manifest.items) manifests.items) ≡ map (λ layer. Ok layer.now) layers.entry.now) }
+    { manifests_of(alloc, layers) };
+    let (report, manifests) = side_by_side(rt, workers, report, write);
+    Ok(Answer {
+        report: report?,
+        layers: manifests?,
+        clean: true,
+    })
+}
+
+// The manifests of layers, in order.
+fn manifests_of(alloc: Global, layers: &[&Layer]) -> Result<Vec<Vec<u8>>, AllocError>
+    ensures texts { IfOk result (λ manifests. map (λ manifest. manifest.items) manifests.items ≡ map (λ layer. manifest_text layer.now) layers.now) }
+    ensures back { IfOk result (λ manifests. map read_layer (map (λ manifest. manifest.items) manifests.items) ≡ map (λ layer. Ok layer.now) layers.now) }
 {
     let mut manifests = Vec::with_capacity(alloc, layers.len())?;
     for layer in layers {
-        manifests.push(write_layer(alloc, &layer)?)?;
+        manifests.push(write_layer(alloc, layer)?)?;
     }
-    Ok(Answer {
-        report,
-        layers: manifests,
-        clean: true,
-    })
+    Ok(manifests)
 }

@@ -1,8 +1,9 @@
-//! Texts of which several threads write a share each.
+//! Texts of which several threads write a share each, and work of two parts that are done side by side.
 ghost use Rattle.std.specs.Prelude.{◌≡◌, ◌<◌, IfOk, Ok, map, string_bytes};
 ghost use Rattle.ovl_engine.specs.Shares.{AreJoined};
 
 use std::alloc::{AllocError, Global};
+use std::thread::{Threads, join};
 
 // The fewest lines for which a thread is started, and the room that is kept for the line behind all shares.
 const LEAST_SHARE: usize = 1024;
@@ -15,6 +16,24 @@ pub(crate) fn share_of(lines: usize, workers: usize) -> usize
     ensures { 0 < result }
 {
     lines.div_ceil(workers).max(LEAST_SHARE)
+}
+
+/// What two parts of work give: side by side where there are several workers, else one after the other.
+pub(crate) fn side_by_side<R: Threads, F: FnOnce() -> A + Send, G: FnOnce() -> B, A: Send, B>(
+    rt: &R,
+    workers: usize,
+    first: F,
+    second: G,
+) -> (A, B)
+    requires { F.pre first × G.pre second }
+    ensures first { F.post first result.0 }
+    ensures second { G.post second result.1 }
+{
+    if workers > 1 {
+        join(rt, first, second)
+    } else {
+        (first(), second())
+    }
 }
 
 /// The texts of all shares one after another, or the first fault. Each is let go once it is appended.

@@ -6,7 +6,7 @@ use crate::faults::EngineFault;
 use ovl_lookup::Stack;
 use ovl_manifest::{Sheet, read_sheet};
 use std::alloc::Global;
-use std::thread::{Threads, map_chunks};
+use std::thread::{Threads, for_each_mut, map_chunks};
 
 /// The stack of the layers that 1 to [`LAYER_LIMIT`](ovl_lookup::LAYER_LIMIT) manifests state, the topmost first, read by
 /// at most as many threads as there are workers.
@@ -74,4 +74,20 @@ fn read_share(alloc: Global, first: usize, manifests: &[Vec<u8>]) -> Result<Vec<
         }
     }
     Ok(layers)
+}
+
+/// Lets a stack go, its layers shared by at most as many threads as there are workers. Where memory is wanted for that,
+/// this thread does it alone.
+pub(crate) fn let_go<R: Threads + Sync>(rt: &R, alloc: Global, stack: Stack, workers: usize)
+    requires { 0 < workers }
+{
+    let Ok(mut layers): Result<Vec<Option<Sheet>>, _> = stack
+        .into_sheets()
+        .into_iter()
+        .map(Some)
+        .collect(alloc)
+    else {
+        return;
+    };
+    for_each_mut(rt, &mut layers, workers, &|_, layer| drop(layer.take()));
 }

@@ -3,11 +3,14 @@ ghost use Rattle.ovl_board.specs.Machine.{worker_limit};
 ghost use Rattle.ovl_check.specs.Blobs.{BlobView, blob_views, are_in_order};
 ghost use Rattle.ovl_engine.specs.declared.requests.Command.TheVariants.{Vacuum};
 ghost use Rattle.ovl_engine.specs.Outcomes.{IsFailure, IsRun, left_by_vacuum, removed_by_vacuum};
+ghost use Rattle.ovl_engine.specs.VacuumReports.{vacuum_report};
 ghost use Rattle.ovl_engine.specs.Kept.{KeepsTreeOf, KeepsSoundness};
 
 use crate::faults::EngineFault;
+use crate::layer_reports::entry_count;
 use crate::requests::Answer;
 use crate::rewrites::{expect_clean, rewritten};
+use crate::stacks::let_go;
 use crate::vacuum_reports::vacuum_report_of;
 use ovl_board::Piece;
 use ovl_check::Blob;
@@ -16,7 +19,7 @@ use ovl_names::Path;
 use ovl_pool::{Gate, run};
 use ovl_vacuum::laws::{vacuum_keeps_soundness, vacuum_keeps_the_tree};
 use ovl_vacuum::{VacuumDone, VacuumWork, finish_vacuum};
-use std::alloc::Global;
+use std::alloc::{AllocError, Global};
 use std::sync::Wait;
 use std::thread::Threads;
 
@@ -41,10 +44,13 @@ pub(crate) fn vacuum<G: Gate + Sync, R: Threads + Wait + Sync>(
     vacuum_keeps_soundness();
     expect_clean(rt, alloc, &stack, blobs, workers, gate)?;
     let done = vacuumed(rt, alloc, &stack, workers, gate)?;
-    drop(stack);
-    let kept = done.layer.entries(alloc)?.len() as u64;
-    let report = vacuum_report_of(alloc, &done.removed, kept)?;
-    Ok(rewritten(alloc, report, vec![in alloc; done.layer]?)?)
+    let_go(rt, alloc, stack, workers);
+    let VacuumDone { layer, removed } = done;
+    let kept = entry_count(&layer)?;
+    let report = || -> Result<Vec<u8>, AllocError>
+        ensures { IfOk result (λ report. report.items ≡ vacuum_report removed.items kept) }
+    { vacuum_report_of(alloc, &removed, kept) };
+    Ok(rewritten(rt, alloc, workers, report, &[&layer])?)
 }
 
 // What vacuum leaves of the topmost layer, and what went, whatever the blobs.

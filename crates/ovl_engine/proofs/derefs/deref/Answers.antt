@@ -1,6 +1,5 @@
-use Rattle.std.proofs.Common.{rules, ◌≡◌, ◌∙◌, ◌<◌, ℕ, List, [], ◌∷◌, Ok, map, refl, ap, subst}
+use Rattle.std.proofs.Common.{◌<◌, ℕ, [], ◌∷◌, refl, subst}
 use Rattle.std.proofs.lemmas.Result.{err_from_is_err_and}
-use Rattle.ovl_manifest.specs.Layers.{Entries}
 use Rattle.ovl_engine.specs.declared.requests.Command.TheVariants.{Deref}
 use Rattle.ovl_engine.proofs.KeptLemmas.{keeps_tree, keeps_soundness, deref_same, deref_sound}
 use Rattle.ovl_engine.proofs.derefs.deref.Goals as goal
@@ -14,18 +13,16 @@ pub returns-clause-tree : goal.returns-clause-tree
 returns-clause-tree g c =
     let layers = c.args.stack.layers in
     let some = subst (λ (n : ℕ). 0 < n) c.layers-layers.ensures.value c.layers-layers.ensures.some in
-    let new : c.in_ok-vec.field-0.items ≡ c.in_ok-layer.layer ∷ [] = search rules in
     keeps_tree c.in_ok-rewritten.field-0 (c.in_ok-layer.layer ∷ []) layers
-    (c.in_ok-rewritten.ensures.back ∙ ap (λ (ls : List Entries). map (λ layer. Ok layer) ls) new)
+    c.in_ok-rewritten.ensures.back
     (deref_same c.deref_keeps_the_tree.ensures layers some c.layers-layers.ensures.each c.in_ok-expect_clean.ensures.sound
-    c.in_ok-layer.layer c.in_ok-report.ensures.layer c.in_ok-layer.ensures.layer)
+    c.in_ok-layer.layer c.in_ok-rewritten.ensures.report.1 c.in_ok-layer.ensures.layer)
 
 pub returns-clause-sound : goal.returns-clause-sound
 returns-clause-sound g c =
     let layers = c.args.stack.layers in
     let some = subst (λ (n : ℕ). 0 < n) c.layers-layers.ensures.value c.layers-layers.ensures.some in
-    let new : c.in_ok-vec.field-0.items ≡ c.in_ok-layer.layer ∷ [] = search rules in
     keeps_soundness c.in_ok-rewritten.field-0 (c.in_ok-layer.layer ∷ []) layers
-    (c.in_ok-rewritten.ensures.back ∙ ap (λ (ls : List Entries). map (λ layer. Ok layer) ls) new)
+    c.in_ok-rewritten.ensures.back
     (deref_sound c.deref_keeps_soundness.ensures layers some c.layers-layers.ensures.each c.in_ok-expect_clean.ensures.sound
-    c.in_ok-layer.layer c.in_ok-report.ensures.layer c.in_ok-layer.ensures.layer)
+    c.in_ok-layer.layer c.in_ok-rewritten.ensures.report.1 c.in_ok-layer.ensures.layer)

@@ -1,12 +1,12 @@
-use Rattle.std.proofs.Common.{rules, ◌≡◌, ◌++◌, ◌∷◌, [], ◌∙◌, ℕ, List, length, take, string_bytes, sym, ap, arith, append_assoc, append-nil, length-append}
+use Rattle.std.proofs.Common.{rules, ◌≡◌, ◌++◌, [], ◌∙◌, ℕ, List, length, take, string_bytes, sym, ap, arith, append_assoc, append-nil}
 use Rattle.std.specs.Prelude.{codes}
 use Rattle.std.specs.List.{flat_map}
-use Rattle.std.proofs.lemmas.List.{take_all, length-map}
+use Rattle.std.proofs.lemmas.List.{take_all}
 use Rattle.std.proofs.lemmas.List.Concat.{flat_map-append}
 use Rattle.ovl_names.specs.Paths.{PathNames, child_path}
 use Rattle.ovl_names.specs.Escapes.{escaped}
 use Rattle.ovl_inode.specs.Marks.{mark_of}
-use Rattle.ovl_manifest.specs.Layers.{Entry, Entries}
+use Rattle.ovl_manifest.specs.Layers.{Entries}
 use Rattle.ovl_manifest.specs.LayerTrees.{NodeView, entries_of_nodes, under, entries_from, placed}
 use Rattle.ovl_manifest.proofs.NodeLemmas.{entries_of_nodes-more, placed-under, placed-append}
 use Rattle.ovl_engine.specs.Reports.{shown_names}
@@ -29,23 +29,21 @@ loop-child-preserved t c =
     let done : Entries = entries_of_nodes (take c.loop-child.child-index nodes) in
     let own : Entries = under child.name (entries_from child.inode child.below) in
     let before : List ℕ = string_bytes c.push_entry.new.report in
-    let more = entries_of_nodes-more nodes c.loop-child.child-index child c.loop-child-test.true c.child-item.is in (
-      λ dir text.
-          let path : PathNames = child_path dir c.args.node.now.name in
-          let there : c.as_str-in-loop-child.result.now ≡ shown_names path =
-          c.as_str-in-loop-child.ensures.value ∙ (named ∙ (ap (λ (t : List ℕ). t ++ (codes "/" ++ escaped c.args.node.now.name)) text ∙ sym (text-child dir c.args.node.now.name))) in
-          let below = sym (placed-under path child.name (entries_from child.inode child.below)) in
-          c.in_ok-push_under.ensures.lines path there
-          ∙ ((λ j. c.loop-child.invariant.0 dir text j ++ flat_map entry_line (below j))
-          ∙ (append_assoc before (flat_map entry_line (placed path done)) (flat_map entry_line (placed path own))
-          ∙ ap (λ (ls : List ℕ). before ++ ls)
-          (sym (flat_map-append entry_line (placed path done) (placed path own))
-          ∙ ap (flat_map entry_line) (sym (placed-append path done own) ∙ ap (placed path) (sym more))))),
-      omega (arith, c.in_ok-push_under.ensures.count, c.loop-child.invariant.1, ap length more, length-append done own, length-map {B = Entry} (entries_from child.inode child.below) (λ entry. (child.name ∷ entry.0, entry.1))),
-    )
+    let more = entries_of_nodes-more nodes c.loop-child.child-index child c.loop-child-test.true c.child-item.is in
+    λ dir text.
+    let path : PathNames = child_path dir c.args.node.now.name in
+    let there : c.as_str-in-loop-child.result.now ≡ shown_names path =
+    c.as_str-in-loop-child.ensures.value ∙ (named ∙ (ap (λ (t : List ℕ). t ++ (codes "/" ++ escaped c.args.node.now.name)) text ∙ sym (text-child dir c.args.node.now.name))) in
+    let below = sym (placed-under path child.name (entries_from child.inode child.below)) in
+    c.in_ok-push_under.ensures path there
+    ∙ ((λ j. c.loop-child.invariant dir text j ++ flat_map entry_line (below j))
+    ∙ (append_assoc before (flat_map entry_line (placed path done)) (flat_map entry_line (placed path own))
+    ∙ ap (λ (ls : List ℕ). before ++ ls)
+    (sym (flat_map-append entry_line (placed path done) (placed path own))
+    ∙ ap (flat_map entry_line) (sym (placed-append path done own) ∙ ap (placed path) (sym more)))))
 
-pub returns-clause-lines : goal.returns-clause-lines
-returns-clause-lines t c dir text =
+pub returns : goal.returns
+returns t c dir text =
     let named : string_bytes c.in_ok-path.path ≡ c.args.above.now ++ (codes "/" ++ escaped c.args.node.now.name) = search rules in
     let nodes : List NodeView = c.children-child-items.result.now in
     let name = c.args.node.now.name in
@@ -55,12 +53,6 @@ returns-clause-lines t c dir text =
     c.in_ok-push_entry.ensures
     ∙ ((λ j. string_bytes c.args.report.now ++ marked_line (mark_of (c.inode.ensures j)) ((c.as_str-2.ensures.value ∙ (named ∙ ap (λ (t : List ℕ). t ++ (codes "/" ++ escaped name)) text)) j))
     ∙ ap (λ (l : List ℕ). string_bytes c.args.report.now ++ l) (line_in dir name c.args.node.now.inode ∙ ap (λ (p : PathNames). entry_line (p, c.args.node.now.inode)) (sym (append-nil path)))) in
-    c.loop-child.invariant.0 dir text
+    c.loop-child.invariant dir text
     ∙ ((λ j. line j ++ flat_map entry_line (placed path (seen j)))
     ∙ append_assoc (string_bytes c.args.report.now) (entry_line (path ++ [], c.args.node.now.inode)) (flat_map entry_line (placed path c.args.node.now.below)))
-
-pub returns-clause-count : goal.returns-clause-count
-returns-clause-count t c =
-    let nodes : List NodeView = c.children-child-items.result.now in
-    let seen : entries_of_nodes (take c.loop-child.child-index nodes) ≡ c.args.node.now.below = ap entries_of_nodes (take_all c.loop-child.child-index nodes c.loop-child-test.false) ∙ c.children-child-items.ensures in
-    omega (arith, c.loop-child.invariant.1, ap length seen, c.in_ok-entries.ensures)

@@ -1,4 +1,4 @@
-use Rattle.std.proofs.Common.{◌≡◌, ◌+◌, ◌++◌, length, take, string_bytes}
+use Rattle.std.proofs.Common.{◌≡◌, ◌++◌, length, take, string_bytes}
 use Rattle.std.specs.List.{flat_map}
 use Rattle.ovl_names.specs.Paths.{PathNames, child_path}
 use Rattle.ovl_manifest.specs.LayerTrees.{entries_of_nodes, placed}
@@ -9,9 +9,8 @@ use Rattle.ovl_engine.proofs.layer_reports.+push_under.Given as goal
 abbrev pub decreases-push_under : goal.decreases-push_under
 decreases-push_under l = length l.node.now.below
 
--- the lines of what lies under the children so far, and their number
+-- the lines of what lies under the children so far
 abbrev pub invariant-loop-child : goal.invariant-loop-child
 invariant-loop-child l =
-    ((dir : PathNames) → l.above ≡ shown_names dir → string_bytes l.report
-    ≡ string_bytes l.initial.report ++ flat_map entry_line (placed (child_path dir l.node.name) (entries_of_nodes (take l.child-index l.child-items))))
-    × (l.entries ≡ l.initial.entries + length (entries_of_nodes (take l.child-index l.child-items)))
+    (dir : PathNames) → l.above ≡ shown_names dir → string_bytes l.report
+    ≡ string_bytes l.initial.report ++ flat_map entry_line (placed (child_path dir l.node.name) (entries_of_nodes (take l.child-index l.child-items)))

@@ -1,4 +1,4 @@
-use Rattle.std.proofs.Common.{rules, ◌≡◌, ◌∙◌, List, [], ◌∷◌, Ok, map, refl, ap, drop}
+use Rattle.std.proofs.Common.{◌∙◌, [], ◌∷◌, refl, ap, drop}
 use Rattle.std.proofs.lemmas.Result.{err_from_is_err_and}
 use Rattle.ovl_manifest.specs.Layers.{Entries}
 use Rattle.ovl_lookup.specs.Merged.{look}
@@ -16,9 +16,8 @@ pub returns-clause-tree : goal.returns-clause-tree
 returns-clause-tree g c =
     let layers = c.args.stack.layers in
     let lower = c.in_ok-done.done.lower in
-    let new : c.in_ok-vec.field-0.items ≡ c.in_ok-done.done.top ∷ lower ∷ [] = search rules in
     keeps_tree c.in_ok-rewritten.field-0 (c.in_ok-done.done.top ∷ lower ∷ []) layers
-    (c.in_ok-rewritten.ensures.back ∙ ap (λ (ls : List Entries). map (λ layer. Ok layer) ls) new)
+    c.in_ok-rewritten.ensures.back
     (λ path. ap (λ (top : Entries). look (stack_of (top ∷ lower ∷ drop 2 layers)) path) c.in_ok-done.ensures.top
     ∙ merge_same c.merge_keeps_the_tree.ensures layers c.requires.several c.layers-layers.ensures.each c.in_ok-expect_clean.ensures.sound
-    lower c.in_ok-report.ensures.layer c.in_ok-done.ensures.lower path)
+    lower c.in_ok-rewritten.ensures.report.1 c.in_ok-done.ensures.lower path)

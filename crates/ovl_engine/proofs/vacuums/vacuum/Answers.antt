@@ -1,4 +1,4 @@
-use Rattle.std.proofs.Common.{rules, ◌≡◌, ◌∙◌, ◌<◌, ℕ, List, [], ◌∷◌, Ok, map, refl, ap, subst}
+use Rattle.std.proofs.Common.{◌∙◌, ◌<◌, ℕ, [], ◌∷◌, Ok, refl, ap, subst}
 use Rattle.std.proofs.lemmas.Result.{err_from_is_err_and}
 use Rattle.ovl_manifest.specs.Layers.{Entries}
 use Rattle.ovl_check.specs.Blobs.{blob_views}
@@ -21,16 +21,14 @@ pub returns-clause-tree : goal.returns-clause-tree
 returns-clause-tree g c =
     let layers = c.args.stack.layers in
     let some = subst (λ (n : ℕ). 0 < n) c.layers-layers.ensures.value c.layers-layers.ensures.some in
-    let new : c.in_ok-vec.field-0.items ≡ c.in_ok-done.done.layer ∷ [] = search rules in
     keeps_tree c.in_ok-rewritten.field-0 (left_by_vacuum layers ∷ []) layers
-    (c.in_ok-rewritten.ensures.back ∙ ap (λ (ls : List Entries). map (λ layer. Ok layer) ls) (new ∙ ap (λ (left : Entries). left ∷ []) c.in_ok-done.ensures.0))
+    (c.in_ok-rewritten.ensures.back ∙ ap (λ (left : Entries). Ok left ∷ []) c.in_ok-done.ensures.0)
     (vacuum_same c.vacuum_keeps_the_tree.ensures layers some c.layers-layers.ensures.each)
 
 pub returns-clause-sound : goal.returns-clause-sound
 returns-clause-sound g c =
     let layers = c.args.stack.layers in
     let some = subst (λ (n : ℕ). 0 < n) c.layers-layers.ensures.value c.layers-layers.ensures.some in
-    let new : c.in_ok-vec.field-0.items ≡ c.in_ok-done.done.layer ∷ [] = search rules in
     keeps_soundness c.in_ok-rewritten.field-0 (left_by_vacuum layers ∷ []) layers
-    (c.in_ok-rewritten.ensures.back ∙ ap (λ (ls : List Entries). map (λ layer. Ok layer) ls) (new ∙ ap (λ (left : Entries). left ∷ []) c.in_ok-done.ensures.0))
+    (c.in_ok-rewritten.ensures.back ∙ ap (λ (left : Entries). Ok left ∷ []) c.in_ok-done.ensures.0)
     (vacuum_sound c.vacuum_keeps_soundness.ensures layers some c.layers-layers.ensures.each c.in_ok-expect_clean.ensures.sound)
