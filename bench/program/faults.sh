@@ -90,7 +90,8 @@ gives() {
     fi
 }
 
-# Ways to run the words: standard output is a device without room, or closed, or `disk` is one of 4,096 bytes.
+# Ways to run the words: standard output is a device without room, or closed, or `disk` is one of 4,096 bytes, or
+# standard input is a pipe that gives spaces and a layer.
 without_room() {
     "$@" > /dev/full
 }
@@ -99,6 +100,10 @@ without_output() {
 }
 on_a_small_disk() {
     unshare -m sh -c 'mount -t tmpfs -o size=4096 none disk && exec "$@"' sh "$@"
+}
+
+from_a_pipe() {
+    head -c 300000 /dev/zero | tr '\0' ' ' | cat - root.json | "$@"
 }
 
 root='{"gid":0,"kind":"dir","mode":493,"mtime":0,"path":"/","uid":0,"xattrs":{}}'
@@ -193,7 +198,10 @@ refuses 3 'layer 0: wrong shape' fsck --blobs none shape.json
 refuses 3 'layer 0: wrong shape' fsck --blobs large shape.json
 refuses 3 'blobs over 268435456 bytes' fsck --blobs large root.json
 refuses 3 'blobs over 268435456 bytes' fsck --blobs flood root.json
+refuses 3 'blobs over 268435456 bytes' fsck --blobs flood --workers 64 root.json
 refuses 3 'layer 0: wrong shape' fsck --blobs flood shape.json
+over=from_a_pipe prints 0 'dir 0755 0 0 0 - - /\nentries 1\n' show /dev/stdin
+over=from_a_pipe refuses 3 'layer 1: not JSON' show /dev/stdin /dev/stdin
 layers=()
 for ((i = 0; i < 129; i++)); do
     layers+=(root.json)

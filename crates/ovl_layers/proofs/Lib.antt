@@ -1,9 +1,10 @@
 pub mod Accepted
 pub mod Ascending
-pub mod Held
+pub mod HeldLemmas
 pub mod Limited
 pub mod Numbers
 pub mod Options
 pub mod Outcomes
 pub mod Performed
 pub mod Taken
+pub mod Unread

@@ -15,6 +15,7 @@ use Rattle.ovl_layers.specs.Folders.{IsInFolder}
 use Rattle.ovl_layers.specs.Outputs.{IsLayerFile, IsOutFile}
 use Rattle.ovl_layers.specs.Programs.{IsOfBlobs, IsReadFor, IsPerformed}
 use Rattle.ovl_layers.specs.Reported.{IsReported, IsTold, IsAnswered}
+use Rattle.ovl_layers.proofs.Unread.{unread_of_more}
 
 -- a report of what was read
 pub performed : (line : Line) (before after : Option (List ℕ)) (result : Result Ending ProgramFault) (manifests : List (List ℕ)) (blobs : List BlobView)
@@ -29,19 +30,10 @@ performed line before after (Err Words) manifests blobs read reported = elim rep
 performed line before after (Err Input) manifests blobs read reported = elim reported [ ]
 
 module _ (line : Line) (folder : String Global) (asked : line.blobs ≡ Some folder) (text : List ℕ) (same : text ≡ string_bytes folder) where
-  unread_of : (fault : ProgramFault) → IsUnread (IsInFolder text) fault → IsUnread (IsOfBlobs line) fault
-  unread_of (Unread path) unread = (folder, (asked, rw same at unread))
-  unread_of (Engine fault) unread = unread
-  unread_of (Usage told) unread = elim unread [ ]
-  unread_of Words unread = elim unread [ ]
-  unread_of Input unread = elim unread [ ]
-  unread_of (Unwritten path) unread = elim unread [ ]
-  unread_of Output unread = elim unread [ ]
-
   -- what isn't read of a line's folder is of its blobs
   pub unread_of_blobs : {X : Type 0} (result : Result X ProgramFault) → IfErr result (λ fault. IsUnread (IsInFolder text) fault) → IfErr result (λ fault. IsUnread (IsOfBlobs line) fault)
   unread_of_blobs (Ok blobs) unread = tt
-  unread_of_blobs (Err fault) unread = unread_of fault unread
+  unread_of_blobs (Err fault) unread = unread_of_more (IsInFolder text) (IsOfBlobs line) (λ path inside. (folder, (asked, rw same at inside))) fault unread
 
 -- ---- what is told, and what isn't written
 

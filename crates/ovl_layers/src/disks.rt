@@ -1,3 +1,5 @@
+use crate::faults::ProgramFault;
+use crate::files::{SharedFiles, read_file};
 use std::alloc::Allocator;
 use std::fs::{Metadata, OpenFile, OpenOptions};
 use std::io;
@@ -214,6 +216,12 @@ impl<R> Files for Disk<'_, R> {
 
     fn remove_dir_all<B: Allocator>(&self, _alloc: B, _path: &str) -> io::Result<()> {
         Err(unsupported())
+    }
+}
+
+impl<R: AllocGlobal> SharedFiles for Disk<'_, R> {
+    fn read_shared(&self, path: &str) -> Result<Vec<u8>, ProgramFault> {
+        read_file(self, path)
     }
 }
 

@@ -18,6 +18,8 @@ const NAMES: &[u8] = b".\0..\0\
     Ca978112ca1bbdcafac231b39a23dc4da786eff8147c4e72b9807785afee48bb\0\
     ba7816bf8f01cfea414140de5dae2223b00361a396177a9cb410ff61f20015ad\0";
 
+const WORKERS: [usize; 3] = [1, 2, 64];
+
 fn texts(alloc: Global, texts: &[&str]) -> Result<Vec<String>, AllocError> {
     let mut made = Vec::new(alloc);
     for text in texts {
@@ -42,10 +44,13 @@ fn files_are_read_in_order(rt: HostRuntime) -> Result<(), Fail> {
         rt: &rt,
         things: &things,
     };
-    let read = read_files(&disk, &texts(alloc, &["top", "low", "empty", "top"])?)?;
-    assert_eq!(rt; read.len(), 4);
-    for (bytes, wanted) in read.iter().zip(["1", "2", "", "1"]) {
-        assert_eq!(rt; bytes.as_slice(), wanted.as_bytes());
+    let paths = texts(alloc, &["top", "low", "empty", "top"])?;
+    for workers in WORKERS {
+        let read = read_files(&disk, &paths, workers)?;
+        assert_eq!(rt; read.len(), 4);
+        for (bytes, wanted) in read.iter().zip(["1", "2", "", "1"]) {
+            assert_eq!(rt; bytes.as_slice(), wanted.as_bytes(), "by {workers}");
+        }
     }
     Ok(())
 }
@@ -98,7 +103,12 @@ fn the_first_file_that_cannot_be_read_is_told(rt: HostRuntime) -> Result<(), Fai
     for path in ["torn", "folder", "missing", ""] {
         assert_eq!(rt; read_file(&disk, path).err(), unread(alloc, path)?);
         let paths = texts(alloc, &["top", path, "also missing"])?;
-        assert_eq!(rt; read_files(&disk, &paths).err(), unread(alloc, path)?);
+        for workers in WORKERS {
+            assert_eq!(rt;
+                read_files(&disk, &paths, workers).err(),
+                unread(alloc, path)?
+            );
+        }
     }
     Ok(())
 }
@@ -114,11 +124,13 @@ fn blobs_are_read_by_name(rt: HostRuntime) -> Result<(), Fail> {
         rt: &rt,
         things: &things,
     };
-    let blobs = read_blobs(&disk, "b")?;
-    assert_eq!(rt; blobs.len(), 2);
-    for (blob, (first, bytes)) in blobs.iter().zip([(0xba, "abd"), (0xca, "a")]) {
-        assert_eq!(rt; blob.name.as_bytes().first(), Some(&first));
-        assert_eq!(rt; blob.bytes.as_slice(), bytes.as_bytes());
+    for workers in WORKERS {
+        let blobs = read_blobs(&disk, "b", workers)?;
+        assert_eq!(rt; blobs.len(), 2);
+        for (blob, (first, bytes)) in blobs.iter().zip([(0xba, "abd"), (0xca, "a")]) {
+            assert_eq!(rt; blob.name.as_bytes().first(), Some(&first));
+            assert_eq!(rt; blob.bytes.as_slice(), bytes.as_bytes());
+        }
     }
     Ok(())
 }
@@ -131,7 +143,7 @@ fn what_is_no_regular_file_is_passed_over(rt: HostRuntime) -> Result<(), Fail> {
             rt: &rt,
             things: &things,
         };
-        assert_eq!(rt; read_blobs(&disk, "b")?.len(), 0);
+        assert_eq!(rt; read_blobs(&disk, "b", 2)?.len(), 0);
     }
     Ok(())
 }
@@ -156,7 +168,12 @@ fn a_folder_or_a_blob_that_cannot_be_read_is_told(rt: HostRuntime) -> Result<(),
             rt: &rt,
             things: &things,
         };
-        assert_eq!(rt; read_blobs(&disk, folder).err(), unread(alloc, told)?);
+        for workers in WORKERS {
+            assert_eq!(rt;
+                read_blobs(&disk, folder, workers).err(),
+                unread(alloc, told)?
+            );
+        }
     }
     Ok(())
 }

@@ -12,6 +12,7 @@ mod files;
 mod folder_tests;
 mod folders;
 mod grammar;
+mod held;
 mod inputs;
 #[cfg(test)]
 mod line_tests;
@@ -28,6 +29,7 @@ mod words;
 
 use endings::Ending;
 use faults::ProgramFault;
+use files::{SharedFiles, read_file};
 use lines::LineFault;
 use ovl_engine::{EngineFault, emit};
 use std::io;
@@ -46,10 +48,26 @@ fn main(rt: HostRuntime) -> ExitCode {
     }
 }
 
+impl SharedFiles for HostRuntime {
+    fn read_shared(&self, path: &str) -> Result<Vec<u8>, ProgramFault> {
+        read_file(self, path)
+    }
+}
+
 // Does what the words ask for, or without any word what standard input asks for.
-fn run<R: Env + Files + Input + Print + AllocGlobal + Clone + Drop + Threads + Wait + Sync>(
-    rt: &R,
-) -> Result<Ending, ProgramFault> {
+fn run<
+    R: Env
+        + Files
+        + SharedFiles
+        + Input
+        + Print
+        + AllocGlobal
+        + Clone
+        + Drop
+        + Threads
+        + Wait
+        + Sync,
+>(rt: &R) -> Result<Ending, ProgramFault> {
     let alloc = rt.alloc();
     let mut writer = io::writer(rt);
     if !arguments::are_there(rt) {

@@ -370,7 +370,7 @@ fn links_and_folders_of_the_system_are_no_blobs(rt: HostRuntime) -> Result<(), F
     symlink(&rt, blob.as_str(), link.as_str())?;
     let inner = format!(in rt.alloc(); "{folder}/{OF_ONES}")?;
     fs::create_dir(&rt, inner.as_str())?;
-    let blobs = read_blobs(&rt, folder.as_str());
+    let blobs = read_blobs(&rt, folder.as_str(), 1);
     fs::remove_dir_all(&rt, folder.as_str())?;
     assert_eq!(rt; blobs?.len(), 1);
     Ok(())
@@ -382,7 +382,7 @@ fn a_file_of_the_system_is_no_folder_nor_a_folder_a_file(rt: HostRuntime) -> Res
     let folder = new_folder(&rt, process::id(rt.process()), "kinds")?;
     let file = new_file(&rt, folder.as_str(), "k.json", KEPT)?;
     let of_folder = read_file(&rt, folder.as_str()).err();
-    let of_file = read_blobs(&rt, file.as_str()).err();
+    let of_file = read_blobs(&rt, file.as_str(), 1).err();
     fs::remove_dir_all(&rt, folder.as_str())?;
     assert_eq!(rt; of_folder, unread(alloc, folder.as_str())?);
     assert_eq!(rt; of_file, unread(alloc, file.as_str())?);

@@ -5,7 +5,7 @@ ghost use Rattle.ovl_layers.specs.Programs.{IsOfBlobs, IsPerformed};
 
 use crate::endings::Ending;
 use crate::faults::ProgramFault;
-use crate::files::read_files;
+use crate::files::{SharedFiles, read_files};
 use crate::folders::read_blobs;
 use crate::lines::Line;
 use crate::reports::write_report;
@@ -18,14 +18,13 @@ use std::thread::Threads;
 /// Does what a line asks for: reads its layers and then its blobs, and writes the new layers and then the report. Nothing
 /// is written where a file or a folder isn't read, or the command gives no answer; where it is refused for faults, their
 /// report is written alone.
-pub fn perform<R: Files + AllocGlobal + Clone + Drop + Threads + Wait + Sync, W: Write>(
-    rt: &R,
-    line: &Line,
-    writer: &mut W,
-) -> Result<Ending, ProgramFault>
+pub fn perform<
+    R: Files + SharedFiles + AllocGlobal + Clone + Drop + Threads + Wait + Sync,
+    W: Write,
+>(rt: &R, line: &Line, writer: &mut W) -> Result<Ending, ProgramFault>
     ensures { IsPerformed line.now (W.contents writer.old) (W.contents writer.new) result }
 {
-    let manifests = read_files(rt, &line.layers)?;
+    let manifests = read_files(rt, &line.layers, line.workers)?;
     let blobs = blobs_of_line(rt, line)?;
     write_report(
         rt,
@@ -39,7 +38,7 @@ pub fn perform<R: Files + AllocGlobal + Clone + Drop + Threads + Wait + Sync, W:
 }
 
 // The blobs of a line's folder, or none where it has no folder.
-fn blobs_of_line<R: Files + AllocGlobal + Clone + Drop>(
+fn blobs_of_line<R: Files + SharedFiles + AllocGlobal + Clone + Drop + Threads + Sync>(
     rt: &R,
     line: &Line,
 ) -> Result<Vec<Blob>, ProgramFault>
@@ -48,7 +47,7 @@ fn blobs_of_line<R: Files + AllocGlobal + Clone + Drop>(
     ensures fault { IfErr result (λ fault. IsUnread (IsOfBlobs line.now) fault) }
 {
     match &line.blobs {
-        Some(folder) => read_blobs(rt, folder.as_str()),
+        Some(folder) => read_blobs(rt, folder.as_str(), line.workers),
         None => Ok(Vec::new(rt.alloc())),
     }
 }

@@ -1,5 +1,10 @@
+use Rattle.std.proofs.Common.{◌∙◌, List, ap, map}
+use Rattle.ovl_check.specs.declared.blobs.Blob.{Blob}
 use Rattle.ovl_layers.proofs.Ascending.{ascending_blobs}
 use Rattle.ovl_layers.proofs.folders.read_blobs.Goals as goal
 
 pub returns-clause-ordered : goal.returns-clause-ordered
-returns-clause-ordered g c = ascending_blobs c.in_ok-blobs.blobs.items c.in-Ok.names.keys c.in_ok-blobs.ensures.same c.in_ok-blobs.ensures.ordered
+returns-clause-ordered g c =
+    ascending_blobs c.into_blobs.result.items c.in-Ok.listing.names.keys
+    (ap (λ blobs. map (λ (blob : Blob). blob.name) blobs.items) c.into_blobs.ensures.same ∙ (c.in_ok-held.ensures.same ∙ (c.deref.ensures.value ∙ c.in_ok-names.ensures.same)))
+    c.in_order.ensures.ordered

@@ -1,6 +1,6 @@
 use Rattle.std.proofs.Common.{All}
 use Rattle.ovl_layers.specs.Folders.{IsNamedBy}
-use Rattle.ovl_layers.proofs.folders.blob_names.Given as goal
+use Rattle.ovl_layers.proofs.folders.list_blobs.Given as goal
 
 -- each name so far is one that a file's name spells
 abbrev pub invariant-loop-entry : goal.invariant-loop-entry

@@ -1,5 +1,5 @@
 use Rattle.std.proofs.Common.{◌≡◌, ◌≤◌, vec_len, All}
-use Rattle.ovl_layers.proofs.files.read_files.Given as goal
+use Rattle.ovl_layers.proofs.files.read_share.Given as goal
 
 -- the files so far, each within the limit
 abbrev pub invariant-loop-path : goal.invariant-loop-path
