@@ -1,6 +1,5 @@
 pub mod Accepted
 pub mod Ascending
-pub mod HeldLemmas
 pub mod Limited
 pub mod Numbers
 pub mod Options
