@@ -6,6 +6,7 @@ use Rattle.ovl_board.specs.declared.assembly.BoardFault.{BoardFault}
 use Rattle.ovl_board.specs.declared.assembly.BoardFault.TheVariants.{Double, Stranger, Missing, Memory as BoardMemory}
 use Rattle.ovl_pool.specs.declared.runs.RunFault.{RunFault}
 use Rattle.ovl_pool.specs.declared.runs.RunFault.TheVariants.{Workers, Gate, Board, Memory}
+use Rattle.ovl_pool.specs.Runs.{IsBoardMemory}
 use Rattle.ovl_engine.specs.declared.requests.Command.{Command}
 use Rattle.ovl_engine.specs.declared.requests.Command.TheVariants.{Show, Fsck, Vacuum, Deref, Merge}
 use Rattle.ovl_engine.specs.declared.faults.EngineFault.{EngineFault}
@@ -14,17 +15,17 @@ use Rattle.ovl_engine.specs.declared.requests.Answer.{Answer}
 use Rattle.ovl_engine.specs.Refusals.{failed_run, layers_from, stated_layers}
 use Rattle.ovl_check.specs.Blobs.{BlobView}
 use Rattle.ovl_engine.specs.Commands.{checks, makes_layers}
-use Rattle.ovl_engine.specs.Outcomes.{MayRefuse, IsFaultOfRun, IsFailure, IsAccepted, IsRefusal, IsRun, IsOutcome}
+use Rattle.ovl_engine.specs.Outcomes.{MayRefuse, IsFailure, IsAccepted, IsRefusal, IsRun, IsOutcome}
 
 module _ (command : Command) (layers : List Entries) (blobs : List BlobView) (may_refuse : Piece → Type 0) where
-  board_failed : (fault : BoardFault) → IsFaultOfRun command layers blobs (Board fault) → IsFailure command layers blobs may_refuse (failed_run (Board fault))
-  board_failed (Double p) own = ((λ e. let bad : Double p ≡ BoardMemory = e in cc), own)
-  board_failed (Stranger p) own = ((λ e. let bad : Stranger p ≡ BoardMemory = e in cc), own)
-  board_failed (Missing p) own = ((λ e. let bad : Missing p ≡ BoardMemory = e in cc), own)
-  board_failed BoardMemory own = tt
+  board_failed : (fault : BoardFault) → fault ≡ BoardMemory → IsFailure command layers blobs may_refuse (failed_run (Board fault))
+  board_failed (Double p) memory = let bad : Double p ≡ BoardMemory = memory in cc
+  board_failed (Stranger p) memory = let bad : Stranger p ≡ BoardMemory = memory in cc
+  board_failed (Missing p) memory = let bad : Missing p ≡ BoardMemory = memory in cc
+  board_failed BoardMemory memory = tt
 
   -- a run that fails for another cause than its workers' number
-  pub failed : (fault : RunFault) → fault ≢ Workers → (fault ≡ Gate → MayRefuse command layers blobs may_refuse) → IsFaultOfRun command layers blobs fault
+  pub failed : (fault : RunFault) → fault ≢ Workers → (fault ≡ Gate → MayRefuse command layers blobs may_refuse) → IsBoardMemory fault
       → IsFailure command layers blobs may_refuse (failed_run fault)
   failed Workers workers gate board = absurd (workers refl)
   failed Gate workers gate board = gate refl
@@ -45,14 +46,10 @@ module _ (command : Command) (checking : checks command ≡ true) (layers : List
   refused (inl is) = inl (checking, is.1)
   refused (inr none) = absurd none
 
-  fails : (fault : RunFault) → IsFaultOfRun Fsck layers blobs fault → IsFaultOfRun command layers blobs fault
-  fails fault (inl is) = inl (checking, is.1)
-  fails fault (inr none) = absurd none
-
   pub unchecked : (fault : EngineFault) → IsFailure Fsck layers blobs may_refuse fault → IsFailure command layers blobs may_refuse fault
   unchecked (Run Workers) is = is
   unchecked (Run Gate) is = refused is
-  unchecked (Run (Board fault)) is = (is.0, fails (Board fault) is.1)
+  unchecked (Run (Board fault)) is = is
   unchecked (Run Memory) is = is
   unchecked WantsMemory is = tt
   unchecked NoWorkers is = is

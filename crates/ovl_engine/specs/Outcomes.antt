@@ -1,6 +1,5 @@
 -- What a command answers.
-use Rattle.std.specs.Prelude.{◌≡◌, ◌≢◌, ◌⊎◌, ◌<◌, ⊤, ℕ, true, false, Some, None, Result, Ok, Err, List, [], ◌∷◌, length, map, Vec}
-use Rattle.std.specs.Global.{Global}
+use Rattle.std.specs.Prelude.{◌≡◌, ◌⊎◌, ◌<◌, ⊤, ℕ, true, false, Some, None, Result, Ok, Err, List, [], ◌∷◌, length, map}
 use Rattle.ovl_names.specs.Paths.{PathNames}
 use Rattle.ovl_manifest.specs.Layers.{Entries, IsLayer}
 use Rattle.ovl_manifest.specs.Text.{manifest_text}
@@ -9,28 +8,26 @@ use Rattle.ovl_lookup.specs.Stacks.{StackView}
 use Rattle.ovl_lookup.specs.Merged.{IsMerged}
 use Rattle.ovl_lookup.specs.Words.{top_layer, lower_layers}
 use Rattle.ovl_board.specs.declared.pieces.Piece.{Piece}
-use Rattle.ovl_board.specs.declared.assembly.BoardFault.TheVariants.{Memory as BoardMemory}
 use Rattle.ovl_pool.specs.declared.runs.RunFault.{RunFault}
 use Rattle.ovl_pool.specs.declared.runs.RunFault.TheVariants.{Workers as RunWorkers, Gate, Board, Memory as RunMemory}
-use Rattle.ovl_pool.specs.Runs.{MayBeRefused, IsFaultOfOwn}
-use Rattle.ovl_check.specs.Blobs.{BlobView, blob_kids, blob_out, blob_root}
-use Rattle.ovl_check.specs.Checks.{CheckView, check_kids, check_out, check_seen, directory_piece}
+use Rattle.ovl_pool.specs.Runs.{MayBeRefused}
+use Rattle.ovl_check.specs.Blobs.{BlobView, blob_kids, blob_root}
+use Rattle.ovl_check.specs.Checks.{CheckView, check_kids, directory_piece}
 use Rattle.ovl_check.specs.Findings.{findings}
 use Rattle.ovl_vacuum.specs.Vacuum.{vacuumed_layer, removed_paths}
-use Rattle.ovl_vacuum.specs.Directories.{vacuum_kids, vacuum_out, vacuum_root, names_seen as idle_seen}
-use Rattle.ovl_rewrite.specs.Directories.{inodes_seen}
+use Rattle.ovl_vacuum.specs.Directories.{vacuum_kids, vacuum_root}
 use Rattle.ovl_deref.specs.Deref.{IsDereferenced}
-use Rattle.ovl_deref.specs.Directories.{deref_kids, deref_out, deref_root}
+use Rattle.ovl_deref.specs.Directories.{deref_kids, deref_root}
 use Rattle.ovl_deref.specs.Limits.{PassesLimit}
 use Rattle.ovl_merge.specs.Places.{merge_of}
 use Rattle.ovl_merge.specs.MergeDown.{IsMergedDown, merged_top}
-use Rattle.ovl_merge.specs.Directories.{merge_kids, merge_out, merge_root}
+use Rattle.ovl_merge.specs.Directories.{merge_kids, merge_root}
 use Rattle.ovl_merge.specs.Limits.{PassesLimit as PassesLimitMerged}
 use Rattle.ovl_engine.specs.Reports.{show_report}
 use Rattle.ovl_engine.specs.FsckReports.{fsck_report, is_clean}
 use Rattle.ovl_engine.specs.VacuumReports.{vacuum_report}
 use Rattle.ovl_engine.specs.LayerReports.{layer_report}
-use Rattle.ovl_engine.specs.Directories.{looks_seen, show_kids, show_out, show_root}
+use Rattle.ovl_engine.specs.Directories.{show_kids, show_root}
 use Rattle.ovl_engine.specs.declared.requests.Command.{Command}
 use Rattle.ovl_engine.specs.declared.requests.Command.TheVariants.{Show, Fsck, Vacuum, Deref, Merge}
 use Rattle.ovl_engine.specs.declared.requests.Answer.{Answer}
@@ -38,10 +35,6 @@ use Rattle.ovl_engine.specs.declared.faults.EngineFault.{EngineFault}
 use Rattle.ovl_engine.specs.declared.faults.EngineFault.TheVariants.{Workers, Layers, Layer, BlobOrder, BlobSize, NoLower, Faulty, LimitOut, Run, Memory}
 use Rattle.ovl_engine.specs.Commands.{checks, makes_layers}
 use Rattle.ovl_engine.specs.Refusals.{stated_layers, first_refusal}
-
--- what is seen of the names that blobs put out
-abbrev pub names_seen : Vec (List ℕ) Global → List (List ℕ)
-names_seen names = names.items
 
 -- the stack of these layers
 abbrev pub stack_of : List Entries → StackView
@@ -130,35 +123,11 @@ abbrev pub MayRefuse : Command → List Entries → List BlobView → (Piece →
 MayRefuse command layers blobs may_refuse =
     ((checks command ≡ true) × MayRefuseCheck layers blobs may_refuse) ⊎ MayRefuseOwn command layers may_refuse
 
--- a fault of a run's board is one that some parcels of its work's own have: over blobs, over layer `i`, and over what a
--- command's own work visits
-abbrev pub IsFaultOfBlobs : List BlobView → RunFault → Type 0
-IsFaultOfBlobs blobs = IsFaultOfOwn names_seen (blob_kids blobs) (blob_out blobs) blob_root
-
-abbrev pub IsFaultOfLayer : List Entries → List BlobView → ℕ → RunFault → Type 0
-IsFaultOfLayer layers blobs i =
-    IsFaultOfOwn check_seen (check_kids (check_of layers blobs)) (check_out (check_of layers blobs)) (directory_piece i [])
-
-abbrev pub IsFaultOfCheck : List Entries → List BlobView → RunFault → Type 0
-IsFaultOfCheck layers blobs fault = IsFaultOfBlobs blobs fault ⊎ ((i : ℕ) × ((i < length layers) × IsFaultOfLayer layers blobs i fault))
-
-abbrev pub IsFaultOfWork : Command → List Entries → RunFault → Type 0
-IsFaultOfWork Show layers fault = IsFaultOfOwn looks_seen (show_kids (stack_of layers)) (show_out (stack_of layers)) show_root fault
-IsFaultOfWork Fsck layers fault = ⊥
-IsFaultOfWork Vacuum layers fault = IsFaultOfOwn idle_seen (vacuum_kids (stack_of layers)) (vacuum_out (stack_of layers)) vacuum_root fault
-IsFaultOfWork Deref layers fault = IsFaultOfOwn inodes_seen (deref_kids (stack_of layers)) (deref_out (stack_of layers)) deref_root fault
-IsFaultOfWork Merge layers fault = IsFaultOfOwn inodes_seen (merge_kids (stack_of layers)) (merge_out (stack_of layers)) merge_root fault
-
--- the same where the command is run over these layers and blobs
-abbrev pub IsFaultOfRun : Command → List Entries → List BlobView → RunFault → Type 0
-IsFaultOfRun command layers blobs fault =
-    ((checks command ≡ true) × IsFaultOfCheck layers blobs fault) ⊎ IsFaultOfWork command layers fault
-
--- a run over these layers and blobs fails by its gate or its board; want of memory is told apart
+-- a run over these layers and blobs fails by its gate alone; want of memory is told apart
 abbrev pub IsFailedRun : Command → List Entries → List BlobView → (Piece → Type 0) → RunFault → Type 0
 IsFailedRun command layers blobs may_refuse RunWorkers = ⊥
 IsFailedRun command layers blobs may_refuse Gate = MayRefuse command layers blobs may_refuse
-IsFailedRun command layers blobs may_refuse (Board fault) = (fault ≢ BoardMemory) × IsFaultOfRun command layers blobs (Board fault)
+IsFailedRun command layers blobs may_refuse (Board fault) = ⊥
 IsFailedRun command layers blobs may_refuse RunMemory = ⊥
 
 -- a command that makes layers is refused for a fault of these layers and blobs, and this is the report that tells it

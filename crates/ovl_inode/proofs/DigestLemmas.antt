@@ -1,33 +1,14 @@
 -- Digests, targets and the kinds of sound inodes.
-use Rattle.std.proofs.Common.{◌≡◌, ℕ, ◌+◌, ◌*◌, ◌<◌, ◌≤◌, List, Bool, true, false, refl, sym, ◌∙◌, length, take, drop, get_or, arith, Ok, lt-ltb, le-leb, eq-eqb, Some}
+use Rattle.std.proofs.Common.{◌≡◌, ℕ, ◌<◌, ◌≤◌, List, Bool, true, false, refl, sym, ◌∙◌, length, arith, Ok, lt-ltb, le-leb, eq-eqb, Some}
 use Rattle.std.specs.Prelude.{◌&&◌, not, ◌==◌}
 use Rattle.std.specs.Str.{is_utf8}
 use Rattle.std.specs.List.{list_all, list_any}
-use Rattle.std.proofs.lemmas.List.Folds.{list_all_more}
-use Rattle.hex.specs.Hex.{decode_pairs, decode_sized, hex_digit_value, pair_value}
+use Rattle.hex.specs.Hex.{decode_sized}
 use Rattle.hex.proofs.HexLemmas.{decode_of-ok, decode_sized-twice}
-use Rattle.hex.proofs.Pairs.{prepend, decode_done, decode_sized-pairs}
 use Rattle.ovl_inode.specs.Bytes.{is_digest}
 use Rattle.ovl_inode.specs.Hexadecimal.{is_lower_digit, digest_of_text}
 use Rattle.ovl_inode.proofs.AttributeLemmas.{are_bytes-below}
 use Rattle.ovl_inode.specs.Sound.{is_target}
-
--- two digits with values are a pair
-pub pair_value-digits : (high low i u v : ℕ) → hex_digit_value high ≡ Some u → hex_digit_value low ≡ Some v → pair_value high low i ≡ Ok (u * 16 + v)
-pair_value-digits high low i u v h l = rw (h, l) refl
-
--- two digits more
-pub lower_more : (text : List ℕ) (i : ℕ) → 2 * i + 1 < length text → list_all is_lower_digit (take (2 * i) text) ≡ true
-    → is_lower_digit (get_or text (2 * i) 0) ≡ true → is_lower_digit (get_or text (2 * i + 1) 0) ≡ true → list_all is_lower_digit (take (2 * (i + 1)) text) ≡ true
-lower_more text i within before high low =
-    let two : 2 * (i + 1) ≡ 2 * i + 1 + 1 = omega arith in
-    rw (two, list_all_more is_lower_digit text (2 * i + 1) 0 within, list_all_more is_lower_digit text (2 * i) 0 (omega arith), before, high, low) refl
-
--- 64 digits that were all read
-pub decode_sized-read : (text bytes : List ℕ) (i : ℕ) → length text ≡ 64 → length bytes ≡ 32 → 32 ≤ i
-    → decode_pairs 0 text ≡ prepend (take i bytes) (decode_pairs (2 * i) (drop (2 * i) text)) → decode_sized text 32 ≡ Ok bytes
-decode_sized-read text bytes i long count end read =
-    decode_sized-pairs text 32 (omega arith) (omega arith) ∙ decode_done text bytes i (omega arith) (omega arith) read
 
 -- what 64 digits spell is a digest
 pub is_digest-decoded : (text bytes : List ℕ) → length text ≡ 64 → decode_sized text 32 ≡ Ok bytes → is_digest bytes ≡ true

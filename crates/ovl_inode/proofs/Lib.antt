@@ -3,3 +3,5 @@ pub mod AttributeLemmas
 pub mod DigestLemmas
 mod Rows
 pub mod RedirectLemmas
+mod DigitLaneLemmas
+mod PairLemmas

@@ -8,3 +8,4 @@ pub mod Inodes
 pub mod Kinds
 pub mod Equal
 pub mod EqualLaws
+pub mod DigitLanes

@@ -1,10 +1,8 @@
-ghost use Rattle.std.specs.Prelude.{◌≡◌, ◌<◌, true, false, Some, IsTrue, MatchResult};
-ghost use Rattle.std.specs.List.{list_all};
-ghost use Rattle.hex.specs.Hex.{hex_digit_value};
+ghost use Rattle.std.specs.Prelude.{◌≡◌, Some, IsTrue, MatchResult};
 ghost use Rattle.ovl_inode.specs.Bytes.{is_digest};
-ghost use Rattle.ovl_inode.specs.declared.digests.DigestFault.TheVariants.{Digit};
-ghost use Rattle.ovl_inode.specs.Hexadecimal.{digest_fault, digest_of_text, is_lower_digit as lower_digit_test};
+ghost use Rattle.ovl_inode.specs.Hexadecimal.{digest_fault, digest_of_text};
 
+use crate::digit_lanes::{are_lower_digits, bytes_of_digits};
 use std::marker::Model;
 use thiserror::Error;
 
@@ -49,12 +47,10 @@ impl Digest {
         if digits.len() != 64 {
             return Err(DigestFault::Length);
         }
-        let mut bytes = [0; 32];
-        for i in 0..32 {
-            let high = digit_value(digits[2 * i])?;
-            let low = digit_value(digits[2 * i + 1])?;
-            bytes[i] = high * 16 + low;
+        if !are_lower_digits(digits) {
+            return Err(DigestFault::Digit);
         }
+        let bytes = bytes_of_digits(digits);
         Ok(Digest { bytes })
     }
 
@@ -65,25 +61,4 @@ impl Digest {
     {
         &self.bytes
     }
-}
-
-// The value of a lower-case hexadecimal digit.
-fn digit_value(digit: u8) -> Result<u8, DigestFault>
-    ensures { MatchResult result
-        (λ value. (lower_digit_test digit ≡ true) × (hex_digit_value digit ≡ Some value) × (value < 16))
-        (λ fault. (lower_digit_test digit ≡ false) × (fault ≡ Digit)) }
-{
-    match digit {
-        b'0'..=b'9' => Ok(digit - b'0'),
-        b'a'..=b'f' => Ok(digit - b'a' + 10),
-        _ => Err(DigestFault::Digit),
-    }
-}
-
-/// Whether each byte is one of `0` to `9` and `a` to `f`.
-pub fn are_lower_digits(text: &[u8]) -> bool
-    ensures { result ≡ list_all lower_digit_test text.now }
-{
-    text.iter()
-        .all(|byte| matches!(*byte, b'0'..=b'9' | b'a'..=b'f'))
 }

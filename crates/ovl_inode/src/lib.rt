@@ -3,12 +3,14 @@
 
 mod attributes;
 mod digests;
+mod digit_lanes;
 mod inodes;
 mod marks;
 pub mod overlay;
 
 pub use attributes::{ATTR_NAME_LIMIT, AttrFault, AttrName, Attrs, Bytes};
-pub use digests::{Digest, DigestFault, are_lower_digits};
+pub use digests::{Digest, DigestFault};
+pub use digit_lanes::are_lower_digits;
 pub use inodes::{
     Inode, Kind, MODE_LIMIT, SIZE_LIMIT, TARGET_LIMIT, Target, blob_of, file_size, sound, visible,
 };

@@ -21,3 +21,4 @@ pub mod SheetLemmas
 pub mod SheetPassLemmas
 pub mod AfterLemmas
 pub mod SheetDraftLemmas
+pub mod RunLemmas

@@ -12,3 +12,4 @@ pub mod SheetPasses
 pub mod SheetDrafts
 pub mod Compact
 pub mod Tokens
+pub mod PlainRuns

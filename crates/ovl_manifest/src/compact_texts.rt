@@ -3,8 +3,9 @@ ghost use Rattle.std.specs.Prelude.{◌≡◌, ◌≤◌, [], ◌++◌, IsTrue, 
 ghost use Rattle.std.specs.Fmt.{signed_decimal};
 ghost use Rattle.std.specs.Cow.{cow_str_bytes};
 ghost use Rattle.hex.specs.Hex.{encode_lower};
-ghost use Rattle.json.specs.Print.{escape, quoted};
+ghost use Rattle.json.specs.Print.{quoted};
 
+use crate::plain_runs::plain_length;
 use ovl_inode::Digest;
 use serde_json::Value;
 use std::alloc::Global;
@@ -143,20 +144,6 @@ fn is_same(own: &[u8], other: &[u8]) -> bool
         same = (own[i] == other[i]) & same;
     }
     same
-}
-
-// How many bytes come before the first that can't stand in a string unescaped, or that ends it.
-fn plain_length(bytes: &[u8]) -> usize
-    ensures { escape (take result bytes.now) ≡ take result bytes.now }
-{
-    let mut length = 0;
-    for byte in bytes {
-        if *byte == b'"' || *byte == b'\\' || *byte < b' ' {
-            return length;
-        }
-        length += 1;
-    }
-    length
 }
 
 // How long the string is that begins here, up to the first quotation mark behind its own that no backslash escapes.

@@ -1,3 +1,5 @@
 pub mod ChainLemmas
 pub mod CrewLemmas
+pub mod FlowLemmas
 pub mod MergeLemmas
+pub mod ToldLemmas

@@ -1,12 +1,11 @@
 -- What the faults of a run say.
-use Rattle.std.specs.Prelude.{List}
+use Rattle.std.specs.Prelude.{◌≡◌, ◌⊎◌, ℕ, List}
 use Rattle.ovl_board.specs.declared.pieces.Piece.{Piece}
-use Rattle.ovl_board.specs.declared.works.Parcel.{Parcel}
+use Rattle.ovl_board.specs.declared.assembly.BoardFault.TheVariants.{Memory as BoardMemory}
 use Rattle.ovl_board.specs.Walks.{Reached, ToKid}
-use Rattle.ovl_board.specs.Parcels.{parcel_views, AreOwn}
-use Rattle.ovl_board.specs.Assembly.{IsBoardFault, bare}
 use Rattle.ovl_lanes.specs.declared.seats.LaneFault.{LaneFault}
 use Rattle.ovl_lanes.specs.declared.seats.LaneFault.TheVariants.{Count, Memory as LaneMemory}
+use Rattle.ovl_pool.specs.declared.runs.RunCount.{RunCount}
 use Rattle.ovl_pool.specs.declared.runs.RunFault.{RunFault}
 use Rattle.ovl_pool.specs.declared.runs.RunFault.TheVariants.{Workers, Gate, Board, Memory}
 
@@ -19,9 +18,17 @@ no_lanes LaneMemory = Memory
 abbrev pub MayBeRefused : (Piece → List Piece) → (Piece → Type 0) → Piece → Type 0
 MayBeRefused kids may_refuse root = (p : Piece) × (Reached (ToKid kids) root p × may_refuse p)
 
--- a fault of the board is one that some parcels of the work's own have
-abbrev pub IsFaultOfOwn : {O S : Type 0} → (O → S) → (Piece → List Piece) → (Piece → S) → Piece → RunFault → Type 0
-IsFaultOfOwn {O} seen kids out root (Board fault) = (parcels : List (Parcel O)) × (AreOwn kids out (parcel_views seen parcels) × IsBoardFault root (bare parcels) fault)
-IsFaultOfOwn seen kids out root Workers = Unit {0}
-IsFaultOfOwn seen kids out root Gate = Unit {0}
-IsFaultOfOwn seen kids out root Memory = Unit {0}
+-- a fault of the board is want of memory
+abbrev pub IsBoardMemory : RunFault → Type 0
+IsBoardMemory (Board fault) = fault ≡ BoardMemory
+IsBoardMemory Workers = Unit {0}
+IsBoardMemory Gate = Unit {0}
+IsBoardMemory Memory = Unit {0}
+
+-- memory is wanted, to assemble parcels or before that
+abbrev pub IsWantOfMemory : RunFault → Type 0
+IsWantOfMemory fault = (fault ≡ Memory) ⊎ (fault ≡ Board BoardMemory)
+
+-- so many pieces were known, delivered and taken, and none is left
+abbrev pub CountsAll : ℕ → RunCount → Type 0
+CountsAll n count = (count.known ≡ n) × (count.delivered ≡ n) × (count.taken ≡ n) × (count.left ≡ 0)

@@ -1,4 +1,5 @@
-ghost use Rattle.std.specs.Prelude.{◌≡◌, ◌++◌, ◌⊎◌, None, IfOk, IsPermutation, []};
+ghost use Rattle.std.specs.Prelude.{◌≡◌, ◌++◌, ◌⊎◌, None, IfOk, IsPermutation, [], false};
+ghost use Rattle.ovl_pool.specs.Hauls.{IsClean};
 
 use crate::merging::merged;
 use ovl_board::{Parcel, Piece, sort_parcels};
@@ -16,6 +17,7 @@ impl<T: Drop> Haul<T> {
     pub(crate) fn empty(alloc: Global) -> Haul<T>
         ensures parcels { result.parcels.items ≡ [] }
         ensures refused { result.refused ≡ None }
+        ensures starved { result.starved ≡ false }
     {
         Haul {
             parcels: Vec::new(alloc),
@@ -28,6 +30,7 @@ impl<T: Drop> Haul<T> {
     pub(crate) fn sorted(mut self) -> Haul<T>
         ensures parcels { IsPermutation self.parcels.items result.parcels.items }
         ensures refused { result.refused ≡ self.refused }
+        ensures clean { IsClean result → IsClean self }
     {
         if sort_parcels(&mut self.parcels).is_err() {
             self.starved = true;
@@ -39,6 +42,7 @@ impl<T: Drop> Haul<T> {
     pub(crate) fn with(self, alloc: Global, other: Haul<T>) -> Result<Haul<T>, AllocError>
         ensures parcels { IfOk result (λ both. IsPermutation (self.parcels.items ++ other.parcels.items) both.parcels.items) }
         ensures refused { IfOk result (λ both. (both.refused ≡ self.refused) ⊎ (both.refused ≡ other.refused)) }
+        ensures clean { IfOk result (λ both. IsClean both → IsClean self × IsClean other) }
     {
         let Haul {
             parcels,

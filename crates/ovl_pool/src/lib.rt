@@ -9,6 +9,7 @@ mod merging;
 mod notes;
 mod runs;
 mod seating;
+mod shares;
 mod tallies;
 mod workers;
 

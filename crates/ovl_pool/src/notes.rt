@@ -1,7 +1,10 @@
-ghost use Rattle.std.specs.Prelude.{◌<◌, ◌+◌, ◌^◌};
+ghost use Rattle.std.specs.Prelude.{◌≡◌, ◌<◌, ◌+◌, ◌^◌, OnOk, IfOk};
+ghost use Rattle.ovl_pool.specs.declared.notes.Prospect.TheVariants.{End};
 
+use crate::shares::Shares;
 use crate::tallies::Tally;
 use std::alloc::AllocError;
+use std::sync::ledger::Ledger;
 use std::sync::{Mutex, Wait};
 
 // The most pieces without kids that a worker delivers before it notes them.
@@ -18,34 +21,54 @@ pub(crate) enum Prospect {
     End,
 }
 
-/// A worker's way to the tally. A piece with kids is noted before these are pushed, since others may take them then;
-/// pieces without kids are noted some at a time, so that workers seldom meet at the lock.
+/// A worker's way to the tally, with its shares of what is noted there. A piece with kids is noted before these are
+/// pushed, since others may take them then; pieces without kids are noted some at a time, so that workers seldom meet at
+/// the lock.
 #[derive(Drop)]
-pub(crate) struct Notes<'a, R> {
+pub(crate) struct Notes<'a, R, K: Ledger, D: Ledger> {
     rt: &'a R,
-    tally: &'a Mutex<Tally>,
+    tally: &'a Mutex<Tally<K, D>>,
+    shares: Shares<K, D>,
     unnoted: u64,
     ghost fits: { unnoted + 1 < 2 ^ 64 },
+    ghost backed: { (0 < shares.known.parts) × (0 < shares.delivered.parts) },
 }
 
-impl<'a, R: Wait> Notes<'a, R> {
-    pub(crate) fn of(rt: &'a R, tally: &'a Mutex<Tally>) -> Notes<'a, R> {
+impl<'a, R: Wait, K: Ledger, D: Ledger> Notes<'a, R, K, D> {
+    pub(crate) fn of(
+        rt: &'a R,
+        tally: &'a Mutex<Tally<K, D>>,
+        shares: Shares<K, D>,
+    ) -> Notes<'a, R, K, D>
+        requires { (0 < shares.known.parts) × (0 < shares.delivered.parts) }
+        ensures shares { result.shares ≡ shares }
+        ensures none { result.unnoted ≡ 0 }
+    {
         Notes {
             rt,
             tally,
+            shares,
             unnoted: 0,
         }
     }
 
     /// Notes that a piece with so many kids was delivered, at once or later. Fails where the tally is at its end.
-    pub(crate) fn deliver(&mut self, kids: u64) -> Result<Prospect, AllocError> {
+    pub(crate) fn deliver(&mut self, kids: u64) -> Result<Prospect, AllocError>
+        ensures known { OnOk result (self.new.shares.known.amount ≡ self.old.shares.known.amount + kids) }
+        ensures delivered { OnOk result (self.new.shares.delivered.amount + self.new.unnoted
+            ≡ self.old.shares.delivered.amount + self.old.unnoted + 1) }
+        ensures settled { IfOk result (λ next. next ≡ End → self.new.unnoted ≡ 0) }
+        ensures parts { (self.new.shares.known.parts ≡ self.old.shares.known.parts)
+            × (self.new.shares.delivered.parts ≡ self.old.shares.delivered.parts) }
+    {
         let pieces = self.unnoted + 1;
         if kids == 0 && pieces < UNNOTED_LIMIT {
             self.unnoted = pieces;
             return Ok(Prospect::Work);
         }
         let mut tally = self.tally.lock(self.rt);
-        if !tally.deliver_many(pieces, kids) {
+        let Shares { known, delivered } = &mut self.shares;
+        if !tally.deliver_many(pieces, kids, known, delivered) {
             return Err(AllocError);
         }
         self.unnoted = 0;
@@ -56,9 +79,17 @@ impl<'a, R: Wait> Notes<'a, R> {
     }
 
     /// Notes all that was delivered. Fails where the tally is at its end.
-    pub(crate) fn settle(&mut self) -> Result<Prospect, AllocError> {
+    pub(crate) fn settle(&mut self) -> Result<Prospect, AllocError>
+        ensures known { OnOk result (self.new.shares.known.amount ≡ self.old.shares.known.amount) }
+        ensures delivered { OnOk result (self.new.shares.delivered.amount + self.new.unnoted
+            ≡ self.old.shares.delivered.amount + self.old.unnoted) }
+        ensures settled { OnOk result (self.new.unnoted ≡ 0) }
+        ensures parts { (self.new.shares.known.parts ≡ self.old.shares.known.parts)
+            × (self.new.shares.delivered.parts ≡ self.old.shares.delivered.parts) }
+    {
         let mut tally = self.tally.lock(self.rt);
-        if !tally.deliver_many(self.unnoted, 0) {
+        let Shares { known, delivered } = &mut self.shares;
+        if !tally.deliver_many(self.unnoted, 0, known, delivered) {
             return Err(AllocError);
         }
         self.unnoted = 0;
@@ -69,7 +100,22 @@ impl<'a, R: Wait> Notes<'a, R> {
     }
 
     /// Notes that the worker met a fault.
-    pub(crate) fn fail(&mut self) {
+    pub(crate) fn fail(&mut self)
+        ensures { (self.new.shares ≡ self.old.shares) × (self.new.unnoted ≡ self.old.unnoted) }
+    {
         self.tally.lock(self.rt).fail();
+    }
+
+    /// The shares, with what was noted.
+    pub(crate) fn into_shares(self) -> Shares<K, D>
+        ensures { result ≡ self.entry.shares }
+    {
+        let Notes {
+            rt: _,
+            tally: _,
+            shares,
+            unnoted: _,
+        } = self;
+        shares
     }
 }

@@ -1,24 +1,32 @@
-ghost use Rattle.std.specs.Prelude.{◌≡◌, ◌↔◌, ◌<◌, ◌⊎◌, Err, IfOk, IfErr};
+ghost use Rattle.std.specs.Prelude.{◌≡◌, ◌↔◌, ◌<◌, ◌⊎◌, [], Err, IfOk, IfErr, vec_len};
 ghost use Rattle.ovl_board.specs.Machine.{worker_limit};
 ghost use Rattle.ovl_board.specs.Parcels.{IsPlain, parcel_views};
 ghost use Rattle.ovl_pool.specs.declared.runs.RunFault.TheVariants.{Workers, Gate as GateFault, Board, Memory};
-ghost use Rattle.ovl_pool.specs.Runs.{MayBeRefused, IsFaultOfOwn, no_lanes};
+ghost use Rattle.ovl_board.specs.Balance.{IsBalanced, AllLawful};
+ghost use Rattle.ovl_board.specs.Assembly.{IsInOrder, bare};
+ghost use Rattle.ovl_pool.specs.Flows.{HaveGone, AreCounted};
+ghost use Rattle.ovl_pool.specs.Passes.{AreSeated};
+ghost use Rattle.ovl_pool.specs.Runs.{MayBeRefused, IsBoardMemory, IsWantOfMemory, CountsAll, no_lanes};
 
 use crate::chains::leads_to;
 use crate::crews::crew;
 use crate::gates::Gate;
 use crate::hauls::Haul;
 use crate::seating::{closed, seated};
+use crate::shares::Shares;
 use crate::tallies::Tally;
+use crate::workers::Worker;
+use ovl_board::laws::balanced_parcels_have_no_fault;
 use ovl_board::{BoardFault, Parcel, Piece, Work, assemble};
-use ovl_lanes::{LaneFault, lanes};
+use ovl_lanes::{LaneFault, Thief, lanes};
 use std::alloc::{AllocError, Global};
+use std::marker::Brand;
+use std::sync::ledger::{Blank, Ledger};
 use std::sync::{Mutex, Wait};
 use std::thread::Threads;
 use thiserror::Error;
 
-/// How many pieces a run knew, delivered, took from its lanes, and left in them. Numbers over 2^64 - 1 are told as
-/// that.
+/// How many pieces a run knew, delivered, took from its lanes, and left in them.
 #[derive(Clone, Copy, Debug, PartialEq, Eq)]
 pub struct RunCount {
     /// The root, and all kids of the pieces that were delivered.
@@ -40,7 +48,8 @@ pub enum RunFault {
     /// The gate refused a piece that is reached from the root.
     #[error("the gate refused a piece")]
     Gate,
-    /// The parcels that the workers brought can't be assembled.
+    /// The parcels that the workers brought can't be assembled. Memory is wanted then: no run makes parcels that have
+    /// another fault.
     #[error("the parcels are no walk: {0}")]
     Board(BoardFault),
     /// Memory is wanted.
@@ -79,10 +88,11 @@ impl From<AllocError> for RunFault {
 /// own, and gives the plain walk: a worker visits the pieces of its lane, steals from the others where it has none, and
 /// ends where all that is known was delivered or a worker met a fault. The gate is asked for each piece before its visit.
 ///
-/// At Ok the parcels are the plain walk, whatever the workers did: [`assemble`] has tested that. `Workers` is for every
-/// other number of them; `Gate` where the gate refused a piece that is reached from the root; `Board` where the
-/// parcels can't be assembled. A run that wants memory gives `Memory`, or one of the latter two if that came as well.
-/// It waits for locks, and returns only where each visit and each question to the gate does.
+/// At Ok the parcels are the plain walk, whatever the workers did: each of its pieces was known, delivered and taken once,
+/// and none is left. `Workers` is for every other number of them; `Gate` where the gate refused a piece that is reached
+/// from the root; `Board` only where memory to assemble the parcels is wanted. A run that wants memory otherwise gives
+/// `Memory`, or `Gate` if that came as well. It waits for locks, and returns only where each visit and each question to
+/// the gate does.
 pub fn run<W: Work + Sync, G: Gate + Sync, R: Threads + Wait + Sync>(
     rt: &R,
     alloc: Global,
@@ -95,15 +105,54 @@ where
     W::Out: Send,
     ensures plain { IfOk result (λ done.
         IsPlain (W.kids_of work.now) (W.out_of work.now) root (parcel_views W.seen done.0.items)) }
+    ensures balance { IfOk result (λ done. IsBalanced root (bare done.0.items) []) }
+    ensures counted { IfOk result (λ done. CountsAll (vec_len done.0) done.1) }
     ensures workers { (result ≡ Err Workers) ↔ ((workers < 1) ⊎ (worker_limit < workers)) }
     ensures gate { (result ≡ Err GateFault) → MayBeRefused (W.kids_of work.now) (G.may_refuse gate.now) root }
-    ensures board { IfErr result (IsFaultOfOwn W.seen (W.kids_of work.now) (W.out_of work.now) root) }
+    ensures board { IfErr result IsBoardMemory }
+{
+    let kids = Blank::new(workers as u64);
+    let parcels = Blank::new(workers as u64);
+    run_noted::<W, G, R, Brand, Brand>(rt, alloc, work, root, workers, gate, kids, parcels)
+}
+
+// As `run`, by two ledgers of which each worker has a part.
+fn run_noted<
+    W: Work + Sync,
+    G: Gate + Sync,
+    R: Threads + Wait + Sync,
+    K: Ledger + Send + Sync,
+    D: Ledger + Send + Sync,
+>(
+    rt: &R,
+    alloc: Global,
+    work: &W,
+    root: Piece,
+    workers: usize,
+    gate: &G,
+    kids: Blank,
+    parcels: Blank,
+) -> Result<(Vec<Parcel<W::Out>>, RunCount), RunFault>
+where
+    W::Out: Send,
+    requires kids { (kids.name ≡ K.name) × (kids.parts ≡ K.parts) × (kids.parts ≡ workers) }
+    requires parcels { (parcels.name ≡ D.name) × (parcels.parts ≡ D.parts) × (parcels.parts ≡ workers) }
+    ensures plain { IfOk result (λ done.
+        IsPlain (W.kids_of work.now) (W.out_of work.now) root (parcel_views W.seen done.0.items)) }
+    ensures balance { IfOk result (λ done. IsBalanced root (bare done.0.items) []) }
+    ensures counted { IfOk result (λ done. CountsAll (vec_len done.0) done.1) }
+    ensures workers { (result ≡ Err Workers) ↔ ((workers < 1) ⊎ (worker_limit < workers)) }
+    ensures gate { (result ≡ Err GateFault) → MayBeRefused (W.kids_of work.now) (G.may_refuse gate.now) root }
+    ensures board { IfErr result IsBoardMemory }
 {
     let _deepest = work.deepest();
     let seats = lanes(alloc, workers)?;
     let (crowd, thieves) = seated(alloc, seats, root.copy(alloc)?)?;
-    let tally = Mutex::new(Tally::start());
-    let (ended, haul) = crew(rt, alloc, work, gate, &tally, &thieves, crowd)?;
+    let (kids, known) = kids.open::<K>();
+    let (parcels, delivered) = parcels.open::<D>();
+    let tally = Mutex::new(Tally::start(kids, parcels));
+    let shares = Shares { known, delivered };
+    let (ended, haul, shares) = crew(rt, alloc, work, gate, &tally, &thieves, crowd, shares)?;
     let Haul {
         parcels,
         refused,
@@ -113,11 +162,59 @@ where
         if leads_to(&parcels, &root, &piece) {
             return Err(RunFault::Gate);
         }
+        return Err(RunFault::Memory);
     }
     if starved {
         return Err(RunFault::Memory);
     }
-    let walk = assemble(alloc, &root, parcels)?;
-    let count = closed(&tally.into_inner(), ended, thieves);
+    told(
+        alloc,
+        &root,
+        tally.into_inner(),
+        shares,
+        ended,
+        thieves,
+        parcels,
+    )
+}
+
+// What came of a run that met no fault: the parcels in order, and the numbers of the run. Where the tally says that pieces
+// are left the workers ended too early, which no run has shown; it is told as want of memory.
+fn told<T: Drop, K: Ledger, D: Ledger>(
+    alloc: Global,
+    root: &Piece,
+    mut tally: Tally<K, D>,
+    shares: Shares<K, D>,
+    workers: Vec<Worker>,
+    thieves: Vec<Thief>,
+    parcels: Vec<Parcel<T>>,
+) -> Result<(Vec<Parcel<T>>, RunCount), RunFault>
+    requires lawful { AllLawful (bare parcels.items) }
+    requires seated { AreSeated thieves.items workers.items }
+    requires gone { HaveGone root.now workers.items parcels.items }
+    requires whole { (shares.known.parts ≡ K.parts) × (shares.delivered.parts ≡ D.parts) }
+    requires counted { AreCounted shares.known.amount shares.delivered.amount parcels.items }
+    ensures order { IfOk result (λ done. IsInOrder root.now parcels.items done.0.items) }
+    ensures balance { IfOk result (λ done. IsBalanced root.now (bare done.0.items) []) }
+    ensures counted { IfOk result (λ done. CountsAll (vec_len done.0) done.1) }
+    ensures fault { IfErr result IsWantOfMemory }
+{
+    let Shares {
+        mut known,
+        mut delivered,
+    } = shares;
+    tally.audit(&mut known, &mut delivered);
+    if tally.known != tally.delivered {
+        return Err(RunFault::Memory);
+    }
+    balanced_parcels_have_no_fault();
+    let (taken, left) = closed(workers, thieves);
+    let walk = assemble(alloc, root, parcels)?;
+    let count = RunCount {
+        known: tally.known,
+        delivered: tally.delivered,
+        taken,
+        left,
+    };
     Ok((walk, count))
 }

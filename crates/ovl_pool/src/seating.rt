@@ -1,11 +1,11 @@
-ghost use Rattle.std.specs.Prelude.{◌≡◌, ◌<◌, ◌+◌, [], IfOk, OnOk, All, length, vec_len};
+ghost use Rattle.std.specs.Prelude.{◌≡◌, ◌<◌, ◌+◌, ◌^◌, [], IfOk, OnOk, All, List, length, vec_len};
 ghost use Rattle.std.specs.List.{AllWithin};
+ghost use Rattle.ovl_board.specs.declared.pieces.Piece.{Piece};
 ghost use Rattle.ovl_lanes.specs.Lanes.{IsWhole};
 ghost use Rattle.ovl_lanes.specs.Seats.{IsNew};
+ghost use Rattle.ovl_pool.specs.Flows.{HaveRoot, HaveNothing, AreUntouched, AreSettled, all_pushed, all_taken, each_one};
 ghost use Rattle.ovl_pool.specs.Passes.{AreSeated, HasNone};
 
-use crate::runs::RunCount;
-use crate::tallies::Tally;
 use crate::workers::{Other, Worker};
 use ovl_board::Piece;
 use ovl_lanes::{Seat, Thief, close};
@@ -20,7 +20,9 @@ pub(crate) fn seated(
 ) -> Result<(Vec<Worker>, Vec<Thief>), AllocError>
     requires one { 0 < vec_len seats }
     requires new { All IsNew seats.items }
-    ensures { IfOk result (λ r. AreSeated r.1.items r.0.items) }
+    ensures seated { IfOk result (λ r. AreSeated r.1.items r.0.items) }
+    ensures one_each { IfOk result (λ r. vec_len r.0 ≡ vec_len seats) }
+    ensures root { IfOk result (λ r. HaveRoot root r.0.items) }
 {
     let (mut workers, thieves) = apart(alloc, seats)?;
     let count = workers.len();
@@ -40,6 +42,7 @@ fn apart(alloc: Global, mut seats: Vec<Seat>) -> Result<(Vec<Worker>, Vec<Thief>
     requires { All IsNew seats.items }
     ensures seated { IfOk result (λ r. AreSeated r.1.items r.0.items) }
     ensures one_each { IfOk result (λ r. vec_len r.0 ≡ vec_len seats) }
+    ensures nothing { IfOk result (λ r. HaveNothing r.0.items) }
 {
     let mut workers = Vec::new(alloc);
     let mut thieves = Vec::new(alloc);
@@ -61,29 +64,27 @@ fn lend(
     requires seated { AreSeated thieves.now workers.old }
     requires worker { number < length workers.old }
     requires lane { lane < length workers.old }
-    ensures { OnOk result (AreSeated thieves.now workers.new) }
+    ensures seated { OnOk result (AreSeated thieves.now workers.new) }
+    ensures same { OnOk result (AreUntouched workers.old workers.new) }
 {
     let pass = workers[lane].lane.split_pass();
     workers[number].others.push(Other { lane, pass })?;
     Ok(())
 }
 
-/// Joins all passes to their lanes again and closes the lanes: the numbers of a run with this tally. Sums over 2^64 - 1
-/// are told as that.
-pub(crate) fn closed(tally: &Tally, mut workers: Vec<Worker>, thieves: Vec<Thief>) -> RunCount
-    requires { AreSeated thieves.items workers.items }
-    ensures { (result.known ≡ tally.now.known) × (result.delivered ≡ tally.now.delivered) }
+/// Joins all passes to their lanes again and closes the lanes: how many pieces were taken from them, and how many are left.
+/// Piece by piece, those taken with those left are those pushed.
+pub(crate) fn closed(mut workers: Vec<Worker>, thieves: Vec<Thief>) -> (u64, u64)
+    requires seated { AreSeated thieves.items workers.items }
+    requires fits { all_pushed each_one workers.items < 2 ^ 64 }
+    ensures taken { result.0 ≡ all_taken each_one workers.items }
+    ensures whole { all_pushed each_one workers.items ≡ result.0 + result.1 }
+    ensures left { (left : List Piece) × ((length left ≡ result.1) × AreSettled workers.items left) }
 {
     for number in 0..workers.len() {
         give_back(&mut workers, &thieves, number);
     }
-    let (taken, left) = gathered(workers, thieves);
-    RunCount {
-        known: tally.known,
-        delivered: tally.delivered,
-        taken,
-        left,
-    }
+    gathered(workers, thieves)
 }
 
 // Joins the passes of the worker of that number to their lanes again.
@@ -93,6 +94,7 @@ fn give_back(workers: &mut [Worker], thieves: &[Thief], number: usize)
     requires before { AllWithin HasNone workers.old 0 number }
     ensures seated { AreSeated thieves.now workers.new }
     ensures without { AllWithin HasNone workers.new 0 (number + 1) }
+    ensures same { AreUntouched workers.old workers.new }
 {
     while let Some(Other { lane, pass }) = workers[number].others.pop() {
         workers[lane].lane.join_pass(pass);
@@ -103,6 +105,11 @@ fn give_back(workers: &mut [Worker], thieves: &[Thief], number: usize)
 fn gathered(mut workers: Vec<Worker>, mut thieves: Vec<Thief>) -> (u64, u64)
     requires whole { All (λ worker. IsWhole worker.lane) workers.items }
     requires one_each { vec_len workers ≡ vec_len thieves }
+    requires none { All HasNone workers.items }
+    requires fits { all_pushed each_one workers.items < 2 ^ 64 }
+    ensures taken { result.0 ≡ all_taken each_one workers.items }
+    ensures whole { all_pushed each_one workers.items ≡ result.0 + result.1 }
+    ensures left { (left : List Piece) × ((length left ≡ result.1) × AreSettled workers.items left) }
 {
     let mut taken = 0u64;
     let mut left = 0u64;
@@ -111,8 +118,8 @@ fn gathered(mut workers: Vec<Worker>, mut thieves: Vec<Thief>) -> (u64, u64)
             unreachable!();
         };
         let gathered = close(Seat { lane, thief });
-        taken = taken.saturating_add(gathered.taken);
-        left = left.saturating_add(gathered.left);
+        taken += gathered.taken;
+        left += gathered.left;
     }
     (taken, left)
 }

@@ -1,16 +1,21 @@
-ghost use Rattle.std.specs.Prelude.{◌≡◌};
+ghost use Rattle.std.specs.Prelude.{◌≡◌, ◌<◌, ◌+◌, OnOk, IfOk, vec_len};
 ghost use Rattle.ovl_board.specs.Parcels.{AreOwn, parcel_views};
-ghost use Rattle.ovl_pool.specs.Hauls.{IsOwnHaul};
+ghost use Rattle.ovl_pool.specs.declared.notes.Prospect.TheVariants.{End};
+ghost use Rattle.ovl_pool.specs.Hauls.{IsOwnHaul, IsClean};
+ghost use Rattle.ovl_pool.specs.Flows.{IsPushed, IsAdded, IsTied, KeepsPace, AreCounted, below, each_one};
 ghost use Rattle.ovl_pool.specs.Passes.{HasPasses, ends_of, post_of};
 
 use crate::gates::Gate;
 use crate::hauls::Haul;
 use crate::notes::{Notes, Prospect};
+use crate::shares::Shares;
 use crate::tallies::Tally;
 use crossbeam_utils::Backoff;
 use ovl_board::{Parcel, Piece, Work, copies};
 use ovl_lanes::{Lane, Pass, Thief};
 use std::alloc::{AllocError, Global};
+use std::collections::VecDeque;
+use std::sync::ledger::Ledger;
 use std::sync::{Mutex, Wait};
 
 /// A worker: its lane, and the lanes of the others in the turn in which it steals from them.
@@ -28,20 +33,25 @@ pub(crate) struct Other {
 }
 
 impl Other {
-    ghost use Rattle.std.specs.Prelude.{◌≡◌};
+    ghost use Rattle.std.specs.Prelude.{◌≡◌, [], ◌∷◌, ◌++◌, MatchOption};
+    ghost use Rattle.ovl_lanes.specs.Lanes.{stolen_by};
     ghost use Rattle.ovl_pool.specs.Passes.{IsOther};
 
     // One try at the lane that the pass names.
     fn steal(&mut self, thieves: &[Thief]) -> Option<Piece>
         requires { IsOther thieves.now self.old }
-        ensures { IsOther thieves.now self.new × (self.new.lane ≡ self.old.lane) }
+        ensures same { IsOther thieves.now self.new × (self.new.lane ≡ self.old.lane) }
+        ensures counted { MatchOption result
+            (stolen_by self.new.pass ≡ stolen_by self.old.pass)
+            (λ piece. stolen_by self.new.pass ≡ stolen_by self.old.pass ++ piece ∷ []) }
     {
         thieves[self.lane].steal(&mut self.pass)
     }
 }
 
 impl Worker {
-    ghost use Rattle.std.specs.Prelude.{◌≡◌};
+    ghost use Rattle.std.specs.Prelude.{◌≡◌, MatchOption};
+    ghost use Rattle.ovl_pool.specs.Flows.{IsTaken, IsUntouched};
     ghost use Rattle.ovl_pool.specs.Passes.{HasPasses, post_of};
 
     // A piece of the own lane, or else of another one.
@@ -49,6 +59,7 @@ impl Worker {
         requires { HasPasses thieves.now self.old }
         ensures passes { HasPasses thieves.now self.new }
         ensures same { post_of self.new ≡ post_of self.old }
+        ensures taken { MatchOption result (IsUntouched self.old self.new) (λ piece. IsTaken self.old self.new piece) }
     {
         if let Some(piece) = self.lane.pop() {
             return Some(piece);
@@ -64,71 +75,119 @@ impl Worker {
 
 /// Serves pieces until all that are known are delivered, or a worker met a fault, and sorts its parcels; so each worker
 /// sorts its own, beside the others.
-pub(crate) fn labor<W: Work, G: Gate, R: Wait>(
+pub(crate) fn labor<W: Work, G: Gate, R: Wait, K: Ledger, D: Ledger>(
     rt: &R,
     alloc: Global,
     work: &W,
     gate: &G,
-    tally: &Mutex<Tally>,
+    tally: &Mutex<Tally<K, D>>,
     thieves: &[Thief],
     worker: Worker,
-) -> (Worker, Haul<W::Out>)
-    requires { HasPasses thieves.now worker }
+    shares: Shares<K, D>,
+) -> (Worker, Haul<W::Out>, Shares<K, D>)
+    requires passes { HasPasses thieves.now worker }
+    requires parts { (0 < shares.known.parts) × (0 < shares.delivered.parts) }
+    requires fresh { (shares.known.amount ≡ 0) × (shares.delivered.amount ≡ 0) }
     ensures haul { IsOwnHaul W.seen (W.kids_of work.now) (W.out_of work.now) (G.may_refuse gate.now) result.1 }
     ensures passes { HasPasses thieves.now result.0 }
     ensures same { post_of result.0 ≡ post_of worker }
+    ensures parts { (result.2.known.parts ≡ shares.known.parts) × (result.2.delivered.parts ≡ shares.delivered.parts) }
+    ensures tied { IsClean result.1 → IsTied worker result.0 result.1.parcels.items }
+    ensures counted { IsClean result.1 → AreCounted result.2.known.amount result.2.delivered.amount result.1.parcels.items }
 {
-    let (worker, haul) = serve_all(rt, alloc, work, gate, tally, thieves, worker);
-    (worker, haul.sorted())
+    let (worker, haul, shares) = serve_all(rt, alloc, work, gate, tally, thieves, worker, shares);
+    (worker, haul.sorted(), shares)
 }
 
 // Serves pieces until all that are known are delivered, or a worker met a fault. A worker that finds no piece spins for
 // a moment, then yields its processor, and tries again (`Backoff::snooze`); it doesn't sleep.
-fn serve_all<W: Work, G: Gate, R: Wait>(
+fn serve_all<W: Work, G: Gate, R: Wait, K: Ledger, D: Ledger>(
     rt: &R,
     alloc: Global,
     work: &W,
     gate: &G,
-    tally: &Mutex<Tally>,
+    tally: &Mutex<Tally<K, D>>,
     thieves: &[Thief],
     mut worker: Worker,
-) -> (Worker, Haul<W::Out>)
-    requires { HasPasses thieves.now worker }
+    shares: Shares<K, D>,
+) -> (Worker, Haul<W::Out>, Shares<K, D>)
+    requires passes { HasPasses thieves.now worker }
+    requires parts { (0 < shares.known.parts) × (0 < shares.delivered.parts) }
+    requires fresh { (shares.known.amount ≡ 0) × (shares.delivered.amount ≡ 0) }
     ensures haul { IsOwnHaul W.seen (W.kids_of work.now) (W.out_of work.now) (G.may_refuse gate.now) result.1 }
     ensures passes { HasPasses thieves.now result.0 }
     ensures same { post_of result.0 ≡ post_of worker }
+    ensures parts { (result.2.known.parts ≡ shares.known.parts) × (result.2.delivered.parts ≡ shares.delivered.parts) }
+    ensures tied { IsClean result.1 → IsTied worker result.0 result.1.parcels.items }
+    ensures counted { IsClean result.1 → AreCounted result.2.known.amount result.2.delivered.amount result.1.parcels.items }
 {
     let mut haul = Haul::empty(alloc);
-    let mut notes = Notes::of(rt, tally);
+    let mut notes = Notes::of(rt, tally, shares);
     let idle = Backoff::new();
     for _ in rt.forever() {
-        let prospect = match worker.find(thieves) {
-            Some(piece) => {
-                let Worker { lane, others: _ } = &mut worker;
-                attend(alloc, work, gate, &mut notes, lane, piece, &mut haul)
-            }
-            None => notes.settle(),
-        };
-        match prospect {
+        match turn(
+            alloc,
+            work,
+            gate,
+            thieves,
+            &mut worker,
+            &mut notes,
+            &mut haul,
+        ) {
             Ok(Prospect::Work) => idle.reset(),
             Ok(Prospect::Wait) => idle.snooze(),
-            Ok(Prospect::End) => break,
+            Ok(Prospect::End) => return (worker, haul, notes.into_shares()),
             Err(AllocError) => {
                 haul.starved = true;
                 notes.fail();
-                break;
+                return (worker, haul, notes.into_shares());
             }
         }
     }
-    (worker, haul)
+    unreachable!()
 }
 
-// Asks the gate, and then serves the piece. Fails as that does.
-fn attend<W: Work, G: Gate, R: Wait>(
+// Finds a piece and attends to it, or notes all that was delivered where it finds none. Fails as these do.
+fn turn<W: Work, G: Gate, R: Wait, K: Ledger, D: Ledger>(
     alloc: Global,
     work: &W,
     gate: &G,
-    notes: &mut Notes<'_, R>,
+    thieves: &[Thief],
+    worker: &mut Worker,
+    notes: &mut Notes<'_, R, K, D>,
+    haul: &mut Haul<W::Out>,
+) -> Result<Prospect, AllocError>
+    requires passes { HasPasses thieves.now worker.old }
+    requires own { IsOwnHaul W.seen (W.kids_of work.now) (W.out_of work.now) (G.may_refuse gate.now) haul.old }
+    ensures passes { HasPasses thieves.now worker.new }
+    ensures own { IsOwnHaul W.seen (W.kids_of work.now) (W.out_of work.now) (G.may_refuse gate.now) haul.new }
+    ensures same { post_of worker.new ≡ post_of worker.old }
+    ensures clean { OnOk result (IsClean haul.new → IsClean haul.old) }
+    ensures tied { OnOk result (IsClean haul.new
+        → KeepsPace worker.old worker.new haul.old.parcels.items haul.new.parcels.items) }
+    ensures known { OnOk result (IsClean haul.new
+        → notes.new.shares.known.amount + below each_one haul.old.parcels.items
+        ≡ notes.old.shares.known.amount + below each_one haul.new.parcels.items) }
+    ensures noted { OnOk result (IsClean haul.new
+        → notes.new.shares.delivered.amount + notes.new.unnoted + vec_len haul.old.parcels
+        ≡ notes.old.shares.delivered.amount + notes.old.unnoted + vec_len haul.new.parcels) }
+    ensures settled { IfOk result (λ next. IsClean haul.new → next ≡ End → notes.new.unnoted ≡ 0) }
+    ensures parts { (notes.new.shares.known.parts ≡ notes.old.shares.known.parts)
+        × (notes.new.shares.delivered.parts ≡ notes.old.shares.delivered.parts) }
+{
+    if let Some(piece) = worker.find(thieves) {
+        let Worker { lane, others: _ } = worker;
+        return attend(alloc, work, gate, notes, lane, piece, haul);
+    }
+    notes.settle()
+}
+
+// Asks the gate, and then serves the piece. Fails as that does.
+fn attend<W: Work, G: Gate, R: Wait, K: Ledger, D: Ledger>(
+    alloc: Global,
+    work: &W,
+    gate: &G,
+    notes: &mut Notes<'_, R, K, D>,
     lane: &mut Lane,
     piece: Piece,
     haul: &mut Haul<W::Out>,
@@ -136,6 +195,19 @@ fn attend<W: Work, G: Gate, R: Wait>(
     requires { IsOwnHaul W.seen (W.kids_of work.now) (W.out_of work.now) (G.may_refuse gate.now) haul.old }
     ensures own { IsOwnHaul W.seen (W.kids_of work.now) (W.out_of work.now) (G.may_refuse gate.now) haul.new }
     ensures same { ends_of lane.new ≡ ends_of lane.old }
+    ensures clean { OnOk result (IsClean haul.new → IsClean haul.old) }
+    ensures pushed { OnOk result (IsClean haul.new → IsPushed lane.old lane.new (W.kids_of work.now piece)) }
+    ensures added { OnOk result (IsClean haul.new
+        → IsAdded haul.old.parcels.items haul.new.parcels.items piece (W.kids_of work.now piece)) }
+    ensures one { OnOk result (IsClean haul.new → vec_len haul.new.parcels ≡ vec_len haul.old.parcels + 1) }
+    ensures known { OnOk result (IsClean haul.new
+        → notes.new.shares.known.amount + below each_one haul.old.parcels.items
+        ≡ notes.old.shares.known.amount + below each_one haul.new.parcels.items) }
+    ensures delivered { OnOk result (IsClean haul.new → notes.new.shares.delivered.amount + notes.new.unnoted
+        ≡ notes.old.shares.delivered.amount + notes.old.unnoted + 1) }
+    ensures settled { IfOk result (λ next. IsClean haul.new → next ≡ End → notes.new.unnoted ≡ 0) }
+    ensures parts { (notes.new.shares.known.parts ≡ notes.old.shares.known.parts)
+        × (notes.new.shares.delivered.parts ≡ notes.old.shares.delivered.parts) }
 {
     if !gate.pass(&piece) {
         haul.refused = Some(piece);
@@ -147,10 +219,10 @@ fn attend<W: Work, G: Gate, R: Wait>(
 
 // Visits a piece, keeps its parcel, notes it, and only then pushes its kids. Fails for want of memory, or where a lane or
 // the tally is at its end.
-fn serve<W: Work, R: Wait>(
+fn serve<W: Work, R: Wait, K: Ledger, D: Ledger>(
     alloc: Global,
     work: &W,
-    notes: &mut Notes<'_, R>,
+    notes: &mut Notes<'_, R, K, D>,
     lane: &mut Lane,
     piece: Piece,
     parcels: &mut Vec<Parcel<W::Out>>,
@@ -158,6 +230,16 @@ fn serve<W: Work, R: Wait>(
     requires { AreOwn (W.kids_of work.now) (W.out_of work.now) (parcel_views W.seen parcels.old.items) }
     ensures own { AreOwn (W.kids_of work.now) (W.out_of work.now) (parcel_views W.seen parcels.new.items) }
     ensures same { ends_of lane.new ≡ ends_of lane.old }
+    ensures pushed { OnOk result (IsPushed lane.old lane.new (W.kids_of work.now piece)) }
+    ensures added { OnOk result (IsAdded parcels.old.items parcels.new.items piece (W.kids_of work.now piece)) }
+    ensures one { OnOk result (vec_len parcels.new ≡ vec_len parcels.old + 1) }
+    ensures known { OnOk result (notes.new.shares.known.amount + below each_one parcels.old.items
+        ≡ notes.old.shares.known.amount + below each_one parcels.new.items) }
+    ensures delivered { OnOk result (notes.new.shares.delivered.amount + notes.new.unnoted
+        ≡ notes.old.shares.delivered.amount + notes.old.unnoted + 1) }
+    ensures settled { IfOk result (λ next. next ≡ End → notes.new.unnoted ≡ 0) }
+    ensures parts { (notes.new.shares.known.parts ≡ notes.old.shares.known.parts)
+        × (notes.new.shares.delivered.parts ≡ notes.old.shares.delivered.parts) }
 {
     let (kids, out) = work.visit(alloc, &piece)?;
     let below = copies(alloc, &kids)?;
@@ -169,9 +251,11 @@ fn serve<W: Work, R: Wait>(
 }
 
 fn push_all(lane: &mut Lane, pieces: Vec<Piece>) -> Result<(), AllocError>
-    ensures { ends_of lane.new ≡ ends_of lane.old }
+    ensures same { ends_of lane.new ≡ ends_of lane.old }
+    ensures pushed { OnOk result (IsPushed lane.old lane.new pieces.items) }
 {
-    for piece in pieces {
+    let mut pieces = VecDeque::from(pieces);
+    while let Some(piece) = pieces.pop_front() {
         if lane.push(piece).is_err() {
             return Err(AllocError);
         }

@@ -5,7 +5,9 @@ use ovl_board::{Parcel, Piece, Tree, Work};
 use ovl_names::Path;
 use ovl_pool::{Gate, OpenGate, RunCount, RunFault, Tally, run};
 use std::alloc::{AllocError, Global};
+use std::marker::Brand;
 use std::sync::atomic::{AtomicBool, AtomicU64, Ordering};
+use std::sync::ledger::{Blank, Ledger};
 use std::sync::{Mutex, Wait};
 use std::test::Fail;
 use std::thread::Threads;
@@ -73,24 +75,44 @@ fn whole(alloc: Global, texts: &str) -> Result<Answer, Fail> {
     Ok(Ok((parcels, count)))
 }
 
+// What a tally answers where pieces with so many kids are delivered one after another by one worker, and how many pieces
+// are known and delivered then.
+fn deliver_by<K: Ledger, D: Ledger>(
+    alloc: Global,
+    kids: Blank,
+    parcels: Blank,
+    pieces: &[u64],
+) -> Result<(Vec<bool>, u64, u64), AllocError>
+    requires kids { (kids.name ≡ K.name) × (kids.parts ≡ K.parts) × (kids.parts ≡ 1) }
+    requires parcels { (parcels.name ≡ D.name) × (parcels.parts ≡ D.parts) × (parcels.parts ≡ 1) }
+{
+    let (kids, mut known) = kids.open::<K>();
+    let (parcels, mut delivered) = parcels.open::<D>();
+    let mut tally = Tally::start(kids, parcels);
+    let mut answers = Vec::new(alloc);
+    for kids in pieces {
+        answers.push(tally.deliver(*kids, &mut known, &mut delivered))?;
+    }
+    Ok((answers, tally.known, tally.delivered))
+}
+
+fn deliver_all(alloc: Global, pieces: &[u64]) -> Result<(Vec<bool>, u64, u64), AllocError> {
+    deliver_by::<Brand, Brand>(alloc, Blank::new(1), Blank::new(1), pieces)
+}
+
 #[test]
 fn a_tally_notes_each_known_piece_once(rt: HostRuntime) -> Result<(), Fail> {
-    let mut tally = Tally::start();
-    assert!(rt; tally.deliver(2));
-    assert!(rt; tally.deliver(0));
-    assert!(rt; tally.deliver(0));
-    assert!(rt; !tally.deliver(0));
-    assert_eq!(rt; (tally.known, tally.delivered), (3, 3));
+    let (answers, known, delivered) = deliver_all(rt.alloc(), &[2, 0, 0, 0])?;
+    assert_eq!(rt; answers.as_slice(), [true, true, true, false].as_slice());
+    assert_eq!(rt; (known, delivered), (3, 3));
     Ok(())
 }
 
 #[test]
 fn a_tally_refuses_more_than_it_can_count(rt: HostRuntime) -> Result<(), Fail> {
-    let mut tally = Tally::start();
-    assert!(rt; !tally.deliver(u64::MAX));
-    assert!(rt; tally.deliver(u64::MAX - 1));
-    assert!(rt; !tally.deliver(1));
-    assert_eq!(rt; (tally.known, tally.delivered), (u64::MAX, 1));
+    let (answers, known, delivered) = deliver_all(rt.alloc(), &[u64::MAX, u64::MAX - 1, 1])?;
+    assert_eq!(rt; answers.as_slice(), [false, true, false].as_slice());
+    assert_eq!(rt; (known, delivered), (u64::MAX, 1));
     Ok(())
 }
 

@@ -7,7 +7,6 @@ use Rattle.ovl_check.specs.Checks.{check_seen, check_kids, directory_piece}
 use Rattle.ovl_check.specs.CheckViews.{check_view}
 use Rattle.ovl_check.proofs.WalkLists.{layer_walks-more}
 use Rattle.ovl_engine.specs.declared.requests.Command.TheVariants.{Fsck}
-use Rattle.ovl_engine.specs.Outcomes.{IsFaultOfLayer}
 use Rattle.ovl_board.specs.Machine.{worker_limit}
 use Rattle.ovl_engine.proofs.OutcomeLemmas.{failed, not_beyond}
 use Rattle.ovl_engine.proofs.checks.layer_walks.Goals as goal
@@ -22,7 +21,7 @@ returns-in_err-parcels g c =
     (λ e.
     let refused = rw (c.root.ensures) at (c.in_err-parcels.ensures.gate (ap Err e)) in
     inl (refl, inr (c.loop-i.i, (inside, subst (λ (stack : StackView). MayBeRefused (check_kids (record { stack = stack; blobs = view.blobs })) (g.G.Gate.may_refuse c.args.gate.now) (directory_piece c.loop-i.i [])) c.requires.same refused))))
-    (inl (refl, inr (c.loop-i.i, (inside, subst (λ (stack : StackView). IsFaultOfLayer stack.layers view.blobs c.loop-i.i c.in_err-parcels.field-0.0) c.requires.same (rw (c.root.ensures) at c.in_err-parcels.ensures.board))))))
+    c.in_err-parcels.ensures.board)
 
 pub loop-i-preserved : goal.loop-i-preserved
 loop-i-preserved g c =

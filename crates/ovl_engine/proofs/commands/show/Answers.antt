@@ -12,4 +12,4 @@ returns-in_err-parcels g c =
     rw (out.1, out.2) (failed Show c.args.stack.layers [] (g.G.Gate.may_refuse c.args.gate.now) fault
     (λ e. not_beyond worker_limit c.args.workers c.requires.0 c.requires.1 (c.in_err-parcels.ensures.workers.0 (ap Err e)))
     (λ e. inr (rw (c.new-work.ensures.value, c.root.ensures) at (c.in_err-parcels.ensures.gate (ap Err e))))
-    (inr (rw (c.new-work.ensures.value, c.root.ensures) at c.in_err-parcels.ensures.board)))
+    c.in_err-parcels.ensures.board)

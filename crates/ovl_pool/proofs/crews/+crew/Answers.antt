@@ -1,8 +1,11 @@
-use Rattle.std.proofs.Common.{rules, ◌≡◌, ◌/◌, List, ◌++◌, All, map, subst, sym, ap, ◌∙◌}
+use Rattle.std.proofs.Common.{rules, ◌≡◌, ◌/◌, List, [], ◌∷◌, ◌++◌, take, All, map, subst, sym, ap, ◌∙◌}
+use Rattle.std.proofs.lemmas.List.{take-append-drop}
 use Rattle.std.proofs.lemmas.List.Elements.{All-append}
 use Rattle.ovl_pool.specs.declared.workers.Worker.{Worker}
-use Rattle.ovl_pool.specs.Hauls.{IsOwnHaul}
+use Rattle.ovl_pool.specs.Flows.{AreTied, AreCounted}
+use Rattle.ovl_pool.specs.Hauls.{IsOwnHaul, IsClean}
 use Rattle.ovl_pool.specs.Passes.{HasPasses, post_of}
+use Rattle.ovl_pool.proofs.FlowLemmas.{last_tied, halves_tied, counted_both}
 use Rattle.ovl_pool.proofs.MergeLemmas.{haul_merged, posts_joined}
 use Rattle.ovl_pool.proofs.crews.+crew.Goals as goal
 
@@ -37,3 +40,39 @@ halves-returns-clause-same g t c =
     let a : map post_of ended ≡ map post_of first = search rules in
     let b : map post_of more ≡ map post_of later = search rules in
     ap (map post_of) e ∙ posts_joined all first later ended more (c.len-half.result / 2) c.in_ok-later.ensures.items c.in_ok-later.ensures.tail a b
+
+pub crew-returns-clause-tied : goal.crew-returns-clause-tied
+crew-returns-clause-tied g t c = λ clean.
+    let rest : List Worker = c.pop.new.self.items in
+    let w : Worker = c.in-Some.worker in
+    let labor = c.labor-worker in
+    let v : Worker = labor.result.0 in
+    let before : c.args.workers.items ≡ rest ++ w ∷ [] = search rules in
+    let after : c.push.new.self.items ≡ rest ++ v ∷ [] = search rules in
+    rw (before, after) (last_tied rest w v labor.result.1.parcels.items (labor.ensures.tied clean))
+
+pub halves-returns-clause-tied : goal.halves-returns-clause-tied
+halves-returns-clause-tied g t c =
+    let all : List Worker = c.args.workers.items in
+    let first : List Worker = c.split_off.new.self.items in
+    let later : List Worker = c.in_ok-later.later.items in
+    let ended : List Worker = c.in_ok-ended.ended.items in
+    let more : List Worker = c.in_ok-more.more.items in
+    let e : c.append.new.self.items ≡ ended ++ more = search rules in
+    let a : IsClean c.in_ok-ended.haul → AreTied first ended c.in_ok-ended.haul.parcels.items = search rules in
+    let b : IsClean c.in_ok-more.brought → AreTied later more c.in_ok-more.brought.parcels.items = search rules in
+    let parts : first ++ later ≡ all =
+    ap (λ l. l ++ later) c.in_ok-later.ensures.items ∙ ap (λ l. take (c.len-half.result / 2) all ++ l) c.in_ok-later.ensures.tail ∙ take-append-drop (c.len-half.result / 2) all in
+    λ clean.
+    let both = c.in_ok-with.ensures.clean clean in
+    subst (λ ws. AreTied all ws c.in_ok-with.field-0.parcels.items) (sym e)
+    (halves_tied all first later ended more c.in_ok-ended.haul.parcels.items c.in_ok-more.brought.parcels.items c.in_ok-with.field-0.parcels.items (sym parts) (a both.0) (b both.1) c.in_ok-with.ensures.parcels)
+
+pub halves-returns-clause-counted : goal.halves-returns-clause-counted
+halves-returns-clause-counted g t c = λ clean.
+    let both = c.in_ok-with.ensures.clean clean in
+    let xs = c.in_ok-ended.haul.parcels.items in
+    let ys = c.in_ok-more.brought.parcels.items in
+    let a : AreCounted c.in_ok-ended.noted.known.amount c.in_ok-ended.noted.delivered.amount xs = search (rules, both.0) in
+    let b : AreCounted c.in_ok-more.beside.known.amount c.in_ok-more.beside.delivered.amount ys = search (rules, both.1) in
+    counted_both xs ys c.in_ok-with.field-0.parcels.items _ _ _ _ _ _ c.in_ok-with.ensures.parcels a b c.with-2.ensures.amounts.0 c.with-2.ensures.amounts.1

@@ -6,6 +6,8 @@ use Rattle.ovl_lanes.specs.Lanes.{LaneId, lane_id, thief_id}
 use Rattle.ovl_lanes.specs.Seats.{IsNew}
 use Rattle.ovl_pool.specs.declared.workers.Worker.{Worker}
 use Rattle.ovl_pool.proofs.CrewLemmas.{IsApart, apart_seated}
+use Rattle.ovl_pool.specs.Flows.{HaveNothing}
+use Rattle.ovl_pool.proofs.FlowLemmas.{nothing_more}
 use Rattle.ovl_pool.proofs.seating.apart.Goals as goal
 
 pub loop-lane-preserved : goal.loop-lane-preserved
@@ -25,6 +27,7 @@ loop-lane-preserved c =
       apart = subst (All IsApart) (sym more) (All-push IsApart ws w held.apart (fresh.0, c.new-others.ensures.items));
       same = ap (map id) more ∙ map_push id ws w ∙ ap (λ ids. ids ++ id w ∷ []) held.same ∙ ap (λ one. map thief_id ts ++ one ∷ []) (sym fresh.1) ∙ sym (map_push thief_id ts seat.thief) ∙ sym (ap (map thief_id) mores);
       all = search rules;
+      nothing = subst HaveNothing (sym more) (nothing_more ws w held.nothing (fresh.0, c.new-others.ensures.items));
     }
 
 pub returns-clause-seated : goal.returns-clause-seated

@@ -1,6 +1,7 @@
 use Rattle.std.proofs.Common.{◌≡◌, ◌+◌, vec_len, All, map}
 use Rattle.ovl_lanes.specs.Lanes.{lane_id, thief_id}
 use Rattle.ovl_lanes.specs.Seats.{IsNew}
+use Rattle.ovl_pool.specs.Flows.{HaveNothing}
 use Rattle.ovl_pool.proofs.CrewLemmas.{IsApart}
 use Rattle.ovl_pool.proofs.seating.apart.Given as goal
 
@@ -10,6 +11,7 @@ invariant-loop-lane l = record {
   apart : All IsApart l.workers.items;
   same : map (λ worker. lane_id worker.lane) l.workers.items ≡ map thief_id l.thieves.items;
   all : vec_len l.workers + vec_len l.seats ≡ vec_len l.fn.seats;
+  nothing : HaveNothing l.workers.items;
 }
 
 abbrev pub decreases-loop-lane : goal.decreases-loop-lane

@@ -2,11 +2,12 @@ use Rattle.std.proofs.Common.{rules, ◌≡◌, ◌+◌, ◌∷◌, ◌++◌, []
 use Rattle.std.proofs.lemmas.List.{length-set}
 use Rattle.std.proofs.lemmas.List.Elements.{AllWithin-kept}
 use Rattle.ovl_lanes.specs.declared.accounts.Account.{Account}
-use Rattle.ovl_lanes.specs.Lanes.{account_of, lane_id, IsOfLane}
+use Rattle.ovl_lanes.specs.Lanes.{account_of, lane_id, stolen_by, IsOfLane}
 use Rattle.ovl_pool.specs.declared.workers.Worker.{Worker}
 use Rattle.ovl_pool.specs.declared.workers.Other.{Other}
 use Rattle.ovl_pool.specs.Passes.{HasNone}
 use Rattle.ovl_pool.proofs.CrewLemmas.{lay_down, join_back, other_within, other_of_lane, keep_post, none_kept}
+use Rattle.ovl_pool.proofs.FlowLemmas.{untouched_both, given_back, kept_set, same_untouched}
 use Rattle.ovl_pool.proofs.seating.give_back.Goals as goal
 
 pub bounds-workers-lane : goal.bounds-workers-lane
@@ -84,6 +85,9 @@ loop-lane-preserved c =
       seated = join_back thieves us other.lane x v within at laid.0 kept same split once;
       worker = omega (arith, held.worker, length-set ws i u, length-set us other.lane v);
       before = none_kept us other.lane i x v within at kept (AllWithin-kept ws i u held.worker HasNone held.before);
+      same = untouched_both c.args.workers.now ws (set us other.lane v) held.same
+          (given_back ws i other.lane w u x v other held.worker is (ap (λ (y : Worker). y.lane) (sym is)) items within at
+          (subst (λ (y : Worker). account_of v.lane ≡ record (account_of y.lane) { joined = (account_of y.lane).joined + 1; taken = (account_of y.lane).taken ++ stolen_by other.pass }) (sym at) joined.counted) kept);
     }
 
 pub returns-clause-seated : goal.returns-clause-seated
@@ -97,3 +101,14 @@ returns-clause-seated c =
     let held = c.loop-lane.invariant in
     let items : u.others.items ≡ w.others.items = search rules in
     keep_post thieves ws i w u held.worker is held.seated items (ap (λ (y : Worker). lane_id y.lane) (sym is)) (ap (λ (y : Worker). (account_of y.lane).split) (sym is)) (ap (λ (y : Worker). (account_of y.lane).joined) (sym is))
+
+pub returns-clause-same : goal.returns-clause-same
+returns-clause-same c =
+    let ws : List Worker = c.loop-lane.workers in
+    let i = c.args.number in
+    let w : Worker = c.index-workers-number.result in
+    let is : w ≡ get_or ws i w = c.index-workers-number.is in
+    let u : Worker = record { lane = (get_or ws i w).lane; others = c.pop.new.self } in
+    let held = c.loop-lane.invariant in
+    let items : u.others.items ≡ w.others.items = search rules in
+    untouched_both c.args.workers.now ws (set ws i u) held.same (kept_set ws i w u held.worker is (same_untouched w u (ap (λ (y : Worker). y.lane) (sym is)) items))

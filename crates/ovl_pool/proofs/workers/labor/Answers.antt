@@ -1,5 +1,6 @@
 use Rattle.std.proofs.Common.{sym, subst, IfSome}
 use Rattle.ovl_board.proofs.OwnLemmas.{own_permuted}
+use Rattle.ovl_pool.proofs.FlowLemmas.{tied_permuted, counted_permuted}
 use Rattle.ovl_pool.proofs.workers.labor.Goals as goal
 
 -- the haul is the worker's own in any order
@@ -10,3 +11,13 @@ returns-clause-haul g c =
       own_permuted g.W.Work.seen (g.W.Work.kids_of work) (g.W.Work.out_of work) haul.parcels.items c.sorted.result.parcels.items c.sorted.ensures.parcels c.serve_all-worker.ensures.haul.0,
       subst (λ refused. IfSome refused (g.G.Gate.may_refuse c.args.gate.now)) (sym c.sorted.ensures.refused) c.serve_all-worker.ensures.haul.1,
     )
+
+pub returns-clause-tied : goal.returns-clause-tied
+returns-clause-tied g c = λ clean.
+    let served = c.serve_all-worker in
+    tied_permuted c.args.worker served.result.0 served.result.1.parcels.items c.sorted.result.parcels.items c.sorted.ensures.parcels (served.ensures.tied (c.sorted.ensures.clean clean))
+
+pub returns-clause-counted : goal.returns-clause-counted
+returns-clause-counted g c = λ clean.
+    let served = c.serve_all-worker in
+    counted_permuted served.result.1.parcels.items c.sorted.result.parcels.items served.result.2.known.amount served.result.2.delivered.amount c.sorted.ensures.parcels (served.ensures.counted (c.sorted.ensures.clean clean))

@@ -18,9 +18,9 @@ steal-requires c =
     let thief = c.index-thieves-self in
     subst (λ t. IsOfThief t c.args.self.now.pass) (sym thief.is) (c.requires.1 thief.result)
 
-pub returns : goal.returns
+pub returns-clause-same : goal.returns-clause-same
 unfolding IsOther
-returns c =
+returns-clause-same c =
     let thief = c.index-thieves-self in (
       (c.requires.0, λ d. subst (λ t. IsOfThief t c.steal.new.pass) (get_or_read c.args.thieves.now c.args.self.now.lane thief.result c.requires.0 thief.is d) c.steal.ensures.same),
       refl,
