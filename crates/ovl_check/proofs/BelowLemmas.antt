@@ -1,19 +1,23 @@
 -- What the layers below show where they show no directory.
-use Rattle.std.proofs.Common.{◌≡◌, ℕ, ◌+◌, ◌∙◌, Bool, true, false, None, refl, sym, ap, All}
+use Rattle.std.proofs.Common.{◌≡◌, ℕ, ◌+◌, ◌∙◌, Bool, true, false, None, List, [], ◌∷◌, refl, sym, ap, All}
 use Rattle.std.specs.Prelude.{not}
+use Rattle.std.specs.Option.{option_map}
 use Rattle.std.proofs.lemmas.List.Elements.{All-drop}
 use Rattle.ovl_names.specs.Names.{PathName}
 use Rattle.ovl_names.specs.Paths.{PathNames, child_path}
+use Rattle.ovl_inode.specs.declared.inodes.Inode.{Inode}
+use Rattle.ovl_inode.specs.Kinds.{size_of}
 use Rattle.ovl_manifest.specs.Layers.{IsLayer}
 use Rattle.ovl_lookup.specs.declared.looks.Look.{Look}
 use Rattle.ovl_lookup.specs.declared.looks.Look.TheVariants.{Nothing, Shown, Broken}
 use Rattle.ovl_lookup.specs.Stacks.{StackView}
 use Rattle.ovl_lookup.specs.Trace.{things_found}
-use Rattle.ovl_lookup.specs.Merged.{look, is_nothing, shows, shows_directory}
+use Rattle.ovl_lookup.specs.Merged.{look, shown_of, is_nothing, shows, shows_directory}
+use Rattle.ovl_lookup.specs.Passes.{data_below}
+use Rattle.ovl_lookup.proofs.ChildLemmas.{shown-any}
 use Rattle.ovl_lookup.proofs.LawLemmas.{ShowsParents-holds}
-use Rattle.ovl_check.specs.Checks.{layers_below, size_shown}
+use Rattle.ovl_check.specs.Checks.{first_below, layers_below}
 use Rattle.ovl_check.specs.Facts.{data_size}
-use Rattle.ovl_check.proofs.DataLemmas.{shown-size}
 
 module _ (stack : StackView) (each : All IsLayer stack.layers) (i : ℕ) (directory : PathNames) (none : shows_directory (layers_below stack i) directory ≡ false) (name : PathName) where
   nothing : is_nothing (look (layers_below stack i) (child_path directory name)) ≡ true
@@ -22,7 +26,7 @@ module _ (stack : StackView) (each : All IsLayer stack.layers) (i : ℕ) (direct
       by : (b : Bool) → is_nothing (look (layers_below stack i) (child_path directory name)) ≡ b → b ≡ true
       by true e = refl
       by false e =
-          let bad : true ≡ false = sym (ShowsParents-holds (layers_below stack i) (All-drop IsLayer (i + 1) stack.layers each) directory name (ap not e)) ∙ none in cc
+          let bad : true ≡ false = sym (ShowsParents-holds (layers_below stack i) (All-drop IsLayer (first_below stack i) stack.layers each) directory name (ap not e)) ∙ none in cc
 
   pub shows-nothing : false ≡ shows (layers_below stack i) (child_path directory name)
   shows-nothing = sym (ap not nothing)
@@ -35,5 +39,9 @@ module _ (stack : StackView) (each : All IsLayer stack.layers) (i : ℕ) (direct
       by (Shown inode) is = let bad : false ≡ true = is in cc
       by (Broken inode) is = let bad : false ≡ true = is in cc
 
-  pub data-nothing : None ≡ data_size (layers_below stack i) (child_path directory name)
-  data-nothing = ap size_shown look-nothing ∙ shown-size (things_found (layers_below stack i).layers (child_path directory name))
+  pub data-nothing : None ≡ data_size (layers_below stack i) None (child_path directory name)
+  data-nothing = sym (ap (λ (found : List Inode). option_map size_of (data_below stack.data_only None found)) (empty (things_found (layers_below stack i).layers (child_path directory name)) look-nothing))
+    where
+      empty : (found : List Inode) → Nothing ≡ shown_of stack.data_only found → found ≡ []
+      empty [] e = refl
+      empty (inode ∷ found) e = let bad : true ≡ false = sym (shown-any stack.data_only (inode ∷ found)) ∙ ap (λ (l : Look). not (is_nothing l)) (sym e) in cc

@@ -30,10 +30,11 @@ use Rattle.ovl_check.specs.declared.facts.OldPlace.TheVariants.{Hidden, Open}
 use Rattle.ovl_check.specs.declared.facts.NamedBlob.{NamedBlob}
 use Rattle.ovl_check.specs.declared.facts.NamedBlob.TheVariants.{Unnamed}
 use Rattle.ovl_check.specs.declared.facts.Facts.{Facts}
-use Rattle.ovl_check.specs.Codes.{all_codes}
+use Rattle.ovl_check.specs.Codes.{all_codes, is_double}
+use Rattle.ovl_check.specs.Conditions.{holds}
 use Rattle.ovl_check.specs.Findings.{finding}
 use Rattle.ovl_check.specs.Blobs.{BlobView, is_wrong as is_wrong_blob}
-use Rattle.ovl_check.specs.Checks.{CheckView, layer_at, layers_below, holds_alone, findings_alone, findings_at_path}
+use Rattle.ovl_check.specs.Checks.{CheckView, sought_in, layer_at, layers_below, holds_alone, findings_alone, findings_at_path}
 use Rattle.ovl_check.specs.Conditions.{find_blob, has_blob, is_in_opaque as is_in_opaque_at, is_in_marked, whiteout_is_orphan, whiteout_is_in_opaque, whiteout_is_unmarked, blob_is_missing, blob_is_of_other_size, blob_is_wrong, opaque_is_ignored, redirect_is_ignored, metacopy_is_ignored, whiteout_is_ignored}
 use Rattle.ovl_check.specs.Facts.{AreFacts, tells, found_at_child, content_of, kind_at, blob_found, blob_named, is_whiteout_mark, is_lost, is_of_wrong_kind, is_open, lacks_data, has_data_of_other_size, is_missing, is_of_other_length, is_wrong, is_orphan, is_in_opaque, is_outside_marked, is_unmarked, mark_says_nothing}
 
@@ -234,7 +235,7 @@ module _ (work : CheckView) (i : ℕ) (path : PathNames) (facts : Facts) (are : 
   abbrev mark : Mark
   mark = facts.mark.now
 
-  told : (code : Code) → tells facts code ≡ holds_alone work i (path, inode) code
+  told : (code : Code) → tells facts code ≡ (not (is_double code) && holds work.blobs layer lower (path, inode) code)
   told RedirectForm = ap is_malformed (sym are.mark)
   told RedirectLost = ap is_lost are.kind ∙ lost layer lower path inode mark are.mark
   told RedirectKind = ap is_of_wrong_kind are.kind ∙ wrong_kind layer lower path inode mark are.mark
@@ -254,20 +255,26 @@ module _ (work : CheckView) (i : ℕ) (path : PathNames) (facts : Facts) (are : 
       ∙ ap (λ m. opaque_is_ignored path inode || redirect_is_ignored path inode m || metacopy_is_ignored inode m || whiteout_is_ignored inode) (sym are.mark)
 
   -- the codes that the facts tell are those whose conditions hold
-  pub codes-told : filter (tells facts) all_codes ≡ filter (holds_alone work i (path, inode)) all_codes
-  codes-told = λ j. filter (λ code. told code j) all_codes
+  pub codes-told : filter (λ code. sought_in work.stack i code && tells facts code) all_codes ≡ filter (holds_alone work i (path, inode)) all_codes
+  codes-told = λ j. filter (λ code. (ap (λ b. sought_in work.stack i code && b) (told code) ∙ turned (sought_in work.stack i code) (not (is_double code)) (holds work.blobs layer lower (path, inode) code)) j) all_codes
+    where
+      turned : (a b c : Bool) → (a && (b && c)) ≡ (b && (a && c))
+      turned true b c = refl
+      turned false true c = refl
+      turned false false c = refl
 
 -- what is found at a directory, and at what it holds, by the facts of each
 module _ (work : CheckView) (i n : ℕ) (same : n ≡ i) (path : PathNames) (inode : Inode) (facts : Facts) (own : facts.inode.now ≡ inode) (are : AreFacts work n path facts) where
-  alone : map (finding i path) (filter (tells facts) all_codes) ≡ findings_alone work i (path, inode)
+  alone : map (finding i path) (filter (λ code. sought_in work.stack i code && tells facts code) all_codes) ≡ findings_alone work i (path, inode)
   alone =
-      ap (map (finding i path)) (codes-told work n path facts are)
-      ∙ (λ j. map (finding i path) (filter (holds_alone work (same j) (path, own j)) all_codes))
+      (λ j. map (finding i path) (filter (λ code. sought_in work.stack (sym same j) code && tells facts code) all_codes))
+      ∙ (ap (map (finding i path)) (codes-told work n path facts are)
+      ∙ (λ j. map (finding i path) (filter (holds_alone work (same j) (path, own j)) all_codes)))
 
-  pub found-at : entry_at (layer_at work.stack i) path ≡ Some inode → map (finding i path) (filter (tells facts) all_codes) ≡ findings_at_path work i path
+  pub found-at : entry_at (layer_at work.stack i) path ≡ Some inode → map (finding i path) (filter (λ code. sought_in work.stack i code && tells facts code) all_codes) ≡ findings_at_path work i path
   found-at here = alone ∙ sym (ap (λ (o : Option Inode). elim o as (λ _. List Finding) [ Some found ↦ findings_alone work i (path, found) | None ↦ [] ]) here)
 
-  pub found-child : (directory : PathNames) (name : PathName) → path ≡ child_path directory name → is_directory inode ≡ false → map (finding i path) (filter (tells facts) all_codes) ≡ found_at_child work i directory (name, inode)
+  pub found-child : (directory : PathNames) (name : PathName) → path ≡ child_path directory name → is_directory inode ≡ false → map (finding i path) (filter (λ code. sought_in work.stack i code && tells facts code) all_codes) ≡ found_at_child work i directory (name, inode)
   found-child directory name is none =
       alone
       ∙ (ap (λ (p : PathNames). findings_alone work i (p, inode)) is

@@ -18,7 +18,7 @@ use Rattle.ovl_lookup.specs.declared.steps.Step.{Step}
 use Rattle.ovl_lookup.specs.Walk.{mark_at, walk, walk_beyond, walk_to_file, turn, is_shut, natural_path}
 use Rattle.ovl_lookup.specs.Stacks.{StackView}
 use Rattle.ovl_lookup.specs.Trace.{things_found}
-use Rattle.ovl_lookup.specs.Merged.{look, is_nothing, data_of}
+use Rattle.ovl_lookup.specs.Merged.{look, is_nothing, data_of, place_of_data, data_at_place}
 use Rattle.ovl_lookup.specs.Sound.{data_at}
 use Rattle.ovl_lookup.proofs.WalkFacts.{walk-whole, walk-stop, parent_path-child}
 use Rattle.ovl_lookup.proofs.FoundLemmas.{metacopy-file, bare_file, data_of-metacopy}
@@ -143,24 +143,24 @@ module _ (layer : Entries) (below : StackView) (directory : Directory) (is : IsG
         shut : directory.closed ≡ is_shut layer dir
         shut = is.closed ∙ ap (λ (s : Step). s.closed) whole
 
-    meta-child : (redirect : Option Redirect) → mark_of inode ≡ Meta redirect → data_size_on below (walk_to_file inode (Meta redirect) directory.next directory.closed name) ≡ option_map size_of (data_at layer below child inode)
+    meta-child : (redirect : Option Redirect) → mark_of inode ≡ Meta redirect → data_size_on below (place_of_data (Meta redirect)) (walk_to_file inode (Meta redirect) directory.next directory.closed name) ≡ option_map size_of (data_at layer below child inode)
     meta-child redirect marked =
-        ap (λ m. data_size_on below (walk_to_file inode m directory.next directory.closed name)) (sym marked)
-        ∙ (ap (data_size_on below) (sym (child-walk (whiteout-marked inode ∙ ap is_whiteout_mark marked)))
+        ap (λ m. data_size_on below (place_of_data m) (walk_to_file inode m directory.next directory.closed name)) (sym marked)
+        ∙ (ap (data_size_on below (place_of_data (mark_of inode))) (sym (child-walk (whiteout-marked inode ∙ ap is_whiteout_mark marked)))
         ∙ on_data (walk layer child).closed (walk layer child).next)
       where
         metacopy : is_metacopy inode ≡ true
         metacopy = ap is_metacopy_mark marked
 
-        on_data : (c : Bool) (next : PathNames) → cond c None (data_size below next) ≡ option_map size_of (data_of (inode ∷ cond c [] (things_found below.layers next)))
-        on_data true next = sym (ap (option_map size_of) (data_of-metacopy inode [] metacopy (metacopy-file inode metacopy).0 (bare_file inode (metacopy-file inode metacopy).1).1))
-        on_data false next = sym (ap (option_map size_of) (data_of-metacopy inode (things_found below.layers next) metacopy (metacopy-file inode metacopy).0 (bare_file inode (metacopy-file inode metacopy).1).1))
+        on_data : (c : Bool) (next : PathNames) → cond c (option_map size_of (data_at_place below.data_only (place_of_data (mark_of inode)))) (data_size below (place_of_data (mark_of inode)) next) ≡ option_map size_of (data_of below.data_only (inode ∷ cond c [] (things_found below.layers next)))
+        on_data true next = sym (ap (option_map size_of) (data_of-metacopy below.data_only inode [] metacopy (metacopy-file inode metacopy).0 (bare_file inode (metacopy-file inode metacopy).1).1))
+        on_data false next = sym (ap (option_map size_of) (data_of-metacopy below.data_only inode (things_found below.layers next) metacopy (metacopy-file inode metacopy).0 (bare_file inode (metacopy-file inode metacopy).1).1))
 
     -- the facts of its kind
     pub child-whiteout : (own : Mark) → own ≡ WhiteoutMark → whiteout_in below directory name ≡ kind_at layer below child inode own
     child-whiteout own marked = whiteout-child ∙ sym (ap (kind_at layer below child inode) marked)
 
-    pub child-metacopy : (own : Mark) (redirect : Option Redirect) → own ≡ mark_of inode → own ≡ Meta redirect → Metacopy (data_size_on below (walk_to_file inode (Meta redirect) directory.next directory.closed name)) ≡ kind_at layer below child inode own
+    pub child-metacopy : (own : Mark) (redirect : Option Redirect) → own ≡ mark_of inode → own ≡ Meta redirect → Metacopy (data_size_on below (place_of_data (Meta redirect)) (walk_to_file inode (Meta redirect) directory.next directory.closed name)) ≡ kind_at layer below child inode own
     child-metacopy own redirect is_own marked =
         ap (λ size. Metacopy size) (meta-child redirect (sym is_own ∙ marked))
         ∙ sym (ap (kind_at layer below child inode) marked)

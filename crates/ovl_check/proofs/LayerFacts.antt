@@ -9,6 +9,7 @@ use Rattle.std.specs.declared.cmp.Ordering.TheVariants.{Less}
 use Rattle.ovl_names.specs.Names.{PathName, name_eq, name_cmp}
 use Rattle.ovl_names.specs.Paths.{PathNames, child_path, path_cmp, depth_limit}
 use Rattle.ovl_manifest.specs.Layers.{Entries, Entry, IsLayer, entry_cmp, is_directory_at, name_below, names_below}
+use Rattle.ovl_lookup.specs.Stacks.{all_layers}
 use Rattle.ovl_lookup.proofs.ChildLemmas.{directory-limited, all-first, all-rest}
 use Rattle.ovl_board.specs.declared.pieces.Piece.{Piece}
 use Rattle.ovl_board.specs.Pieces.{IsBefore, IsOneBelow, HasLawfulKids}
@@ -86,7 +87,7 @@ kids-rise p (name ∷ names) up = (
   kids-rise p names up.1,
 )
 
-module _ (work : CheckView) (each : All IsLayer work.stack.layers) where
+module _ (work : CheckView) (each : All IsLayer (all_layers work.stack)) where
   pub kid-directory : (p q : Piece) → In q (check_kids work p) → (name : PathName) × (In name (names_below (layer_at work.stack p.space) p.dir) × ((is_directory_at (layer_at work.stack p.space) (child_path p.dir name) ≡ true) × (q ≡ kid_at p name)))
   kid-directory p q h =
       let layer = layer_at work.stack p.space in
@@ -96,13 +97,13 @@ module _ (work : CheckView) (each : All IsLayer work.stack.layers) where
       (one.0, (there.0, (there.1, one.1.1)))
 
   pub layer-ascends : (i : ℕ) → Rises (λ a b. entry_cmp a b ≡ Less) (layer_at work.stack i)
-  layer-ascends i = elim (layer_or_none work.stack.layers each i) [
+  layer-ascends i = elim (layer_or_none (all_layers work.stack) each i) [
     | inl none ↦ subst (Rises (λ a b. entry_cmp a b ≡ Less)) (sym none) tt
     | inr is ↦ Rises-ascends entry_cmp (layer_at work.stack i) is.in_order
   ]
 
   within : (i : ℕ) (path : PathNames) → is_directory_at (layer_at work.stack i) path ≡ true → length path ≤ depth_limit
-  within i path is = elim (layer_or_none work.stack.layers each i) [
+  within i path is = elim (layer_or_none (all_layers work.stack) each i) [
     | inl none ↦ (let bad : false ≡ true = sym (ap (λ (l : Entries). is_directory_at l path) none) ∙ is in absurd (cc))
     | inr layer ↦ directory-limited (layer_at work.stack i) path layer is
   ]

@@ -18,6 +18,7 @@ use Rattle.ovl_inode.specs.declared.marks.Redirect.{Redirect}
 use Rattle.ovl_inode.specs.Attributes.{attribute, redirect_name}
 use Rattle.ovl_inode.specs.Redirects.{read_redirect}
 use Rattle.ovl_manifest.specs.Layers.{Entries, Entry, IsLayer, entry_at, entry_cmp, is_directory_at, names_below, has_parent}
+use Rattle.ovl_lookup.specs.Stacks.{all_layers}
 use Rattle.ovl_lookup.specs.Walk.{walk, mark_at}
 use Rattle.ovl_lookup.specs.Sound.{is_moved, goes_on_there, redirect_is_double}
 use Rattle.ovl_lookup.proofs.WalkFacts.{directory-above, parent_path-child, length-child}
@@ -32,10 +33,10 @@ use Rattle.ovl_board.proofs.Members.{In, Rises, In-left, In-right, In-cases, In-
 use Rattle.ovl_check.specs.declared.findings.Finding.{Finding}
 use Rattle.ovl_check.specs.declared.findings.Code.{Code}
 use Rattle.ovl_check.specs.declared.findings.Code.TheVariants.{RedirectDouble}
-use Rattle.ovl_check.specs.Codes.{all_codes, is_double}
+use Rattle.ovl_check.specs.Codes.{all_codes, is_double, is_blob_fault}
 use Rattle.ovl_check.specs.Conditions.{holds}
-use Rattle.ovl_check.specs.Findings.{finding, findings_at, findings_in}
-use Rattle.ovl_check.specs.Checks.{CheckView, CheckSeen, layer_at, layers_below, directory_piece, check_kids, check_out, holds_alone, findings_alone, findings_at_path, directory_findings, no_seen}
+use Rattle.ovl_check.specs.Findings.{finding, any_code, findings_at, findings_in}
+use Rattle.ovl_check.specs.Checks.{CheckView, CheckSeen, is_ordinary, sought_in, layer_at, layers_below, directory_piece, check_kids, check_out, holds_alone, findings_alone, findings_at_path, directory_findings, no_seen}
 use Rattle.ovl_check.specs.Walks.{View, doubles_after, found_along}
 use Rattle.ovl_check.proofs.Ascent.{In-filter, less_never, list_all-Every}
 use Rattle.ovl_check.proofs.Plain.{own-view, has-view}
@@ -117,12 +118,30 @@ parent-directory layer d name is =
     sym (ap (is_directory_at layer) (parent_path-child d name))
     ∙ (sym (ap (λ b. b || is_directory_at layer (parent_path (child_path d name))) (length-child d name)) ∙ is)
 
-module _ (work : CheckView) (each : All IsLayer work.stack.layers) (i : ℕ) (is_layer : IsLayer (layer_at work.stack i)) where
+module _ (work : CheckView) (each : All IsLayer (all_layers work.stack)) (i : ℕ) (is_layer : IsLayer (layer_at work.stack i)) where
   abbrev layer : Entries
   layer = layer_at work.stack i
 
+  abbrev ordinary : Bool
+  ordinary = is_ordinary work.stack i
+
+  abbrev sought : Code → Bool
+  sought = sought_in work.stack i
+
+  -- a code is sought in the layer, and its condition holds
+  abbrev stands : Entry → Code → Bool
+  stands entry code = sought code && holds work.blobs layer (layers_below work.stack i) entry code
+
   abbrev found_here : List Finding
-  found_here = findings_in work.blobs i layer (layers_below work.stack i)
+  found_here = findings_in sought work.blobs i layer (layers_below work.stack i)
+
+  -- doubles are sought in layers alone that aren't data-only
+  double-sought : sought RedirectDouble ≡ true → ordinary ≡ true
+  double-sought = by ordinary
+    where
+      by : (b : Bool) → (cond b any_code is_blob_fault) RedirectDouble ≡ true → b ≡ true
+      by true is = refl
+      by false is = let bad : false ≡ true = is in cc
 
   -- each directory is reached, and what is reached is of this layer
   kid-step : (d : PathNames) (name : PathName) → is_directory_at layer (child_path d name) ≡ true → ToKid (check_kids work) (directory_piece i d) (directory_piece i (child_path d name))
@@ -158,13 +177,13 @@ module _ (work : CheckView) (each : All IsLayer work.stack.layers) (i : ℕ) (is
       by (Some inode) e k =
           let one = In-map-cases (finding i path) f (filter (holds_alone work i (path, inode)) all_codes) k in
           let passes = In-filter-cases (holds_alone work i (path, inode)) one.0 all_codes one.1.0 in
-          let parts = both {a = not (is_double one.0)} {b = holds work.blobs layer (layers_below work.stack i) (path, inode) one.0} passes.1 in
-          In-flat_map (findings_at work.blobs i layer (layers_below work.stack i)) f (path, inode) layer (entry-In layer path inode e)
-          (subst (λ (x : Finding). In x (findings_at work.blobs i layer (layers_below work.stack i) (path, inode))) (sym one.1.1)
-          (In-map (finding i path) one.0 (filter (holds work.blobs layer (layers_below work.stack i) (path, inode)) all_codes)
-          (In-filter (holds work.blobs layer (layers_below work.stack i) (path, inode)) one.0 all_codes passes.0 parts.1)))
+          let parts = both {a = not (is_double one.0)} {b = stands (path, inode) one.0} passes.1 in
+          In-flat_map (findings_at sought work.blobs i layer (layers_below work.stack i)) f (path, inode) layer (entry-In layer path inode e)
+          (subst (λ (x : Finding). In x (findings_at sought work.blobs i layer (layers_below work.stack i) (path, inode))) (sym one.1.1)
+          (In-map (finding i path) one.0 (filter (stands (path, inode)) all_codes)
+          (In-filter (stands (path, inode)) one.0 all_codes passes.0 parts.1)))
 
-  at-path-whole : (path : PathNames) (inode : Inode) (code : Code) → entry_at layer path ≡ Some inode → In code all_codes → is_double code ≡ false → holds work.blobs layer (layers_below work.stack i) (path, inode) code ≡ true → In (finding i path code) (findings_at_path work i path)
+  at-path-whole : (path : PathNames) (inode : Inode) (code : Code) → entry_at layer path ≡ Some inode → In code all_codes → is_double code ≡ false → stands (path, inode) code ≡ true → In (finding i path code) (findings_at_path work i path)
   at-path-whole path inode code here listed single is =
       subst (λ (o : Option Inode). In (finding i path code) (elim o as (λ _. List Finding) [ Some n ↦ findings_alone work i (path, n) | None ↦ [] ])) (sym here)
       (In-map (finding i path) code (filter (holds_alone work i (path, inode)) all_codes)
@@ -198,7 +217,7 @@ module _ (work : CheckView) (each : All IsLayer work.stack.layers) (i : ℕ) (is
     out-sound : (d : PathNames) (f : Finding) → In f (check_out work (directory_piece i d)).findings → In f found_here
     out-sound d f h = by (is_directory_at layer d) h
       where
-        by : (b : Bool) → In f (cond b (record { findings = directory_findings work i d; place = cond (walk layer d).closed None (Some (walk layer d).next); moved = is_moved (mark_at layer d) }) no_seen).findings → In f found_here
+        by : (b : Bool) → In f (cond b (record { findings = directory_findings work i d; place = cond (not ordinary || (walk layer d).closed) None (Some (walk layer d).next); moved = ordinary && is_moved (mark_at layer d) }) no_seen).findings → In f found_here
         by false k = absurd k
         by true k =
             let files = filter (λ name. not (is_directory_at layer (child_path d name))) (names_below layer d) in
@@ -215,26 +234,24 @@ module _ (work : CheckView) (each : All IsLayer work.stack.layers) (i : ℕ) (is
     directory-In : (d : PathNames) (f : Finding) → is_directory_at layer d ≡ true → In f (directory_findings work i d) → In f (flat_map (λ (v : View). v.seen.findings) views)
     directory-In d f is h =
         In-flat_map (λ (v : View). v.seen.findings) f (own_view (check_kids work) (check_out work) (directory_piece i d)) views (directory-view d is)
-        (subst (λ b. In f (cond b (record { findings = directory_findings work i d; place = cond (walk layer d).closed None (Some (walk layer d).next); moved = is_moved (mark_at layer d) }) no_seen).findings) (sym is) h)
+        (subst (λ b. In f (cond b (record { findings = directory_findings work i d; place = cond (not ordinary || (walk layer d).closed) None (Some (walk layer d).next); moved = ordinary && is_moved (mark_at layer d) }) no_seen).findings) (sym is) h)
 
     -- ---- doubles
 
-    abbrev seen_of : PathNames → Bool → Bool → CheckSeen
-    seen_of d b closed = cond b (record { findings = directory_findings work i d; place = cond closed None (Some (walk layer d).next); moved = is_moved (mark_at layer d) }) no_seen
+    abbrev seen_of : PathNames → Bool → Bool → Bool → CheckSeen
+    seen_of d b o closed = cond b (record { findings = directory_findings work i d; place = cond (not o || closed) None (Some (walk layer d).next); moved = o && is_moved (mark_at layer d) }) no_seen
 
-    out-place : (d q : PathNames) → (check_out work (directory_piece i d)).place ≡ Some q → (is_directory_at layer d ≡ true) × (((walk layer d).closed ≡ false) × (((walk layer d).next ≡ q) × ((check_out work (directory_piece i d)).moved ≡ is_moved (mark_at layer d))))
-    out-place d q is = by (is_directory_at layer d) refl (walk layer d).closed refl is
+    out-place : (d q : PathNames) → (check_out work (directory_piece i d)).place ≡ Some q → (is_directory_at layer d ≡ true) × (((walk layer d).closed ≡ false) × (((walk layer d).next ≡ q) × (((check_out work (directory_piece i d)).moved ≡ is_moved (mark_at layer d)) × (ordinary ≡ true))))
+    out-place d q is = by (is_directory_at layer d) refl ordinary refl (walk layer d).closed refl is
       where
-        by : (b : Bool) → is_directory_at layer d ≡ b → (c : Bool) → (walk layer d).closed ≡ c → (seen_of d b c).place ≡ Some q → (is_directory_at layer d ≡ true) × (((walk layer d).closed ≡ false) × (((walk layer d).next ≡ q) × ((seen_of d (is_directory_at layer d) (walk layer d).closed).moved ≡ is_moved (mark_at layer d))))
-        by false e c k is = let bad : None ≡ Some q = is in cc
-        by true e true k is = let bad : None ≡ Some q = is in cc
-        by true e false k is = (e, (k, (ap (λ (o : Option PathNames). elim o as (λ _. PathNames) [ Some p ↦ p | None ↦ q ]) is, ap (λ b. (seen_of d b (walk layer d).closed).moved) e)))
+        by : (b : Bool) → is_directory_at layer d ≡ b → (o : Bool) → ordinary ≡ o → (c : Bool) → (walk layer d).closed ≡ c → (seen_of d b o c).place ≡ Some q → (is_directory_at layer d ≡ true) × (((walk layer d).closed ≡ false) × (((walk layer d).next ≡ q) × (((seen_of d (is_directory_at layer d) ordinary (walk layer d).closed).moved ≡ is_moved (mark_at layer d)) × (ordinary ≡ true))))
+        by false e o h c k is = let bad : None ≡ Some q = is in cc
+        by true e false h c k is = let bad : None ≡ Some q = is in cc
+        by true e true h true k is = let bad : None ≡ Some q = is in cc
+        by true e true h false k is = (e, (k, (ap (λ (o : Option PathNames). elim o as (λ _. PathNames) [ Some p ↦ p | None ↦ q ]) is, ((λ j. (seen_of d (e j) (h j) (walk layer d).closed).moved), h))))
 
-    place-out : (d : PathNames) → is_directory_at layer d ≡ true → (walk layer d).closed ≡ false → ((check_out work (directory_piece i d)).place ≡ Some (walk layer d).next) × ((check_out work (directory_piece i d)).moved ≡ is_moved (mark_at layer d))
-    place-out d is opened = (
-      (λ j. (cond (is j) (record { findings = directory_findings work i d; place = cond (opened j) None (Some (walk layer d).next); moved = is_moved (mark_at layer d) }) no_seen).place),
-      ap (λ b. (cond b (record { findings = directory_findings work i d; place = cond (walk layer d).closed None (Some (walk layer d).next); moved = is_moved (mark_at layer d) }) no_seen).moved) is,
-    )
+    place-out : (d : PathNames) → is_directory_at layer d ≡ true → ordinary ≡ true → (walk layer d).closed ≡ false → ((check_out work (directory_piece i d)).place ≡ Some (walk layer d).next) × ((check_out work (directory_piece i d)).moved ≡ is_moved (mark_at layer d))
+    place-out d is own opened = ((λ j. (seen_of d (is j) (own j) (opened j)).place), (λ j. (seen_of d (is j) (own j) (walk layer d).closed).moved))
 
     entry-of : (d : PathNames) → is_directory_at layer d ≡ true → (inode : Inode) × ((entry_at layer d ≡ Some inode) × (is_directory inode ≡ true))
     entry-of d is = by (entry_at layer d) refl is
@@ -257,11 +274,11 @@ module _ (work : CheckView) (each : All IsLayer work.stack.layers) (i : ℕ) (is
         let is_before = before-path w.piece v.piece (view-space w k ∙ sym (view-space v h)) before in
         let there : goes_on_there layer d (e, earlier.0) ≡ true = (λ j. ((earlier.1.1 j && is_lt (is_before j)) && not (other.1.0 j)) && ((path_eq_decides (walk layer e).next (walk layer d).next).1 (other.1.1.0 ∙ sym mine.1.1.0)) j) in
         let any : list_any (goes_on_there layer d) layer ≡ true = some-any (goes_on_there layer d) (e, earlier.0) layer (entry-In layer e earlier.0 earlier.1.0) there in
-        let is_moved_there : is_moved (mark_at layer d) ≡ true = sym mine.1.1.1 ∙ (sym (ap (λ (s : CheckSeen). s.moved) (seen-at v h)) ∙ moved) in
-        let is : redirect_is_double layer d ≡ true = (λ j. (is_moved_there j && not (mine.1.0 j)) && any j) in
-        let f : In (finding i d RedirectDouble) found_here = In-flat_map (findings_at work.blobs i layer (layers_below work.stack i)) (finding i d RedirectDouble) (d, own.0) layer (entry-In layer d own.0 own.1.0)
-        (In-map (finding i d) RedirectDouble (filter (holds work.blobs layer (layers_below work.stack i) (d, own.0)) all_codes)
-        (In-filter (holds work.blobs layer (layers_below work.stack i) (d, own.0)) RedirectDouble all_codes double-listed is)) in
+        let is_moved_there : is_moved (mark_at layer d) ≡ true = sym mine.1.1.1.0 ∙ (sym (ap (λ (s : CheckSeen). s.moved) (seen-at v h)) ∙ moved) in
+        let is : stands (d, own.0) RedirectDouble ≡ true = (λ j. (cond (mine.1.1.1.1 j) any_code is_blob_fault) RedirectDouble && ((is_moved_there j && not (mine.1.0 j)) && any j)) in
+        let f : In (finding i d RedirectDouble) found_here = In-flat_map (findings_at sought work.blobs i layer (layers_below work.stack i)) (finding i d RedirectDouble) (d, own.0) layer (entry-In layer d own.0 own.1.0)
+        (In-map (finding i d) RedirectDouble (filter (stands (d, own.0)) all_codes)
+        (In-filter (stands (d, own.0)) RedirectDouble all_codes double-listed is)) in
         subst (λ (s : ℕ). In (finding s d RedirectDouble) found_here) (sym (view-space v h)) f
 
     doubles-sound : (f : Finding) → In f (doubles_after [] views) → In f found_here
@@ -272,8 +289,8 @@ module _ (work : CheckView) (each : All IsLayer work.stack.layers) (i : ℕ) (is
           | inr w ↦ subst (λ (g : Finding). In g found_here) (sym r.is) (double-found r.view w.0 r.place r.there w.1.0 r.moved r.goes_on w.1.1.0 w.1.1.1)
         ]
 
-    doubles-whole : (d : PathNames) → is_directory_at layer d ≡ true → redirect_is_double layer d ≡ true → In (finding i d RedirectDouble) (doubles_after [] views)
-    doubles-whole d is double =
+    doubles-whole : (d : PathNames) → is_directory_at layer d ≡ true → ordinary ≡ true → redirect_is_double layer d ≡ true → In (finding i d RedirectDouble) (doubles_after [] views)
+    doubles-whole d is own double =
         let one = both {a = is_moved (mark_at layer d) && not (walk layer d).closed} {b = list_any (goes_on_there layer d) layer} double in
         let two = both {a = is_moved (mark_at layer d)} {b = not (walk layer d).closed} one.0 in
         let other = any-some (goes_on_there layer d) layer one.1 in
@@ -283,8 +300,8 @@ module _ (work : CheckView) (each : All IsLayer work.stack.layers) (i : ℕ) (is
         let c = both {a = is_directory other.0.1} {b = is_lt (path_cmp e d)} b.0 in
         let e_here = In-entry layer e other.0.1 (layer-ascends work each i) other.1.0 in
         let e_is : is_directory_at layer e ≡ true = ap (λ (o : Option Inode). elim o as (λ _. Bool) [ Some inode ↦ is_directory inode | None ↦ false ]) e_here ∙ c.0 in
-        let mine = place-out d is (not_true (walk layer d).closed two.1) in
-        let theirs = place-out e e_is (not_true (walk layer e).closed b.1) in
+        let mine = place-out d is own (not_true (walk layer d).closed two.1) in
+        let theirs = place-out e e_is own (not_true (walk layer e).closed b.1) in
         let v = own_view (check_kids work) (check_out work) (directory_piece i d) in
         let w = own_view (check_kids work) (check_out work) (directory_piece i e) in
         let before : IsBefore (directory_piece i e) (directory_piece i d) = ap (λ o. ordering_then o (path_cmp e d)) (tied_itself nat_cmp_total i) ∙ is_lt-Less (path_cmp e d) c.1 in
@@ -314,23 +331,23 @@ module _ (work : CheckView) (each : All IsLayer work.stack.layers) (i : ℕ) (is
 
     pub along-whole : (f : Finding) → In f found_here → In f (found_along views)
     along-whole f h =
-        let e = In-flat_map-cases (findings_at work.blobs i layer (layers_below work.stack i)) f layer h in
+        let e = In-flat_map-cases (findings_at sought work.blobs i layer (layers_below work.stack i)) f layer h in
         let path = e.0.0 in
         let inode = e.0.1 in
-        let code = In-map-cases (finding i path) f (filter (holds work.blobs layer (layers_below work.stack i) e.0) all_codes) e.2 in
-        let passes = In-filter-cases (holds work.blobs layer (layers_below work.stack i) e.0) code.0 all_codes code.1.0 in
+        let code = In-map-cases (finding i path) f (filter (stands e.0) all_codes) e.2 in
+        let passes = In-filter-cases (stands e.0) code.0 all_codes code.1.0 in
         let here = In-entry layer path inode (layer-ascends work each i) e.1 in
         subst (λ (g : Finding). In g (found_along views)) (sym code.1.1) (by path inode code.0 e.1 here passes.0 passes.1 (is_double code.0) refl (is_directory_at layer path) refl)
       where
-        by : (path : PathNames) (inode : Inode) (code : Code) → In (path, inode) layer → entry_at layer path ≡ Some inode → In code all_codes → holds work.blobs layer (layers_below work.stack i) (path, inode) code ≡ true → (b : Bool) → is_double code ≡ b → (d : Bool) → is_directory_at layer path ≡ d → In (finding i path code) (found_along views)
+        by : (path : PathNames) (inode : Inode) (code : Code) → In (path, inode) layer → entry_at layer path ≡ Some inode → In code all_codes → stands (path, inode) code ≡ true → (b : Bool) → is_double code ≡ b → (d : Bool) → is_directory_at layer path ≡ d → In (finding i path code) (found_along views)
         by path inode code there here listed is true e true dir =
             let same = double-code code e in
             subst (λ (c : Code). In (finding i path c) (found_along views)) (sym same)
             (In-left (finding i path RedirectDouble) (doubles_after [] views) (flat_map (λ (v : View). v.seen.findings) views)
-            (doubles-whole path dir (subst (λ (c : Code). holds work.blobs layer (layers_below work.stack i) (path, inode) c ≡ true) same is)))
+            (let parts = both {a = sought RedirectDouble} {b = redirect_is_double layer path} (subst (λ (c : Code). stands (path, inode) c ≡ true) same is) in doubles-whole path dir (double-sought parts.0) parts.1))
         by path inode code there here listed is true e false dir =
             let same = double-code code e in
-            let first = both {a = is_moved (mark_at layer path) && not (walk layer path).closed} {b = list_any (goes_on_there layer path) layer} (subst (λ (c : Code). holds work.blobs layer (layers_below work.stack i) (path, inode) c ≡ true) same is) in
+            let first = both {a = is_moved (mark_at layer path) && not (walk layer path).closed} {b = list_any (goes_on_there layer path) layer} (both {a = sought RedirectDouble} {b = redirect_is_double layer path} (subst (λ (c : Code). stands (path, inode) c ≡ true) same is)).1 in
             let moved = both {a = is_moved (mark_at layer path)} {b = not (walk layer path).closed} first.0 in
             let bad : true ≡ false = sym (moved-directory layer path inode here moved.0) ∙ dir in absurd (cc)
         by path inode code there here listed is false e true dir =

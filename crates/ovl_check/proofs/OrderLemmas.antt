@@ -1,6 +1,6 @@
 -- The order of findings: by layer, then by path, then by code.
-use Rattle.std.proofs.Common.{◌≡◌, ℕ, ◌+◌, ◌<◌, ◌≤◌, inl, inr, Bool, true, List, [], ◌∷◌, map, refl, sym, ap, ◌∙◌, subst, arith}
-use Rattle.std.specs.Prelude.{filter}
+use Rattle.std.proofs.Common.{◌≡◌, ℕ, ◌+◌, ◌<◌, ◌≤◌, inl, inr, Bool, true, List, [], ◌∷◌, ◌++◌, map, refl, sym, ap, ◌∙◌, subst, arith}
+use Rattle.std.specs.Prelude.{◌&&◌, filter}
 use Rattle.std.specs.List.{All}
 use Rattle.std.specs.Ordering.{nat_cmp, ordering_then, ordering_reverse, MatchOrdering, eq_by_cmp}
 use Rattle.std.specs.Cmp.{IsTotalOrder, IsEquivalence}
@@ -10,7 +10,7 @@ use Rattle.std.specs.declared.cmp.Ordering.{Ordering}
 use Rattle.std.specs.declared.cmp.Ordering.TheVariants.{Less, Equal, Greater}
 use Rattle.std.proofs.lemmas.Cmp.{tied_itself, nat_cmp_total, ranked}
 use Rattle.ovl_names.specs.Paths.{PathNames, path_cmp}
-use Rattle.ovl_manifest.specs.Layers.{Entries, IsLayer, entry_cmp}
+use Rattle.ovl_manifest.specs.Layers.{Entries, Entry, IsLayer, entry_cmp}
 use Rattle.ovl_lookup.specs.Stacks.{StackView}
 use Rattle.ovl_lookup.proofs.ChildLemmas.{all-first, all-rest}
 use Rattle.ovl_board.proofs.Members.{In, Rises, Rises-append, Rises-flat_map, In-cases, In-map-cases, In-flat_map-cases, Rises-filter}
@@ -23,10 +23,10 @@ use Rattle.ovl_check.specs.contracts.findings.FindingOrd.TheImpl.Laws as finding
 use Rattle.ovl_check.specs.contracts.findings.CodeOrd.TheImpl.Laws as code_laws
 use Rattle.ovl_check.specs.contracts.findings.FindingPartialEq.TheImpl as finding_partial_eq
 use Rattle.ovl_check.specs.contracts.findings.FindingEq.TheImpl.Laws as finding_eq_laws
-use Rattle.ovl_check.specs.Codes.{all_codes}
+use Rattle.ovl_check.specs.Codes.{all_codes, is_blob_fault}
 use Rattle.ovl_check.specs.Blobs.{BlobView}
 use Rattle.ovl_check.specs.Conditions.{holds}
-use Rattle.ovl_check.specs.Findings.{finding, findings_at, findings_in, findings_from}
+use Rattle.ovl_check.specs.Findings.{finding, any_code, findings_at, findings_in, data_findings_from, findings_from}
 use Rattle.ovl_check.proofs.Ascent.{Rises-ascends}
 use Rattle.ovl_check.proofs.DoubleLemmas.{same_path, equal}
 
@@ -109,48 +109,73 @@ codes-map i path (code ∷ codes) up = (
   codes-map i path codes up.1,
 )
 
-module _ (blobs : List BlobView) where
-  in-rise : (i : ℕ) (layer : Entries) (below : StackView) → Rises (λ a b. entry_cmp a b ≡ Less) layer → Rises FindingBefore (findings_in blobs i layer below)
+module _ (sought : Code → Bool) (blobs : List BlobView) where
+  abbrev stands : Entries → StackView → Entry → Code → Bool
+  stands layer below entry code = sought code && holds blobs layer below entry code
+
+  in-rise : (i : ℕ) (layer : Entries) (below : StackView) → Rises (λ a b. entry_cmp a b ≡ Less) layer → Rises FindingBefore (findings_in sought blobs i layer below)
   in-rise i layer below up =
-      Rises-flat_map (findings_at blobs i layer below) FindingBefore layer
-      (λ e h. codes-map i e.0 (filter (holds blobs layer below e) all_codes) (Rises-filter (λ a b. code_cmp a b ≡ Less) (holds blobs layer below e) all_codes codes-rise))
-      (Rises-weaker (λ a b. entry_cmp a b ≡ Less) (λ a b. (y z : Finding) → In y (findings_at blobs i layer below a) → In z (findings_at blobs i layer below b) → FindingBefore y z)
+      Rises-flat_map (findings_at sought blobs i layer below) FindingBefore layer
+      (λ e h. codes-map i e.0 (filter (stands layer below e) all_codes) (Rises-filter (λ a b. code_cmp a b ≡ Less) (stands layer below e) all_codes codes-rise))
+      (Rises-weaker (λ a b. entry_cmp a b ≡ Less) (λ a b. (y z : Finding) → In y (findings_at sought blobs i layer below a) → In z (findings_at sought blobs i layer below b) → FindingBefore y z)
       (λ a b less y z h k.
-      let one = In-map-cases (finding i a.0) y (filter (holds blobs layer below a) all_codes) h in
-      let other = In-map-cases (finding i b.0) z (filter (holds blobs layer below b) all_codes) k in
+      let one = In-map-cases (finding i a.0) y (filter (stands layer below a) all_codes) h in
+      let other = In-map-cases (finding i b.0) z (filter (stands layer below b) all_codes) k in
       subst (λ x. FindingBefore x z) (sym one.1.1) (subst (FindingBefore (finding i a.0 one.0)) (sym other.1.1)
       (λ j. ordering_then (same_number i j) (ordering_then (less j) (code_cmp one.0 other.0)))))
       layer up)
 
-  in-layer : (i : ℕ) (layer : Entries) (below : StackView) (f : Finding) → In f (findings_in blobs i layer below) → f.layer ≡ i
+  in-layer : (i : ℕ) (layer : Entries) (below : StackView) (f : Finding) → In f (findings_in sought blobs i layer below) → f.layer ≡ i
   in-layer i layer below f h =
-      let e = In-flat_map-cases (findings_at blobs i layer below) f layer h in
-      let one = In-map-cases (finding i e.0.0) f (filter (holds blobs layer below e.0) all_codes) e.2 in
+      let e = In-flat_map-cases (findings_at sought blobs i layer below) f layer h in
+      let one = In-map-cases (finding i e.0.0) f (filter (stands layer below e.0) all_codes) e.2 in
       ap (λ (x : Finding). x.layer) one.1.1
 
-  from-layer : (stack : StackView) (i : ℕ) (layers : List Entries) (f : Finding) → In f (findings_from blobs stack i layers) → i ≤ f.layer
-  from-layer stack i [] f h = absurd h
-  from-layer stack i (layer ∷ layers) f h = elim (In-cases f (findings_in blobs i layer (record stack { layers = layers })) (findings_from blobs stack (i + 1) layers) h) [
-    | inl own ↦ omega (arith, in-layer i layer (record stack { layers = layers }) f own)
-    | inr more ↦ omega (arith, from-layer stack (i + 1) layers f more)
+less_number : (m n : ℕ) → m < n → nat_cmp m n ≡ Less
+less_number m n lt = by (nat_cmp m n) refl (ranked m n (nat_cmp m n) refl)
+  where
+    by : (o : Ordering) → nat_cmp m n ≡ o → MatchOrdering o (m < n) (m ≡ n) (n < m) → o ≡ Less
+    by Less e r = refl
+    by Equal e r = absurd (omega (arith, r, lt))
+    by Greater e r = absurd (omega (arith, r, lt))
+
+-- the findings of a layer before those of later ones
+joined : (i : ℕ) (own more : List Finding) → Rises FindingBefore own → Rises FindingBefore more → ((f : Finding) → In f own → f.layer ≡ i) → ((f : Finding) → In f more → i + 1 ≤ f.layer) → Rises FindingBefore (own ++ more)
+joined i own more up later here there =
+    Rises-append FindingBefore own more up later
+    (λ f g h k. ap (λ o. ordering_then o (ordering_then (path_cmp f.path g.path) (code_cmp f.code g.code)))
+    (less_number f.layer g.layer (omega (arith, here f h, there g k))))
+
+module _ (blobs : List BlobView) (stack : StackView) where
+  from-deep : (i : ℕ) (layers : List Entries) (f : Finding) → In f (data_findings_from blobs stack i layers) → i ≤ f.layer
+  from-deep i [] f h = absurd h
+  from-deep i (layer ∷ layers) f h = elim (In-cases f (findings_in is_blob_fault blobs i layer (record stack { layers = [] })) (data_findings_from blobs stack (i + 1) layers) h) [
+    | inl own ↦ omega (arith, in-layer is_blob_fault blobs i layer (record stack { layers = [] }) f own)
+    | inr more ↦ omega (arith, from-deep (i + 1) layers f more)
   ]
 
-  less_number : (m n : ℕ) → m < n → nat_cmp m n ≡ Less
-  less_number m n lt = by (nat_cmp m n) refl (ranked m n (nat_cmp m n) refl)
-    where
-      by : (o : Ordering) → nat_cmp m n ≡ o → MatchOrdering o (m < n) (m ≡ n) (n < m) → o ≡ Less
-      by Less e r = refl
-      by Equal e r = absurd (omega (arith, r, lt))
-      by Greater e r = absurd (omega (arith, r, lt))
+  from-layer : (i : ℕ) (layers : List Entries) (f : Finding) → In f (findings_from blobs stack i layers) → i ≤ f.layer
+  from-layer i [] f h = from-deep i stack.data_only f h
+  from-layer i (layer ∷ layers) f h = elim (In-cases f (findings_in any_code blobs i layer (record stack { layers = layers })) (findings_from blobs stack (i + 1) layers) h) [
+    | inl own ↦ omega (arith, in-layer any_code blobs i layer (record stack { layers = layers }) f own)
+    | inr more ↦ omega (arith, from-layer (i + 1) layers f more)
+  ]
 
-  pub from-rise : (stack : StackView) (i : ℕ) (layers : List Entries) → All IsLayer layers → Rises FindingBefore (findings_from blobs stack i layers)
-  from-rise stack i [] each = tt
-  from-rise stack i (layer ∷ layers) each =
-      Rises-append FindingBefore (findings_in blobs i layer (record stack { layers = layers })) (findings_from blobs stack (i + 1) layers)
-      (in-rise i layer (record stack { layers = layers }) (Rises-ascends entry_cmp layer (all-first IsLayer layer layers each).in_order))
-      (from-rise stack (i + 1) layers (all-rest IsLayer layer layers each))
-      (λ f g h k. ap (λ o. ordering_then o (ordering_then (path_cmp f.path g.path) (code_cmp f.code g.code)))
-      (less_number f.layer g.layer (omega (arith, in-layer i layer (record stack { layers = layers }) f h, from-layer stack (i + 1) layers g k))))
+  deep-rise : (i : ℕ) (layers : List Entries) → All IsLayer layers → Rises FindingBefore (data_findings_from blobs stack i layers)
+  deep-rise i [] each = tt
+  deep-rise i (layer ∷ layers) each =
+      joined i (findings_in is_blob_fault blobs i layer (record stack { layers = [] })) (data_findings_from blobs stack (i + 1) layers)
+      (in-rise is_blob_fault blobs i layer (record stack { layers = [] }) (Rises-ascends entry_cmp layer (all-first IsLayer layer layers each).in_order))
+      (deep-rise (i + 1) layers (all-rest IsLayer layer layers each))
+      (in-layer is_blob_fault blobs i layer (record stack { layers = [] })) (from-deep (i + 1) layers)
+
+  pub from-rise : (i : ℕ) (layers : List Entries) → All IsLayer layers → All IsLayer stack.data_only → Rises FindingBefore (findings_from blobs stack i layers)
+  from-rise i [] each deep = deep-rise i stack.data_only deep
+  from-rise i (layer ∷ layers) each deep =
+      joined i (findings_in any_code blobs i layer (record stack { layers = layers })) (findings_from blobs stack (i + 1) layers)
+      (in-rise any_code blobs i layer (record stack { layers = layers }) (Rises-ascends entry_cmp layer (all-first IsLayer layer layers each).in_order))
+      (from-rise (i + 1) layers (all-rest IsLayer layer layers each) deep)
+      (in-layer any_code blobs i layer (record stack { layers = layers })) (from-layer (i + 1) layers)
 
 -- ---- the test of equality goes by the order
 

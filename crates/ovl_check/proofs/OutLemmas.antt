@@ -1,6 +1,6 @@
 -- The output of a directory, by its parts.
 use Rattle.std.proofs.Common.{◌≡◌, ℕ, Bool, true, false, cond, Option, Some, None, List, [], ◌++◌, map, refl, sym, ap, ◌∙◌}
-use Rattle.std.specs.Prelude.{filter}
+use Rattle.std.specs.Prelude.{not, ◌||◌, ◌&&◌, filter}
 use Rattle.std.specs.List.{flat_map}
 use Rattle.ovl_names.specs.Names.{PathName}
 use Rattle.ovl_names.specs.Paths.{PathNames, child_path}
@@ -10,7 +10,7 @@ use Rattle.ovl_lookup.specs.Sound.{is_moved}
 use Rattle.ovl_board.specs.declared.pieces.Piece.{Piece}
 use Rattle.ovl_check.specs.declared.findings.Finding.{Finding}
 use Rattle.ovl_check.specs.declared.directories.Directory.{Directory}
-use Rattle.ovl_check.specs.Checks.{CheckView, layer_at, directory_piece, check_kids, findings_at_path, directory_findings, check_out, no_seen}
+use Rattle.ovl_check.specs.Checks.{CheckView, is_ordinary, layer_at, directory_piece, check_kids, findings_at_path, directory_findings, check_out, no_seen}
 use Rattle.ovl_check.specs.Facts.{IsGathered, child_seen, found_at_child}
 use Rattle.ovl_check.proofs.HeldLemmas.{files-children, names_below-none}
 
@@ -20,15 +20,15 @@ module _ (work : CheckView) (piece : Piece) where
       → found ≡ directory_findings work piece.space piece.dir
       → next ≡ (walk (layer_at work.stack piece.space) piece.dir).next
       → closed ≡ (walk (layer_at work.stack piece.space) piece.dir).closed
-      → place ≡ cond closed None (Some next)
-      → moved ≡ is_moved (mark_at (layer_at work.stack piece.space) piece.dir)
+      → place ≡ cond (not (is_ordinary work.stack piece.space) || closed) None (Some next)
+      → moved ≡ (is_ordinary work.stack piece.space && is_moved (mark_at (layer_at work.stack piece.space) piece.dir))
       → record { findings = found; place = place; moved = moved } ≡ check_out work piece
   seen-same found next closed place moved is f n c p m =
-      (λ j. record { findings = f j; place = (p ∙ (λ i. cond (c i) None (Some (n i)))) j; moved = m j })
+      (λ j. record { findings = f j; place = (p ∙ (λ i. cond (not (is_ordinary work.stack piece.space) || c i) None (Some (n i)))) j; moved = m j })
       ∙ sym (ap (λ b. cond b (record {
         findings = directory_findings work piece.space piece.dir;
-        place = cond (walk (layer_at work.stack piece.space) piece.dir).closed None (Some (walk (layer_at work.stack piece.space) piece.dir).next);
-        moved = is_moved (mark_at (layer_at work.stack piece.space) piece.dir);
+        place = cond (not (is_ordinary work.stack piece.space) || (walk (layer_at work.stack piece.space) piece.dir).closed) None (Some (walk (layer_at work.stack piece.space) piece.dir).next);
+        moved = is_ordinary work.stack piece.space && is_moved (mark_at (layer_at work.stack piece.space) piece.dir);
       }) no_seen) is)
 
 -- all that is found at a directory, and at what it holds

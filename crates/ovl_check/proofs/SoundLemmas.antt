@@ -10,10 +10,10 @@ use Rattle.ovl_lookup.specs.Sound.{redirect_is_malformed, redirect_is_lost, redi
 use Rattle.ovl_check.specs.declared.findings.Code.{Code}
 use Rattle.ovl_check.specs.declared.findings.Code.TheVariants.{RedirectForm, RedirectLost, RedirectKind, RedirectDouble, RedirectOpen, DataMissing, DataSize, BlobMissing, BlobSize, BlobDigest, OrphanWhiteout, WhiteoutInOpaque, WhiteoutUnmarked, ImpureMissing, MarkIgnored}
 use Rattle.ovl_check.specs.declared.findings.Finding.{Finding}
-use Rattle.ovl_check.specs.Codes.{all_codes, is_layer_fault}
+use Rattle.ovl_check.specs.Codes.{all_codes, is_layer_fault, is_blob_fault}
 use Rattle.ovl_check.specs.Blobs.{BlobView}
 use Rattle.ovl_check.specs.Conditions.{holds}
-use Rattle.ovl_check.specs.Findings.{finding, findings_at, findings_in, findings_from}
+use Rattle.ovl_check.specs.Findings.{finding, any_code, findings_at, findings_in, data_findings_from, findings_from}
 use Rattle.ovl_check.specs.Laws.{FindingsTellSoundness}
 use Rattle.ovl_check.proofs.ListFacts.{any-map}
 
@@ -87,7 +87,7 @@ module _ (blobs : List BlobView) (layer : Entries) (below : StackView) (entry : 
       (redirect_is_malformed layer entry.0) (redirect_is_lost layer below entry.0) (redirect_is_of_wrong_kind layer below entry.0) (redirect_is_double layer entry.0)
       (redirect_is_open layer entry.0) (data_is_missing layer below entry.0 entry.1) (data_is_of_other_size layer below entry.0 entry.1)
 
-  at_entry : (i : ℕ) → list_any tells (findings_at blobs i layer below entry) ≡ is_faulty layer below entry
+  at_entry : (i : ℕ) → list_any tells (findings_at any_code blobs i layer below entry) ≡ is_faulty layer below entry
   at_entry i = by_codes (holds blobs layer below entry) i entry.0 ∙ conditions
 
 -- findings of entries, where those of each tell whether it is faulty
@@ -102,14 +102,27 @@ over_entries found faulty one (entry ∷ entries) =
     ∙ ap (λ b. not (faulty entry) && b) (sym (over_entries found faulty one entries))
     )
 
+-- findings of blobs tell nothing
+silent : (found : Entry → List Finding) → ((entry : Entry) → list_any tells (found entry) ≡ false) → (entries : Entries) → list_any tells (flat_map found entries) ≡ false
+silent found one [] = refl
+silent found one (entry ∷ entries) = list_any-append tells (found entry) (flat_map found entries) ∙ (λ j. one entry j || silent found one entries j)
+
+data_silent : (blobs : List BlobView) (stack : StackView) (i : ℕ) (layers : List Entries) → list_any tells (data_findings_from blobs stack i layers) ≡ false
+data_silent blobs stack i [] = refl
+data_silent blobs stack i (layer ∷ layers) =
+    let below : StackView = record stack { layers = [] } in
+    list_any-append tells (findings_in is_blob_fault blobs i layer below) (data_findings_from blobs stack (i + 1) layers)
+    ∙ (λ j. silent (findings_at is_blob_fault blobs i layer below) (λ entry. by_codes (λ code. is_blob_fault code && holds blobs layer below entry code) i entry.0) layer j
+    || data_silent blobs stack (i + 1) layers j)
+
 from_layers : (blobs : List BlobView) (stack : StackView) (i : ℕ) (layers : List Entries) → are_sound stack layers ≡ not (list_any tells (findings_from blobs stack i layers))
-from_layers blobs stack i [] = refl
+from_layers blobs stack i [] = sym (ap not (data_silent blobs stack i stack.data_only))
 from_layers blobs stack i (layer ∷ layers) =
     let below : StackView = record stack { layers = layers } in
     sym (
-    ap not (list_any-append tells (findings_in blobs i layer below) (findings_from blobs stack (i + 1) layers))
-    ∙ not-or (list_any tells (findings_in blobs i layer below)) (list_any tells (findings_from blobs stack (i + 1) layers))
-    ∙ ap (λ b. b && not (list_any tells (findings_from blobs stack (i + 1) layers))) (sym (over_entries (findings_at blobs i layer below) (is_faulty layer below) (λ entry. at_entry blobs layer below entry i) layer))
+    ap not (list_any-append tells (findings_in any_code blobs i layer below) (findings_from blobs stack (i + 1) layers))
+    ∙ not-or (list_any tells (findings_in any_code blobs i layer below)) (list_any tells (findings_from blobs stack (i + 1) layers))
+    ∙ ap (λ b. b && not (list_any tells (findings_from blobs stack (i + 1) layers))) (sym (over_entries (findings_at any_code blobs i layer below) (is_faulty layer below) (λ entry. at_entry blobs layer below entry i) layer))
     ∙ ap (λ b. list_all (λ entry. not (is_faulty layer below entry)) layer && b) (sym (from_layers blobs stack (i + 1) layers))
     )
 

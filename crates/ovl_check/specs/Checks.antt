@@ -4,7 +4,7 @@ use Rattle.std.proofs.Math.Bool.{Bool-set}
 use native.Mathlib.Nat.{ℕ_set}
 use Rattle.std.specs.Coded.{Coded-set, coded_option, coded_list, coded_ℕ}
 use Rattle.ovl_check.specs.contracts.findings.Code as code_type
-use Rattle.std.specs.Prelude.{ℕ, ◌+◌, Bool, false, not, ◌&&◌, Option, Some, None, List, [], ◌++◌, if◌then◌else◌, map, filter, slice_get, unwrap_or}
+use Rattle.std.specs.Prelude.{ℕ, ◌+◌, Bool, false, not, ◌&&◌, ◌||◌, length, min, nat_lt, Option, Some, None, List, [], ◌++◌, if◌then◌else◌, map, filter, slice_get, unwrap_or}
 use Rattle.std.specs.List.{flat_map}
 use Rattle.ovl_names.specs.Paths.{PathNames, child_path}
 use Rattle.ovl_manifest.specs.Layers.{Entries, Entry, entry_at, is_directory_at, names_below}
@@ -12,16 +12,16 @@ use Rattle.ovl_inode.specs.declared.inodes.Kind.TheVariants.{File}
 use Rattle.ovl_lookup.specs.declared.looks.Look.{Look}
 use Rattle.ovl_lookup.specs.declared.looks.Look.TheVariants.{Shown}
 use Rattle.ovl_lookup.specs.Walk.{mark_at, walk}
-use Rattle.ovl_lookup.specs.Stacks.{StackView, from_layer}
+use Rattle.ovl_lookup.specs.Stacks.{StackView, all_layers, from_layer}
 use Rattle.ovl_lookup.specs.Sound.{is_moved}
 use Rattle.ovl_board.specs.declared.pieces.Piece.{Piece}
 use Rattle.ovl_check.specs.declared.findings.Code.{Code}
 use Rattle.ovl_check.specs.declared.findings.Finding.{Finding}
 use Rattle.ovl_check.specs.declared.subjects.CheckOut.{CheckOut}
-use Rattle.ovl_check.specs.Codes.{all_codes, is_double}
+use Rattle.ovl_check.specs.Codes.{all_codes, is_double, is_blob_fault}
 use Rattle.ovl_check.specs.Blobs.{BlobView}
 use Rattle.ovl_check.specs.Conditions.{holds}
-use Rattle.ovl_check.specs.Findings.{finding}
+use Rattle.ovl_check.specs.Findings.{finding, any_code}
 
 -- what is checked: a stack and its blobs
 pub record CheckView : Type 0 where
@@ -37,12 +37,16 @@ pub record CheckSeen : Type 0 where
 abbrev pub check_seen : CheckOut → CheckSeen
 check_seen out = record { findings = out.findings.items; place = out.place; moved = out.moved }
 
--- layer `i` of a stack, and the layers below it
+-- layer `i` of a stack, which may be data-only, and the layers below it
 abbrev pub layer_at : StackView → ℕ → Entries
-layer_at stack i = unwrap_or (slice_get stack.layers i) []
+layer_at stack i = unwrap_or (slice_get (all_layers stack) i) []
+
+-- below a data-only layer there is none
+abbrev pub first_below : StackView → ℕ → ℕ
+first_below stack i = min (i + 1) (length stack.layers)
 
 abbrev pub layers_below : StackView → ℕ → StackView
-layers_below stack i = from_layer (i + 1) stack
+layers_below stack i = from_layer (first_below stack i) stack
 
 -- the size of the file that is shown
 abbrev pub size_shown : Look → Option ℕ
@@ -60,9 +64,18 @@ check_kids work piece =
     map (λ name. directory_piece piece.space (child_path piece.dir name))
     (filter (λ name. is_directory_at layer (child_path piece.dir name)) (names_below layer piece.dir))
 
--- the condition of a code other than redirect-double holds at an entry of layer `i`
+-- layer `i` isn't data-only, and the codes that are sought in it
+abbrev pub is_ordinary : StackView → ℕ → Bool
+is_ordinary stack i = nat_lt i (length stack.layers)
+
+abbrev pub sought_in : StackView → ℕ → Code → Bool
+sought_in stack i = if is_ordinary stack i then any_code else is_blob_fault
+
+-- a code other than redirect-double is sought in layer `i`, and its condition holds at an entry of that
 abbrev pub holds_alone : CheckView → ℕ → Entry → Code → Bool
-holds_alone work i entry code = not (is_double code) && holds work.blobs (layer_at work.stack i) (layers_below work.stack i) entry code
+holds_alone work i entry code =
+    not (is_double code)
+    && (sought_in work.stack i code && holds work.blobs (layer_at work.stack i) (layers_below work.stack i) entry code)
 
 -- the findings at an entry, redirect-double apart
 abbrev pub findings_alone : CheckView → ℕ → Entry → List Finding
@@ -91,8 +104,8 @@ check_out work piece =
     if is_directory_at layer piece.dir
     then record {
       findings = directory_findings work piece.space piece.dir;
-      place = (if (walk layer piece.dir).closed then None else Some (walk layer piece.dir).next);
-      moved = is_moved (mark_at layer piece.dir);
+      place = (if not (is_ordinary work.stack piece.space) || (walk layer piece.dir).closed then None else Some (walk layer piece.dir).next);
+      moved = is_ordinary work.stack piece.space && is_moved (mark_at layer piece.dir);
     }
     else no_seen
 

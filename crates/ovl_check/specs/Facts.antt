@@ -18,7 +18,7 @@ use Rattle.ovl_lookup.specs.declared.steps.Step.{Step}
 use Rattle.ovl_lookup.specs.Walk.{mark_at, walk, natural_path}
 use Rattle.ovl_lookup.specs.Stacks.{StackView}
 use Rattle.ovl_lookup.specs.Trace.{things_found}
-use Rattle.ovl_lookup.specs.Merged.{look, is_nothing, is_shown_directory, shows_directory}
+use Rattle.ovl_lookup.specs.Merged.{look, is_nothing, is_shown_directory, shows_directory, data_at_place}
 use Rattle.ovl_lookup.specs.declared.views.DirView.{DirView}
 use Rattle.ovl_lookup.specs.DirViews.{IsViewOf}
 use Rattle.ovl_lookup.specs.Passes.{data_below}
@@ -40,7 +40,7 @@ use Rattle.ovl_check.specs.declared.checks.EntryPlace.TheVariants.{At, In}
 use Rattle.ovl_check.specs.declared.directories.Child.{Child}
 use Rattle.ovl_check.specs.declared.directories.Directory.{Directory}
 use Rattle.ovl_check.specs.Blobs.{BlobView, is_wrong as is_wrong_blob}
-use Rattle.ovl_check.specs.Checks.{CheckView, layer_at, layers_below, findings_alone}
+use Rattle.ovl_check.specs.Checks.{CheckView, layer_at, first_below, layers_below, findings_alone}
 use Rattle.ovl_check.specs.Conditions.{find_blob, has_origin_at, is_opaque, is_any_meta, is_in_opaque as is_in_opaque_at, is_in_marked, metacopy_is_ignored, whiteout_is_ignored}
 
 -- ---- a directory of a layer, gathered once for all that is in it
@@ -85,7 +85,7 @@ asks _ = false
 -- the view of the layers below layer `i` at a path, and none where they show no directory there
 abbrev pub IsBelow : StackView → ℕ → PathNames → Option DirView → Type 0
 IsBelow stack i next below =
-    MatchOption below (shows_directory (layers_below stack i) next ≡ false) (λ view. IsViewOf stack (i + 1) next view)
+    MatchOption below (shows_directory (layers_below stack i) next ≡ false) (λ view. IsViewOf stack (first_below stack i) next view)
 
 -- a directory has that view where its walk goes on, if that is open and something in it asks
 abbrev pub IsBelowOf : StackView → ℕ → Directory → Type 0
@@ -103,13 +103,14 @@ content_of found = if is_nothing found then Nothing else if is_shown_directory f
 abbrev pub old_place : Entries → StackView → PathNames → Bool → OldPlace
 old_place layer below next closed = if closed then Hidden else Open (content_of (look below next)) (is_seen_there layer next)
 
--- the size of the data that a stack has at a path, below metacopy files
-abbrev pub data_size : StackView → PathNames → Option ℕ
-data_size below path = option_map size_of (data_below (things_found below.layers path))
+-- the size of the data that a stack has at a path, below a metacopy file that says where data-only layers have it
+abbrev pub data_size : StackView → Option PathNames → PathNames → Option ℕ
+data_size below place path = option_map size_of (data_below below.data_only place (things_found below.layers path))
 
 -- the same where a walk goes on
-abbrev pub data_size_on : StackView → Step → Option ℕ
-data_size_on below step = if step.closed then None else data_size below step.next
+abbrev pub data_size_on : StackView → Option PathNames → Step → Option ℕ
+data_size_on below place step =
+    if step.closed then option_map size_of (data_at_place below.data_only place) else data_size below place step.next
 
 -- a whiteout in this directory
 abbrev pub whiteout_in : StackView → Directory → PathName → KindFacts

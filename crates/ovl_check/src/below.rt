@@ -1,11 +1,13 @@
-ghost use Rattle.std.specs.Prelude.{◌≡◌, ◌<◌, true, false, length, IfOk};
+ghost use Rattle.std.specs.Prelude.{◌≡◌, ◌<◌, true, false, None, length, IfOk};
 ghost use Rattle.std.specs.List.{list_any};
+ghost use Rattle.ovl_lookup.specs.Stacks.{all_layers};
 ghost use Rattle.ovl_names.specs.Paths.{child_path};
 ghost use Rattle.ovl_lookup.specs.Merged.{shows};
 ghost use Rattle.ovl_check.specs.Checks.{layers_below};
 ghost use Rattle.ovl_check.specs.Facts.{IsBelow, asks as asks_test, data_size};
 
 use crate::directories::{Child, Directory};
+use crate::places::first_below;
 use ovl_inode::{Mark, file_size};
 use ovl_lookup::{DirView, Stack, Trail};
 use ovl_names::Name;
@@ -21,7 +23,7 @@ pub(crate) fn below_children(
     closed: bool,
     children: &[Child<'_>],
 ) -> Result<Option<DirView>, AllocError>
-    requires { i < length stack.now.layers }
+    requires { i < length (all_layers stack.now) }
     ensures { IfOk result (λ below. closed ≡ false → list_any (λ child. asks_test child.mark.now) children.now ≡ true
         → IsBelow stack.now i next.now below) }
 {
@@ -31,10 +33,8 @@ pub(crate) fn below_children(
     if !any_asks(children) {
         return Ok(None);
     }
-    // A stack has at most 128 layers.
-    let _layers = stack.layers();
     let next = next.path(alloc)?;
-    DirView::of(alloc, stack, i + 1, &next)
+    DirView::of(alloc, stack, first_below(stack, i), &next)
 }
 
 fn any_asks(children: &[Child<'_>]) -> bool
@@ -56,14 +56,14 @@ pub(crate) fn show_in(stack: &Stack, _i: usize, directory: &Directory<'_, '_>, n
     ensures { result ≡ shows (layers_below stack.now _i) (child_path directory.now.next name.now) }
 {
     // Each of them is a layer.
-    let _layers = stack.layers();
+    let _layers = stack.ordinary();
     match &directory.below {
         Some(view) => view.shows(stack, name),
         None => false,
     }
 }
 
-// The size of the data that they have there, below metacopy files.
+// The size of the data that they have there, below a metacopy file without an absolute redirect.
 pub(crate) fn data_size_in(
     alloc: Global,
     stack: &Stack,
@@ -72,10 +72,10 @@ pub(crate) fn data_size_in(
     name: &Name,
 ) -> Result<Option<u64>, AllocError>
     requires { IsBelow stack.now _i directory.now.next directory.now.below }
-    ensures { IfOk result (λ size. size ≡ data_size (layers_below stack.now _i) (child_path directory.now.next name.now)) }
+    ensures { IfOk result (λ size. size ≡ data_size (layers_below stack.now _i) None (child_path directory.now.next name.now)) }
 {
     // Each of them is a layer.
-    let _layers = stack.layers();
+    let _layers = stack.ordinary();
     let Some(view) = &directory.below else {
         return Ok(None);
     };

@@ -1,11 +1,13 @@
-ghost use Rattle.std.specs.Prelude.{◌≡◌, ◌<◌, ◌++◌, ◌∷◌, [], if◌then◌else◌, true, false, Some, None, IfOk, OnOk, length, map, filter};
+ghost use Rattle.std.specs.Prelude.{◌≡◌, ◌<◌, ◌&&◌, ◌||◌, not, ◌++◌, ◌∷◌, [], if◌then◌else◌, true, false, Some, None, IfOk, OnOk, length, map, filter};
 ghost use Rattle.std.specs.List.{flat_map};
+ghost use Rattle.ovl_lookup.specs.Stacks.{all_layers};
 ghost use Rattle.ovl_names.specs.Paths.{child_path};
 ghost use Rattle.ovl_manifest.specs.Layers.{entry_at};
-ghost use Rattle.ovl_check.specs.Codes.{all_codes};
-ghost use Rattle.ovl_check.specs.Findings.{finding};
+ghost use Rattle.ovl_lookup.specs.Sound.{is_moved as moved_test};
+ghost use Rattle.ovl_check.specs.Codes.{all_codes, is_blob_fault};
+ghost use Rattle.ovl_check.specs.Findings.{finding, any_code};
 ghost use Rattle.ovl_check.specs.Blobs.{blob_views, are_in_order, wrong_names};
-ghost use Rattle.ovl_check.specs.Checks.{check_seen, no_seen, layer_at, directory_piece, findings_at_path, check_out};
+ghost use Rattle.ovl_check.specs.Checks.{check_seen, no_seen, is_ordinary as ordinary_test, sought_in, layer_at, directory_piece, findings_at_path, check_out};
 ghost use Rattle.ovl_check.specs.CheckViews.{check_view};
 ghost use Rattle.ovl_check.specs.Facts.{IsGathered, IsBelow, IsBelowOf, IsMarked, asks, child_seen, entry_path, found_at_child, tells};
 
@@ -17,7 +19,7 @@ use crate::gathering::{facts_of_child, facts_of_directory};
 use crate::marks::is_moved;
 use crate::subjects::{CheckOut, CheckWork};
 use ovl_board::{Piece, Work};
-use ovl_inode::{Digest, is_directory};
+use ovl_inode::{Digest, Mark, is_directory};
 use ovl_lookup::{Stack, Trail};
 use ovl_names::{DEPTH_LIMIT, Name, Path};
 use std::alloc::{AllocError, Global};
@@ -89,7 +91,7 @@ fn directory_out<'a>(
     layer: u16,
     directory: Directory<'_, 'a>,
 ) -> Result<CheckOut<'a>, AllocError>
-    requires inside { layer < length work.now.stack.now.layers }
+    requires inside { layer < length (all_layers work.now.stack.now) }
     requires gathered { IsGathered (layer_at work.now.stack.now layer) directory }
     requires below { IsBelowOf work.now.stack.now layer directory }
     ensures { IfOk result (λ out. check_seen out ≡ check_out (check_view work.now) (directory_piece layer directory.entry.path.now)) }
@@ -97,13 +99,34 @@ fn directory_out<'a>(
     let mut findings = Vec::new(alloc);
     push_directory(alloc, work, layer, &directory, &mut findings)?;
     push_files(alloc, work, layer, &directory, &mut findings)?;
-    let moved = is_moved(&directory.mark);
+    let ordinary = is_ordinary(work.stack, layer);
+    let moved = is_moved_in(ordinary, &directory.mark);
     let Directory { next, closed, .. } = directory;
     Ok(CheckOut {
         findings,
-        place: place_of(next, closed),
+        place: place_of(next, is_hidden(ordinary, closed)),
         moved,
     })
+}
+
+// Whether a directory of this mark is moved, and where its walk doesn't go on: in a data-only layer nothing is followed.
+fn is_moved_in(ordinary: bool, mark: &Mark) -> bool
+    ensures { result ≡ (ordinary && moved_test (Some mark.now)) }
+{
+    ordinary && is_moved(mark)
+}
+
+fn is_hidden(ordinary: bool, closed: bool) -> bool
+    ensures { result ≡ (not ordinary || closed) }
+{
+    !ordinary || closed
+}
+
+// Whether a layer isn't data-only.
+fn is_ordinary(stack: &Stack, layer: u16) -> bool
+    ensures { result ≡ ordinary_test stack.now layer }
+{
+    usize::from(layer) < stack.ordinary()
 }
 
 // The path that goes on from a walk, where that is open.
@@ -152,13 +175,13 @@ fn push_directory(
     directory: &Directory<'_, '_>,
     findings: &mut Vec<Finding>,
 ) -> Result<(), AllocError>
-    requires inside { layer < length work.now.stack.now.layers }
+    requires inside { layer < length (all_layers work.now.stack.now) }
     requires gathered { IsGathered (layer_at work.now.stack.now layer) directory.now }
     ensures { OnOk result (findings.new.items ≡ findings.old.items ++ findings_at_path (check_view work.now) layer directory.now.path.now) }
 {
     let facts = facts_of_directory(alloc, work, usize::from(layer), directory)?;
     let place = EntryPlace::At(directory.path);
-    push_codes(alloc, layer, place, &facts, findings)
+    push_codes(alloc, work.stack, layer, place, &facts, findings)
 }
 
 // Adds what is found at those entries of a directory that are none themselves.
@@ -169,7 +192,7 @@ fn push_files(
     directory: &Directory<'_, '_>,
     findings: &mut Vec<Finding>,
 ) -> Result<(), AllocError>
-    requires inside { layer < length work.now.stack.now.layers }
+    requires inside { layer < length (all_layers work.now.stack.now) }
     requires gathered { IsGathered (layer_at work.now.stack.now layer) directory.now }
     requires below { IsBelowOf work.now.stack.now layer directory.now }
     ensures { OnOk result (findings.new.items ≡ findings.old.items
@@ -190,7 +213,7 @@ fn push_file(
     child: &Child<'_>,
     findings: &mut Vec<Finding>,
 ) -> Result<(), AllocError>
-    requires inside { layer < length work.now.stack.now.layers }
+    requires inside { layer < length (all_layers work.now.stack.now) }
     requires gathered { IsGathered (layer_at work.now.stack.now layer) directory.now }
     requires entry { entry_at (layer_at work.now.stack.now layer) (child_path directory.now.path.now child.now.name.now) ≡ Some child.now.inode.now }
     requires marked { IsMarked child.now }
@@ -203,23 +226,48 @@ fn push_file(
     }
     let facts = facts_of_child(alloc, work, usize::from(layer), directory, child)?;
     let place = EntryPlace::In(directory.path, child.name);
-    push_codes(alloc, layer, place, &facts, findings)
+    push_codes(alloc, work.stack, layer, place, &facts, findings)
 }
 
 // Adds a finding of each code that the facts of an entry tell.
 fn push_codes(
     alloc: Global,
+    stack: &Stack,
     layer: u16,
     place: EntryPlace<'_>,
     facts: &Facts<'_>,
     findings: &mut Vec<Finding>,
 ) -> Result<(), AllocError>
-    ensures { OnOk result (findings.new.items ≡ findings.old.items ++ map (finding layer (entry_path place.entry)) (filter (tells facts.now) all_codes)) }
+    ensures { OnOk result (findings.new.items ≡ findings.old.items ++ map (finding layer (entry_path place.entry)) (filter (λ code. sought_in stack.now layer code && tells facts.now code) all_codes)) }
 {
     for code in &CODES {
-        push_if(alloc, layer, place, *code, facts.tells(*code), findings)?;
+        let told = is_told(stack, layer, facts, *code);
+        push_if(alloc, layer, place, *code, told, findings)?;
     }
     Ok(())
+}
+
+// Whether a code is sought in a layer, and the facts of an entry tell it.
+fn is_told(stack: &Stack, layer: u16, facts: &Facts<'_>, code: Code) -> bool
+    ensures { result ≡ (sought_in stack.now layer code && tells facts.now code) }
+{
+    is_sought(is_ordinary(stack, layer), code) && facts.tells(code)
+}
+
+// Whether a code is sought where all are, or those of blobs alone.
+fn is_sought(all: bool, code: Code) -> bool
+    ensures { result ≡ (if all then any_code else is_blob_fault) code }
+{
+    if all {
+        return true;
+    }
+    is_of_blob(code)
+}
+
+fn is_of_blob(code: Code) -> bool
+    ensures { result ≡ is_blob_fault code }
+{
+    matches!(code, Code::BlobMissing | Code::BlobSize | Code::BlobDigest)
 }
 
 fn push_if(

@@ -1,6 +1,7 @@
 ghost use Rattle.std.specs.Prelude.{◌≡◌, ◌<◌, ◌++◌, false, None, All, length, map, filter, IfOk, OnOk, MatchOption};
 ghost use Rattle.std.specs.List.{list_any};
 ghost use Rattle.std.specs.Option.{option_map};
+ghost use Rattle.ovl_lookup.specs.Stacks.{all_layers};
 ghost use Rattle.ovl_names.specs.Paths.{child_path};
 ghost use Rattle.ovl_inode.specs.Attributes.{origin_name};
 ghost use Rattle.ovl_inode.specs.Marks.{has_attribute as attribute_test, is_directory as the_directory};
@@ -48,7 +49,7 @@ pub(crate) fn directory_at<'p, 'a>(
     i: usize,
     path: &'p Path,
 ) -> Result<Option<Directory<'p, 'a>>, AllocError>
-    requires { i < length stack.now.layers }
+    requires { i < length (all_layers stack.now) }
     ensures { IfOk result (λ found. MatchOption found
         (is_directory_at (layer_at stack.now i) path.now ≡ false)
         (λ directory. (directory.path.now ≡ path.now) × IsGathered (layer_at stack.now i) directory × IsBelowOf stack.now i directory)) }
@@ -58,7 +59,7 @@ pub(crate) fn directory_at<'p, 'a>(
     let Some(OwnTrail { row, next, closed }) = stack.own_trail(alloc, i, path)? else {
         return Ok(None);
     };
-    let sheet = stack.sheet(i);
+    let sheet = stack.any_sheet(i);
     let inode = sheet.inode(row);
     let mark = mark_of_entry(alloc, stack, i, path, inode)?;
     let children = children_in(alloc, sheet, row)?;

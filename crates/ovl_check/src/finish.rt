@@ -1,6 +1,7 @@
 ghost use Rattle.std.specs.Prelude.{◌≡◌, ◌++◌, [], length, map, IfOk, OnOk};
 ghost use Rattle.std.specs.List.{flat_map, list_any};
 ghost use Rattle.std.specs.List.Sorted.{IsPermutation};
+ghost use Rattle.ovl_lookup.specs.Stacks.{all_layers};
 ghost use Rattle.ovl_board.specs.Parcels.{parcel_view, parcel_views};
 ghost use Rattle.ovl_check.specs.Blobs.{blob_views};
 ghost use Rattle.ovl_check.specs.Findings.{findings as all_findings};
@@ -23,7 +24,7 @@ pub fn finish_check(
     _work: &CheckWork<'_>,
     layers: Vec<Vec<Parcel<CheckOut<'_>>>>,
 ) -> Result<Vec<Finding>, AllocError>
-    requires count { length layers.items ≡ length _work.now.stack.now.layers }
+    requires count { length layers.items ≡ length (all_layers _work.now.stack.now) }
     requires walks { AreLayerWalks (check_view _work.now) 0 (map (λ parcels. parcel_views check_seen parcels.items) layers.items) }
     ensures { IfOk result (λ found. found.items ≡ all_findings (blob_views _work.now.blobs.now) _work.now.stack.now) }
 {

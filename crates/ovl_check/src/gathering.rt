@@ -1,9 +1,11 @@
 ghost use Rattle.std.specs.Prelude.{◌≡◌, ◌<◌, true, false, Some, length, IfOk};
+ghost use Rattle.ovl_lookup.specs.Stacks.{all_layers};
 ghost use Rattle.ovl_names.specs.Paths.{child_path};
 ghost use Rattle.ovl_inode.specs.Marks.{is_directory as the_directory};
 ghost use Rattle.ovl_inode.specs.declared.marks.Mark.TheVariants.{Meta};
 ghost use Rattle.ovl_manifest.specs.Layers.{entry_at};
 ghost use Rattle.ovl_lookup.specs.Walk.{walk_to_file, mark_at as the_mark};
+ghost use Rattle.ovl_lookup.specs.Merged.{place_of_data};
 ghost use Rattle.ovl_lookup.specs.Sound.{is_seen_there, is_plain};
 ghost use Rattle.ovl_check.specs.Checks.{layer_at, layers_below};
 ghost use Rattle.ovl_check.specs.CheckViews.{check_view};
@@ -28,7 +30,7 @@ pub(crate) fn facts_of_directory<'a>(
     i: usize,
     directory: &'a Directory<'_, '_>,
 ) -> Result<Facts<'a>, AllocError>
-    requires inside { i < length work.now.stack.now.layers }
+    requires inside { i < length (all_layers work.now.stack.now) }
     requires gathered { IsGathered (layer_at work.now.stack.now i) directory.now }
     ensures { IfOk result (λ facts. (facts.inode.now ≡ directory.now.inode.now) × AreFacts (check_view work.now) i directory.now.path.now facts) }
 {
@@ -60,7 +62,7 @@ pub(crate) fn facts_of_child<'a>(
     directory: &Directory<'_, '_>,
     child: &'a Child<'_>,
 ) -> Result<Facts<'a>, AllocError>
-    requires inside { i < length work.now.stack.now.layers }
+    requires inside { i < length (all_layers work.now.stack.now) }
     requires gathered { IsGathered (layer_at work.now.stack.now i) directory.now }
     requires entry { entry_at (layer_at work.now.stack.now i) (child_path directory.now.path.now child.now.name.now) ≡ Some child.now.inode.now }
     requires none { the_directory child.now.inode.now ≡ false }
@@ -99,7 +101,7 @@ fn old_place(
     next: &Trail<'_>,
     closed: bool,
 ) -> Result<OldPlace, AllocError>
-    requires { i < length stack.now.layers }
+    requires { i < length (all_layers stack.now) }
     ensures { IfOk result (λ place. place ≡ the_old_place (layer_at stack.now i) (layers_below stack.now i) next.now closed) }
 {
     if closed {
@@ -125,7 +127,7 @@ fn content_of(look: &Look) -> Content
 
 // Whether the layer doesn't hide a place from itself.
 fn is_seen(alloc: Global, stack: &Stack, i: usize, place: &Path) -> Result<bool, AllocError>
-    requires { i < length stack.now.layers }
+    requires { i < length (all_layers stack.now) }
     ensures { IfOk result (λ answer. answer ≡ is_seen_there (layer_at stack.now i) place.now) }
 {
     let step = step_of(alloc, stack, i, place)?;
@@ -143,7 +145,7 @@ fn is_seen(alloc: Global, stack: &Stack, i: usize, place: &Path) -> Result<bool,
 
 // Whether the layer has a directory there that hides nothing.
 fn is_plain_at(alloc: Global, stack: &Stack, i: usize, place: &Path) -> Result<bool, AllocError>
-    requires { i < length stack.now.layers }
+    requires { i < length (all_layers stack.now) }
     ensures { IfOk result (λ answer. answer ≡ is_plain (the_mark (layer_at stack.now i) place.now)) }
 {
     let mark = mark_at(alloc, stack, i, place)?;
@@ -152,7 +154,7 @@ fn is_plain_at(alloc: Global, stack: &Stack, i: usize, place: &Path) -> Result<b
 
 // A whiteout in a directory of layer `i`.
 fn whiteout_in(stack: &Stack, i: usize, directory: &Directory<'_, '_>, name: &Name) -> KindFacts
-    requires inside { i < length stack.now.layers }
+    requires inside { i < length (all_layers stack.now) }
     requires below { directory.now.closed ≡ false → IsBelow stack.now i directory.now.next directory.now.below }
     ensures { result ≡ the_whiteout (layers_below stack.now i) directory.now name.now }
 {
@@ -182,10 +184,10 @@ fn data_size(
     redirect: &Option<Redirect>,
     _inode: &Inode,
 ) -> Result<Option<u64>, AllocError>
-    requires inside { i < length stack.now.layers }
+    requires inside { i < length (all_layers stack.now) }
     requires below { directory.now.closed ≡ false → IsBelow stack.now i directory.now.next directory.now.below }
     ensures { IfOk result (λ size. size
-        ≡ data_size_on (layers_below stack.now i) (walk_to_file _inode.now (Meta redirect.now) directory.now.next directory.now.closed name.now)) }
+        ≡ data_size_on (layers_below stack.now i) (place_of_data (Meta redirect.now)) (walk_to_file _inode.now (Meta redirect.now) directory.now.next directory.now.closed name.now)) }
 {
     let own = match redirect {
         Some(Redirect::To(origin)) => return data_size_below(alloc, stack, i, origin),

@@ -1,19 +1,20 @@
-ghost use Rattle.std.specs.Prelude.{◌≡◌, ◌<◌, Some, IfOk, length};
+ghost use Rattle.std.specs.Prelude.{◌≡◌, ◌<◌, ◌≤◌, Some, IfOk, length};
 ghost use Rattle.std.specs.Option.{option_map};
+ghost use Rattle.ovl_lookup.specs.Stacks.{all_layers};
 ghost use Rattle.ovl_manifest.specs.Layers.{entry_at};
 ghost use Rattle.ovl_lookup.specs.Walk.{walk, mark_at as the_mark};
 ghost use Rattle.ovl_lookup.specs.Merged.{look as the_look};
-ghost use Rattle.ovl_check.specs.Checks.{layer_at, layers_below, size_shown};
+ghost use Rattle.ovl_check.specs.Checks.{layer_at, first_below as the_first_below, layers_below, size_shown};
 ghost use Rattle.ovl_check.specs.Facts.{data_size};
 
-use ovl_inode::{Inode, Kind, Mark, mark_of};
+use ovl_inode::{Inode, Kind, Mark, file_size, mark_of};
 use ovl_lookup::{Look, Stack, Step};
 use ovl_names::Path;
 use std::alloc::{AllocError, Global};
 
 // The inode that layer `i` has at a path.
 fn inode_at<'a>(stack: &'a Stack, i: usize, path: &Path) -> Option<&'a Inode>
-    requires { i < length stack.now.layers }
+    requires { i < length (all_layers stack.now) }
     ensures { option_map (λ inode. inode.now) result ≡ entry_at (layer_at stack.now i) path.now }
 {
     stack.own_at(i, path)
@@ -26,10 +27,19 @@ pub(crate) fn step_of(
     i: usize,
     path: &Path,
 ) -> Result<Step, AllocError>
-    requires { i < length stack.now.layers }
+    requires { i < length (all_layers stack.now) }
     ensures { IfOk result (λ step. step ≡ walk (layer_at stack.now i) path.now) }
 {
     stack.own_walk(alloc, i, path)
+}
+
+// The first of the layers below layer `i`; below a data-only one there is none.
+pub(crate) fn first_below(stack: &Stack, i: usize) -> usize
+    ensures value { result ≡ the_first_below stack.now i }
+    ensures inside { result ≤ length stack.now.layers }
+{
+    let layers = stack.ordinary();
+    if i < layers { i + 1 } else { layers }
 }
 
 // What the layers below layer `i` show at a path, by walks from their roots.
@@ -39,26 +49,30 @@ pub(crate) fn look_below(
     i: usize,
     path: &Path,
 ) -> Result<Look, AllocError>
-    requires { i < length stack.now.layers }
+    requires { i < length (all_layers stack.now) }
     ensures { IfOk result (λ look. look ≡ the_look (layers_below stack.now i) path.now) }
 {
-    // A stack has at most 128 layers.
-    let _layers = stack.layers();
-    stack.look(alloc, i + 1, path)
+    stack.look(alloc, first_below(stack, i), path)
 }
 
-// The size of the data that they have at a path, below metacopy files.
+// The size of the data of a metacopy file with this path as its redirect.
 pub(crate) fn data_size_below(
     alloc: Global,
     stack: &Stack,
     i: usize,
     path: &Path,
 ) -> Result<Option<u64>, AllocError>
-    requires { i < length stack.now.layers }
-    ensures { IfOk result (λ size. size ≡ data_size (layers_below stack.now i) path.now) }
+    requires { i < length (all_layers stack.now) }
+    ensures { IfOk result (λ size. size ≡ data_size (layers_below stack.now i) (Some path.now) path.now) }
 {
     let look = look_below(alloc, stack, i, path)?;
-    Ok(shown_size(&look))
+    if !look.is_nothing() {
+        return Ok(shown_size(&look));
+    }
+    match stack.full_file(path) {
+        Some(inode) => Ok(Some(file_size(inode))),
+        None => Ok(None),
+    }
 }
 
 // The size of the file that is shown.
@@ -81,7 +95,7 @@ pub(crate) fn mark_at(
     i: usize,
     path: &Path,
 ) -> Result<Option<Mark>, AllocError>
-    requires { i < length stack.now.layers }
+    requires { i < length (all_layers stack.now) }
     ensures { IfOk result (λ mark. mark ≡ the_mark (layer_at stack.now i) path.now) }
 {
     if path.is_empty() {

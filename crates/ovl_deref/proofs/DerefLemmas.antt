@@ -317,7 +317,7 @@ module _ (top : Entries) (below : StackView) (is : IsLayer top) (each : All IsLa
   same_size false contents inode m e = let bad : false ≡ true = m in cc
 
   full-of : (path : PathNames) (inode : Inode) → entry_at top path ≡ Some inode → is_metacopy inode ≡ true → Full path inode
-  full-of path inode here meta = by (data_of (inode ∷ rest)) refl
+  full-of path inode here meta = by (data_of below.data_only (inode ∷ rest)) refl
     where
       rest : List Inode
       rest = cond (walk top path).closed [] (things_found below.layers (walk top path).next)
@@ -331,13 +331,13 @@ module _ (top : Entries) (below : StackView) (is : IsLayer top) (each : All IsLa
       good : Faultless top below path inode
       good = sound-first top below sound path inode here
 
-      by : (o : Option Inode) → data_of (inode ∷ rest) ≡ o → Full path inode
+      by : (o : Option Inode) → data_of below.data_only (inode ∷ rest) ≡ o → Full path inode
       by None e = let bad : true ≡ false = ap is_none (sym e) ∙ data-there top below path inode is good here thing parts.1 in cc
       by (Some contents) e = record {
         contents = contents;
-        own = data-regular (inode ∷ rest) contents e;
+        own = data-regular below.data_only (inode ∷ rest) contents e;
         sized = same_size (is_meta (mark_at top path)) contents inode (ap is_meta (mark-file top path inode is here parts.0) ∙ is_meta_of (mark_of inode) meta) (ap (λ o. is_meta (mark_at top path) && has_other_size inode o) (sym e) ∙ good.sized);
-        shown = ap shown_of (entry-found top below.layers path inode is here thing) ∙ shown_of-contents inode contents rest parts.1 e;
+        shown = ap (shown_of below.data_only) (entry-found top below.layers path inode is here thing) ∙ shown_of-contents below.data_only inode contents rest parts.1 e;
       }
         where
           is_meta_of : (mark : Mark) → is_metacopy_mark mark ≡ true → is_meta (Some mark) ≡ true
@@ -433,7 +433,7 @@ module _ (top : Entries) (below : StackView) (is : IsLayer top) (each : All IsLa
                   (walked (Some (made_full inode f.contents)) (here ∙ ap (λ (i : Inode). Some i) full) (full-file inode f.contents thing bare f.own f.sized)
                   ∙ (ap (λ (tail : PathNames). walk_beyond (Some (made_full inode f.contents)) (turn top b.directory) (is_shut top b.directory) b.name tail) r
                   ∙ leaf-walked (made_full inode f.contents) (turn top b.directory) (is_shut top b.directory) b.name (full-thing inode f.contents thing bare f.own f.sized) (full-mark inode f.contents thing bare f.own f.sized)))
-                  ∙ (shown_of-full (made_full inode f.contents) [] (full-own inode f.contents thing bare f.own f.sized)
+                  ∙ (shown_of-full below.data_only (made_full inode f.contents) [] (full-own inode f.contents thing bare f.own f.sized)
                   ∙ (ap (λ (i : Inode). Shown i) (full-visible inode f.contents thing bare f.own f.sized)
                   ∙ (sym f.shown
                   ∙ ap (look (over top below)) (sym end))))
@@ -604,7 +604,7 @@ module _ (top : Entries) (below : StackView) (is : IsLayer top) (each : All IsLa
                 (walked (Some inode) here
                 ∙ (ap (λ (r : PathNames). walk_beyond (Some inode) turned true b.name r) t
                 ∙ leaf-walked inode turned true b.name v.thing leaf))
-                ∙ (shown_of-full inode [] (visible-full inode v)
+                ∙ (shown_of-full below.data_only inode [] (visible-full inode v)
                 ∙ (ap (λ (i : Inode). Shown i) (visible-own inode v)
                 ∙ (sym e
                 ∙ ap (look (over top below)) (sym (append-nil path) ∙ (ap (λ (r : PathNames). path ++ r) (sym t) ∙ whole)))))

@@ -51,14 +51,14 @@ module _ (stack : StackView) (each : All IsLayer stack.layers) (some : 0 < lengt
   walk-tells root views here walk = record { names = names_in stack; deepest = deref_depth stack; told = told stack each some; rooted = root-stays root here; walk = walk }
 
   -- over a sound stack its entries are a layer, or pass a limit
-  pub limit-passed : IsSoundStack stack → (entries : Entries) → ascends entry_cmp entries ≡ true → IsDereferenced entries (top_layer stack) (lower_layers stack) → (IsLayer entries → ⊥) → PassesLimit stack
-  limit-passed sound entries up new refused = by (keeps_limits entries) refl
+  pub limit-passed : All IsLayer stack.data_only → IsSoundStack stack → (entries : Entries) → ascends entry_cmp entries ≡ true → IsDereferenced entries (top_layer stack) (lower_layers stack) → (IsLayer entries → ⊥) → PassesLimit stack
+  limit-passed deep sound entries up new refused = by (keeps_limits entries) refl
     where
       by : (b : Bool) → keeps_limits entries ≡ b → PassesLimit stack
       by false e = (entries, up, new, e)
       by true e =
           let parts = both {a = list_all (λ (entry : Entry). is_within_limits entry.0) entries} {b = nat_le (length entries) entry_limit} e in
-          absurd (refused (layer-but_limits (top_layer stack) (lower_layers stack) (top-layer stack some each) (lower-layers stack some each)
+          absurd (refused (layer-but_limits (top_layer stack) (lower_layers stack) (top-layer stack some each) (lower-layers stack some each) deep
           (subst IsSoundStack (sym (top-over stack some)) sound) entries up new parts.0 parts.1))
 
 -- two facts of what is given

@@ -130,7 +130,7 @@ module _ (top : Entries) (below : StackView) (is : IsLayer top) (each : All IsLa
               let bad : None ≡ Some inode = sym (outside (child_path path name) (in_moved-child top path name ∙ m) ∙ ap (option_map (dereferenced_inode top below (child_path path name))) f) ∙ here in cc
           split (Some i) f = directory_stays path m (entry-parent top path name i is f)
 
-  module _ (sound : IsSoundStack (over top below)) where
+  module _ (deep : All IsLayer below.data_only) (sound : IsSoundStack (over top below)) where
     shown_there : (path : PathNames) (inode : Inode) → inode_shown (look (over top below) path) ≡ Some inode → look (over top below) path ≡ Shown inode
     shown_there path inode some = by (look (over top below) path) refl (never-broken (over top below) each_over sound path) some
       where
@@ -163,7 +163,7 @@ module _ (top : Entries) (below : StackView) (is : IsLayer top) (each : All IsLa
     shown_kind path inode shown =
         let v = shown-visible (over top below) each_over path inode shown in
         ap (λ o. is_sound_kind inode.kind (is_some o)) (sym (ap (λ a. attribute a metacopy_name) (sym v.bare) ∙ attribute-hidden inode.attrs metacopy_name refl))
-        ∙ sound-kind inode (shown-sound (over top below) each_over path inode shown)
+        ∙ sound-kind inode (shown-sound (over top below) each_over deep path inode shown)
 
     inode_stated : (path : PathNames) (inode : Inode) → entry_at top path ≡ Some inode → is_sound_inode (dereferenced_inode top below path inode) ≡ true
     inode_stated path inode here = by (is_moved (mark_at top path)) refl (is_metacopy inode) (look (over top below) path) refl
@@ -204,7 +204,7 @@ module _ (top : Entries) (below : StackView) (is : IsLayer top) (each : All IsLa
             let shown = shown_there path inode some in
             record {
               named = shown-named (over top below) each_over path (shows-some (look (over top below) path) inode some);
-              well = shown-sound (over top below) each_over path inode shown;
+              well = shown-sound (over top below) each_over deep path inode shown;
               bare = shown-unescaped (over top below) each_over path inode shown;
             }
         by false m = split (entry_at top path) refl
@@ -243,4 +243,4 @@ module _ (top : Entries) (below : StackView) (is : IsLayer top) (each : All IsLa
                 (ap directory_found (made directory) ∙ parent-kept directory name inode (sym (made (child_path directory name)) ∙ (ap (entry_at entries) (sym e) ∙ here)))
 
 pub DerefGivesLayer-holds : DerefGivesLayer
-DerefGivesLayer-holds top below is each sound entries up made limited counted = layer-but_limits top below is each sound entries up made limited counted
+DerefGivesLayer-holds top below is each deep sound entries up made limited counted = layer-but_limits top below is each deep sound entries up made limited counted

@@ -38,7 +38,7 @@ fn is_at_moved(stack: &Stack, dir: &Path) -> bool
     ensures { result ≡ at_moved_test (top_layer stack.now) dir.now }
 {
     // A stack has a topmost layer.
-    let _layers = stack.layers();
+    let _layers = stack.ordinary();
     let sheet = stack.sheet(0);
     let mut row = sheet.root_number();
     for name in dir.names() {
@@ -66,7 +66,7 @@ fn shown_inodes(alloc: Global, stack: &Stack, dir: &Path) -> Result<Vec<(Name, I
     ensures { IfOk result (λ inodes. inodes.items ≡ the_inodes stack.now dir.now) }
 {
     // Each layer of a stack is one.
-    let _layers = stack.layers();
+    let _layers = stack.ordinary();
     let Some(view) = DirView::of(alloc, stack, 0, dir)? else {
         return Ok(Vec::new(alloc));
     };
@@ -120,7 +120,7 @@ impl<'a> Directory<'a> {
             (λ directory. (directory.stack.now ≡ stack.now) × (directory.path.now ≡ path.now) × IsTopDirectory directory)) }
     {
         // A stack has a topmost layer.
-        let _layers = stack.layers();
+        let _layers = stack.ordinary();
         let Some(place) = stack.sheet(0).place(path) else {
             return Ok(None);
         };
@@ -165,7 +165,7 @@ impl<'a> Directory<'a> {
         ensures { IfOk result (λ found. found ≡ new_at self.now.stack.now (child_path self.now.path.now name.now)) }
     {
         // Each layer of a stack is one.
-        let _layers = self.stack.layers();
+        let _layers = self.stack.ordinary();
         match self.place.child(name) {
             Some(entry) => Ok(Some(self.dereferenced(alloc, name, entry.inode())?)),
             None => Ok(None),
@@ -180,7 +180,7 @@ impl<'a> Directory<'a> {
             (child_path self.now.path.now name.now) inode.now) }
     {
         // Each layer of a stack is one.
-        let _layers = self.stack.layers();
+        let _layers = self.stack.ordinary();
         match mark_of(alloc, inode)? {
             Mark::DirMoved(_) => unfolded(alloc, inode),
             Mark::Meta(_) => filled(alloc, inode, &look_in(alloc, self.stack, &self.view, name)?),
@@ -204,7 +204,7 @@ fn look_in(
     requires { IsOver stack.now view.now }
     ensures { IfOk result (λ look. look ≡ look_by stack.now name.now view.now) }
 {
-    let _layers = stack.layers();
+    let _layers = stack.ordinary();
     match view {
         Some(view) => view.look(alloc, stack, name),
         None => Ok(Look::Nothing),

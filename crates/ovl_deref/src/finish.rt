@@ -29,7 +29,7 @@ pub fn finish_deref(
     ensures limit { IsSoundStack work.now → result ≡ Err LimitOut → PassesLimit work.now }
 {
     // Each layer of a stack is one.
-    let _layers = work.stack.layers();
+    let _layers = work.stack.ordinary();
     let root = work.stack.sheet(0).root().inode().copy(alloc)?;
     layer_told(alloc, root, parcels)
 }

@@ -64,6 +64,6 @@ impl<'a> Work for DerefWork<'a> {
     }
 
     fn deepest(&self) -> u32 {
-        (DEPTH_LIMIT * self.stack.layers()) as u32
+        (DEPTH_LIMIT * self.stack.ordinary()) as u32
     }
 }

@@ -282,9 +282,9 @@ found-limited (layer ∷ layers) each path found =
 abbrev by_data : Inode → Option Inode → Look
 by_data inode found = elim found as (λ _. Look) [ Some contents ↦ Shown (record (visible inode) { kind = contents.kind }) | None ↦ Broken (record (visible inode) { kind = without_blob inode.kind }) ]
 
-pub shown-any : (found : List Inode) → not (is_nothing (shown_of found)) ≡ any_found found
-shown-any [] = refl
-shown-any (inode ∷ below) = by (is_regular inode && has_metacopy inode) (data_of (inode ∷ below))
+pub shown-any : (data_only : List Entries) (found : List Inode) → not (is_nothing (shown_of data_only found)) ≡ any_found found
+shown-any data_only [] = refl
+shown-any data_only (inode ∷ below) = by (is_regular inode && has_metacopy inode) (data_of data_only (inode ∷ below))
   where
     by : (b : Bool) (o : Option Inode) → not (is_nothing (cond b (by_data inode o) (Shown (visible inode)))) ≡ true
     by true None = refl

@@ -1,7 +1,7 @@
 -- What the walks through layers find, layer by layer, and what is shown of it.
 use Rattle.std.proofs.Common.{◌≡◌, ℕ, zero, suc, ◌+◌, ◌<◌, ◌≤◌, length, drop, Bool, true, false, cond, Option, Some, None, List, [], ◌∷◌, refl, sym, ap, ◌∙◌, arith, add-one}
 use Rattle.std.specs.Prelude.{slice_get, IfSome, not, ◌&&◌}
-use Rattle.std.specs.List.{filter_map, cons_option}
+use Rattle.std.specs.List.{filter_map, cons_option, list_all}
 use Rattle.ovl_names.specs.Paths.{PathNames}
 use Rattle.ovl_inode.specs.declared.inodes.Inode.{Inode}
 use Rattle.ovl_inode.specs.declared.inodes.Kind.{Kind}
@@ -11,13 +11,13 @@ use Rattle.ovl_inode.specs.declared.marks.Mark.{Mark}
 use Rattle.ovl_inode.specs.declared.marks.Redirect.{Redirect}
 use Rattle.ovl_inode.specs.Attributes.{attribute, redirect_name}
 use Rattle.ovl_inode.specs.Redirects.{read_redirect}
-use Rattle.ovl_inode.specs.Marks.{is_metacopy, is_metacopy_mark, is_directory, is_regular, is_whiteout, has_opaque, has_metacopy, redirect_reading, directory_mark, metacopy_mark, is_data}
+use Rattle.ovl_inode.specs.Marks.{mark_of, is_metacopy, is_metacopy_mark, is_directory, is_regular, is_whiteout, has_opaque, has_metacopy, redirect_reading, directory_mark, metacopy_mark, is_data}
 use Rattle.ovl_names.proofs.Ascending.{both}
-use Rattle.ovl_manifest.specs.Layers.{Entries}
+use Rattle.ovl_manifest.specs.Layers.{Entries, entry_at}
 use Rattle.ovl_lookup.specs.declared.steps.Step.{Step}
 use Rattle.ovl_lookup.specs.Walk.{walk}
 use Rattle.ovl_lookup.specs.Trace.{walks, things_found, leading_files, leading_directories}
-use Rattle.ovl_lookup.specs.Merged.{data_of, last_of, shown_of, without_blob}
+use Rattle.ovl_lookup.specs.Merged.{data_of, last_of, shown_of, without_blob, full_file_in, place_of_data, place_told, data_at_place, last_place}
 use Rattle.ovl_inode.specs.Inodes.{visible}
 use Rattle.ovl_lookup.specs.declared.looks.Look.{Look}
 use Rattle.ovl_lookup.specs.declared.looks.Look.TheVariants.{Shown, Broken}
@@ -126,35 +126,61 @@ directory-plain inode directory = (by (is_metacopy inode) refl, ap (λ b. b && n
 abbrev chosen : List Inode → Option Inode
 chosen inodes = elim (last_of inodes) as (λ _. Option Inode) [ Some inode ↦ cond (is_data inode) (Some inode) None | None ↦ None ]
 
-files-data : (inode : Inode) (below : List Inode) → is_data inode ≡ false → chosen (inode ∷ leading_files below) ≡ data_below below
-files-data inode [] bare = rw bare refl
-files-data inode (other ∷ below) bare = by (files-data other below) (is_directory other) refl (is_metacopy other) refl
+-- ---- the file with contents that data-only layers have
+
+-- such a file is one with contents itself
+pub full_file-data : (layers : List Entries) (path : PathNames) (contents : Inode) → full_file_in layers path ≡ Some contents → is_data contents ≡ true
+full_file-data [] path contents e = let bad : None ≡ Some contents = e in cc
+full_file-data (layer ∷ layers) path contents e = at (entry_at layer path) (full_file-data layers path contents) e
   where
-    by : (is_data other ≡ false → chosen (other ∷ leading_files below) ≡ data_below below) → (d : Bool) → is_directory other ≡ d → (m : Bool) → is_metacopy other ≡ m → chosen (inode ∷ leading_files (other ∷ below)) ≡ data_below (other ∷ below)
-    by later true d m e =
-        let plain = directory-plain other d in
-        (λ j. chosen (inode ∷ cond (d j) [] (cond (is_metacopy other) (other ∷ leading_files below) (other ∷ []))))
-        ∙ (ap (λ b. cond b (Some inode) None) bare
-        ∙ sym (λ j. cond (plain.0 j) (data_below below) (cond (plain.1 j) (Some other) None)))
-    by later false d true m =
-        (λ j. chosen (inode ∷ cond (d j) [] (cond (m j) (other ∷ leading_files below) (other ∷ []))))
-        ∙ (later (bare_file other (metacopy-file other m).1).1
-        ∙ sym (ap (λ b. cond b (data_below below) (cond (is_data other) (Some other) None)) m))
-    by later false d false m =
-        (λ j. chosen (inode ∷ cond (d j) [] (cond (m j) (other ∷ leading_files below) (other ∷ []))))
-        ∙ sym (ap (λ b. cond b (data_below below) (cond (is_data other) (Some other) None)) m)
+    at : (entry : Option Inode) → (full_file_in layers path ≡ Some contents → is_data contents ≡ true)
+        → elim entry as (λ _. Option Inode) [ Some inode ↦ cond (is_data inode && not (is_whiteout inode)) (Some inode) (full_file_in layers path) | None ↦ full_file_in layers path ] ≡ Some contents → is_data contents ≡ true
+    at None later e = later e
+    at (Some inode) later e = by (is_data inode && not (is_whiteout inode)) refl e
+      where
+        by : (b : Bool) → (is_data inode && not (is_whiteout inode)) ≡ b → cond b (Some inode) (full_file_in layers path) ≡ Some contents → is_data contents ≡ true
+        by true own e = let same : inode ≡ contents = cc in ap is_data (sym same) ∙ (both {a = is_data inode} {b = not (is_whiteout inode)} own).0
+        by false own e = later e
 
--- the data of a metacopy file are those below it
-pub data_of-metacopy : (inode : Inode) (below : List Inode) → is_metacopy inode ≡ true → is_directory inode ≡ false → is_data inode ≡ false → data_of (inode ∷ below) ≡ data_below below
-data_of-metacopy inode below meta file bare =
-    (λ j. chosen (cond (file j) (leading_directories (inode ∷ below)) (cond (file j) [] (cond (meta j) (inode ∷ leading_files below) (inode ∷ [])))))
-    ∙ files-data inode below bare
+pub placed-data : (data_only : List Entries) (place : Option PathNames) (contents : Inode) → data_at_place data_only place ≡ Some contents → is_data contents ≡ true
+placed-data data_only None contents e = let bad : None ≡ Some contents = e in cc
+placed-data data_only (Some place) contents e = full_file-data data_only place contents e
 
--- one with a malformed redirect has none
-pub data_of-bad : (inode : Inode) (below : List Inode) → is_metacopy inode ≡ false → is_directory inode ≡ false → is_data inode ≡ false → data_of (inode ∷ below) ≡ None
-data_of-bad inode below meta file bare =
-    (λ j. chosen (cond (file j) (leading_directories (inode ∷ below)) (cond (file j) [] (cond (meta j) (inode ∷ leading_files below) (inode ∷ [])))))
-    ∙ ap (λ b. cond b (Some inode) None) bare
+-- ---- the data of what is found
+
+module _ (data_only : List Entries) where
+  files-data : (inode : Inode) (below : List Inode) → is_data inode ≡ false
+      → cond (list_all is_metacopy below) (data_at_place data_only (last_place (inode ∷ below))) (chosen (inode ∷ leading_files below)) ≡ data_below data_only (place_of_data (mark_of inode)) below
+  files-data inode [] bare = refl
+  files-data inode (other ∷ below) bare = by (files-data other below) (is_directory other) refl (is_metacopy other) refl
+    where
+      by : (is_data other ≡ false → cond (list_all is_metacopy below) (data_at_place data_only (last_place (other ∷ below))) (chosen (other ∷ leading_files below)) ≡ data_below data_only (place_of_data (mark_of other)) below)
+          → (d : Bool) → is_directory other ≡ d → (m : Bool) → is_metacopy other ≡ m
+          → cond (list_all is_metacopy (other ∷ below)) (data_at_place data_only (last_place (inode ∷ other ∷ below))) (chosen (inode ∷ leading_files (other ∷ below))) ≡ data_below data_only (place_of_data (mark_of inode)) (other ∷ below)
+      by later true d m e =
+          let plain = directory-plain other d in
+          (λ j. cond (plain.0 j && list_all is_metacopy below) (data_at_place data_only (last_place (other ∷ below))) (chosen (inode ∷ cond (d j) [] (cond (is_metacopy other) (other ∷ leading_files below) (other ∷ [])))))
+          ∙ (ap (λ b. cond b (Some inode) None) bare
+          ∙ sym (λ j. cond (plain.0 j) (data_below data_only (place_of_data (mark_of other)) below) (cond (plain.1 j) (Some other) None)))
+      by later false d true m =
+          (λ j. cond (m j && list_all is_metacopy below) (data_at_place data_only (last_place (other ∷ below))) (chosen (inode ∷ cond (d j) [] (cond (m j) (other ∷ leading_files below) (other ∷ [])))))
+          ∙ (later (bare_file other (metacopy-file other m).1).1
+          ∙ sym (ap (λ b. cond b (data_below data_only (place_of_data (mark_of other)) below) (cond (is_data other) (Some other) None)) m))
+      by later false d false m =
+          (λ j. cond (m j && list_all is_metacopy below) (data_at_place data_only (last_place (other ∷ below))) (chosen (inode ∷ cond (d j) [] (cond (m j) (other ∷ leading_files below) (other ∷ [])))))
+          ∙ sym (ap (λ b. cond b (data_below data_only (place_of_data (mark_of other)) below) (cond (is_data other) (Some other) None)) m)
+
+  -- the data of a metacopy file are those below it
+  pub data_of-metacopy : (inode : Inode) (below : List Inode) → is_metacopy inode ≡ true → is_directory inode ≡ false → is_data inode ≡ false → data_of data_only (inode ∷ below) ≡ data_below data_only (place_of_data (mark_of inode)) below
+  data_of-metacopy inode below meta file bare =
+      (λ j. cond (meta j && list_all is_metacopy below) (data_at_place data_only (last_place (inode ∷ below))) (chosen (cond (file j) (leading_directories (inode ∷ below)) (cond (file j) [] (cond (meta j) (inode ∷ leading_files below) (inode ∷ []))))))
+      ∙ files-data inode below bare
+
+  -- one with a malformed redirect has none
+  pub data_of-bad : (inode : Inode) (below : List Inode) → is_metacopy inode ≡ false → is_directory inode ≡ false → is_data inode ≡ false → data_of data_only (inode ∷ below) ≡ None
+  data_of-bad inode below meta file bare =
+      (λ j. cond (meta j && list_all is_metacopy below) (data_at_place data_only (last_place (inode ∷ below))) (chosen (cond (file j) (leading_directories (inode ∷ below)) (cond (file j) [] (cond (meta j) (inode ∷ leading_files below) (inode ∷ []))))))
+      ∙ ap (λ b. cond b (Some inode) None) bare
 
 -- a file that has its contents itself is no metacopy file
 pub data-plain : (inode : Inode) → is_data inode ≡ true → is_metacopy inode ≡ false
@@ -165,24 +191,62 @@ data-plain inode data_file = by (is_metacopy inode) refl
     by false e = refl
 
 -- the data among the things found, by the first of them
-pub data_below-metacopy : (inode : Inode) (below : List Inode) → is_metacopy inode ≡ true → data_below (inode ∷ below) ≡ data_below below
-data_below-metacopy inode below meta = ap (λ b. cond b (data_below below) (cond (is_data inode) (Some inode) None)) meta
+module _ (data_only : List Entries) (place : Option PathNames) where
+  pub data_below-metacopy : (inode : Inode) (below : List Inode) → is_metacopy inode ≡ true → data_below data_only place (inode ∷ below) ≡ data_below data_only (place_of_data (mark_of inode)) below
+  data_below-metacopy inode below meta = ap (λ b. cond b (data_below data_only (place_of_data (mark_of inode)) below) (cond (is_data inode) (Some inode) None)) meta
 
-pub data_below-data : (inode : Inode) (below : List Inode) → is_data inode ≡ true → data_below (inode ∷ below) ≡ Some inode
-data_below-data inode below data_file = λ j. cond (data-plain inode data_file j) (data_below below) (cond (data_file j) (Some inode) None)
+  pub data_below-data : (inode : Inode) (below : List Inode) → is_data inode ≡ true → data_below data_only place (inode ∷ below) ≡ Some inode
+  data_below-data inode below data_file = λ j. cond (data-plain inode data_file j) (data_below data_only (place_of_data (mark_of inode)) below) (cond (data_file j) (Some inode) None)
 
-pub data_below-other : (inode : Inode) (below : List Inode) → is_metacopy inode ≡ false → is_data inode ≡ false → data_below (inode ∷ below) ≡ None
-data_below-other inode below meta bare = λ j. cond (meta j) (data_below below) (cond (bare j) (Some inode) None)
+  pub data_below-other : (inode : Inode) (below : List Inode) → is_metacopy inode ≡ false → is_data inode ≡ false → data_below data_only place (inode ∷ below) ≡ None
+  data_below-other inode below meta bare = λ j. cond (meta j) (data_below data_only (place_of_data (mark_of inode)) below) (cond (bare j) (Some inode) None)
 
 abbrev by_data : Inode → Option Inode → Look
 by_data inode found = elim found as (λ _. Look) [ Some contents ↦ Shown (record (visible inode) { kind = contents.kind }) | None ↦ Broken (record (visible inode) { kind = without_blob inode.kind }) ]
 
 -- what is shown of a first thing found, and of a metacopy file with its data or without
-pub shown_of-full : (inode : Inode) (below : List Inode) → (is_regular inode && has_metacopy inode) ≡ false → shown_of (inode ∷ below) ≡ Shown (visible inode)
-shown_of-full inode below full = ap (λ b. cond b (by_data inode (data_of (inode ∷ below))) (Shown (visible inode))) full
+module _ (data_only : List Entries) where
+  pub shown_of-full : (inode : Inode) (below : List Inode) → (is_regular inode && has_metacopy inode) ≡ false → shown_of data_only (inode ∷ below) ≡ Shown (visible inode)
+  shown_of-full inode below full = ap (λ b. cond b (by_data inode (data_of data_only (inode ∷ below))) (Shown (visible inode))) full
 
-pub shown_of-contents : (inode contents : Inode) (below : List Inode) → (is_regular inode && has_metacopy inode) ≡ true → data_of (inode ∷ below) ≡ Some contents → shown_of (inode ∷ below) ≡ Shown (record (visible inode) { kind = contents.kind })
-shown_of-contents inode contents below bare found = λ j. cond (bare j) (by_data inode (found j)) (Shown (visible inode))
+  pub shown_of-contents : (inode contents : Inode) (below : List Inode) → (is_regular inode && has_metacopy inode) ≡ true → data_of data_only (inode ∷ below) ≡ Some contents → shown_of data_only (inode ∷ below) ≡ Shown (record (visible inode) { kind = contents.kind })
+  shown_of-contents inode contents below bare found = λ j. cond (bare j) (by_data inode (found j)) (Shown (visible inode))
 
-pub shown_of-broken : (inode : Inode) (below : List Inode) → (is_regular inode && has_metacopy inode) ≡ true → data_of (inode ∷ below) ≡ None → shown_of (inode ∷ below) ≡ Broken (record (visible inode) { kind = without_blob inode.kind })
-shown_of-broken inode below bare found = λ j. cond (bare j) (by_data inode (found j)) (Shown (visible inode))
+  pub shown_of-broken : (inode : Inode) (below : List Inode) → (is_regular inode && has_metacopy inode) ≡ true → data_of data_only (inode ∷ below) ≡ None → shown_of data_only (inode ∷ below) ≡ Broken (record (visible inode) { kind = without_blob inode.kind })
+  shown_of-broken inode below bare found = λ j. cond (bare j) (by_data inode (found j)) (Shown (visible inode))
+
+-- ---- where the last metacopy file says that data is
+
+abbrev pub place_below : Option PathNames → List Inode → Option PathNames
+place_below place [] = place
+place_below place (inode ∷ below) = cond (is_metacopy inode) (place_below (place_of_data (mark_of inode)) below) None
+
+pub place_below-metacopy : (place : Option PathNames) (inode : Inode) (below : List Inode) → is_metacopy inode ≡ true → place_below place (inode ∷ below) ≡ place_below (place_of_data (mark_of inode)) below
+place_below-metacopy place inode below meta = ap (λ b. cond b (place_below (place_of_data (mark_of inode)) below) None) meta
+
+pub place_below-other : (place : Option PathNames) (inode : Inode) (below : List Inode) → is_metacopy inode ≡ false → place_below place (inode ∷ below) ≡ None
+place_below-other place inode below meta = ap (λ b. cond b (place_below (place_of_data (mark_of inode)) below) None) meta
+
+abbrev last_or : Option PathNames → List Inode → Option PathNames
+last_or place [] = place
+last_or place (inode ∷ below) = last_or (place_of_data (mark_of inode)) below
+
+below-told : (place : Option PathNames) (found : List Inode) → place_below place found ≡ cond (list_all is_metacopy found) (last_or place found) None
+below-told place [] = refl
+below-told place (inode ∷ found) = by (below-told (place_of_data (mark_of inode)) found) (is_metacopy inode) refl
+  where
+    by : place_below (place_of_data (mark_of inode)) found ≡ cond (list_all is_metacopy found) (last_or (place_of_data (mark_of inode)) found) None → (b : Bool) → is_metacopy inode ≡ b
+        → cond (is_metacopy inode) (place_below (place_of_data (mark_of inode)) found) None ≡ cond (is_metacopy inode && list_all is_metacopy found) (last_or (place_of_data (mark_of inode)) found) None
+    by later true m = (λ j. cond (m j) (place_below (place_of_data (mark_of inode)) found) None) ∙ (later ∙ sym (λ j. cond (m j && list_all is_metacopy found) (last_or (place_of_data (mark_of inode)) found) None))
+    by later false m = (λ j. cond (m j) (place_below (place_of_data (mark_of inode)) found) None) ∙ sym (λ j. cond (m j && list_all is_metacopy found) (last_or (place_of_data (mark_of inode)) found) None)
+
+last_or-last : (inode : Inode) (below : List Inode) → last_or (place_of_data (mark_of inode)) below ≡ last_place (inode ∷ below)
+last_or-last inode [] = refl
+last_or-last inode (other ∷ below) = last_or-last other below
+
+last_or-none : (found : List Inode) → last_or None found ≡ last_place found
+last_or-none [] = refl
+last_or-none (inode ∷ below) = last_or-last inode below
+
+pub told-below : (found : List Inode) → place_below None found ≡ place_told found
+told-below found = below-told None found ∙ ap (λ (p : Option PathNames). cond (list_all is_metacopy found) p None) (last_or-none found)

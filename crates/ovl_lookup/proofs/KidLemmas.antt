@@ -118,7 +118,7 @@ pub kids-ascend : (stack : StackView) (path : PathNames) → ascends name_cmp (k
 kids-ascend stack path = ascends-filter name_cmp (λ name. shows stack (child_path path name)) (put_names [] (own_names_along stack.layers path)) (ascends-put [] (own_names_along stack.layers path) refl)
 
 pub shows-found : (stack : StackView) (path : PathNames) → shows stack path ≡ any_found (things_found stack.layers path)
-shows-found stack path = shown-any (things_found stack.layers path)
+shows-found stack path = shown-any stack.data_only (things_found stack.layers path)
 
 pub kids-same : (stack : StackView) → All IsLayer stack.layers → (path : PathNames) (name : PathName) → list_any (name_eq name) (kids_along stack path) ≡ shows stack (child_path path name)
 kids-same stack each path name =

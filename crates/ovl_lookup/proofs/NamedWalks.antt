@@ -25,6 +25,7 @@ use Rattle.ovl_inode.specs.Marks.{mark_of, is_whiteout, is_directory, is_regular
 use Rattle.ovl_inode.specs.Redirects.{read_redirect, redirect_fault, redirect_of, redirect_parts, is_bad_part, has_bad_slash}
 use Rattle.ovl_manifest.specs.Layers.{Entries, entry_at, is_directory_at}
 use Rattle.ovl_lookup.specs.Walk.{walk, walk_from, walk_beyond, walk_to_file, nothing_found, turn, is_shut, mark_at, origin_path, name_in_lower}
+use Rattle.ovl_lookup.specs.Merged.{last_of, last_place, place_of_data}
 use Rattle.ovl_lookup.proofs.Longest.{longest-rest}
 use Rattle.ovl_lookup.proofs.Turns.{turn-child, turn-moved}
 use Rattle.ovl_lookup.proofs.WalkFacts.{length-child}
@@ -202,6 +203,23 @@ mark-named inode =
     by false false true f own meta named = named.0
     by false false false true own meta named = named.1
     by false false false false own meta named = tt
+
+-- so has the path at which data-only layers have the data of a metacopy file
+pub place-named : (inode : Inode) (place : PathNames) → place_of_data (mark_of inode) ≡ Some place → (has_names place ≡ true) × (is_root place ≡ false)
+place-named inode place e = by (mark_of inode) (mark-named inode) e
+  where
+    by : (mark : Mark) → IsNamedMark mark → place_of_data mark ≡ Some place → (has_names place ≡ true) × (is_root place ≡ false)
+    by (Meta (Some (To other))) named e = let same : other ≡ place = cc in subst (λ (p : PathNames). (has_names p ≡ true) × (is_root p ≡ false)) same named
+    by (Meta (Some (Beside name))) named e = let bad : None ≡ Some place = e in cc
+    by (Meta None) named e = let bad : None ≡ Some place = e in cc
+    by _ named e = let bad : None ≡ Some place = e in cc
+
+pub last-named : (found : List Inode) (place : PathNames) → last_place found ≡ Some place → (has_names place ≡ true) × (is_root place ≡ false)
+last-named found place e = by (last_of found) e
+  where
+    by : (last : Option Inode) → elim last as (λ _. Option PathNames) [ Some inode ↦ place_of_data (mark_of inode) | None ↦ None ] ≡ Some place → (has_names place ≡ true) × (is_root place ≡ false)
+    by None e = let bad : None ≡ Some place = e in cc
+    by (Some inode) e = place-named inode place e
 
 at-named : (layer : Entries) (path : PathNames) → AreNamed (mark_at layer path)
 at-named layer [] = tt

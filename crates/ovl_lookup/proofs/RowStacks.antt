@@ -1,5 +1,5 @@
 -- The stacks of worked examples.
-use Rattle.std.specs.Prelude.{List, [], ◌∷◌, codes}
+use Rattle.std.specs.Prelude.{ℕ, List, [], ◌∷◌, codes}
 use Rattle.ovl_inode.specs.declared.inodes.Inode.{Inode}
 use Rattle.ovl_inode.specs.declared.inodes.Kind.TheVariants.{Symlink, Char}
 use Rattle.ovl_manifest.specs.Layers.{Entries}
@@ -7,7 +7,7 @@ use Rattle.ovl_lookup.specs.Stacks.{StackView}
 use Rattle.ovl_lookup.proofs.Notation.{plain_inode, directory, opaque, moved, opaque_moved, file_a, metacopy, metacopy_moved, whiteout, path, layer_of}
 
 abbrev pub stack_of : List Entries → StackView
-stack_of layers = record { layers = layers }
+stack_of layers = record { layers = layers; data_only = [] }
 
 -- a root alone
 abbrev pub root_alone : StackView
@@ -95,6 +95,30 @@ metacopies_over lowest = stack_of (layer_of ((path (codes "/f"), metacopy 1) ∷
     ∷ layer_of ((path (codes "/f"), metacopy 1) ∷ [])
     ∷ layer_of ((path (codes "/f"), lowest) ∷ [])
     ∷ [])
+
+-- a metacopy file that says where its data is, over a root alone, and a file there in a data-only layer
+abbrev pub told_below : List ℕ → StackView
+told_below place = record {
+  layers = layer_of ((path (codes "/f"), metacopy_moved 1 place) ∷ []) ∷ layer_of [] ∷ [];
+  data_only = layer_of ((path place, file_a) ∷ []) ∷ [];
+}
+
+-- the same where a whiteout hides another file at that place
+abbrev pub told_past_whiteout : Inode → StackView
+told_past_whiteout other = record {
+  layers = layer_of ((path (codes "/f"), metacopy_moved 1 (codes "/z")) ∷ [])
+      ∷ layer_of ((path (codes "/z"), whiteout) ∷ [])
+      ∷ layer_of ((path (codes "/z"), other) ∷ [])
+      ∷ [];
+  data_only = layer_of ((path (codes "/z"), file_a) ∷ []) ∷ [];
+}
+
+-- these layers under a metacopy file of that kind and a root alone, the last of them data-only, or all but the first
+abbrev pub told_over : List Entries → List Entries → StackView
+told_over more data_only = record {
+  layers = layer_of ((path (codes "/f"), metacopy_moved 1 (codes "/z")) ∷ []) ∷ layer_of [] ∷ more;
+  data_only = data_only;
+}
 
 -- metacopy files and directories with redirects of each form, also in an opaque directory
 abbrev pub redirects : Entries

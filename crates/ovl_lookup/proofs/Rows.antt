@@ -8,8 +8,8 @@ use Rattle.ovl_lookup.specs.Walk.{walk, nothing_found, found_at_end, open_natura
 use Rattle.ovl_lookup.specs.Stacks.{StackView, from_layer}
 use Rattle.ovl_lookup.specs.Merged.{look}
 use Rattle.ovl_lookup.specs.Passes.{kids_along, looks_from}
-use Rattle.ovl_lookup.proofs.Notation.{plain_inode, directory, marked_x, opaque, moved, file_a, metacopy_moved, whiteout, empty_whiteout, full_whiteout, path}
-use Rattle.ovl_lookup.proofs.RowStacks.{root_alone, covered, one_over, directory_over, moved_twice, moved_twice_shown, top_of_moved_in_opaque, moved_in_opaque, opaque_with_redirect, metacopies_over, redirects}
+use Rattle.ovl_lookup.proofs.Notation.{plain_inode, directory, marked_x, opaque, moved, file_a, metacopy, metacopy_moved, layer_of, whiteout, empty_whiteout, full_whiteout, path}
+use Rattle.ovl_lookup.proofs.RowStacks.{root_alone, covered, one_over, directory_over, moved_twice, moved_twice_shown, top_of_moved_in_opaque, moved_in_opaque, opaque_with_redirect, metacopies_over, redirects, told_below, told_past_whiteout, told_over}
 
 -- the paths at which the stack shows something, at most so deep
 abbrev shown_paths : ℕ → StackView → List PathNames
@@ -206,3 +206,31 @@ metacopy-data = refl
 metacopy-lost : look (metacopies_over whiteout) (path (codes "/f")) ≡ Broken (plain_inode (File 1 None) 0o644 [])
 unfolding inode_on_literals
 metacopy-lost = refl
+
+-- ---- data-only layers
+
+data_only-data : look (told_below (codes "/f")) (path (codes "/f")) ≡ Shown file_a
+unfolding inode_on_literals
+data_only-data = refl
+
+data_only-paths : shown_paths 4 (told_below (codes "/g")) ≡ [] ∷ (path (codes "/f")) ∷ []
+unfolding inode_on_literals
+data_only-paths = refl
+
+data_only-elsewhere : look (told_below (codes "/g")) (path (codes "/f")) ≡ Shown file_a
+unfolding inode_on_literals
+data_only-elsewhere = refl
+
+data_only-past_whiteout : look (told_past_whiteout (plain_inode (File 1 None) 0o644 [])) (path (codes "/f")) ≡ Shown file_a
+unfolding inode_on_literals
+data_only-past_whiteout = refl
+
+-- the first that is a file with contents counts
+data_only-second : look (told_over [] (layer_of ((path (codes "/z"), metacopy 1) ∷ []) ∷ layer_of ((path (codes "/z"), file_a) ∷ []) ∷ [])) (path (codes "/f")) ≡ Shown file_a
+unfolding inode_on_literals
+data_only-second = refl
+
+-- a metacopy file without a redirect ends the search
+data_only-last_one : look (told_over (layer_of ((path (codes "/z"), metacopy 1) ∷ []) ∷ []) (layer_of ((path (codes "/z"), file_a) ∷ []) ∷ [])) (path (codes "/f")) ≡ Broken (plain_inode (File 1 None) 0o644 [])
+unfolding inode_on_literals
+data_only-last_one = refl

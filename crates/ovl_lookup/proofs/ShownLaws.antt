@@ -164,16 +164,16 @@ pub shown-visible : (stack : StackView) → All IsLayer stack.layers → (path :
 shown-visible stack each path inode shown = by (things_found stack.layers path) refl
   where
     by : (found : List Inode) → things_found stack.layers path ≡ found → IsVisible inode
-    by [] e = let bad : Nothing ≡ Shown inode = ap shown_of (sym e) ∙ shown in cc
-    by (first ∷ more) e = split (is_regular first && has_metacopy first) (data_of (first ∷ more)) refl (ap shown_of (sym e) ∙ shown)
+    by [] e = let bad : Nothing ≡ Shown inode = ap (shown_of stack.data_only) (sym e) ∙ shown in cc
+    by (first ∷ more) e = split (is_regular first && has_metacopy first) (data_of stack.data_only (first ∷ more)) refl (ap (shown_of stack.data_only) (sym e) ∙ shown)
       where
-        split : (b : Bool) (o : Option Inode) → data_of (first ∷ more) ≡ o → cond b (by_data first o) (Shown (visible first)) ≡ Shown inode → IsVisible inode
+        split : (b : Bool) (o : Option Inode) → data_of stack.data_only (first ∷ more) ≡ o → cond b (by_data first o) (Shown (visible first)) ≡ Shown inode → IsVisible inode
         split false o d s =
             let same : visible first ≡ inode = cc in
             subst IsVisible same (visible-visible first (first-found stack.layers each path first more e))
         split true (Some contents) d s =
             let same : record (visible first) { kind = contents.kind } ≡ inode = cc in
-            subst IsVisible same (filled-visible first contents (data-regular (first ∷ more) contents d))
+            subst IsVisible same (filled-visible first contents (data-regular stack.data_only (first ∷ more) contents d))
         split true None d s = let bad : Broken (record (visible first) { kind = without_blob first.kind }) ≡ Shown inode = s in cc
 
 -- its mark is that of a plain directory, or of a leaf
@@ -237,26 +237,26 @@ has_data false malformed none a b c = let bad : false ≡ true = sym b ∙ a in 
 
 -- a file with `metacopy` in a sound stack has its data
 pub data-there : (layer : Entries) (below : StackView) (path : PathNames) (inode : Inode) → IsLayer layer → Faultless layer below path inode → entry_at layer path ≡ Some inode → is_whiteout inode ≡ false → (is_regular inode && has_metacopy inode) ≡ true
-    → is_none (data_of (inode ∷ cond (walk layer path).closed [] (things_found below.layers (walk layer path).next))) ≡ false
+    → is_none (data_of below.data_only (inode ∷ cond (walk layer path).closed [] (things_found below.layers (walk layer path).next))) ≡ false
 data-there layer below path inode is good here thing bare =
     let file : is_directory inode ≡ false = regular_kind inode.kind (both {a = is_regular inode} {b = has_metacopy inode} bare).0 in
     let marked = mark-file layer path inode is here file in
-    has_data (is_meta (mark_at layer path)) (is_malformed (mark_at layer path)) (is_none (data_of (inode ∷ cond (walk layer path).closed [] (things_found below.layers (walk layer path).next))))
+    has_data (is_meta (mark_at layer path)) (is_malformed (mark_at layer path)) (is_none (data_of below.data_only (inode ∷ cond (walk layer path).closed [] (things_found below.layers (walk layer path).next))))
     ((λ j. is_meta (marked j) || is_malformed (marked j)) ∙ bare-mark inode thing bare)
     good.formed good.full
 
-first_whole : (inode : Inode) (below : List Inode) → ((is_regular inode && has_metacopy inode) ≡ true → is_none (data_of (inode ∷ below)) ≡ false) → is_broken (shown_of (inode ∷ below)) ≡ false
-first_whole inode below full = by (is_regular inode && has_metacopy inode) refl (data_of (inode ∷ below)) refl
+first_whole : (data_only : List Entries) (inode : Inode) (below : List Inode) → ((is_regular inode && has_metacopy inode) ≡ true → is_none (data_of data_only (inode ∷ below)) ≡ false) → is_broken (shown_of data_only (inode ∷ below)) ≡ false
+first_whole data_only inode below full = by (is_regular inode && has_metacopy inode) refl (data_of data_only (inode ∷ below)) refl
   where
-    by : (b : Bool) → (is_regular inode && has_metacopy inode) ≡ b → (o : Option Inode) → data_of (inode ∷ below) ≡ o → is_broken (cond b (by_data inode o) (Shown (visible inode))) ≡ false
+    by : (b : Bool) → (is_regular inode && has_metacopy inode) ≡ b → (o : Option Inode) → data_of data_only (inode ∷ below) ≡ o → is_broken (cond b (by_data inode o) (Shown (visible inode))) ≡ false
     by false e o d = refl
     by true e (Some contents) d = refl
     by true e None d = let bad : true ≡ false = ap is_none (sym d) ∙ full e in cc
 
-never_broken_from : (stack : StackView) (layers : List Entries) → All IsLayer layers → IsSoundStack (record stack { layers = layers }) → (path : PathNames) → is_broken (shown_of (things_found layers path)) ≡ false
+never_broken_from : (stack : StackView) (layers : List Entries) → All IsLayer layers → IsSoundStack (record stack { layers = layers }) → (path : PathNames) → is_broken (shown_of stack.data_only (things_found layers path)) ≡ false
 never_broken_from stack [] each sound path = refl
 never_broken_from stack (layer ∷ layers) each sound path =
-    ap (λ found. is_broken (shown_of found)) (things_found-step layer layers path)
+    ap (λ found. is_broken (shown_of stack.data_only found)) (things_found-step layer layers path)
     ∙ by (never_broken_from stack layers (all-rest IsLayer layer layers each) (sound-rest layer below sound) (walk layer path).next) (walk layer path).found refl (walk layer path).closed
   where
     below : StackView
@@ -265,17 +265,17 @@ never_broken_from stack (layer ∷ layers) each sound path =
     is : IsLayer layer
     is = all-first IsLayer layer layers each
 
-    by : is_broken (shown_of (things_found layers (walk layer path).next)) ≡ false → (here : Option Inode) → (walk layer path).found ≡ here → (closed : Bool) → is_broken (shown_of (cons_option (walk layer path).found (cond (walk layer path).closed [] (things_found layers (walk layer path).next)))) ≡ false
+    by : is_broken (shown_of stack.data_only (things_found layers (walk layer path).next)) ≡ false → (here : Option Inode) → (walk layer path).found ≡ here → (closed : Bool) → is_broken (shown_of stack.data_only (cons_option (walk layer path).found (cond (walk layer path).closed [] (things_found layers (walk layer path).next)))) ≡ false
     by later (Some inode) h closed =
         let finds = walk-finds layer path inode is h in
-        ap (λ o. is_broken (shown_of (cons_option o (cond (walk layer path).closed [] (things_found layers (walk layer path).next))))) h
-        ∙ first_whole inode (cond (walk layer path).closed [] (things_found layers (walk layer path).next))
+        ap (λ o. is_broken (shown_of stack.data_only (cons_option o (cond (walk layer path).closed [] (things_found layers (walk layer path).next))))) h
+        ∙ first_whole stack.data_only inode (cond (walk layer path).closed [] (things_found layers (walk layer path).next))
         (data-there layer below path inode is (sound-first layer below sound path inode finds.0) finds.0 finds.1)
     by later None h closed =
-        ap (λ o. is_broken (shown_of (cons_option o (cond (walk layer path).closed [] (things_found layers (walk layer path).next))))) h
+        ap (λ o. is_broken (shown_of stack.data_only (cons_option o (cond (walk layer path).closed [] (things_found layers (walk layer path).next))))) h
         ∙ rest (walk layer path).closed
       where
-        rest : (c : Bool) → is_broken (shown_of (cond c [] (things_found layers (walk layer path).next))) ≡ false
+        rest : (c : Bool) → is_broken (shown_of stack.data_only (cond c [] (things_found layers (walk layer path).next))) ≡ false
         rest true = refl
         rest false = later
 
@@ -312,8 +312,8 @@ entry-found layer layers path inode is here thing =
 -- a directory is shown as it stands there
 pub entry-directory_shown : (layer : Entries) (below : StackView) (path : PathNames) (inode : Inode) → IsLayer layer → entry_at layer path ≡ Some inode → is_directory inode ≡ true → look (over layer below) path ≡ Shown (visible inode)
 entry-directory_shown layer below path inode is here directory =
-    ap shown_of (entry-found layer below.layers path inode is here (directory-no_whiteout inode directory))
-    ∙ shown_of-full inode (cond (walk layer path).closed [] (things_found below.layers (walk layer path).next)) (ap (λ b. b && has_metacopy inode) (directory_kind inode.kind directory))
+    ap (shown_of below.data_only) (entry-found layer below.layers path inode is here (directory-no_whiteout inode directory))
+    ∙ shown_of-full below.data_only inode (cond (walk layer path).closed [] (things_found below.layers (walk layer path).next)) (ap (λ b. b && has_metacopy inode) (directory_kind inode.kind directory))
   where
     directory_kind : (kind : Kind) → elim kind as (λ _. Bool) [ Dir ↦ true | _ ↦ false ] ≡ true → elim kind as (λ _. Bool) [ File size blob ↦ true | _ ↦ false ] ≡ false
     directory_kind (File size blob) is = let bad : false ≡ true = is in cc

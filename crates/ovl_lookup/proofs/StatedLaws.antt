@@ -12,16 +12,16 @@ use Rattle.ovl_inode.specs.declared.inodes.Kind.{Kind}
 use Rattle.ovl_inode.specs.declared.inodes.Kind.TheVariants.{Dir, File, Symlink, Char, Block, Fifo, Socket}
 use Rattle.ovl_inode.specs.Attributes.{Attributes, attribute, visible_attributes, are_attributes, has_escaped_name, is_escaped_name, is_overlay_name, metacopy_name}
 use Rattle.ovl_inode.specs.Inodes.{visible}
-use Rattle.ovl_inode.specs.Marks.{is_directory, is_regular, is_metacopy, has_metacopy, is_data}
+use Rattle.ovl_inode.specs.Marks.{is_directory, is_regular, is_metacopy, is_whiteout, has_metacopy, is_data}
 use Rattle.ovl_inode.specs.Sound.{is_sound_inode, is_sound_kind, is_word, is_seconds, mode_limit}
 use Rattle.ovl_inode.proofs.AttributeLemmas.{are_attributes-visible}
-use Rattle.ovl_manifest.specs.Layers.{Entries, Entry, name_below, names_below, IsLayer}
+use Rattle.ovl_manifest.specs.Layers.{Entries, Entry, entry_at, name_below, names_below, IsLayer}
 use Rattle.ovl_lookup.specs.declared.looks.Look.{Look}
 use Rattle.ovl_lookup.specs.declared.looks.Look.TheVariants.{Nothing, Shown, Broken}
 use Rattle.ovl_lookup.specs.Walk.{walk}
 use Rattle.ovl_lookup.specs.Stacks.{StackView}
 use Rattle.ovl_lookup.specs.Trace.{things_found, hits_of, leading_directories, leading_files}
-use Rattle.ovl_lookup.specs.Merged.{look, shows, shown_of, data_of, last_of, without_blob}
+use Rattle.ovl_lookup.specs.Merged.{look, shows, shown_of, data_of, last_of, full_file_in, data_at_place, last_place, without_blob}
 use Rattle.ovl_lookup.specs.Passes.{own_names_along}
 use Rattle.ovl_lookup.proofs.ChildLemmas.{all-first, all-rest, child_found}
 use Rattle.ovl_lookup.proofs.FoundLemmas.{things_found-step}
@@ -88,16 +88,38 @@ last-all test [] inode all last = let bad : None ≡ Some inode = last in cc
 last-all test (hit ∷ []) inode all last = let same : hit ≡ inode = cc in ap test (sym same) ∙ (both {a = test hit} {b = true} all).0
 last-all test (hit ∷ other ∷ hits) inode all last = last-all test (other ∷ hits) inode (both {a = test hit} {b = list_all test (other ∷ hits)} all).1 last
 
-pub data-all : (test : Inode → Bool) (found : List Inode) (contents : Inode) → list_all test found ≡ true → data_of found ≡ Some contents → test contents ≡ true
-data-all test found contents all of = by (last_of (hits_of found)) refl of
+-- the file with contents that data-only layers have
+full_file-all : (test : Inode → Bool) → ((layer : Entries) → IsLayer layer → list_all (λ (entry : Entry). test entry.1) layer ≡ true) → (layers : List Entries) → All IsLayer layers → (path : PathNames) (contents : Inode) → full_file_in layers path ≡ Some contents → test contents ≡ true
+full_file-all test of [] each path contents e = let bad : None ≡ Some contents = e in cc
+full_file-all test of (layer ∷ layers) each path contents e = at (entry_at layer path) refl (full_file-all test of layers (all-rest IsLayer layer layers each) path contents) e
   where
-    by : (last : Option Inode) → last_of (hits_of found) ≡ last → elim last as (λ _. Option Inode) [ Some inode ↦ cond (is_data inode) (Some inode) None | None ↦ None ] ≡ Some contents → test contents ≡ true
-    by None e d = let bad : None ≡ Some contents = d in cc
-    by (Some inode) e d = split (is_data inode) d
+    at : (entry : Option Inode) → entry_at layer path ≡ entry → (full_file_in layers path ≡ Some contents → test contents ≡ true)
+        → elim entry as (λ _. Option Inode) [ Some inode ↦ cond (is_data inode && not (is_whiteout inode)) (Some inode) (full_file_in layers path) | None ↦ full_file_in layers path ] ≡ Some contents → test contents ≡ true
+    at None h later e = later e
+    at (Some inode) h later e = by (is_data inode && not (is_whiteout inode)) e
       where
-        split : (b : Bool) → cond b (Some inode) None ≡ Some contents → test contents ≡ true
-        split true d = let same : inode ≡ contents = cc in ap test (sym same) ∙ last-all test (hits_of found) inode (hits-all test found all) e
-        split false d = let bad : None ≡ Some contents = d in cc
+        by : (b : Bool) → cond b (Some inode) (full_file_in layers path) ≡ Some contents → test contents ≡ true
+        by true e = let same : inode ≡ contents = cc in ap test (sym same) ∙ lookup-all (λ (entry : Entry). test entry.1) path layer inode (of layer (all-first IsLayer layer layers each)) h
+        by false e = later e
+
+placed-all : (test : Inode → Bool) → ((layer : Entries) → IsLayer layer → list_all (λ (entry : Entry). test entry.1) layer ≡ true) → (data_only : List Entries) → All IsLayer data_only → (place : Option PathNames) (contents : Inode) → data_at_place data_only place ≡ Some contents → test contents ≡ true
+placed-all test of data_only each None contents e = let bad : None ≡ Some contents = e in cc
+placed-all test of data_only each (Some place) contents e = full_file-all test of data_only each place contents e
+
+pub data-all : (test : Inode → Bool) → ((layer : Entries) → IsLayer layer → list_all (λ (entry : Entry). test entry.1) layer ≡ true) → (data_only : List Entries) → All IsLayer data_only → (found : List Inode) (contents : Inode) → list_all test found ≡ true → data_of data_only found ≡ Some contents → test contents ≡ true
+data-all test of data_only each found contents all is = alone (list_all is_metacopy found) is
+  where
+    alone : (b : Bool) → cond b (data_at_place data_only (last_place found)) (elim (last_of (hits_of found)) as (λ _. Option Inode) [ Some inode ↦ cond (is_data inode) (Some inode) None | None ↦ None ]) ≡ Some contents → test contents ≡ true
+    alone true d = placed-all test of data_only each (last_place found) contents d
+    alone false d = by (last_of (hits_of found)) refl d
+      where
+        by : (last : Option Inode) → last_of (hits_of found) ≡ last → elim last as (λ _. Option Inode) [ Some inode ↦ cond (is_data inode) (Some inode) None | None ↦ None ] ≡ Some contents → test contents ≡ true
+        by None e d = let bad : None ≡ Some contents = d in cc
+        by (Some inode) e d = split (is_data inode) d
+          where
+            split : (b : Bool) → cond b (Some inode) None ≡ Some contents → test contents ≡ true
+            split true d = let same : inode ≡ contents = cc in ap test (sym same) ∙ last-all test (hits_of found) inode (hits-all test found all) e
+            split false d = let bad : None ≡ Some contents = d in cc
 
 -- ---- sound inodes
 
@@ -155,12 +177,12 @@ sound-visible inode kind sound kinds =
 abbrev by_data : Inode → Option Inode → Look
 by_data inode found = elim found as (λ _. Look) [ Some contents ↦ Shown (record (visible inode) { kind = contents.kind }) | None ↦ Broken (record (visible inode) { kind = without_blob inode.kind }) ]
 
-pub shown-sound : (stack : StackView) → All IsLayer stack.layers → (path : PathNames) (inode : Inode) → look stack path ≡ Shown inode → is_sound_inode inode ≡ true
-shown-sound stack each path inode shown = by (things_found stack.layers path) refl
+pub shown-sound : (stack : StackView) → All IsLayer stack.layers → All IsLayer stack.data_only → (path : PathNames) (inode : Inode) → look stack path ≡ Shown inode → is_sound_inode inode ≡ true
+shown-sound stack each deep path inode shown = by (things_found stack.layers path) refl
   where
     by : (found : List Inode) → things_found stack.layers path ≡ found → is_sound_inode inode ≡ true
-    by [] e = let bad : Nothing ≡ Shown inode = ap shown_of (sym e) ∙ shown in cc
-    by (first ∷ more) e = split (is_regular first && has_metacopy first) refl (data_of (first ∷ more)) refl (ap shown_of (sym e) ∙ shown)
+    by [] e = let bad : Nothing ≡ Shown inode = ap (shown_of stack.data_only) (sym e) ∙ shown in cc
+    by (first ∷ more) e = split (is_regular first && has_metacopy first) refl (data_of stack.data_only (first ∷ more)) refl (ap (shown_of stack.data_only) (sym e) ∙ shown)
       where
         all : list_all is_sound_inode (first ∷ more) ≡ true
         all = ap (list_all is_sound_inode) (sym e) ∙ found-all is_sound_inode (λ layer is. is.sound) stack.layers each path
@@ -168,13 +190,13 @@ shown-sound stack each path inode shown = by (things_found stack.layers path) re
         own : is_sound_inode first ≡ true
         own = (both {a = is_sound_inode first} {b = list_all is_sound_inode more} all).0
 
-        split : (b : Bool) → (is_regular first && has_metacopy first) ≡ b → (o : Option Inode) → data_of (first ∷ more) ≡ o → cond b (by_data first o) (Shown (visible first)) ≡ Shown inode → is_sound_inode inode ≡ true
+        split : (b : Bool) → (is_regular first && has_metacopy first) ≡ b → (o : Option Inode) → data_of stack.data_only (first ∷ more) ≡ o → cond b (by_data first o) (Shown (visible first)) ≡ Shown inode → is_sound_inode inode ≡ true
         split false b o d s =
             let same : visible first ≡ inode = cc in
             ap is_sound_inode (sym same) ∙ sound-visible first first.kind own (kind-full first.kind (has_metacopy first) b (sound-kind first own))
         split true b (Some contents) d s =
             let same : record (visible first) { kind = contents.kind } ≡ inode = cc in
-            ap is_sound_inode (sym same) ∙ sound-visible first contents.kind own (data-kind contents (data-regular (first ∷ more) contents d) (data-all is_sound_inode (first ∷ more) contents all d))
+            ap is_sound_inode (sym same) ∙ sound-visible first contents.kind own (data-kind contents (data-regular stack.data_only (first ∷ more) contents d) (data-all is_sound_inode (λ layer is. is.sound) stack.data_only deep (first ∷ more) contents all d))
         split true b None d s = let bad : Broken (record (visible first) { kind = without_blob first.kind }) ≡ Shown inode = s in cc
 
 -- ---- no escaped attribute
@@ -195,8 +217,8 @@ pub shown-unescaped : (stack : StackView) → All IsLayer stack.layers → (path
 shown-unescaped stack each path inode shown = by (things_found stack.layers path) refl
   where
     by : (found : List Inode) → things_found stack.layers path ≡ found → has_escaped_name inode.attrs ≡ false
-    by [] e = let bad : Nothing ≡ Shown inode = ap shown_of (sym e) ∙ shown in cc
-    by (first ∷ more) e = split (is_regular first && has_metacopy first) (data_of (first ∷ more)) (ap shown_of (sym e) ∙ shown)
+    by [] e = let bad : Nothing ≡ Shown inode = ap (shown_of stack.data_only) (sym e) ∙ shown in cc
+    by (first ∷ more) e = split (is_regular first && has_metacopy first) (data_of stack.data_only (first ∷ more)) (ap (shown_of stack.data_only) (sym e) ∙ shown)
       where
         all : list_all (λ (i : Inode). not (has_escaped_name i.attrs)) (first ∷ more) ≡ true
         all = ap (list_all (λ (i : Inode). not (has_escaped_name i.attrs))) (sym e) ∙ found-all (λ (i : Inode). not (has_escaped_name i.attrs)) (λ layer is. is.unescaped) stack.layers each path

@@ -250,10 +250,10 @@ tops-exist layers each i (place ∷ rest) = by (tops-exist layers each (suc i) r
 
 -- ---- what is shown at each name
 
-module _ (layers : List Entries) (places : List Reached) where
+module _ (stack : StackView) (places : List Reached) where
   -- what is shown at a name, and whether something is
   abbrev shown_at : PathName → Look
-  shown_at name = shown_of (found_below layers name places)
+  shown_at name = shown_of stack.data_only (found_below stack.layers name places)
 
   abbrev is_shown_at : PathName → Bool
   is_shown_at name = not (is_nothing (shown_at name))
@@ -261,13 +261,13 @@ module _ (layers : List Entries) (places : List Reached) where
   abbrev with_look : List PathName → List (PathName × Look)
   with_look names = map (λ name. (name, shown_at name)) names
 
-  looks-are : (tops : List (PathName × First)) → AllByRecursion (λ top. found_below layers top.0 (drop top.1.place places) ≡ found_below layers top.0 places) tops → looks_from_tops layers places tops ≡ with_look (filter is_shown_at (names_of tops))
+  looks-are : (tops : List (PathName × First)) → AllByRecursion (λ top. found_below stack.layers top.0 (drop top.1.place places) ≡ found_below stack.layers top.0 places) tops → looks_from_tops stack places tops ≡ with_look (filter is_shown_at (names_of tops))
   looks-are [] each = refl
   looks-are (top ∷ tops) each =
-      (λ j. cond (not (is_nothing (shown_of (each.0 j)))) ((top.0, shown_of (each.0 j)) ∷ looks_from_tops layers places tops) (looks_from_tops layers places tops))
+      (λ j. cond (not (is_nothing (shown_of stack.data_only (each.0 j)))) ((top.0, shown_of stack.data_only (each.0 j)) ∷ looks_from_tops stack places tops) (looks_from_tops stack places tops))
       ∙ by (looks-are tops each.1) (is_shown_at top.0)
     where
-      by : looks_from_tops layers places tops ≡ with_look (filter is_shown_at (names_of tops)) → (b : Bool) → cond b ((top.0, shown_at top.0) ∷ looks_from_tops layers places tops) (looks_from_tops layers places tops) ≡ with_look (cond b (top.0 ∷ filter is_shown_at (names_of tops)) (filter is_shown_at (names_of tops)))
+      by : looks_from_tops stack places tops ≡ with_look (filter is_shown_at (names_of tops)) → (b : Bool) → cond b ((top.0, shown_at top.0) ∷ looks_from_tops stack places tops) (looks_from_tops stack places tops) ≡ with_look (cond b (top.0 ∷ filter is_shown_at (names_of tops)) (filter is_shown_at (names_of tops)))
       by later true = ap (λ looks. (top.0, shown_at top.0) ∷ looks) later
       by later false = later
 
@@ -280,18 +280,18 @@ module _ (layers : List Entries) (places : List Reached) where
   each-with_look P (name ∷ names) holds = (holds name, each-with_look P names holds)
 
 module _ (stack : StackView) (each : All IsLayer stack.layers) (from : ℕ) (path : PathNames) (tops : List (PathName × First)) (are : AreTops stack.layers 0 (reached (drop from stack.layers) from path) tops) where
-  pub looks-of-tops : AreLooks (from_layer from stack) path (looks_from_tops stack.layers (reached (drop from stack.layers) from path) tops)
-  looks-of-tops = subst (AreLooks (from_layer from stack) path) (sym (looks-are layers places tops found)) (record {
+  pub looks-of-tops : AreLooks (from_layer from stack) path (looks_from_tops stack (reached (drop from stack.layers) from path) tops)
+  looks-of-tops = subst (AreLooks (from_layer from stack) path) (sym (looks-are stack places tops found)) (record {
     names = record {
-      in_order = ap (ascends name_cmp) listed ∙ ascends-filter name_cmp (is_shown_at layers places) (names_of tops) are.in_order;
+      in_order = ap (ascends name_cmp) listed ∙ ascends-filter name_cmp (is_shown_at stack places) (names_of tops) are.in_order;
       same = λ name.
           ap (list_any (name_eq name)) listed
-          ∙ (any-filter name (is_shown_at layers places) (names_of tops)
-          ∙ (ap (λ b. b && is_shown_at layers places name) (named layers 0 places tops are name)
-          ∙ (by name (is_shown_at layers places name) refl
+          ∙ (any-filter name (is_shown_at stack places) (names_of tops)
+          ∙ (ap (λ b. b && is_shown_at stack places name) (named layers 0 places tops are name)
+          ∙ (by name (is_shown_at stack places name) refl
           ∙ ap (λ (look : Look). not (is_nothing look)) (shown name))));
     };
-    each = All-from_recursion (λ e. e.1 ≡ look (from_layer from stack) (child_path path e.0)) (with_look layers places kept) (each-with_look layers places (λ e. e.1 ≡ look (from_layer from stack) (child_path path e.0)) kept shown);
+    each = All-from_recursion (λ e. e.1 ≡ look (from_layer from stack) (child_path path e.0)) (with_look stack places kept) (each-with_look stack places (λ e. e.1 ≡ look (from_layer from stack) (child_path path e.0)) kept shown);
   })
     where
       layers : List Entries
@@ -301,22 +301,22 @@ module _ (stack : StackView) (each : All IsLayer stack.layers) (from : ℕ) (pat
       places = reached (drop from stack.layers) from path
 
       kept : List PathName
-      kept = filter (is_shown_at layers places) (names_of tops)
+      kept = filter (is_shown_at stack places) (names_of tops)
 
-      listed : map (λ e. e.0) (with_look layers places kept) ≡ kept
-      listed = names-with_look layers places kept
+      listed : map (λ e. e.0) (with_look stack places kept) ≡ kept
+      listed = names-with_look stack places kept
 
-      shown : (name : PathName) → shown_at layers places name ≡ look (from_layer from stack) (child_path path name)
-      shown name = ap shown_of (sym (views-find stack each from path name))
+      shown : (name : PathName) → shown_at stack places name ≡ look (from_layer from stack) (child_path path name)
+      shown name = ap (shown_of stack.data_only) (sym (views-find stack each from path name))
 
       found : AllByRecursion (λ top. found_below layers top.0 (drop top.1.place places) ≡ found_below layers top.0 places) tops
       found = each-with (λ top. IsFirst layers top.0 top.1 0 places) (λ top. found_below layers top.0 (drop top.1.place places) ≡ found_below layers top.0 places)
           (λ top is. let same : top.1.place ≡ is.past = omega (arith, is.number) in ap (λ n. found_below layers top.0 (drop n places)) same ∙ is.found) tops (each-first layers 0 places tops are)
 
-      by : (name : PathName) (b : Bool) → is_shown_at layers places name ≡ b → (is_some (first_in layers 0 places name) && is_shown_at layers places name) ≡ is_shown_at layers places name
+      by : (name : PathName) (b : Bool) → is_shown_at stack places name ≡ b → (is_some (first_in layers 0 places name) && is_shown_at stack places name) ≡ is_shown_at stack places name
       by name true e =
-          let some : is_some (first_in layers 0 places name) ≡ true = first-found layers name 0 places (sym (shown-any (found_below layers name places)) ∙ e) in
-          ap (λ b. b && is_shown_at layers places name) some
+          let some : is_some (first_in layers 0 places name) ≡ true = first-found layers name 0 places (sym (shown-any stack.data_only (found_below layers name places)) ∙ e) in
+          ap (λ b. b && is_shown_at stack places name) some
       by name false e = ap (λ b. is_some (first_in layers 0 places name) && b) e ∙ (and-false (is_some (first_in layers 0 places name)) ∙ sym e)
 
 pub views-look : ViewsLook

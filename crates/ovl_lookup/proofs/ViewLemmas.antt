@@ -401,16 +401,16 @@ found-child all (layer ∷ layers) i path name whole each = by (λ p n. found-ch
 
 -- ---- a directory is shown exactly where some layer has one
 
-first-shown : (inode : Inode) (below : List Inode) → is_shown_directory (shown_of (inode ∷ below)) ≡ is_directory inode
-first-shown inode below = by (is_directory inode) refl
+first-shown : (data_only : List Entries) (inode : Inode) (below : List Inode) → is_shown_directory (shown_of data_only (inode ∷ below)) ≡ is_directory inode
+first-shown data_only inode below = by (is_directory inode) refl
   where
-    by : (d : Bool) → is_directory inode ≡ d → is_shown_directory (shown_of (inode ∷ below)) ≡ is_directory inode
-    by true d = ap is_shown_directory (shown_of-full inode below (ap (λ b. b && has_metacopy inode) (directory-kind inode.kind d)))
-    by false d = file-shown inode below d ∙ sym d
+    by : (d : Bool) → is_directory inode ≡ d → is_shown_directory (shown_of data_only (inode ∷ below)) ≡ is_directory inode
+    by true d = ap is_shown_directory (shown_of-full data_only inode below (ap (λ b. b && has_metacopy inode) (directory-kind inode.kind d)))
+    by false d = file-shown data_only inode below d ∙ sym d
 
-pub directory-reached : (ls : List Entries) (i : ℕ) (path : PathNames) → All IsLayer ls → is_shown_directory (shown_of (things_found ls path)) ≡ is_reached (reached ls i path)
-directory-reached [] i path each = refl
-directory-reached (layer ∷ layers) i path each = by (λ p. directory-reached layers (suc i) p (all-rest IsLayer layer layers each)) (walk-end layer path is)
+pub directory-reached : (data_only ls : List Entries) (i : ℕ) (path : PathNames) → All IsLayer ls → is_shown_directory (shown_of data_only (things_found ls path)) ≡ is_reached (reached ls i path)
+directory-reached data_only [] i path each = refl
+directory-reached data_only (layer ∷ layers) i path each = by (λ p. directory-reached data_only layers (suc i) p (all-rest IsLayer layer layers each)) (walk-end layer path is)
   where
     is : IsLayer layer
     is = all-first IsLayer layer layers each
@@ -418,17 +418,17 @@ directory-reached (layer ∷ layers) i path each = by (λ p. directory-reached l
     next : PathNames
     next = (walk layer path).next
 
-    first : (inode : Inode) → (walk layer path).found ≡ Some inode → is_shown_directory (shown_of (things_found (layer ∷ layers) path)) ≡ is_directory inode
+    first : (inode : Inode) → (walk layer path).found ≡ Some inode → is_shown_directory (shown_of data_only (things_found (layer ∷ layers) path)) ≡ is_directory inode
     first inode finds =
-        ap (λ found. is_shown_directory (shown_of found))
+        ap (λ found. is_shown_directory (shown_of data_only found))
         (things_found-step layer layers path ∙ ap (λ (o : Option Inode). cons_option o (cond (walk layer path).closed [] (things_found layers (walk layer path).next))) finds)
-        ∙ first-shown inode (cond (walk layer path).closed [] (things_found layers (walk layer path).next))
+        ∙ first-shown data_only inode (cond (walk layer path).closed [] (things_found layers (walk layer path).next))
 
-    past_by : (later : (p : PathNames) → is_shown_directory (shown_of (things_found layers p)) ≡ is_reached (reached layers (suc i) p)) → (closed : Bool) → is_shown_directory (shown_of (cond closed [] (things_found layers next))) ≡ is_reached (cond closed [] (reached layers (suc i) next))
+    past_by : (later : (p : PathNames) → is_shown_directory (shown_of data_only (things_found layers p)) ≡ is_reached (reached layers (suc i) p)) → (closed : Bool) → is_shown_directory (shown_of data_only (cond closed [] (things_found layers next))) ≡ is_reached (cond closed [] (reached layers (suc i) next))
     past_by later true = refl
     past_by later false = later next
 
-    by : ((p : PathNames) → is_shown_directory (shown_of (things_found layers p)) ≡ is_reached (reached layers (suc i) p)) → (is_directory_at layer path ≡ true) ⊎ Beyond layer path → is_shown_directory (shown_of (things_found (layer ∷ layers) path)) ≡ is_reached (reached (layer ∷ layers) i path)
+    by : ((p : PathNames) → is_shown_directory (shown_of data_only (things_found layers p)) ≡ is_reached (reached layers (suc i) p)) → (is_directory_at layer path ≡ true) ⊎ Beyond layer path → is_shown_directory (shown_of data_only (things_found (layer ∷ layers) path)) ≡ is_reached (reached (layer ∷ layers) i path)
     by later (inl holds) =
         let entry = directory-entry layer path holds in
         first entry.0 (ap (λ (s : Step). s.found) (walk-whole layer path holds) ∙ entry.1)
@@ -441,15 +441,15 @@ directory-reached (layer ∷ layers) i path each = by (λ p. directory-reached l
             reached-by layer layers i path (Some file.inode) (walk layer path) file.here refl
             ∙ ap (λ b. cond b (record { layer = i; path = path; next = (walk layer path).next; closed = (walk layer path).closed } ∷ cond (walk layer path).closed [] (reached layers (suc i) (walk layer path).next)) []) file.file
 
-        file_shown : (file : FileAt layer path) → ((walk layer path).found ≡ Some file.inode) ⊎ (((walk layer path).found ≡ None) × ((walk layer path).closed ≡ true)) → is_shown_directory (shown_of (things_found (layer ∷ layers) path)) ≡ false
+        file_shown : (file : FileAt layer path) → ((walk layer path).found ≡ Some file.inode) ⊎ (((walk layer path).found ≡ None) × ((walk layer path).closed ≡ true)) → is_shown_directory (shown_of data_only (things_found (layer ∷ layers) path)) ≡ false
         file_shown file (inl finds) = first file.inode finds ∙ file.file
         file_shown file (inr (finds, closed)) =
-            ap (λ found. is_shown_directory (shown_of found))
+            ap (λ found. is_shown_directory (shown_of data_only found))
             (things_found-step layer layers path ∙ (λ j. cons_option (finds j) (cond (closed j) [] (things_found layers (walk layer path).next))))
 
-        ending : NothingAt layer path ⊎ FileAt layer path → is_shown_directory (shown_of (things_found (layer ∷ layers) path)) ≡ is_reached (reached (layer ∷ layers) i path)
+        ending : NothingAt layer path ⊎ FileAt layer path → is_shown_directory (shown_of data_only (things_found (layer ∷ layers) path)) ≡ is_reached (reached (layer ∷ layers) i path)
         ending (inl nothing) =
-            ap (λ found. is_shown_directory (shown_of found))
+            ap (λ found. is_shown_directory (shown_of data_only found))
             (things_found-step layer layers path ∙ ap (λ (o : Option Inode). cons_option o (cond (walk layer path).closed [] (things_found layers (walk layer path).next))) nothing.finds)
             ∙ (past_by later (walk layer path).closed
             ∙ ap is_reached (sym (reached-by layer layers i path None (walk layer path) nothing.none refl)))
@@ -469,4 +469,4 @@ pub views-find : ViewsFind
 views-find stack each from path name = found-child stack.layers (drop from stack.layers) from path name refl (drop-each stack.layers from each)
 
 pub views-show : ViewsShow
-views-show stack each from path = directory-reached (drop from stack.layers) from path (drop-each stack.layers from each)
+views-show stack each from path = directory-reached stack.data_only (drop from stack.layers) from path (drop-each stack.layers from each)

@@ -8,6 +8,8 @@ use Rattle.std.proofs.lemmas.Option.{slice_get_read, slice_get_within, get_or_fr
 use Rattle.ovl_names.specs.Paths.{PathNames, child_path}
 use Rattle.ovl_inode.specs.declared.inodes.Inode.{Inode}
 use Rattle.ovl_inode.specs.declared.marks.Mark.{Mark}
+use Rattle.ovl_inode.specs.declared.marks.Mark.TheVariants.{Whiteout, DirOpaque, DirMoved, DirBad, DirPlain, Meta, MetaBad, Leaf}
+use Rattle.ovl_inode.specs.declared.marks.Redirect.TheVariants.{To, Beside}
 use Rattle.ovl_inode.specs.Inodes.{visible}
 use Rattle.ovl_inode.specs.Marks.{mark_of, is_whiteout, is_data, is_metacopy, is_metacopy_mark, is_regular, has_metacopy}
 use Rattle.ovl_manifest.specs.Layers.{Entries, entry_at, names_below}
@@ -19,11 +21,11 @@ use Rattle.ovl_lookup.specs.declared.tops.Top.{Top}
 use Rattle.ovl_lookup.specs.declared.views.DirPlace.{DirPlace}
 use Rattle.ovl_lookup.specs.Stacks.{StackView}
 use Rattle.ovl_lookup.specs.Trace.{things_found}
-use Rattle.ovl_lookup.specs.Merged.{data_of, shown_of, is_nothing, without_blob}
+use Rattle.ovl_lookup.specs.Merged.{data_of, shown_of, is_nothing, without_blob, place_of_data}
 use Rattle.ovl_lookup.specs.Passes.{data_below, shown_with}
 use Rattle.ovl_lookup.specs.Views.{Reached, entry_in, below_entry, found_below}
 use Rattle.ovl_lookup.specs.ViewPasses.{First, AreTops, top_told, tops_told, look_from_top, looks_from_tops}
-use Rattle.ovl_lookup.specs.DirViews.{place_in, places_in}
+use Rattle.ovl_lookup.specs.DirViews.{place_in, places_in, path_on}
 use Rattle.ovl_lookup.proofs.FoundLemmas.{bare_file, data_of-metacopy, data_of-bad, data_below-metacopy, data_below-data, data_below-other, shown_of-full}
 use Rattle.ovl_lookup.proofs.ChildLemmas.{any_found, shown-any}
 use Rattle.ovl_lookup.proofs.WalkFacts.{take-rest}
@@ -36,12 +38,12 @@ use Rattle.ovl_lookup.proofs.KidNames.{kid-path}
 -- ---- a file that lacks its contents
 
 -- its data among what is found is that below metacopy files
-lacking-data : (inode : Inode) (below : List Inode) → (is_regular inode && has_metacopy inode) ≡ true → data_of (inode ∷ below) ≡ data_below (inode ∷ below)
-lacking-data inode below lacks = by (is_metacopy inode) refl
+lacking-data : (data_only : List Entries) (inode : Inode) (below : List Inode) → (is_regular inode && has_metacopy inode) ≡ true → data_of data_only (inode ∷ below) ≡ data_below data_only None (inode ∷ below)
+lacking-data data_only inode below lacks = by (is_metacopy inode) refl
   where
-    by : (b : Bool) → is_metacopy inode ≡ b → data_of (inode ∷ below) ≡ data_below (inode ∷ below)
-    by true meta = data_of-metacopy inode below meta (bare_file inode lacks).0 (bare_file inode lacks).1 ∙ sym (data_below-metacopy inode below meta)
-    by false meta = data_of-bad inode below meta (bare_file inode lacks).0 (bare_file inode lacks).1 ∙ sym (data_below-other inode below meta (bare_file inode lacks).1)
+    by : (b : Bool) → is_metacopy inode ≡ b → data_of data_only (inode ∷ below) ≡ data_below data_only None (inode ∷ below)
+    by true meta = data_of-metacopy data_only inode below meta (bare_file inode lacks).0 (bare_file inode lacks).1 ∙ sym (data_below-metacopy data_only None inode below meta)
+    by false meta = data_of-bad data_only inode below meta (bare_file inode lacks).0 (bare_file inode lacks).1 ∙ sym (data_below-other data_only None inode below meta (bare_file inode lacks).1)
 
 abbrev by_data : Inode → Option Inode → Look
 by_data inode found = elim found as (λ _. Look) [ Some contents ↦ Shown (record (visible inode) { kind = contents.kind }) | None ↦ Broken (record (visible inode) { kind = without_blob inode.kind }) ]
@@ -51,15 +53,15 @@ by-data inode None = refl
 by-data inode (Some contents) = refl
 
 -- what is shown of it, by its data
-pub shown-lacking : (inode : Inode) (below : List Inode) → (is_regular inode && has_metacopy inode) ≡ true → shown_of (inode ∷ below) ≡ shown_with inode (data_of (inode ∷ below))
-shown-lacking inode below lacks = ap (λ b. cond b (by_data inode (data_of (inode ∷ below))) (Shown (visible inode))) lacks ∙ by-data inode (data_of (inode ∷ below))
+pub shown-lacking : (data_only : List Entries) (inode : Inode) (below : List Inode) → (is_regular inode && has_metacopy inode) ≡ true → shown_of data_only (inode ∷ below) ≡ shown_with inode (data_of data_only (inode ∷ below))
+shown-lacking data_only inode below lacks = ap (λ b. cond b (by_data inode (data_of data_only (inode ∷ below))) (Shown (visible inode))) lacks ∙ by-data inode (data_of data_only (inode ∷ below))
 
 -- ---- the places of a view from one on
 
 pub slice-places : (stack : StackView) (places : List DirPlace) (i : ℕ) → places_in stack (take (length places - i) (drop i places)) ≡ drop i (places_in stack places)
 slice-places stack places i = ap (places_in stack) (take-rest places i) ∙ sym (drop-map (λ own. place_in stack own) i places)
 
-module _ (layers : List Entries) (name : PathName) (places : List Reached) (k : ℕ) (place : Reached) (at : slice_get places k ≡ Some place) (inode : Inode) (mark : Mark) (here : entry_in layers name place ≡ Some inode) (marked : mark ≡ mark_of inode) where
+module _ (data_only layers : List Entries) (name : PathName) (places : List Reached) (k : ℕ) (place : Reached) (at : slice_get places k ≡ Some place) (inode : Inode) (mark : Mark) (here : entry_in layers name place ≡ Some inode) (marked : mark ≡ mark_of inode) where
   abbrev onward : List Inode
   onward = below_entry mark name (things_found (drop (place.layer + 1) layers)) (λ other. found_below layers other (drop (k + 1) places))
 
@@ -70,33 +72,50 @@ module _ (layers : List Entries) (name : PathName) (places : List Reached) (k : 
   found-here w = found-entry layers name places k place at inode mark here w (sym marked)
 
   -- what is shown at the name, where that is the first place that has it
-  pub whiteout-shows : is_whiteout inode ≡ true → shown_of left ≡ Nothing
-  whiteout-shows w = ap shown_of (found-whiteout layers name places k place at inode here w)
+  pub whiteout-shows : is_whiteout inode ≡ true → shown_of data_only left ≡ Nothing
+  whiteout-shows w = ap (shown_of data_only) (found-whiteout layers name places k place at inode here w)
 
-  pub full-shows : is_whiteout inode ≡ false → (is_regular inode && has_metacopy inode) ≡ false → shown_of left ≡ Shown (visible inode)
-  full-shows w full = ap shown_of (found-here w) ∙ shown_of-full inode onward full
+  pub full-shows : is_whiteout inode ≡ false → (is_regular inode && has_metacopy inode) ≡ false → shown_of data_only left ≡ Shown (visible inode)
+  full-shows w full = ap (shown_of data_only) (found-here w) ∙ shown_of-full data_only inode onward full
 
-  pub lacking-shows : is_whiteout inode ≡ false → (is_regular inode && has_metacopy inode) ≡ true → shown_of left ≡ shown_with inode (data_below left)
+  pub lacking-shows : is_whiteout inode ≡ false → (is_regular inode && has_metacopy inode) ≡ true → shown_of data_only left ≡ shown_with inode (data_below data_only None left)
   lacking-shows w lacks =
-      ap shown_of (found-here w)
-      ∙ (shown-lacking inode onward lacks
-      ∙ ap (shown_with inode) (lacking-data inode onward lacks ∙ sym (ap data_below (found-here w))))
+      ap (shown_of data_only) (found-here w)
+      ∙ (shown-lacking data_only inode onward lacks
+      ∙ ap (shown_with inode) (lacking-data data_only inode onward lacks ∙ sym (ap (data_below data_only None) (found-here w))))
 
-  pub entry-shows : is_whiteout inode ≡ false → not (is_nothing (shown_of left)) ≡ true
-  entry-shows w = shown-any left ∙ ap any_found (found-here w)
+  pub entry-shows : is_whiteout inode ≡ false → not (is_nothing (shown_of data_only left)) ≡ true
+  entry-shows w = shown-any data_only left ∙ ap any_found (found-here w)
 
   -- the data there
-  pub whiteout-data : is_whiteout inode ≡ true → data_below left ≡ None
-  whiteout-data w = ap data_below (found-whiteout layers name places k place at inode here w)
+  pub whiteout-data : is_whiteout inode ≡ true → data_below data_only None left ≡ None
+  whiteout-data w = ap (data_below data_only None) (found-whiteout layers name places k place at inode here w)
 
-  pub own-data : is_whiteout inode ≡ false → is_data inode ≡ true → data_below left ≡ Some inode
-  own-data w holds = ap data_below (found-here w) ∙ data_below-data inode onward holds
+  pub own-data : is_whiteout inode ≡ false → is_data inode ≡ true → data_below data_only None left ≡ Some inode
+  own-data w holds = ap (data_below data_only None) (found-here w) ∙ data_below-data data_only None inode onward holds
 
-  pub other-data : is_whiteout inode ≡ false → is_data inode ≡ false → is_metacopy_mark mark ≡ false → data_below left ≡ None
-  other-data w bare meta = ap data_below (found-here w) ∙ data_below-other inode onward (ap is_metacopy_mark (sym marked) ∙ meta) bare
+  pub other-data : is_whiteout inode ≡ false → is_data inode ≡ false → is_metacopy_mark mark ≡ false → data_below data_only None left ≡ None
+  other-data w bare meta = ap (data_below data_only None) (found-here w) ∙ data_below-other data_only None inode onward (ap is_metacopy_mark (sym marked) ∙ meta) bare
 
-  pub onward-data : is_whiteout inode ≡ false → is_metacopy_mark mark ≡ true → data_below left ≡ data_below onward
-  onward-data w meta = ap data_below (found-here w) ∙ data_below-metacopy inode onward (ap is_metacopy_mark (sym marked) ∙ meta)
+  pub onward-data : is_whiteout inode ≡ false → is_metacopy_mark mark ≡ true → data_below data_only None left ≡ data_below data_only (place_of_data mark) onward
+  onward-data w meta = ap (data_below data_only None) (found-here w) ∙ (data_below-metacopy data_only None inode onward (ap is_metacopy_mark (sym marked) ∙ meta)
+      ∙ ap (λ (m : Mark). data_below data_only (place_of_data m) onward) (sym marked))
+
+-- an absolute redirect of a metacopy file says where its data is
+pub place-on : (mark : Mark) → is_metacopy_mark mark ≡ true → place_of_data mark ≡ path_on mark
+place-on (Meta None) meta = refl
+place-on (Meta (Some (To place))) meta = refl
+place-on (Meta (Some (Beside name))) meta = refl
+place-on Whiteout meta = let bad : false ≡ true = meta in cc
+place-on DirOpaque meta = let bad : false ≡ true = meta in cc
+place-on (DirMoved redirect) meta = let bad : false ≡ true = meta in cc
+place-on DirBad meta = let bad : false ≡ true = meta in cc
+place-on DirPlain meta = let bad : false ≡ true = meta in cc
+place-on MetaBad meta = let bad : false ≡ true = meta in cc
+place-on Leaf meta = let bad : false ≡ true = meta in cc
+
+pub onward-placed : (data_only : List Entries) (mark : Mark) (place : Option PathNames) (one other : List Inode) → is_metacopy_mark mark ≡ true → path_on mark ≡ place → one ≡ other → data_below data_only (place_of_data mark) one ≡ data_below data_only place other
+onward-placed data_only mark place one other meta on same = λ j. data_below data_only ((place-on mark meta ∙ on) j) (same j)
 
 -- the place that is first, which has something at a name
 pub first-entry : (layers : List Entries) (name : PathName) (places : List Reached) (inode : Inode) → IsSomeAnd (slice_get places zero) (λ place. entry_in layers name place ≡ Some inode) → (place : Reached) × (slice_get places zero ≡ Some place) × (entry_in layers name place ≡ Some inode)
@@ -105,13 +124,13 @@ first-entry layers name (place ∷ rest) inode is = (place, refl, is)
 
 -- ---- the names at which something is shown
 
-pub names-next : (layers : List Entries) (places : List Reached) (tops : List (PathName × First)) (top : PathName × First) (shown : Bool) → shown ≡ not (is_nothing (look_from_top layers places top).1) → map (λ e. e.0) (looks_from_tops layers places (tops ++ top ∷ [])) ≡ map (λ e. e.0) (looks_from_tops layers places tops) ++ cond shown (top.0 ∷ []) []
-names-next layers places tops top shown is =
-    ap (map (λ e. e.0)) (looks-next layers places tops top)
-    ∙ (map-append (λ e. e.0) (looks_from_tops layers places tops) (cond (not (is_nothing (look_from_top layers places top).1)) (look_from_top layers places top ∷ []) [])
-    ∙ ap (λ names. map (λ e. e.0) (looks_from_tops layers places tops) ++ names) (by (not (is_nothing (look_from_top layers places top).1)) ∙ ap (λ b. cond b (top.0 ∷ []) []) (sym is)))
+pub names-next : (stack : StackView) (places : List Reached) (tops : List (PathName × First)) (top : PathName × First) (shown : Bool) → shown ≡ not (is_nothing (look_from_top stack places top).1) → map (λ e. e.0) (looks_from_tops stack places (tops ++ top ∷ [])) ≡ map (λ e. e.0) (looks_from_tops stack places tops) ++ cond shown (top.0 ∷ []) []
+names-next stack places tops top shown is =
+    ap (map (λ e. e.0)) (looks-next stack places tops top)
+    ∙ (map-append (λ e. e.0) (looks_from_tops stack places tops) (cond (not (is_nothing (look_from_top stack places top).1)) (look_from_top stack places top ∷ []) [])
+    ∙ ap (λ names. map (λ e. e.0) (looks_from_tops stack places tops) ++ names) (by (not (is_nothing (look_from_top stack places top).1)) ∙ ap (λ b. cond b (top.0 ∷ []) []) (sym is)))
   where
-    by : (b : Bool) → map (λ (e : PathName × Look). e.0) (cond b (look_from_top layers places top ∷ []) []) ≡ cond b (top.0 ∷ []) []
+    by : (b : Bool) → map (λ (e : PathName × Look). e.0) (cond b (look_from_top stack places top ∷ []) []) ≡ cond b (top.0 ∷ []) []
     by true = refl
     by false = refl
 
@@ -217,14 +236,14 @@ module _ (stack : StackView) (places : List DirPlace) (tops : List Top) (are : A
   told-more = ap tops_told (take_more tops j top inside ∙ ap (λ (t : Top). take j tops ++ t ∷ []) (sym here)) ∙ map-append top_told (take j tops) (top ∷ [])
 
   abbrev shown : Look
-  shown = shown_of (found_below stack.layers top.name.now (drop top.place (places_in stack places)))
+  shown = shown_of stack.data_only (found_below stack.layers top.name.now (drop top.place (places_in stack places)))
 
-  pub looks-more : (behind : List DirPlace) → behind ≡ drop top.place places → (look : Look) → look ≡ shown_of (found_below stack.layers top.name.now (places_in stack behind))
-      → looks_from_tops stack.layers (places_in stack places) told ++ cond (is_nothing look) [] ((top.name.now, look) ∷ []) ≡ looks_from_tops stack.layers (places_in stack places) (tops_told (take (j + 1) tops))
+  pub looks-more : (behind : List DirPlace) → behind ≡ drop top.place places → (look : Look) → look ≡ shown_of stack.data_only (found_below stack.layers top.name.now (places_in stack behind))
+      → looks_from_tops stack (places_in stack places) told ++ cond (is_nothing look) [] ((top.name.now, look) ∷ []) ≡ looks_from_tops stack (places_in stack places) (tops_told (take (j + 1) tops))
   looks-more behind rest look is =
-      let same : look ≡ shown = is ∙ ap (λ (ps : List Reached). shown_of (found_below stack.layers top.name.now ps)) (behind-is behind rest) in
-      ap (λ (last : List (PathName × Look)). looks_from_tops stack.layers (places_in stack places) told ++ last) (ap (λ (l : Look). cond (is_nothing l) [] ((top.name.now, l) ∷ [])) same ∙ not-cond (is_nothing shown) [] ((top.name.now, shown) ∷ []))
-      ∙ sym (ap (looks_from_tops stack.layers (places_in stack places)) told-more ∙ looks-next stack.layers (places_in stack places) told (top_told top))
+      let same : look ≡ shown = is ∙ ap (λ (ps : List Reached). shown_of stack.data_only (found_below stack.layers top.name.now ps)) (behind-is behind rest) in
+      ap (λ (last : List (PathName × Look)). looks_from_tops stack (places_in stack places) told ++ last) (ap (λ (l : Look). cond (is_nothing l) [] ((top.name.now, l) ∷ [])) same ∙ not-cond (is_nothing shown) [] ((top.name.now, shown) ∷ []))
+      ∙ sym (ap (looks_from_tops stack (places_in stack places)) told-more ∙ looks-next stack (places_in stack places) told (top_told top))
 
   -- something is shown where the inode is no whiteout
   is-shown : (b : Bool) → is_whiteout top.inode.now ≡ b → not b ≡ not (is_nothing shown)
@@ -234,8 +253,8 @@ module _ (stack : StackView) (places : List DirPlace) (tops : List Top) (are : A
       stands = subst (λ (ps : List Reached). IsSomeAnd (slice_get ps zero) (λ place. entry_in stack.layers top.name.now place ≡ Some top.inode.now)) (behind-is (drop top.place places) refl) (top-stands (drop top.place places) refl)
 
       by : (b : Bool) → is_whiteout top.inode.now ≡ b → (place : Reached) × (slice_get (drop top.place (places_in stack places)) zero ≡ Some place) × (entry_in stack.layers top.name.now place ≡ Some top.inode.now) → not b ≡ not (is_nothing shown)
-      by true w own = sym (ap (λ (look : Look). not (is_nothing look)) (whiteout-shows stack.layers top.name.now (drop top.place (places_in stack places)) zero own.0 own.1 top.inode.now (mark_of top.inode.now) own.2 refl w))
-      by false w own = sym (entry-shows stack.layers top.name.now (drop top.place (places_in stack places)) zero own.0 own.1 top.inode.now (mark_of top.inode.now) own.2 refl w)
+      by true w own = sym (ap (λ (look : Look). not (is_nothing look)) (whiteout-shows stack.data_only stack.layers top.name.now (drop top.place (places_in stack places)) zero own.0 own.1 top.inode.now (mark_of top.inode.now) own.2 refl w))
+      by false w own = sym (entry-shows stack.data_only stack.layers top.name.now (drop top.place (places_in stack places)) zero own.0 own.1 top.inode.now (mark_of top.inode.now) own.2 refl w)
 
-  pub names-more : (b : Bool) → b ≡ is_whiteout top.inode.now → map (λ e. e.0) (looks_from_tops stack.layers (places_in stack places) (tops_told (take (j + 1) tops))) ≡ map (λ e. e.0) (looks_from_tops stack.layers (places_in stack places) told) ++ cond (not b) (top.name.now ∷ []) []
-  names-more b e = ap (λ (ts : List (PathName × First)). map (λ e. e.0) (looks_from_tops stack.layers (places_in stack places) ts)) told-more ∙ names-next stack.layers (places_in stack places) told (top_told top) (not b) (is-shown b (sym e))
+  pub names-more : (b : Bool) → b ≡ is_whiteout top.inode.now → map (λ e. e.0) (looks_from_tops stack (places_in stack places) (tops_told (take (j + 1) tops))) ≡ map (λ e. e.0) (looks_from_tops stack (places_in stack places) told) ++ cond (not b) (top.name.now ∷ []) []
+  names-more b e = ap (λ (ts : List (PathName × First)). map (λ e. e.0) (looks_from_tops stack (places_in stack places) ts)) told-more ∙ names-next stack (places_in stack places) told (top_told top) (not b) (is-shown b (sym e))

@@ -9,6 +9,7 @@ use Rattle.ovl_inode.specs.declared.inodes.Inode.{Inode}
 use Rattle.ovl_inode.specs.declared.marks.Mark.{Mark}
 use Rattle.ovl_inode.specs.Marks.{mark_of, is_directory, is_whiteout}
 use Rattle.ovl_manifest.specs.Layers.{Entries, entry_at, is_directory_at}
+use Rattle.ovl_lookup.specs.Stacks.{StackView}
 use Rattle.ovl_lookup.specs.Walk.{walk}
 use Rattle.ovl_lookup.specs.Trace.{things_found}
 use Rattle.ovl_lookup.specs.Views.{Reached, reached, entry_in, entered, below_entry, reached_below, found_below}
@@ -89,7 +90,7 @@ module _ (all : List Entries) (name : PathName) (places : List Reached) (k : ℕ
       ∙ ap (λ n. inode ∷ below_entry mark name (things_found (drop n all)) (λ other. found_below all other (drop (k + 1) places))) next)
 
 -- the looks at one more name
-pub looks-next : (layers : List Entries) (places : List Reached) (tops : List (PathName × First)) (top : PathName × First) → looks_from_tops layers places (tops ++ top ∷ []) ≡ looks_from_tops layers places tops ++ cond (not (is_nothing (look_from_top layers places top).1)) (look_from_top layers places top ∷ []) []
-looks-next layers places tops top =
-    ap (filter (λ e. not (is_nothing e.1))) (map-append (look_from_top layers places) tops (top ∷ []))
-    ∙ filter-append (λ e. not (is_nothing e.1)) (map (look_from_top layers places) tops) (look_from_top layers places top ∷ [])
+pub looks-next : (stack : StackView) (places : List Reached) (tops : List (PathName × First)) (top : PathName × First) → looks_from_tops stack places (tops ++ top ∷ []) ≡ looks_from_tops stack places tops ++ cond (not (is_nothing (look_from_top stack places top).1)) (look_from_top stack places top ∷ []) []
+looks-next stack places tops top =
+    ap (filter (λ e. not (is_nothing e.1))) (map-append (look_from_top stack places) tops (top ∷ []))
+    ∙ filter-append (λ e. not (is_nothing e.1)) (map (look_from_top stack places) tops) (look_from_top stack places top ∷ [])

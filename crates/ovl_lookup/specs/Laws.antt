@@ -45,4 +45,4 @@ abbrev pub ViewsLook : Type 0
 ViewsLook = (stack : StackView) → All IsLayer stack.layers → (from : ℕ) (path : PathNames) →
     let places = reached (drop from stack.layers) from path in
     ((tops : List (PathName × First)) × AreTops stack.layers 0 places tops)
-    × ((tops : List (PathName × First)) → AreTops stack.layers 0 places tops → AreLooks (from_layer from stack) path (looks_from_tops stack.layers places tops))
+    × ((tops : List (PathName × First)) → AreTops stack.layers 0 places tops → AreLooks (from_layer from stack) path (looks_from_tops stack places tops))

@@ -1,7 +1,7 @@
 -- The merged tree of a stack.
 use Rattle.std.specs.Prelude.{◌≡◌, ◌≢◌, Bool, true, false, ◌&&◌, not, Option, Some, None, List, [], ◌∷◌, if◌then◌else◌}
 use Rattle.std.specs.Map.{lookup}
-use Rattle.std.specs.List.{list_any}
+use Rattle.std.specs.List.{list_any, list_all}
 use Rattle.std.specs.declared.cmp.Ordering.{Ordering}
 use Rattle.ovl_names.specs.Order.{ascends}
 use Rattle.ovl_names.specs.Names.{PathName, name_eq, name_cmp}
@@ -9,22 +9,55 @@ use Rattle.ovl_names.specs.Paths.{PathNames, child_path, path_eq, path_cmp}
 use Rattle.ovl_inode.specs.declared.inodes.Inode.{Inode}
 use Rattle.ovl_inode.specs.declared.inodes.Kind.{Kind}
 use Rattle.ovl_inode.specs.declared.inodes.Kind.TheVariants.{File}
-use Rattle.ovl_inode.specs.Marks.{is_regular, is_directory, has_metacopy, is_data}
+use Rattle.ovl_inode.specs.declared.marks.Mark.{Mark}
+use Rattle.ovl_inode.specs.declared.marks.Mark.TheVariants.{Meta}
+use Rattle.ovl_inode.specs.declared.marks.Redirect.TheVariants.{To}
+use Rattle.ovl_inode.specs.Marks.{mark_of, is_regular, is_directory, is_whiteout, has_metacopy, is_metacopy, is_data}
 use Rattle.ovl_inode.specs.Inodes.{visible}
+use Rattle.ovl_manifest.specs.Layers.{Entries, entry_at}
 use Rattle.ovl_lookup.specs.declared.looks.Look.{Look}
 use Rattle.ovl_lookup.specs.declared.looks.Look.TheVariants.{Nothing, Shown, Broken}
 use Rattle.ovl_lookup.specs.Stacks.{StackView}
 use Rattle.ovl_lookup.specs.Trace.{things_found, hits_of}
 
--- the data among the things found: the last hit, where that is a regular file without `metacopy`;
--- overlayfs.rst, "Metadata only copy up" and "Data-only lower layers"
+-- the last of these
 abbrev pub last_of : List Inode → Option Inode
 last_of [] = None
 last_of (inode ∷ []) = Some inode
 last_of (inode ∷ other ∷ inodes) = last_of (other ∷ inodes)
 
-abbrev pub data_of : List Inode → Option Inode
-data_of found = elim (last_of (hits_of found)) [ Some inode ↦ (if is_data inode then Some inode else None) | None ↦ None ]
+-- the file with contents that is the first at a path of data-only layers: no metacopy file, and no whiteout
+abbrev pub full_file_in : List Entries → PathNames → Option Inode
+full_file_in [] path = None
+full_file_in (layer ∷ layers) path =
+    elim (entry_at layer path) [
+      | Some inode ↦ if is_data inode && not (is_whiteout inode) then Some inode else full_file_in layers path
+      | None ↦ full_file_in layers path
+    ]
+
+-- where data-only layers have the data of a metacopy file: at its absolute redirect
+abbrev pub place_of_data : Mark → Option PathNames
+place_of_data (Meta (Some (To place))) = Some place
+place_of_data _ = None
+
+abbrev pub data_at_place : List Entries → Option PathNames → Option Inode
+data_at_place data_only None = None
+data_at_place data_only (Some place) = full_file_in data_only place
+
+abbrev pub last_place : List Inode → Option PathNames
+last_place found = elim (last_of found) [ Some inode ↦ place_of_data (mark_of inode) | None ↦ None ]
+
+-- what the last of the things found says, where they are metacopy files alone
+abbrev pub place_told : List Inode → Option PathNames
+place_told found = if list_all is_metacopy found then last_place found else None
+
+-- the data of the things found: where they are metacopy files alone, what data-only layers have where the last one says;
+-- else the last hit, where that is a regular file without `metacopy`; overlayfs.rst, "Metadata only copy up" and
+-- "Data-only lower layers"
+abbrev pub data_of : List Entries → List Inode → Option Inode
+data_of data_only found =
+    if list_all is_metacopy found then data_at_place data_only (last_place found)
+    else elim (last_of (hits_of found)) [ Some inode ↦ (if is_data inode then Some inode else None) | None ↦ None ]
 
 -- a kind with its own size and no blob
 abbrev pub without_blob : Kind → Kind
@@ -34,11 +67,11 @@ without_blob kind = kind
 -- what is shown of the things found: the visible inode of the first, a metacopy file with its data
 -- (overlayfs.rst, "Metadata only copy up"), or broken with its own size and no blob; that the size is that of the data,
 -- and what is broken, are this profile's
-abbrev pub shown_of : List Inode → Look
-shown_of [] = Nothing
-shown_of (inode ∷ below) =
+abbrev pub shown_of : List Entries → List Inode → Look
+shown_of data_only [] = Nothing
+shown_of data_only (inode ∷ below) =
     if is_regular inode && has_metacopy inode
-    then elim (data_of (inode ∷ below)) [
+    then elim (data_of data_only (inode ∷ below)) [
       | Some contents ↦ Shown (record (visible inode) { kind = contents.kind })
       | None ↦ Broken (record (visible inode) { kind = without_blob inode.kind })
     ]
@@ -46,7 +79,7 @@ shown_of (inode ∷ below) =
 
 -- what a stack shows at a path
 abbrev pub look : StackView → PathNames → Look
-look stack path = shown_of (things_found stack.layers path)
+look stack path = shown_of stack.data_only (things_found stack.layers path)
 
 abbrev pub is_nothing : Look → Bool
 is_nothing Nothing = true

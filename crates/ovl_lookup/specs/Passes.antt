@@ -23,7 +23,7 @@ use Rattle.ovl_lookup.specs.Stacks.{StackView}
 use Rattle.ovl_lookup.specs.Trace.{things_found}
 use Rattle.ovl_lookup.specs.declared.looks.Look.TheVariants.{Shown, Broken}
 use Rattle.ovl_inode.specs.Inodes.{visible}
-use Rattle.ovl_lookup.specs.Merged.{look, shows, without_blob}
+use Rattle.ovl_lookup.specs.Merged.{look, shows, without_blob, place_of_data, data_at_place}
 
 -- how far a path goes through directories of a layer: the row of the last of them, and how the layers below know it
 pub record IsDescent (layer : Entries) (path : PathNames) (descent : Descent) : Type 0 where
@@ -81,11 +81,11 @@ abbrev pub shown_with : Inode → Option Inode → Look
 shown_with inode (Some contents) = Shown (record (visible inode) { kind = contents.kind })
 shown_with inode None = Broken (record (visible inode) { kind = without_blob inode.kind })
 
--- the data below metacopy files, by what is found there
-abbrev pub data_below : List Inode → Option Inode
-data_below [] = None
-data_below (inode ∷ below) =
-    if is_metacopy inode then data_below below
+-- the data below a metacopy file, by where that says that data-only layers have it, and by what is found there
+abbrev pub data_below : List Entries → Option PathNames → List Inode → Option Inode
+data_below data_only place [] = data_at_place data_only place
+data_below data_only place (inode ∷ below) =
+    if is_metacopy inode then data_below data_only (place_of_data (mark_of inode)) below
     else if is_data inode then Some inode
     else None
 

@@ -78,10 +78,10 @@ abbrev pub redirect_is_open : Entries → PathNames → Bool
 redirect_is_open layer path =
     is_moved (mark_at layer path) && not (walk layer path).closed && is_seen_there layer (walk layer path).next
 
--- the data of a metacopy file: that among the file itself and what the layers below have where it goes on
+-- the data of a metacopy file: that of the file itself with what the layers below have where it goes on
 abbrev pub data_at : Entries → StackView → PathNames → Inode → Option Inode
 data_at layer below path inode =
-    data_of (inode ∷ (if (walk layer path).closed then [] else things_found below.layers (walk layer path).next))
+    data_of below.data_only (inode ∷ (if (walk layer path).closed then [] else things_found below.layers (walk layer path).next))
 
 -- a metacopy file without data; overlayfs.rst, "Metadata only copy up" and "Data-only lower layers"
 abbrev pub data_is_missing : Entries → StackView → PathNames → Inode → Bool
@@ -113,7 +113,7 @@ are_sound stack [] = true
 are_sound stack (layer ∷ layers) =
     list_all (λ entry. not (is_faulty layer (record stack { layers = layers }) entry)) layer && are_sound stack layers
 
--- no entry of any layer is faulty
+-- no entry of any layer is faulty; data-only layers have entries that are contents alone
 abbrev pub is_sound_stack : StackView → Bool
 is_sound_stack stack = are_sound stack stack.layers
 

@@ -50,12 +50,13 @@ abbrev pub tops_told : List Top → List (PathName × First)
 tops_told tops = map top_told tops
 
 -- what is shown at a name, from its first place on
-abbrev pub look_from_top : List Entries → List Reached → PathName × First → PathName × Look
-look_from_top layers places top = (top.0, shown_of (found_below layers top.0 (drop top.1.place places)))
+abbrev pub look_from_top : StackView → List Reached → PathName × First → PathName × Look
+look_from_top stack places top =
+    (top.0, shown_of stack.data_only (found_below stack.layers top.0 (drop top.1.place places)))
 
 -- the names at which something is shown, with what is shown there
-abbrev pub looks_from_tops : List Entries → List Reached → List (PathName × First) → List (PathName × Look)
-looks_from_tops layers places tops = filter (λ e. not (is_nothing e.1)) (map (look_from_top layers places) tops)
+abbrev pub looks_from_tops : StackView → List Reached → List (PathName × First) → List (PathName × Look)
+looks_from_tops stack places tops = filter (λ e. not (is_nothing e.1)) (map (look_from_top stack places) tops)
 
 -- the names in a directory of the merged tree in order, each with what is shown there
 pub record AreLooks (stack : StackView) (path : PathNames) (looks : List (PathName × Look)) : Type 0 where

@@ -3,7 +3,7 @@ ghost use Rattle.ovl_lookup.specs.Stacks.{from_layer};
 ghost use Rattle.ovl_lookup.specs.Merged.{AreKids, IsMerged};
 ghost use Rattle.ovl_lookup.specs.Passes.{own_names_along, put_names, kids_along, looks_from, looks_placed};
 
-use crate::{DirView, Look, Stack, Step};
+use crate::{DirView, Look, Stack, walk};
 use ovl_names::{DEPTH_LIMIT, Name, Path};
 use std::alloc::{AllocError, Global};
 use std::collections::BTreeSet;
@@ -32,7 +32,7 @@ impl Stack {
         let _ = &self.layers;
         let mut looks = Vec::new(alloc);
         let root = Path::root(alloc);
-        self.push_looks(alloc, &root, DEPTH_LIMIT * self.layers() + 1, &mut looks)?;
+        self.push_looks(alloc, &root, DEPTH_LIMIT * self.ordinary() + 1, &mut looks)?;
         Ok(looks)
     }
 
@@ -81,10 +81,11 @@ impl Stack {
     {
         let mut found = BTreeSet::new(alloc);
         let mut next = path.copy(alloc)?;
-        for i in 0..self.layers() {
-            let own = self.own_names(alloc, i, &next)?;
+        for i in 0..self.ordinary() {
+            let sheet = self.sheet(i);
+            let own = sheet.children(alloc, &next)?;
             put_all(&mut found, own)?;
-            let step = self.own_walk(alloc, i, &next)?;
+            let step = walk(alloc, sheet, &next)?;
             if step.closed {
                 return Ok(found);
             }

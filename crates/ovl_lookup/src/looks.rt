@@ -1,9 +1,10 @@
-ghost use Rattle.std.specs.Prelude.{◌≡◌, ◌<◌, ◌≤◌, ◌∷◌, ◌&&◌, true, length, drop, slice_get, IfOk, IfSome};
+ghost use Rattle.std.specs.Prelude.{◌≡◌, ◌<◌, ◌≤◌, ◌∷◌, ◌&&◌, true, not, length, drop, slice_get, IfOk, IfSome};
+ghost use Rattle.std.specs.Option.{option_map};
 ghost use Rattle.std.specs.Cmp.{partial_equiv_from_equiv};
-ghost use Rattle.ovl_inode.specs.Marks.{mark_of as the_mark, is_metacopy_mark, is_regular, has_metacopy};
+ghost use Rattle.ovl_inode.specs.Marks.{mark_of as the_mark, is_metacopy_mark, is_regular, has_metacopy, is_data as data_test, is_whiteout as whiteout_test};
 ghost use Rattle.ovl_lookup.specs.Stacks.{from_layer};
 ghost use Rattle.ovl_lookup.specs.Trace.{things_found};
-ghost use Rattle.ovl_lookup.specs.Merged.{look as the_look, shown_of, data_of as the_data, is_nothing as nothing_test, is_shown_directory as directory_test, without_blob as kind_without_blob};
+ghost use Rattle.ovl_lookup.specs.Merged.{look as the_look, shown_of, data_of as the_data, place_of_data as the_place, place_told as the_place_told, data_at_place, full_file_in as the_file, is_nothing as nothing_test, is_shown_directory as directory_test, without_blob as kind_without_blob};
 ghost use Rattle.ovl_lookup.specs.Walk.{walk as the_walk};
 ghost use Rattle.ovl_lookup.specs.Passes.{IsMarked, step_of, found_on, shown_with, data_below};
 ghost use Rattle.ovl_lookup.specs.Equal.{look_eq};
@@ -12,7 +13,10 @@ ghost use Rattle.ovl_lookup.specs.EqualLaws.{look_eq_equiv};
 use crate::Stack;
 use crate::steps::{Found, TrailStep, follow};
 use crate::trails::Trail;
-use ovl_inode::{Inode, Kind, Mark, is_data, is_directory, overlay, visible};
+use ovl_inode::{
+    Inode, Kind, Mark, Redirect, is_data, is_directory, is_whiteout, overlay, visible,
+};
+use ovl_manifest::Sheet;
 use ovl_names::Path;
 use std::alloc::{AllocError, Global};
 
@@ -74,7 +78,7 @@ impl Stack {
         ensures { IfOk result (λ look. look ≡ the_look (from_layer from self.now) path.now) }
     {
         let mut next = Trail::of(alloc, path.names())?;
-        for i in from..self.layers() {
+        for i in from..self.ordinary() {
             let TrailStep {
                 found,
                 next: below,
@@ -116,7 +120,7 @@ impl Stack {
     ) -> Result<Look, AllocError>
         requires layers { i ≤ length self.now.layers }
         requires marked { found.mark.now ≡ the_mark found.inode.now }
-        ensures { IfOk result (λ look. look ≡ shown_of (found.entry.inode.now ∷ found_on self.now i next.entry closed)) }
+        ensures { IfOk result (λ look. look ≡ shown_of self.now.data_only (found.entry.inode.now ∷ found_on self.now i next.entry closed)) }
     {
         let Found { inode, mark } = found;
         if !lacks_contents(inode) {
@@ -131,7 +135,7 @@ impl Stack {
         &'a self,
         alloc: Global,
         _inode: &Inode,
-        mark: &Mark,
+        mark: &'a Mark,
         i: usize,
         next: Trail<'a>,
         closed: bool,
@@ -139,29 +143,34 @@ impl Stack {
         requires layers { i ≤ length self.now.layers }
         requires marked { mark.now ≡ the_mark _inode.now }
         requires bare { (is_regular _inode.now && has_metacopy _inode.now) ≡ true }
-        ensures { IfOk result (λ found. found ≡ the_data (_inode.now ∷ found_on self.now i next.entry closed)) }
+        ensures { IfOk result (λ found. found ≡ the_data self.now.data_only (_inode.now ∷ found_on self.now i next.entry closed)) }
     {
         if !is_meta(mark) {
             return Ok(None);
         }
+        let origin = place_of_data(mark);
         if closed {
-            return Ok(None);
+            return self.data_at(alloc, origin);
         }
-        self.data(alloc, i, next)
+        self.data(alloc, i, next, origin)
     }
 
-    // The data that the layers from `from` on have at a path, below metacopy files.
+    // The data that the layers from `from` on have at a path, below metacopy files, of which the last says where data-only
+    // layers have it.
     pub(crate) fn data<'a>(
         &'a self,
         alloc: Global,
         from: usize,
         path: Trail<'a>,
+        place_told: Option<&'a Path>,
     ) -> Result<Option<Inode>, AllocError>
         requires { from ≤ length self.now.layers }
-        ensures { IfOk result (λ found. found ≡ data_below (things_found (drop from self.now.layers) path.entry)) }
+        ensures { IfOk result (λ found. found
+            ≡ data_below self.now.data_only (option_map (λ told. told.now) place_told.entry) (things_found (drop from self.now.layers) path.entry)) }
     {
         let mut next = path;
-        for place in from..self.layers() {
+        let mut origin = place_told;
+        for place in from..self.ordinary() {
             let TrailStep {
                 found,
                 next: lower,
@@ -174,13 +183,107 @@ impl Stack {
                 if !is_meta(found.mark) {
                     return Ok(None);
                 }
+                origin = place_of_data(found.mark);
             }
             if closed {
-                return Ok(None);
+                return self.data_at(alloc, origin);
             }
             next = lower;
         }
-        Ok(None)
+        self.data_at(alloc, origin)
+    }
+
+    /// Where data-only layers have the data of what is found at a path, if that is metacopy files alone: where the last of
+    /// them says. Fails only for want of memory. overlayfs.rst: "Data-only lower layers".
+    pub fn data_place(&self, alloc: Global, path: &Path) -> Result<Option<Path>, AllocError>
+        ensures { IfOk result (λ place. place ≡ the_place_told (things_found self.now.layers path.now)) }
+    {
+        let mut next = Trail::of(alloc, path.names())?;
+        let mut told = None;
+        for i in 0..self.ordinary() {
+            let TrailStep {
+                found,
+                next: lower,
+                closed,
+            } = self.followed(alloc, i, &next)?;
+            if let Some(found) = found {
+                if !is_meta(found.mark) {
+                    return Ok(None);
+                }
+                told = place_of_data(found.mark);
+            }
+            if closed {
+                return copied(alloc, told);
+            }
+            next = lower;
+        }
+        copied(alloc, told)
+    }
+
+    // The file with contents that data-only layers have where the last metacopy file says so.
+    pub(crate) fn data_at(
+        &self,
+        alloc: Global,
+        origin: Option<&Path>,
+    ) -> Result<Option<Inode>, AllocError>
+        ensures { IfOk result (λ found. found ≡ data_at_place self.now.data_only (option_map (λ path. path.now) origin.entry)) }
+    {
+        let Some(path) = origin else {
+            return Ok(None);
+        };
+        match self.full_file(path) {
+            Some(inode) => Ok(Some(inode.copy(alloc)?)),
+            None => Ok(None),
+        }
+    }
+
+    /// The first file with contents that the data-only layers have at a path: no metacopy file, and no whiteout. Takes no
+    /// memory. overlayfs.rst: "Data-only lower layers".
+    pub fn full_file(&self, path: &Path) -> Option<&Inode>
+        ensures { option_map (λ inode. inode.now) result ≡ the_file self.now.data_only path.now }
+    {
+        full_file_in(&self.data_only, path)
+    }
+}
+
+// A path of its own.
+fn copied(alloc: Global, path: Option<&Path>) -> Result<Option<Path>, AllocError>
+    ensures { IfOk result (λ copy. copy ≡ option_map (λ path. path.now) path.entry) }
+{
+    match path {
+        Some(path) => Ok(Some(path.copy(alloc)?)),
+        None => Ok(None),
+    }
+}
+
+// The first file with contents that these layers have at a path.
+fn full_file_in<'a>(layers: &'a [Sheet], path: &Path) -> Option<&'a Inode>
+    ensures { option_map (λ inode. inode.now) result ≡ the_file layers.now path.now }
+{
+    for layer in layers {
+        if let Some(inode) = layer.at(path) {
+            if is_full(inode) {
+                return Some(inode);
+            }
+        }
+    }
+    None
+}
+
+// Whether the inode is a regular file with contents, and no whiteout.
+fn is_full(inode: &Inode) -> bool
+    ensures { result ≡ (data_test inode.now && not (whiteout_test inode.now)) }
+{
+    is_data(inode) && !is_whiteout(inode)
+}
+
+// Where data-only layers have the data of a metacopy file of this mark.
+pub(crate) fn place_of_data(mark: &Mark) -> Option<&Path>
+    ensures { option_map (λ path. path.now) result ≡ the_place mark.now }
+{
+    match mark {
+        Mark::Meta(Some(Redirect::To(place))) => Some(place),
+        _ => None,
     }
 }
 

@@ -1,11 +1,11 @@
-ghost use Rattle.std.specs.Prelude.{◌≡◌, ◌<◌, ◌≤◌, ◌↔◌, ◌⊎◌, false, Some, Err, length, IsTrue, IfOk, MatchOption, MatchResult, slice_get, IfSome};
+ghost use Rattle.std.specs.Prelude.{◌≡◌, ◌<◌, ◌≤◌, ◌+◌, ◌↔◌, ◌⊎◌, [], false, Some, Err, length, IsTrue, IfOk, MatchOption, MatchResult, slice_get, IfSome};
 ghost use Rattle.std.specs.Option.{option_map};
 ghost use Rattle.std.specs.List.{All};
 ghost use Rattle.ovl_manifest.specs.Layers.{IsLayer, entry_at, is_directory_at, names_below};
 ghost use Rattle.ovl_lookup.specs.Passes.{IsOwnDirectory, own_of};
 ghost use Rattle.ovl_lookup.specs.Walk.{walk as the_walk, open_natural_path};
-ghost use Rattle.ovl_lookup.specs.declared.stacks.StackFault.TheVariants.{Layers, Memory};
-ghost use Rattle.ovl_lookup.specs.Stacks.{layer_limit};
+ghost use Rattle.ovl_lookup.specs.declared.stacks.StackFault.TheVariants.{Layers, Memory, DataCount};
+ghost use Rattle.ovl_lookup.specs.Stacks.{layer_limit, all_layers, stack_with};
 
 use crate::steps::{directory_in, trail_in};
 use crate::{OwnDirectory, OwnTrail, Step, walk};
@@ -28,6 +28,9 @@ pub enum StackFault {
     /// No memory was left.
     #[error("out of memory")]
     Memory,
+    /// All of them would be data-only.
+    #[error("data layers must leave a layer")]
+    DataCount,
 }
 
 impl From<AllocError> for StackFault {
@@ -38,23 +41,24 @@ impl From<AllocError> for StackFault {
     }
 }
 
-/// A stack of 1 to [`LAYER_LIMIT`] layers, the topmost first.
+/// A stack of 1 to [`LAYER_LIMIT`] layers, the topmost first; the data-only ones come last, and there is another.
 #[derive(Drop)]
 pub struct Stack {
     pub(crate) layers: Vec<Sheet>,
+    pub(crate) data_only: Vec<Sheet>,
 }
 
 impl Model for Stack {
-    ghost use Rattle.std.specs.Prelude.{◌<◌, ◌≤◌, length};
+    ghost use Rattle.std.specs.Prelude.{◌<◌, ◌≤◌, ◌+◌, length};
     ghost use Rattle.std.specs.List.{All};
     ghost use Rattle.ovl_manifest.specs.Layers.{IsLayer};
     ghost use Rattle.ovl_lookup.specs.Stacks.{StackView, layer_limit};
 
     ghost Value = { StackView };
 
-    ghost view = { λ a. record { layers = a.layers.items } };
+    ghost view = { λ a. record { layers = a.layers.items; data_only = a.data_only.items } };
 
-    ghost invariant = { λ a. (0 < length a.layers.items) × (length a.layers.items ≤ layer_limit) × All IsLayer a.layers.items };
+    ghost invariant = { λ a. (0 < length a.layers.items) × (length a.layers.items + length a.data_only.items ≤ layer_limit) × All IsLayer a.layers.items × All IsLayer a.data_only.items };
 }
 
 impl Stack {
@@ -62,40 +66,76 @@ impl Stack {
     /// Where memory was short, the layers are dropped.
     pub fn of(alloc: Global, layers: Vec<Layer>) -> Result<Stack, StackFault>
         ensures value { IfOk result (λ stack. stack.layers ≡ layers.items) }
+        ensures bare { IfOk result (λ stack. stack.data_only ≡ []) }
         ensures refused { (result ≡ Err Layers) ↔ ((length layers.items ≡ 0) ⊎ (layer_limit < length layers.items)) }
     {
         if is_outside(layers.len()) {
             return Err(StackFault::Layers);
         }
         let sheets = sheets_of(alloc, layers)?;
-        Stack::of_sheets(sheets)
+        Stack::of_sheets(sheets, Vec::new(alloc))
     }
 
-    /// The stack of layers that are sheets already, the topmost first; refused exactly where they are none or more than
-    /// [`LAYER_LIMIT`]. Takes no memory.
-    pub fn of_sheets(layers: Vec<Sheet>) -> Result<Stack, StackFault>
-        ensures { MatchResult result
-            (λ stack. stack.layers ≡ layers.items)
-            (λ fault. (fault ≡ Layers) × ((length layers.items ≡ 0) ⊎ (layer_limit < length layers.items))) }
+    /// The stack of these layers, the topmost first, of which the last `bottom` are data-only; refused exactly where they
+    /// are none or more than [`LAYER_LIMIT`], and where no other is left. Where memory was short, the layers are dropped.
+    /// overlayfs.rst: "Data-only lower layers".
+    pub fn with_data(alloc: Global, layers: Vec<Layer>, bottom: u16) -> Result<Stack, StackFault>
+        ensures value { IfOk result (λ stack. stack ≡ stack_with layers.items bottom) }
+        ensures refused { (result ≡ Err Layers) ↔ ((length layers.items ≡ 0) ⊎ (layer_limit < length layers.items)) }
+        ensures none_left { (result ≡ Err DataCount)
+            ↔ ((0 < length layers.items) × (length layers.items ≤ layer_limit) × (length layers.items ≤ bottom)) }
     {
         if is_outside(layers.len()) {
             return Err(StackFault::Layers);
         }
-        keep_layers(&layers);
-        Ok(Stack { layers })
+        let bottom = usize::from(bottom);
+        if bottom >= layers.len() {
+            return Err(StackFault::DataCount);
+        }
+        let mut sheets = sheets_of(alloc, layers)?;
+        let data_only = sheets.split_off(sheets.len() - bottom)?;
+        Stack::of_sheets(sheets, data_only)
     }
 
-    /// The number of layers, 1 to [`LAYER_LIMIT`].
+    /// The stack of layers that are sheets already, the topmost first, over data-only ones; refused exactly where there is
+    /// none but those or they are more than [`LAYER_LIMIT`] together. Takes no memory.
+    pub fn of_sheets(layers: Vec<Sheet>, data_only: Vec<Sheet>) -> Result<Stack, StackFault>
+        ensures { MatchResult result
+            (λ stack. (stack.layers ≡ layers.items) × (stack.data_only ≡ data_only.items))
+            (λ fault. (fault ≡ Layers) × ((length layers.items ≡ 0) ⊎ (layer_limit < length layers.items + length data_only.items))) }
+    {
+        if is_outside(layers.len()) {
+            return Err(StackFault::Layers);
+        }
+        if data_only.len() > LAYER_LIMIT - layers.len() {
+            return Err(StackFault::Layers);
+        }
+        keep_layers(&layers);
+        keep_layers(&data_only);
+        Ok(Stack { layers, data_only })
+    }
+
+    /// The number of layers, the data-only ones too, 1 to [`LAYER_LIMIT`].
     pub fn layers(&self) -> usize
+        ensures value { result ≡ length (all_layers self.now) }
+        ensures limit { result ≤ layer_limit }
+        ensures all { All IsLayer (all_layers self.now) }
+    {
+        self.layers.len() + self.data_only.len()
+    }
+
+    /// The number of layers that aren't data-only; there is one.
+    pub fn ordinary(&self) -> usize
         ensures value { result ≡ length self.now.layers }
         ensures some { 0 < result }
         ensures limit { result ≤ layer_limit }
         ensures each { All IsLayer self.now.layers }
+        ensures data_only { All IsLayer self.now.data_only }
     {
         self.layers.len()
     }
 
-    /// The sheet of layer `i`, which is below the number of layers.
+    /// The sheet of layer `i`, which isn't data-only.
     pub fn sheet(&self, i: usize) -> &Sheet
         requires { i < length self.now.layers }
         ensures { slice_get self.now.layers i ≡ Some result.now }
@@ -103,36 +143,49 @@ impl Stack {
         &self.layers[i]
     }
 
-    /// The sheets of its layers, the topmost first.
-    pub fn into_sheets(self) -> Vec<Sheet>
-        ensures { result.items ≡ self.layers }
+    /// The sheets of its layers, the topmost first, and those of its data-only ones.
+    pub fn into_sheets(self) -> (Vec<Sheet>, Vec<Sheet>)
+        ensures { (result.0.items ≡ self.layers) × (result.1.items ≡ self.data_only) }
     {
-        self.layers
+        (self.layers, self.data_only)
+    }
+
+    /// The sheet of layer `i`, which may be data-only; `i` is below the number of all layers.
+    pub fn any_sheet(&self, i: usize) -> &Sheet
+        requires { i < length (all_layers self.now) }
+        ensures { slice_get (all_layers self.now) i ≡ Some result.now }
+    {
+        if i < self.layers.len() {
+            &self.layers[i]
+        } else {
+            &self.data_only[i - self.layers.len()]
+        }
     }
 
     /// The inode that layer `i` has at a path, and `None` where it has no entry; `i` is below the number of layers.
     pub fn own_at(&self, i: usize, path: &Path) -> Option<&Inode>
-        requires { i < length self.now.layers }
-        ensures { IfSome (slice_get self.now.layers i) (λ layer. option_map (λ inode. inode.now) result ≡ entry_at layer path.now) }
+        requires { i < length (all_layers self.now) }
+        ensures { IfSome (slice_get (all_layers self.now) i) (λ layer. option_map (λ inode. inode.now) result ≡ entry_at layer path.now) }
     {
-        self.layers[i].at(path)
+        self.any_sheet(i).at(path)
     }
 
     /// The names directly below a path in layer `i`, in order; none where it has no directory. `i` is below the number
     /// of layers. Fails only for want of memory.
     pub fn own_names(&self, alloc: Global, i: usize, path: &Path) -> Result<Vec<Name>, AllocError>
-        requires { i < length self.now.layers }
-        ensures { IfSome (slice_get self.now.layers i) (λ layer. IfOk result (λ names. names.items ≡ names_below layer path.now)) }
+        requires { i < length (all_layers self.now) }
+        ensures all { IfSome (slice_get (all_layers self.now) i) (λ layer. IfOk result (λ names. names.items ≡ names_below layer path.now)) }
+        ensures ordinary { IfSome (slice_get self.now.layers i) (λ layer. IfOk result (λ names. names.items ≡ names_below layer path.now)) }
     {
-        self.layers[i].children(alloc, path)
+        self.any_sheet(i).children(alloc, path)
     }
 
     /// The walk of a path in layer `i`, see [`walk`]; `i` is below the number of layers. Fails only for want of memory.
     pub fn own_walk(&self, alloc: Global, i: usize, path: &Path) -> Result<Step, AllocError>
-        requires { i < length self.now.layers }
-        ensures { IfSome (slice_get self.now.layers i) (λ layer. IfOk result (λ step. step ≡ the_walk layer path.now)) }
+        requires { i < length (all_layers self.now) }
+        ensures { IfSome (slice_get (all_layers self.now) i) (λ layer. IfOk result (λ step. step ≡ the_walk layer path.now)) }
     {
-        walk(alloc, &self.layers[i], path)
+        walk(alloc, self.any_sheet(i), path)
     }
 
     /// The directory that layer `i` has at a path, with how its walk goes on, and `None` where it has none; `i` is below
@@ -144,12 +197,12 @@ impl Stack {
         i: usize,
         path: &Path,
     ) -> Result<Option<OwnDirectory>, AllocError>
-        requires { i < length self.now.layers }
-        ensures { IfSome (slice_get self.now.layers i) (λ layer. IfOk result (λ found. MatchOption found
+        requires { i < length (all_layers self.now) }
+        ensures { IfSome (slice_get (all_layers self.now) i) (λ layer. IfOk result (λ found. MatchOption found
             (is_directory_at layer path.now ≡ false)
             (λ own. IsOwnDirectory layer path.now own))) }
     {
-        directory_in(alloc, &self.layers[i], path)
+        directory_in(alloc, self.any_sheet(i), path)
     }
 
     /// The same with no name copied: the next path is in names that the layer holds.
@@ -159,12 +212,12 @@ impl Stack {
         i: usize,
         path: &Path,
     ) -> Result<Option<OwnTrail<'a>>, AllocError>
-        requires { i < length self.now.layers }
-        ensures { IfSome (slice_get self.now.layers i) (λ layer. IfOk result (λ found. MatchOption found
+        requires { i < length (all_layers self.now) }
+        ensures { IfSome (slice_get (all_layers self.now) i) (λ layer. IfOk result (λ found. MatchOption found
             (is_directory_at layer path.now ≡ false)
             (λ own. IsOwnDirectory layer path.now (own_of own)))) }
     {
-        trail_in(alloc, &self.layers[i], path)
+        trail_in(alloc, self.any_sheet(i), path)
     }
 
     /// The path at which the layers below layer `i` have an entry by its own name: the next path of the walk of its
@@ -176,8 +229,8 @@ impl Stack {
         i: usize,
         path: &Path,
     ) -> Result<Option<Path>, AllocError>
-        requires { i < length self.now.layers }
-        ensures { IfSome (slice_get self.now.layers i) (λ layer. IfOk result (λ natural. natural ≡ open_natural_path layer path.now)) }
+        requires { i < length (all_layers self.now) }
+        ensures { IfSome (slice_get (all_layers self.now) i) (λ layer. IfOk result (λ natural. natural ≡ open_natural_path layer path.now)) }
     {
         let Some(parent) = path.parent(alloc)? else {
             return Ok(Some(Path::root(alloc)));

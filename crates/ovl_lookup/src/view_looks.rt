@@ -1,4 +1,4 @@
-ghost use Rattle.std.specs.Prelude.{◌≡◌, ◌<◌, ◌++◌, [], ◌∷◌, if◌then◌else◌, Some, drop, length, not, slice_get, IfOk, IsSomeAnd, OnOk};
+ghost use Rattle.std.specs.Prelude.{◌≡◌, ◌<◌, ◌++◌, [], ◌∷◌, if◌then◌else◌, None, Some, drop, length, not, slice_get, IfOk, IsSomeAnd, OnOk};
 ghost use Rattle.std.specs.List.{All};
 ghost use Rattle.ovl_names.specs.Paths.{child_path};
 ghost use Rattle.ovl_inode.specs.Marks.{is_metacopy_mark};
@@ -39,7 +39,8 @@ impl DirView {
         shows_in(stack, &self.places, name)
     }
 
-    /// The data that there is at a name in this directory below metacopy files. Fails only for want of memory.
+    /// The data that there is at a name in this directory below a metacopy file that doesn't say itself where data-only
+    /// layers have it. Fails only for want of memory.
     /// overlayfs.rst: "Metadata only copy up".
     pub fn data(
         &self,
@@ -49,7 +50,7 @@ impl DirView {
     ) -> Result<Option<Inode>, AllocError>
         requires { IsViewOver stack.now self.now }
         ensures { IfOk result (λ found. found
-            ≡ data_below (things_found (drop self.now.from stack.now.layers) (child_path self.now.path name.now))) }
+            ≡ data_below stack.now.data_only None (things_found (drop self.now.from stack.now.layers) (child_path self.now.path name.now))) }
     {
         let _ = &stack.layers;
         data_in(alloc, stack, &self.places, name)
@@ -100,7 +101,7 @@ impl DirView {
 // Whether something is shown at a name, by these places: where the first entry is no whiteout.
 fn shows_in(stack: &Stack, places: &[DirPlace], name: &Name) -> bool
     requires { All (IsPlaceOver stack.now) places.now }
-    ensures { result ≡ not (nothing_test (shown_of (found_below stack.now.layers name.now (places_in stack.now places.now)))) }
+    ensures { result ≡ not (nothing_test (shown_of stack.now.data_only (found_below stack.now.layers name.now (places_in stack.now places.now)))) }
 {
     for place in places {
         if let Some(entry) = place.entry(stack, name) {
@@ -138,7 +139,7 @@ fn look_at(
     requires over { All (IsPlaceOver stack.now) places.now }
     requires first { IsSomeAnd (slice_get (places_in stack.now places.now) 0)
         (λ place. entry_in stack.now.layers name.now place ≡ Some inode.now) }
-    ensures { IfOk result (λ look. look ≡ shown_of (found_below stack.now.layers name.now (places_in stack.now places.now))) }
+    ensures { IfOk result (λ look. look ≡ shown_of stack.now.data_only (found_below stack.now.layers name.now (places_in stack.now places.now))) }
 {
     if is_whiteout(inode) {
         return Ok(Look::Nothing);
@@ -158,7 +159,7 @@ fn look_in(
     name: &Name,
 ) -> Result<Look, AllocError>
     requires { All (IsPlaceOver stack.now) places.now }
-    ensures { IfOk result (λ look. look ≡ shown_of (found_below stack.now.layers name.now (places_in stack.now places.now))) }
+    ensures { IfOk result (λ look. look ≡ shown_of stack.now.data_only (found_below stack.now.layers name.now (places_in stack.now places.now))) }
 {
     for i in 0..places.len() {
         if let Some(entry) = places[i].entry(stack, name) {
@@ -176,7 +177,7 @@ fn data_in(
     name: &Name,
 ) -> Result<Option<Inode>, AllocError>
     requires { All (IsPlaceOver stack.now) places.now }
-    ensures { IfOk result (λ found. found ≡ data_below (found_below stack.now.layers name.now (places_in stack.now places.now))) }
+    ensures { IfOk result (λ found. found ≡ data_below stack.now.data_only None (found_below stack.now.layers name.now (places_in stack.now places.now))) }
 {
     let _ = &stack.layers;
     let mut own = name;
@@ -195,7 +196,7 @@ fn data_in(
         }
         if let Some(origin) = goes_on_at(entry.mark) {
             let trail = Trail::of(alloc, origin.names())?;
-            return stack.data(alloc, place.layer + 1, trail);
+            return stack.data(alloc, place.layer + 1, trail, Some(origin));
         }
         let Some(other) = goes_on_by(entry.mark, own) else {
             return Ok(None);

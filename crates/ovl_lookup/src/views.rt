@@ -130,7 +130,7 @@ fn push_reached<'a>(
     ensures { OnOk result (AddsPlaces stack.now places.old.items places.new.items (reached (drop from stack.now.layers) from path.now)) }
 {
     let mut trail = Trail::of(alloc, path.names())?;
-    for layer in from..stack.layers() {
+    for layer in from..stack.ordinary() {
         match arrive(alloc, stack.sheet(layer), &trail)? {
             Arrival::Directory { row, next, closed } => {
                 places.push(DirPlace { layer, row })?;

@@ -1,7 +1,7 @@
 -- The core of the law that a merge keeps the merged tree: where the walks of the new lower layer go on.
 use Rattle.std.proofs.Common.{◌≡◌, arith, Bool, true, false, cond, Option, Some, None, is_some, List, [], ◌∷◌, ◌++◌, refl, sym, ap, ◌∙◌, subst, append_assoc, inl, inr, ◌⊎◌}
 use Rattle.std.specs.Prelude.{not, ◌&&◌, ◌||◌, is_none, IfSome, codes}
-use Rattle.std.specs.List.{cons_option, All}
+use Rattle.std.specs.List.{cons_option, list_all, All}
 use Rattle.std.proofs.lemmas.List.{append-nil}
 use Rattle.std.proofs.lemmas.List.Elements.{All-cons}
 use Rattle.std.specs.Cmp.Lexicographic.{pointwise_decides, bytes_decides}
@@ -10,7 +10,7 @@ use Rattle.ovl_names.specs.Paths.{PathNames, path_eq, path_text, child_path, par
 use Rattle.ovl_names.proofs.Ascending.{both}
 use Rattle.ovl_inode.specs.declared.inodes.Inode.{Inode}
 use Rattle.ovl_inode.specs.declared.marks.Mark.{Mark}
-use Rattle.ovl_inode.specs.declared.marks.Mark.TheVariants.{DirPlain}
+use Rattle.ovl_inode.specs.declared.marks.Mark.TheVariants.{DirPlain, Meta}
 use Rattle.ovl_inode.specs.declared.marks.Redirect.TheVariants.{To, Beside}
 use Rattle.ovl_inode.specs.Attributes.{redirect_name, opaque_name}
 use Rattle.ovl_inode.specs.Marks.{mark_of, is_directory, is_regular, is_metacopy, is_metacopy_mark, has_metacopy}
@@ -19,7 +19,7 @@ use Rattle.ovl_manifest.specs.Layers.{Entries, IsLayer, entry_at, is_directory_a
 use Rattle.ovl_lookup.specs.declared.steps.Step.{Step}
 use Rattle.ovl_lookup.specs.Walk.{walk, walk_to_file, nothing_found}
 use Rattle.ovl_lookup.specs.Trace.{things_found}
-use Rattle.ovl_lookup.specs.Merged.{look, shows, shows_directory}
+use Rattle.ovl_lookup.specs.Merged.{look, shows, shows_directory, last_place}
 use Rattle.ovl_lookup.specs.Passes.{entered_path, entered_closed}
 use Rattle.ovl_lookup.specs.WalkLaws.{PassesOver}
 use Rattle.ovl_lookup.proofs.WalkFacts.{length-child, parent_path-child, lookup-all}
@@ -28,13 +28,13 @@ use Rattle.ovl_lookup.proofs.ChildLemmas.{all-first, all-rest, child_found, any_
 use Rattle.ovl_lookup.proofs.KidLemmas.{shows-found}
 use Rattle.ovl_lookup.proofs.LawLemmas.{ShowsParents-holds}
 use Rattle.ovl_merge.specs.Places.{Merge, whole, two_layers, lower_path, rest_path, is_open, first_of, first_hit, passes, shows_own_directory, is_nothing_or, is_shown_regular, goes_on, reach, reach_of, shows_directory_at, shows_at, base_at, child_of, natural_below, natural, base, gets_opaque}
-use Rattle.ovl_merge.specs.MergeDown.{with_value, last_name, redirected, redirected_from, merged_directory, merged_metacopy, merged_inode, new_whiteout, needs_whiteout, merged_entry_of, IsMergedDown}
+use Rattle.ovl_merge.specs.MergeDown.{with_value, last_name, redirected, redirected_from, merged_directory, merged_metacopy, unreached_metacopy, unshown_place, kept_place, merged_inode, new_whiteout, needs_whiteout, merged_entry_of, IsMergedDown}
 use Rattle.ovl_merge.proofs.Values.{with_metacopy, mark-copied, mark-copied_moved, mark-plain, mark-opaque, mark-moved}
 use Rattle.ovl_lookup.proofs.WalkLaws.{directory_found, by_child}
 use Rattle.ovl_lookup.proofs.ChildLaws.{walk-child_directory, walk-child_end}
 use Rattle.ovl_lookup.proofs.BeyondLaws.{walk-child_beyond}
 use Rattle.ovl_merge.proofs.Redirects.{redirect-absolute, redirect-beside}
-use Rattle.ovl_lookup.proofs.NamedWalks.{walk-named, walk-below_root}
+use Rattle.ovl_lookup.proofs.NamedWalks.{walk-named, walk-below_root, last-named}
 use Rattle.ovl_lookup.proofs.PassLaws.{file-found, file-is_found, whiteout-closes, passes-over}
 use Rattle.ovl_merge.proofs.Firsts.{first_hit-steps, first_step, found-first_hit, first_of-hits, first-none, first-cons, PassesBoth, passes-found, unshown, hit-no_whiteout}
 use Rattle.ovl_merge.proofs.Inodes.{IsOther, merged-metacopy, merged-directory, merged-is_directory, merged-is_other}
@@ -159,6 +159,7 @@ pub record Core (m : Merge) (new : Entries) (path : PathNames) : Type 0 where
   pub directory : (inode : Inode) → first_hit m path ≡ Some inode → is_directory inode ≡ true → GoesOn (walk new path) (base m path)
   pub file : (inode : Inode) → first_hit m path ≡ Some inode → is_directory inode ≡ false → (walk new path).found ≡ Some (merged_inode m path inode)
   pub copy : (inode : Inode) → first_hit m path ≡ Some inode → is_metacopy inode ≡ true → (place : PathNames) → reach m path ≡ Some place → (GoesOn (walk new path) (Some place)) × (is_metacopy (merged_inode m path inode) ≡ true)
+  pub kept : (inode : Inode) → first_hit m path ≡ Some inode → is_metacopy inode ≡ true → reach m path ≡ None → (place : PathNames) → kept_place m path ≡ Some place → (GoesOn (walk new path) (Some place)) × (mark_of (merged_inode m path inode) ≡ Meta (Some (To place)))
   pub nothing : first_hit m path ≡ None → FindsNothing m new path ⊎ GoesOnAlike m new path
 
 pub record IsShownDirectory (m : Merge) (path : PathNames) : Type 0 where
@@ -238,6 +239,28 @@ root-shown m upper = by (entry_at m.upper []) refl
       hit = first_hit-steps m [] ∙ ap (λ o. first_step o (walk m.upper []).closed (first_step (walk m.lower (lower_path m [])).found (walk m.lower (lower_path m [])).closed None)) e;
       directory = sym (ap directory_found e) ∙ upper.rooted;
     }
+
+-- a place that is kept has names, and isn't the root; the rest shows nothing there
+pub kept-facts : (m : Merge) (path place : PathNames) → kept_place m path ≡ Some place → (list_all is_metacopy (things_found (whole m).layers path) ≡ true) × (last_place (things_found (whole m).layers path) ≡ Some place) × (shows m.rest place ≡ false)
+kept-facts m path place k = by (list_all is_metacopy found) refl (last_place found) refl k
+  where
+    found : List Inode
+    found = things_found (whole m).layers path
+
+    shown : (last : PathNames) → (b : Bool) → shows m.rest last ≡ b → cond b None (Some last) ≡ Some place → (last ≡ place) × (shows m.rest last ≡ false)
+    shown last true s e = let bad : None ≡ Some place = e in cc
+    shown last false s e = let same : last ≡ place = cc in (same, s)
+
+    by : (b : Bool) → list_all is_metacopy (things_found (whole m).layers path) ≡ b → (o : Option PathNames) → last_place (things_found (whole m).layers path) ≡ o → unshown_place m (cond b (last_place (things_found (whole m).layers path)) None) ≡ Some place
+        → (list_all is_metacopy (things_found (whole m).layers path) ≡ true) × (last_place (things_found (whole m).layers path) ≡ Some place) × (shows m.rest place ≡ false)
+    by false a o l e = let bad : None ≡ Some place = e in cc
+    by true a None l e = let bad : None ≡ Some place = sym (ap (unshown_place m) l) ∙ e in cc
+    by true a (Some last) l e =
+        let own = shown last (shows m.rest last) refl (sym (ap (unshown_place m) l) ∙ e) in
+        (a, l ∙ ap (λ (p : PathNames). Some p) own.0, ap (shows m.rest) (sym own.0) ∙ own.1)
+
+pub kept-named : (m : Merge) (path place : PathNames) → kept_place m path ≡ Some place → (has_names place ≡ true) × (is_root place ≡ false)
+kept-named m path place k = last-named (things_found (whole m).layers path) place (kept-facts m path place k).1
 
 -- one directory is shown at a path
 pub one_hit : (m : Merge) (path : PathNames) (inode : Inode) → (d : IsShownDirectory m path) → first_hit m path ≡ Some inode → is_directory inode ≡ true
@@ -372,6 +395,27 @@ module _ (m : Merge) (new : Entries) (each : All IsLayer (whole m).layers) (laye
           subst (λ (s : Step). GoesOn s (Some place)) (sym step)
               (subst (λ (i : Inode). GoesOn (walk_to_file x (mark_of i) (walk new path).next (walk new path).closed name) (Some place)) (sym written) copied.0),
           ap is_metacopy written ∙ copied.1,
+        )
+
+    -- one without a reach whose data lies in data-only layers
+    kept-step : (inode : Inode) → first_hit m (child_path path name) ≡ Some inode → is_metacopy inode ≡ true → reach m (child_path path name) ≡ None → (place : PathNames) → kept_place m (child_path path name) ≡ Some place
+        → (GoesOn (walk new (child_path path name)) (Some place)) × (mark_of (merged_inode m (child_path path name) inode) ≡ Meta (Some (To place)))
+    kept-step inode hit meta e place k =
+        let file = metacopy-file inode meta in
+        let regular : is_regular inode ≡ true = (both {a = is_regular inode} {b = has_metacopy inode} file.1).0 in
+        let above = parent-shown path name inode hit in
+        let x : Inode = merged_inode m (child_path path name) inode in
+        let here : entry_at new (child_path path name) ≡ Some x = entry-hit (child_path path name) (Some inode) hit in
+        let other = merged-is_other m (child_path path name) inode file.0 hit (hit-no_whiteout m (child_path path name) inode upper lower hit) in
+        let facts = kept-named m (child_path path name) place k in
+        let written : x ≡ with_value (with_metacopy inode) redirect_name (path_text place) =
+        merged-metacopy m (child_path path name) inode file.0 meta ∙ (ap (merged_metacopy m (child_path path name) inode) e ∙ ap (unreached_metacopy m (child_path path name) inode) k) in
+        let mark : mark_of x ≡ Meta (Some (To place)) = ap mark_of written ∙ mark-copied_moved inode (path_text place) (To place) regular (redirect-absolute place facts.0 facts.1) in
+        let step : walk new (child_path path name) ≡ walk_to_file x (mark_of x) (walk new path).next (walk new path).closed name =
+        walk-child_end new path name layered (Some x) (directory-in_new path above) here other.0 [] ∙ file-found x (walk new path).next (walk new path).closed name other.1 in (
+          subst (λ (s : Step). GoesOn s (Some place)) (sym step)
+              (subst (λ (k : Mark). GoesOn (walk_to_file x k (walk new path).next (walk new path).closed name) (Some place)) (sym mark) (refl, refl)),
+          mark,
         )
 
     -- ---- where nothing is shown
@@ -569,7 +613,7 @@ module _ (m : Merge) (new : Entries) (each : All IsLayer (whole m).layers) (laye
             at false k = inl (below_file inode e k)
 
     core-step : Core m new (child_path path name)
-    core-step = record { directory = directory-step; file = file-step; copy = copy-step; nothing = nothing-step }
+    core-step = record { directory = directory-step; file = file-step; copy = copy-step; kept = kept-step; nothing = nothing-step }
 
   -- ---- the root, and all paths
 
@@ -578,6 +622,7 @@ module _ (m : Merge) (new : Entries) (each : All IsLayer (whole m).layers) (laye
     directory = λ inode hit dir. by (reach m []) refl;
     file = λ inode hit none. let bad : true ≡ false = sym (one_hit m [] inode (root-shown m upper) hit) ∙ none in cc;
     copy = λ inode hit meta place e. let bad : true ≡ false = sym (one_hit m [] inode (root-shown m upper) hit) ∙ (metacopy-file inode meta).0 in cc;
+    kept = λ inode hit meta e place k. let bad : true ≡ false = sym (one_hit m [] inode (root-shown m upper) hit) ∙ (metacopy-file inode meta).0 in cc;
     nothing = λ none. let bad : Some (root-shown m upper).inode ≡ None = sym (root-shown m upper).hit ∙ none in cc;
   }
     where

@@ -6,21 +6,22 @@ use Rattle.ovl_names.specs.Paths.{PathNames, is_root}
 use Rattle.ovl_names.proofs.Ascending.{both}
 use Rattle.ovl_inode.specs.declared.inodes.Inode.{Inode}
 use Rattle.ovl_inode.specs.Attributes.{Attributes, attribute, metacopy_name}
-use Rattle.ovl_inode.specs.Marks.{is_data, is_directory, is_regular, is_metacopy, has_metacopy}
+use Rattle.ovl_inode.specs.Marks.{mark_of, is_data, is_directory, is_regular, is_metacopy, has_metacopy}
 use Rattle.ovl_inode.specs.Inodes.{visible}
 use Rattle.ovl_manifest.specs.Layers.{Entries, IsLayer, entry_at}
-use Rattle.ovl_lookup.specs.declared.looks.Look.TheVariants.{Nothing}
+use Rattle.ovl_lookup.specs.declared.looks.Look.{Look}
+use Rattle.ovl_lookup.specs.declared.looks.Look.TheVariants.{Nothing, Shown, Broken}
 use Rattle.ovl_lookup.specs.Stacks.{StackView}
 use Rattle.ovl_lookup.specs.Walk.{walk}
 use Rattle.ovl_lookup.specs.Trace.{things_found}
-use Rattle.ovl_lookup.specs.Merged.{look, shown_of, data_of, shows_directory}
+use Rattle.ovl_lookup.specs.Merged.{look, shown_of, data_of, shows_directory, is_nothing, place_of_data}
 use Rattle.ovl_lookup.specs.Sound.{IsSoundStack}
 use Rattle.ovl_lookup.specs.Passes.{data_below}
 use Rattle.ovl_lookup.proofs.FoundLemmas.{directory-kind, things_found-step, metacopy-file, bare_file, data_of-metacopy, data_below-metacopy, data_below-other, shown_of-full, shown_of-contents, shown_of-broken}
 use Rattle.ovl_lookup.proofs.ChildLemmas.{all-first, all-rest}
 use Rattle.ovl_lookup.proofs.ShownLaws.{attribute-hidden}
 use Rattle.ovl_merge.specs.Places.{Merge, whole, two_layers, lower_path, rest_path, is_open, first_hit, passes, shows_own_directory, shows_directory_at, is_nothing_or, is_shown_regular, goes_on, reach, reach_of, base, natural, gets_opaque}
-use Rattle.ovl_merge.specs.MergeDown.{merged_inode, merged_metacopy, IsMergedDown}
+use Rattle.ovl_merge.specs.MergeDown.{merged_inode, merged_metacopy, unreached_metacopy, kept_place, IsMergedDown}
 use Rattle.ovl_lookup.specs.Courses.{through, look_on}
 use Rattle.ovl_merge.specs.Laws.{MergeHasCore}
 use Rattle.ovl_lookup.proofs.WalkLaws.{directory_found}
@@ -28,7 +29,7 @@ use Rattle.ovl_lookup.proofs.PassLaws.{found-closes}
 use Rattle.ovl_merge.proofs.Firsts.{hit-no_whiteout, found-whole, hit-from}
 use Rattle.ovl_lookup.proofs.LookLaws.{data-regular}
 use Rattle.ovl_merge.proofs.Inodes.{bare-kind, merged-is_other, merged-metacopy, merged-other, with_contents-attrs}
-use Rattle.ovl_merge.proofs.Core.{root_of, base-none, base-reach, Core, merge-core, GoesOn, FindsNothing, GoesOnAlike, IsShownDirectory}
+use Rattle.ovl_merge.proofs.Core.{root_of, kept-facts, base-none, base-reach, Core, merge-core, GoesOn, FindsNothing, GoesOnAlike, IsShownDirectory}
 use Rattle.ovl_merge.proofs.SoundHits.{sound-hit}
 
 and_false : (b : Bool) → (b && false) ≡ false
@@ -55,37 +56,42 @@ two-closed m path (inr closed) = by (walk m.upper path).closed
 nothing-there : (found : Option Inode) (closed : Bool) (rest : StackView) (next : PathNames) → cons_option found (cond closed [] (things_found rest.layers next)) ≡ [] → look_on rest (cond closed None (Some next)) ≡ Nothing
 nothing-there (Some inode) closed rest next e = let bad : inode ∷ cond closed [] (things_found rest.layers next) ≡ [] = e in cc
 nothing-there None true rest next e = refl
-nothing-there None false rest next e = ap shown_of e
+nothing-there None false rest next e = ap (shown_of rest.data_only) e
 
--- data is found only at a regular file
-data-shown : (found : List Inode) (contents : Inode) → data_below found ≡ Some contents → is_shown_regular (shown_of found) ≡ true
-data-shown [] contents e = let bad : None ≡ Some contents = e in cc
-data-shown (inode ∷ below) contents e = by (is_metacopy inode) refl
+-- where data is found below a metacopy file, nothing is found there, or first a regular file
+data-shown : (data_only : List Entries) (place : Option PathNames) (found : List Inode) (contents : Inode) → data_below data_only place found ≡ Some contents → (found ≡ []) ⊎ (is_shown_regular (shown_of data_only found) ≡ true)
+data-shown data_only place [] contents e = inl refl
+data-shown data_only place (inode ∷ below) contents e = inr (by (is_metacopy inode) refl)
   where
-    copied : (bare : (is_regular inode && has_metacopy inode) ≡ true) → is_shown_regular (shown_of (inode ∷ below)) ≡ true
-    copied bare = at (data_of (inode ∷ below)) refl
+    copied : (bare : (is_regular inode && has_metacopy inode) ≡ true) → is_shown_regular (shown_of data_only (inode ∷ below)) ≡ true
+    copied bare = at (data_of data_only (inode ∷ below)) refl
       where
-        at : (o : Option Inode) → data_of (inode ∷ below) ≡ o → is_shown_regular (shown_of (inode ∷ below)) ≡ true
+        at : (o : Option Inode) → data_of data_only (inode ∷ below) ≡ o → is_shown_regular (shown_of data_only (inode ∷ below)) ≡ true
         at (Some file) k =
-            ap is_shown_regular (shown_of-contents inode file below bare k)
-            ∙ (both {a = is_regular file} {b = not (has_metacopy file)} (data-regular (inode ∷ below) file k)).0
+            ap is_shown_regular (shown_of-contents data_only inode file below bare k)
+            ∙ (both {a = is_regular file} {b = not (has_metacopy file)} (data-regular data_only (inode ∷ below) file k)).0
         at None k =
-            ap is_shown_regular (shown_of-broken inode below bare k)
+            ap is_shown_regular (shown_of-broken data_only inode below bare k)
             ∙ bare-kind inode.kind (both {a = is_regular inode} {b = has_metacopy inode} bare).0
 
-    plain : (d : Bool) → is_data inode ≡ d → cond d (Some inode) None ≡ Some contents → is_shown_regular (shown_of (inode ∷ below)) ≡ true
+    plain : (d : Bool) → is_data inode ≡ d → cond d (Some inode) None ≡ Some contents → is_shown_regular (shown_of data_only (inode ∷ below)) ≡ true
     plain true d k =
         let parts = both {a = is_regular inode} {b = not (has_metacopy inode)} d in
-        ap is_shown_regular (shown_of-full inode below (whole_file (has_metacopy inode) parts.1)) ∙ parts.0
+        ap is_shown_regular (shown_of-full data_only inode below (whole_file (has_metacopy inode) parts.1)) ∙ parts.0
       where
         whole_file : (b : Bool) → not b ≡ true → (is_regular inode && b) ≡ false
         whole_file true k = let bad : false ≡ true = k in cc
         whole_file false k = and_false (is_regular inode)
     plain false d k = let bad : None ≡ Some contents = k in cc
 
-    by : (b : Bool) → is_metacopy inode ≡ b → is_shown_regular (shown_of (inode ∷ below)) ≡ true
+    by : (b : Bool) → is_metacopy inode ≡ b → is_shown_regular (shown_of data_only (inode ∷ below)) ≡ true
     by true k = copied (metacopy-file inode k).1
-    by false k = plain (is_data inode) refl (sym (ap (λ b. cond b (data_below below) (cond (is_data inode) (Some inode) None)) k) ∙ e)
+    by false k = plain (is_data inode) refl (sym (ap (λ b. cond b (data_below data_only (place_of_data (mark_of inode)) below) (cond (is_data inode) (Some inode) None)) k) ∙ e)
+
+unshown-look : (shown : Look) → not (is_nothing shown) ≡ false → shown ≡ Nothing
+unshown-look Nothing e = refl
+unshown-look (Shown inode) e = let bad : true ≡ false = e in cc
+unshown-look (Broken inode) e = let bad : true ≡ false = e in cc
 
 module _ (m : Merge) (new : Entries) (each : All IsLayer (whole m).layers) (sound : IsSoundStack (whole m)) (layered : IsLayer new) (is : IsMergedDown m new) (path : PathNames) where
   upper : IsLayer m.upper
@@ -105,8 +111,12 @@ module _ (m : Merge) (new : Entries) (each : All IsLayer (whole m).layers) (soun
       by (inl found) = two-closed m path (inl (found-closes m.upper path inode upper found none other))
       by (inr (nothing, opened, found)) = two-closed m path (inr (found-closes m.lower (lower_path m path) inode lower found none other))
 
-  -- a metacopy file without a reach: its data is in the two layers, and closes the lower walk
+  -- a metacopy file without a reach: its data is in the two layers, and closes the lower walk, or it is in data-only
+  -- layers, and the rest finds nothing
   module _ (inode : Inode) (hit : first_hit m path ≡ Some inode) (meta : is_metacopy inode ≡ true) (e : reach m path ≡ None) where
+    abbrev Ends : Type 0
+    Ends = look_on m.rest (through (two_layers m).layers path) ≡ Nothing
+
     file : is_directory inode ≡ false
     file = (metacopy-file inode meta).0
 
@@ -117,50 +127,55 @@ module _ (m : Merge) (new : Entries) (each : All IsLayer (whole m).layers) (soun
     stays : goes_on m path inode ≡ false
     stays = not_on (goes_on m path inode) (sym (ap (reach_of m path) hit) ∙ e)
 
-    data_found : (found : List Inode) → things_found (whole m).layers path ≡ inode ∷ found → (contents : Inode) × (data_below found ≡ Some contents)
+    data_found : (found : List Inode) → things_found (whole m).layers path ≡ inode ∷ found → (contents : Inode) × (data_below m.rest.data_only (place_of_data (mark_of inode)) found ≡ Some contents)
     data_found found all =
         let has = (sound-hit m upper lower sound path inode hit file).0 meta in
-        (has.0, sym (ap data_of all ∙ data_of-metacopy inode found meta file (bare_file inode (metacopy-file inode meta).1).1) ∙ has.1)
+        (has.0, sym (ap (data_of m.rest.data_only) all ∙ data_of-metacopy m.rest.data_only inode found meta file (bare_file inode (metacopy-file inode meta).1).1) ∙ has.1)
 
-    -- with both walks open and nothing or a metacopy file on the way, the rest would show a regular file
-    no_reach : (walk m.upper path).closed ≡ false → (walk m.lower (lower_path m path)).closed ≡ false → is_nothing_or is_metacopy (walk m.lower (lower_path m path)).found ≡ true → (contents : Inode) → data_below (things_found m.rest.layers (rest_path m path)) ≡ Some contents → ⊥
-    no_reach u l passed contents d =
-        let on : goes_on m path inode ≡ true = λ j. (not (u j) && not (l j)) && cond (file j) (is_nothing_or is_directory (walk m.lower (lower_path m path)).found && shows_directory m.rest (rest_path m path)) (meta j && passed j && data-shown (things_found m.rest.layers (rest_path m path)) contents d j) in
-        let bad : true ≡ false = sym on ∙ stays in cc
-
-    through_lower : (o : Option Inode) (xs : List Inode) → is_nothing_or is_metacopy o ≡ true → data_below (cons_option o xs) ≡ data_below xs
-    through_lower None xs k = refl
-    through_lower (Some other) xs k = data_below-metacopy other xs k
-
-    closes : ((walk m.upper path).closed ≡ true) ⊎ ((walk m.lower (lower_path m path)).closed ≡ true)
-    closes = by (walk m.upper path).closed refl (walk m.lower (lower_path m path)).closed refl (hit-from m path inode upper lower hit)
+    -- with both walks open and nothing or a metacopy file on the way, the rest would show a regular file if anything
+    no_reach : (walk m.upper path).closed ≡ false → (walk m.lower (lower_path m path)).closed ≡ false → is_nothing_or is_metacopy (walk m.lower (lower_path m path)).found ≡ true → (place : Option PathNames) (contents : Inode) → data_below m.rest.data_only place (things_found m.rest.layers (rest_path m path)) ≡ Some contents → Ends
+    no_reach u l passed place contents d = by (data-shown m.rest.data_only place (things_found m.rest.layers (rest_path m path)) contents d)
       where
-        among : (walk m.upper path).closed ≡ false → (walk m.lower (lower_path m path)).closed ≡ false → (o : Option Inode) → (walk m.lower (lower_path m path)).found ≡ o → (b : Bool) → is_nothing_or is_metacopy o ≡ b → (contents : Inode) → data_below (cons_option o (things_found m.rest.layers (rest_path m path))) ≡ Some contents → ((walk m.upper path).closed ≡ true) ⊎ ((walk m.lower (lower_path m path)).closed ≡ true)
-        among u l o f true k contents d =
-            absurd (no_reach u l (ap (is_nothing_or is_metacopy) f ∙ k) contents (sym (through_lower o (things_found m.rest.layers (rest_path m path)) k) ∙ d))
-        among u l None f false k contents d = let bad : true ≡ false = k in cc
-        among u l (Some other) f false k contents d = sort (is_directory other) refl
+        by : (things_found m.rest.layers (rest_path m path) ≡ []) ⊎ (is_shown_regular (shown_of m.rest.data_only (things_found m.rest.layers (rest_path m path))) ≡ true) → Ends
+        by (inl empty) = (λ j. look_on m.rest (cond (u j) None (cond (l j) None (Some (rest_path m path))))) ∙ ap (shown_of m.rest.data_only) empty
+        by (inr shown) =
+            let on : goes_on m path inode ≡ true = λ j. (not (u j) && not (l j)) && cond (file j) (is_nothing_or is_directory (walk m.lower (lower_path m path)).found && shows_directory m.rest (rest_path m path)) (meta j && passed j && shown j) in
+            let bad : true ≡ false = sym on ∙ stays in cc
+
+    through_lower : (o : Option Inode) (xs : List Inode) (place : Option PathNames) → is_nothing_or is_metacopy o ≡ true → (next : Option PathNames) × (data_below m.rest.data_only place (cons_option o xs) ≡ data_below m.rest.data_only next xs)
+    through_lower None xs place k = (place, refl)
+    through_lower (Some other) xs place k = (place_of_data (mark_of other), data_below-metacopy m.rest.data_only place other xs k)
+
+    ends : Ends
+    ends = by (walk m.upper path).closed refl (walk m.lower (lower_path m path)).closed refl (hit-from m path inode upper lower hit)
+      where
+        among : (walk m.upper path).closed ≡ false → (walk m.lower (lower_path m path)).closed ≡ false → (o : Option Inode) → (walk m.lower (lower_path m path)).found ≡ o → (b : Bool) → is_nothing_or is_metacopy o ≡ b → (place : Option PathNames) (contents : Inode) → data_below m.rest.data_only place (cons_option o (things_found m.rest.layers (rest_path m path))) ≡ Some contents → Ends
+        among u l o f true k place contents d =
+            let past = through_lower o (things_found m.rest.layers (rest_path m path)) place k in
+            no_reach u l (ap (is_nothing_or is_metacopy) f ∙ k) past.0 contents (sym past.1 ∙ d)
+        among u l None f false k place contents d = let bad : true ≡ false = k in cc
+        among u l (Some other) f false k place contents d = sort (is_directory other) refl
           where
-            sort : (b : Bool) → is_directory other ≡ b → ((walk m.upper path).closed ≡ true) ⊎ ((walk m.lower (lower_path m path)).closed ≡ true)
-            sort false g = inr (found-closes m.lower (lower_path m path) other lower f g k)
+            sort : (b : Bool) → is_directory other ≡ b → Ends
+            sort false g = two-closed m path (inr (found-closes m.lower (lower_path m path) other lower f g k))
             sort true g =
-                let bad : None ≡ Some contents = sym (data_below-other other (things_found m.rest.layers (rest_path m path)) k (directory-no_data other g)) ∙ d in cc
+                let bad : None ≡ Some contents = sym (data_below-other m.rest.data_only place other (things_found m.rest.layers (rest_path m path)) k (directory-no_data other g)) ∙ d in cc
 
         by : (u : Bool) → (walk m.upper path).closed ≡ u → (l : Bool) → (walk m.lower (lower_path m path)).closed ≡ l
             → ((walk m.upper path).found ≡ Some inode) ⊎ (((walk m.upper path).found ≡ None) × ((walk m.upper path).closed ≡ false) × ((walk m.lower (lower_path m path)).found ≡ Some inode))
-            → ((walk m.upper path).closed ≡ true) ⊎ ((walk m.lower (lower_path m path)).closed ≡ true)
-        by true u l k from = inl u
-        by false u true l from = inr l
+            → Ends
+        by true u l k from = two-closed m path (inl u)
+        by false u true l from = two-closed m path (inr l)
         by false u false l (inl found) =
             let all : things_found (whole m).layers path ≡ inode ∷ cons_option (walk m.lower (lower_path m path)).found (things_found m.rest.layers (rest_path m path)) =
             found-whole m path ∙ (λ j. cons_option (found j) (cond (u j) [] (cons_option (walk m.lower (lower_path m path)).found (cond (l j) [] (things_found m.rest.layers (rest_path m path)))))) in
             let has = data_found (cons_option (walk m.lower (lower_path m path)).found (things_found m.rest.layers (rest_path m path))) all in
-            among u l (walk m.lower (lower_path m path)).found refl (is_nothing_or is_metacopy (walk m.lower (lower_path m path)).found) refl has.0 has.1
+            among u l (walk m.lower (lower_path m path)).found refl (is_nothing_or is_metacopy (walk m.lower (lower_path m path)).found) refl (place_of_data (mark_of inode)) has.0 has.1
         by false u false l (inr (nothing, opened, found)) =
             let all : things_found (whole m).layers path ≡ inode ∷ things_found m.rest.layers (rest_path m path) =
             found-whole m path ∙ (λ j. cons_option (nothing j) (cond (u j) [] (cons_option (found j) (cond (l j) [] (things_found m.rest.layers (rest_path m path)))))) in
             let has = data_found (things_found m.rest.layers (rest_path m path)) all in
-            absurd (no_reach u l (ap (is_nothing_or is_metacopy) found ∙ meta) has.0 has.1)
+            no_reach u l (ap (is_nothing_or is_metacopy) found ∙ meta) (place_of_data (mark_of inode)) has.0 has.1
 
   -- ---- the three cases
 
@@ -255,26 +270,35 @@ module _ (m : Merge) (new : Entries) (each : All IsLayer (whole m).layers) (soun
           (λ j. look_on m.rest (cond (alike.opened j) None (Some (alike.next j))))
           ∙ sym (λ j. look_on m.rest (cond (alike.old.upper_open j) None (cond (alike.old.lower_open j) None (Some (rest_path m path)))))
 
-      made-bare : (inode : Inode) → first_hit m path ≡ Some inode → is_directory inode ≡ false → (b : Bool) → is_metacopy inode ≡ b → is_metacopy (merged_inode m path inode) ≡ false
-      made-bare inode hit none false k = no-metacopy (merged_inode m path inode) (ap (λ (i : Inode). attribute i.attrs metacopy_name) (merged-other m path inode none k) ∙ attribute-hidden inode.attrs metacopy_name refl)
-      made-bare inode hit none true k =
+      made-bare : (inode : Inode) → first_hit m path ≡ Some inode → is_directory inode ≡ false → kept_place m path ≡ None → (b : Bool) → is_metacopy inode ≡ b → is_metacopy (merged_inode m path inode) ≡ false
+      made-bare inode hit none none-kept false k = no-metacopy (merged_inode m path inode) (ap (λ (i : Inode). attribute i.attrs metacopy_name) (merged-other m path inode none k) ∙ attribute-hidden inode.attrs metacopy_name refl)
+      made-bare inode hit none none-kept true k =
           no-metacopy (merged_inode m path inode)
-          (ap (λ (i : Inode). attribute i.attrs metacopy_name) (merged-metacopy m path inode none k ∙ ap (merged_metacopy m path inode) e)
+          (ap (λ (i : Inode). attribute i.attrs metacopy_name) (merged-metacopy m path inode none k ∙ (ap (merged_metacopy m path inode) e ∙ ap (unreached_metacopy m path inode) none-kept))
           ∙ (ap (λ (a : Attributes). attribute a metacopy_name) (with_contents-attrs (visible inode) (look (whole m) path)) ∙ attribute-hidden inode.attrs metacopy_name refl))
 
       old-file : (inode : Inode) → first_hit m path ≡ Some inode → is_directory inode ≡ false → (b : Bool) → is_metacopy inode ≡ b → look_on m.rest (through (two_layers m).layers path) ≡ Nothing
       old-file inode hit none false k = other-file inode hit none k
-      old-file inode hit none true k = two-closed m path (closes inode hit k e)
+      old-file inode hit none true k = ends inode hit k e
 
       by : (o : Option Inode) → first_hit m path ≡ o → look_on m.rest (through (new ∷ []) path) ≡ look_on m.rest (through (two_layers m).layers path)
       by None hit = none-case (core.nothing hit)
       by (Some inode) hit = file_case (sym (ap (passes is_directory) hit) ∙ shown)
         where
           file_case : is_directory inode ≡ false → look_on m.rest (through (new ∷ []) path) ≡ look_on m.rest (through (two_layers m).layers path)
-          file_case none =
-              let made = merged-is_other m path inode none hit (hit-no_whiteout m path inode upper lower hit) in
-              closed-look m.rest new path (found-closes new path (merged_inode m path inode) layered (core.file inode hit none) made.0 (made-bare inode hit none (is_metacopy inode) refl))
-              ∙ sym (old-file inode hit none (is_metacopy inode) refl)
+          file_case none = fresh (is_metacopy inode) refl (kept_place m path) refl ∙ sym (old-file inode hit none (is_metacopy inode) refl)
+            where
+              full-file : (is_metacopy (merged_inode m path inode) ≡ false) → look_on m.rest (through (new ∷ []) path) ≡ Nothing
+              full-file bare =
+                  let made = merged-is_other m path inode none hit (hit-no_whiteout m path inode upper lower hit) in
+                  closed-look m.rest new path (found-closes new path (merged_inode m path inode) layered (core.file inode hit none) made.0 bare)
+
+              fresh : (b : Bool) → is_metacopy inode ≡ b → (o : Option PathNames) → kept_place m path ≡ o → look_on m.rest (through (new ∷ []) path) ≡ Nothing
+              fresh b k None p = full-file (made-bare inode hit none p b k)
+              fresh false k (Some place) p = full-file (no-metacopy (merged_inode m path inode) (ap (λ (i : Inode). attribute i.attrs metacopy_name) (merged-other m path inode none k) ∙ attribute-hidden inode.attrs metacopy_name refl))
+              fresh true k (Some place) p =
+                  ap (look_on m.rest) (goes-through (Some place) (core.kept inode hit k e place p).0)
+                  ∙ unshown-look (look m.rest place) (kept-facts m path place p).2
 
 pub MergeHasCore-holds : MergeHasCore
 MergeHasCore-holds m lower each sound layered is path = record {

@@ -129,14 +129,14 @@ module _ (m : Merge) (each : All IsLayer (whole m).layers) where
       }
 
   -- over a sound stack its entries are a layer, or pass a limit
-  pub limit-passed : IsSoundStack (whole m) → (entries : Entries) → ascends entry_cmp entries ≡ true → IsMergedDown m entries → (IsLayer entries → ⊥) → PassesLimit m
-  limit-passed sound entries up new refused = by (keeps_limits entries) refl
+  pub limit-passed : All IsLayer m.rest.data_only → IsSoundStack (whole m) → (entries : Entries) → ascends entry_cmp entries ≡ true → IsMergedDown m entries → (IsLayer entries → ⊥) → PassesLimit m
+  limit-passed deep sound entries up new refused = by (keeps_limits entries) refl
     where
       by : (b : Bool) → keeps_limits entries ≡ b → PassesLimit m
       by false e = (entries, up, new, e)
       by true e =
           let parts = both {a = list_all (λ (entry : Entry). is_within_limits entry.0) entries} {b = nat_le (length entries) entry_limit} e in
-          absurd (refused (MergeGivesLayer-holds m each sound entries up new parts.0 parts.1))
+          absurd (refused (MergeGivesLayer-holds m each deep sound entries up new parts.0 parts.1))
 
 -- a layer that is given keeps the limits
 pub limit-kept : (m : Merge) (layer : Entries) → IsLayer layer → IsMergedDown m layer → PassesLimit m → ⊥

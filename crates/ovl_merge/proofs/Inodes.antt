@@ -10,6 +10,7 @@ use Rattle.ovl_inode.specs.declared.inodes.Kind.TheVariants.{File}
 use Rattle.ovl_inode.specs.Attributes.{Attributes, attribute, visible_attributes, redirect_name, metacopy_name, opaque_name, whiteout_name}
 use Rattle.ovl_inode.specs.Marks.{is_directory, is_regular, is_whiteout, is_metacopy, has_metacopy}
 use Rattle.ovl_inode.specs.Inodes.{visible}
+use Rattle.ovl_manifest.specs.Layers.{Entries}
 use Rattle.ovl_lookup.specs.declared.looks.Look.{Look}
 use Rattle.ovl_lookup.specs.declared.looks.Look.TheVariants.{Nothing, Shown, Broken}
 use Rattle.ovl_lookup.specs.Trace.{things_found}
@@ -18,7 +19,7 @@ use Rattle.ovl_lookup.proofs.LookLaws.{data-regular}
 use Rattle.ovl_lookup.proofs.FoundLemmas.{metacopy-file, shown_of-contents, shown_of-broken}
 use Rattle.ovl_lookup.proofs.ShownLaws.{attribute-hidden}
 use Rattle.ovl_merge.specs.Places.{Merge, whole, reach, first_hit, gets_opaque}
-use Rattle.ovl_merge.specs.MergeDown.{with_value, last_name, redirected, redirected_from, with_contents, merged_directory, merged_metacopy, merged_inode}
+use Rattle.ovl_merge.specs.MergeDown.{with_value, last_name, redirected, redirected_from, with_contents, merged_directory, merged_metacopy, unreached_metacopy, kept_place, merged_inode}
 use Rattle.ovl_merge.proofs.Values.{attribute-other, visible-value, visible-visible, with_metacopy, whiteout-visible, whiteout-regular, directory-regular}
 use Rattle.ovl_merge.proofs.Firsts.{whole-first, rest_of}
 
@@ -78,18 +79,18 @@ bare-kind (File size blob) is = refl
 bare-kind _ is = let bad : false ≡ true = is in cc
 
 -- what is shown of a metacopy file that is found first is a regular file
-contents-regular : (inode : Inode) (below : List Inode) → is_metacopy inode ≡ true → is_regular (with_contents (visible inode) (shown_of (inode ∷ below))) ≡ true
-contents-regular inode below meta = by (data_of (inode ∷ below)) refl
+contents-regular : (data_only : List Entries) (inode : Inode) (below : List Inode) → is_metacopy inode ≡ true → is_regular (with_contents (visible inode) (shown_of data_only (inode ∷ below))) ≡ true
+contents-regular data_only inode below meta = by (data_of data_only (inode ∷ below)) refl
   where
     bare : (is_regular inode && has_metacopy inode) ≡ true
     bare = (metacopy-file inode meta).1
 
-    by : (o : Option Inode) → data_of (inode ∷ below) ≡ o → is_regular (with_contents (visible inode) (shown_of (inode ∷ below))) ≡ true
+    by : (o : Option Inode) → data_of data_only (inode ∷ below) ≡ o → is_regular (with_contents (visible inode) (shown_of data_only (inode ∷ below))) ≡ true
     by (Some contents) e =
-        ap (λ (l : Look). is_regular (with_contents (visible inode) l)) (shown_of-contents inode contents below bare e)
-        ∙ (both {a = is_regular contents} (data-regular (inode ∷ below) contents e)).0
+        ap (λ (l : Look). is_regular (with_contents (visible inode) l)) (shown_of-contents data_only inode contents below bare e)
+        ∙ (both {a = is_regular contents} (data-regular data_only (inode ∷ below) contents e)).0
     by None e =
-        ap (λ (l : Look). is_regular (with_contents (visible inode) l)) (shown_of-broken inode below bare e)
+        ap (λ (l : Look). is_regular (with_contents (visible inode) l)) (shown_of-broken data_only inode below bare e)
         ∙ bare-kind inode.kind (both {a = is_regular inode} {b = has_metacopy inode} bare).0
 
 pub with_contents-attrs : (inode : Inode) (l : Look) → (with_contents inode l).attrs ≡ inode.attrs
@@ -119,18 +120,22 @@ module _ (m : Merge) (path : PathNames) (inode : Inode) (is : is_directory inode
           regular : is_regular inode ≡ true
           regular = (both {a = is_regular inode} {b = has_metacopy inode} (metacopy-file inode e).1).0
 
+          other : (value : List ℕ) → IsOther (with_value (with_metacopy inode) redirect_name value)
+          other value =
+              regular-other (with_value (with_metacopy inode) redirect_name value) regular
+              (attribute-other (with_metacopy inode).attrs redirect_name value whiteout_name refl ∙ with_metacopy-bare inode)
+
+          unreached : (place : Option PathNames) → IsOther (unreached_metacopy m path inode place)
+          unreached (Some place) = other (path_text place)
+          unreached None =
+              regular-other (with_contents (visible inode) (look (whole m) path))
+              (ap (λ (xs : List Inode). is_regular (with_contents (visible inode) (shown_of m.rest.data_only xs))) (whole-first m path inode hit)
+              ∙ contents-regular m.rest.data_only inode (rest_of (things_found (whole m).layers path)) e)
+              (ap (λ (a : Attributes). attribute a whiteout_name) (with_contents-attrs (visible inode) (look (whole m) path)) ∙ attribute-hidden inode.attrs whiteout_name refl)
+
           at : (place : Option PathNames) → IsOther (merged_metacopy m path inode place)
           at (Some place) =
               redirected-cases IsOther (with_metacopy inode) place
               (regular-other (with_metacopy inode) regular (with_metacopy-bare inode))
               (other (last_name place)) (other (path_text place)) m path
-            where
-              other : (value : List ℕ) → IsOther (with_value (with_metacopy inode) redirect_name value)
-              other value =
-                  regular-other (with_value (with_metacopy inode) redirect_name value) regular
-                  (attribute-other (with_metacopy inode).attrs redirect_name value whiteout_name refl ∙ with_metacopy-bare inode)
-          at None =
-              regular-other (with_contents (visible inode) (look (whole m) path))
-              (ap (λ (xs : List Inode). is_regular (with_contents (visible inode) (shown_of xs))) (whole-first m path inode hit)
-              ∙ contents-regular inode (rest_of (things_found (whole m).layers path)) e)
-              (ap (λ (a : Attributes). attribute a whiteout_name) (with_contents-attrs (visible inode) (look (whole m) path)) ∙ attribute-hidden inode.attrs whiteout_name refl)
+          at None = unreached (kept_place m path)

@@ -33,7 +33,7 @@ use Rattle.ovl_lookup.proofs.AttributeLaws.{attribute-with}
 use Rattle.ovl_lookup.proofs.StatedLaws.{found-all, data-all, data-kind, sound-with, sound-kind, sound-visible, sound-attributes, unescaped-filter, shown-named}
 use Rattle.ovl_rewrite.proofs.InodeLemmas.{opaque_named, unescaped-with, directory-flag}
 use Rattle.ovl_merge.specs.Places.{Merge, whole, two_layers, lower_path, first_hit, passes, shows_own_directory, is_hidden, reach, gets_opaque, natural, base, child_of, shows_at}
-use Rattle.ovl_merge.specs.MergeDown.{with_value, last_name, with_contents, merged_directory, merged_metacopy, merged_inode, merged_entry, merged_entry_of, needs_whiteout, new_whiteout, IsMergedDown}
+use Rattle.ovl_merge.specs.MergeDown.{with_value, last_name, with_contents, merged_directory, merged_metacopy, unreached_metacopy, kept_place, merged_inode, merged_entry, merged_entry_of, needs_whiteout, new_whiteout, IsMergedDown}
 use Rattle.ovl_merge.specs.Laws.{MergeGivesLayer}
 use Rattle.ovl_lookup.proofs.NameParts.{name_facts}
 use Rattle.ovl_merge.proofs.ByteLemmas.{utf8-bytes}
@@ -43,7 +43,7 @@ use Rattle.ovl_merge.proofs.Values.{attribute-other, with_metacopy}
 use Rattle.ovl_merge.proofs.Firsts.{whole-first, rest_of, first-cons, first_of-hits}
 use Rattle.ovl_merge.proofs.Inodes.{merged-directory, merged-metacopy, merged-other, redirected-cases}
 use Rattle.ovl_merge.proofs.SoundHits.{sound-hit}
-use Rattle.ovl_merge.proofs.Core.{natural-child, reach-is}
+use Rattle.ovl_merge.proofs.Core.{natural-child, reach-is, kept-named}
 use Rattle.ovl_merge.proofs.MergedEntries.{entry-directory, entry-stands, root-entry, two}
 
 -- ---- the values that are written
@@ -198,16 +198,16 @@ module _ (m : Merge) (each : All IsLayer (whole m).layers) where
             (of (with_attribute (visible_attributes inode.attrs) redirect_name (path_text place)) (with-fine (visible_attributes inode.attrs) redirect_name (path_text place) shown-fine redirect_named refl (text-bytes place named)))
             m path
 
-    module _ (sound : IsSoundStack (whole m)) (file : is_directory inode ≡ false) where
+    module _ (deep : All IsLayer m.rest.data_only) (sound : IsSoundStack (whole m)) (file : is_directory inode ≡ false) where
       -- a metacopy file without a reach has the contents that are shown
       filled-fine : is_metacopy inode ≡ true → IsFine (with_contents (visible inode) (look (whole m) path))
       filled-fine meta =
           let below : List Inode = rest_of (things_found (whole m).layers path) in
           let has = (sound-hit m upper lower sound path inode hit file).0 meta in
-          let found : data_of (inode ∷ below) ≡ Some has.0 = ap data_of (sym (whole-first m path inode hit)) ∙ has.1 in
-          let shown : look (whole m) path ≡ _ = ap shown_of (whole-first m path inode hit) ∙ shown_of-contents inode has.0 below (metacopy-file inode meta).1 found in
+          let found : data_of m.rest.data_only (inode ∷ below) ≡ Some has.0 = ap (data_of m.rest.data_only) (sym (whole-first m path inode hit)) ∙ has.1 in
+          let shown : look (whole m) path ≡ _ = ap (shown_of m.rest.data_only) (whole-first m path inode hit) ∙ shown_of-contents m.rest.data_only inode has.0 below (metacopy-file inode meta).1 found in
           let all : list_all is_sound_inode (inode ∷ below) ≡ true = ap (list_all is_sound_inode) (sym (whole-first m path inode hit)) ∙ found-all is_sound_inode (λ layer is. is.sound) (whole m).layers each path in
-          let kinds : is_sound_kind has.0.kind false ≡ true = data-kind has.0 (data-regular (inode ∷ below) has.0 found) (data-all is_sound_inode (inode ∷ below) has.0 all found) in
+          let kinds : is_sound_kind has.0.kind false ≡ true = data-kind has.0 (data-regular m.rest.data_only (inode ∷ below) has.0 found) (data-all is_sound_inode (λ layer is. is.sound) m.rest.data_only deep (inode ∷ below) has.0 all found) in
           subst IsFine (sym (ap (with_contents (visible inode)) shown)) (sound-visible inode has.0.kind well kinds, shown-fine.1)
 
       -- one with a reach stays a metacopy file
@@ -225,7 +225,11 @@ module _ (m : Merge) (each : All IsLayer (whole m).layers) where
           (with-fine (with_metacopy inode).attrs redirect_name value copied-fine redirect_named refl bytes)
 
       metacopy-fine : is_metacopy inode ≡ true → (o : Option PathNames) → reach m path ≡ o → IsFine (merged_metacopy m path inode o)
-      metacopy-fine meta None e = filled-fine meta
+      metacopy-fine meta None e = unreached (kept_place m path) refl
+        where
+          unreached : (o : Option PathNames) → kept_place m path ≡ o → IsFine (unreached_metacopy m path inode o)
+          unreached None k = filled-fine meta
+          unreached (Some place) k = moved-fine (path_text place) meta (text-bytes place (kept-named m path place k).0)
       metacopy-fine meta (Some place) e =
           let named = reach-named path place (own-named path (hit-shown path inode hit)) e in
           redirected-cases IsFine (with_metacopy inode) place
@@ -239,16 +243,16 @@ module _ (m : Merge) (each : All IsLayer (whole m).layers) where
           subst IsFine (sym (merged-other m path inode file other))
           (sound-visible inode inode.kind well (flag-none inode.kind (has_metacopy inode) full (sound-kind inode well)), shown-fine.1)
 
-    inode-fine : IsSoundStack (whole m) → IsFine (merged_inode m path inode)
-    inode-fine sound = by (is_directory inode) refl
+    inode-fine : All IsLayer m.rest.data_only → IsSoundStack (whole m) → IsFine (merged_inode m path inode)
+    inode-fine deep sound = by (is_directory inode) refl
       where
         by : (b : Bool) → is_directory inode ≡ b → IsFine (merged_inode m path inode)
         by true d = directory-fine d
-        by false d = file-fine sound d (is_metacopy inode) refl
+        by false d = file-fine deep sound d (is_metacopy inode) refl
 
   -- ---- the layer
 
-  module _ (sound : IsSoundStack (whole m)) (entries : Entries) (up : ascends entry_cmp entries ≡ true) (is : IsMergedDown m entries) where
+  module _ (deep : All IsLayer m.rest.data_only) (sound : IsSoundStack (whole m)) (entries : Entries) (up : ascends entry_cmp entries ≡ true) (is : IsMergedDown m entries) where
     parent : (path : PathNames) (inode : Inode) → entry_at entries path ≡ Some inode → has_parent entries path ≡ true
     parent path inode here = by (last-name path)
       where
@@ -261,7 +265,7 @@ module _ (m : Merge) (each : All IsLayer (whole m).layers) where
 
     fine : (path : PathNames) (inode : Inode) → entry_at entries path ≡ Some inode → (is_sound_inode inode ≡ true) × (has_escaped_name inode.attrs ≡ false)
     fine path inode here =
-        entry-cases (λ i. (is_sound_inode i ≡ true) × (has_escaped_name i.attrs ≡ false)) path inode (sym (is path) ∙ here) (λ first hit. inode-fine path first hit sound) (λ needs. (refl, refl))
+        entry-cases (λ i. (is_sound_inode i ≡ true) × (has_escaped_name i.attrs ≡ false)) path inode (sym (is path) ∙ here) (λ first hit. inode-fine path first hit deep sound) (λ needs. (refl, refl))
 
     layer-but_limits : list_all (λ entry. is_within_limits entry.0) entries ≡ true → nat_le (length entries) entry_limit ≡ true → IsLayer entries
     layer-but_limits limited counted = record {
@@ -276,4 +280,4 @@ module _ (m : Merge) (each : All IsLayer (whole m).layers) where
     }
 
 pub MergeGivesLayer-holds : MergeGivesLayer
-MergeGivesLayer-holds m each sound entries up is limited counted = layer-but_limits m each sound entries up is limited counted
+MergeGivesLayer-holds m each deep sound entries up is limited counted = layer-but_limits m each deep sound entries up is limited counted

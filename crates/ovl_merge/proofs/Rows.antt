@@ -3,8 +3,8 @@ use Rattle.std.specs.Prelude.{◌≡◌, suc, ◌∷◌, ◌++◌, [], codes, So
 use Rattle.ovl_inode.specs.declared.inodes.Inode.{Inode}
 use Rattle.ovl_inode.proofs.OnLiterals.{inode_on_literals}
 use Rattle.ovl_manifest.specs.Layers.{Entries}
-use Rattle.ovl_lookup.proofs.Notation.{directory, opaque, moved, file_a, metacopy, path, layer_of, whiteout}
-use Rattle.ovl_lookup.proofs.RowStacks.{stack_of, moved_in_opaque, top_of_moved_in_opaque, metacopies_over}
+use Rattle.ovl_lookup.proofs.Notation.{directory, opaque, moved, file_a, metacopy, metacopy_moved, path, layer_of, whiteout}
+use Rattle.ovl_lookup.proofs.RowStacks.{stack_of, moved_in_opaque, top_of_moved_in_opaque, metacopies_over, told_below, told_past_whiteout}
 use Rattle.ovl_merge.specs.Places.{Merge, merge_of, natural, reach}
 use Rattle.ovl_rewrite.specs.Passes.{entries_under}
 use Rattle.ovl_merge.specs.MergeDown.{merged_entry, merged_top, new_whiteout}
@@ -102,3 +102,17 @@ moved_twice-natural = refl
 moved_twice-under : merged_entry both_move (path (codes "/b/k")) ≡ None
 unfolding inode_on_literals
 moved_twice-under = refl
+
+-- a metacopy file whose data is in a data-only layer keeps its redirect, also where that is its own path
+data_only : new_entries (merge_of (told_below (codes "/f"))) ≡ layer_of ((path (codes "/f"), metacopy_moved 1 (codes "/f")) ∷ [])
+unfolding inode_on_literals
+data_only = refl
+
+data_only_elsewhere : new_entries (merge_of (told_below (codes "/g"))) ≡ layer_of ((path (codes "/f"), metacopy_moved 1 (codes "/g")) ∷ [])
+unfolding inode_on_literals
+data_only_elsewhere = refl
+
+-- but where the rest has a file there, it becomes a full one
+data_only_hidden : new_entries (merge_of (told_past_whiteout file_a)) ≡ layer_of ((path (codes "/f"), file_a) ∷ (path (codes "/z"), new_whiteout) ∷ [])
+unfolding inode_on_literals
+data_only_hidden = refl

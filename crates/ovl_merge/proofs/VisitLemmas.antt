@@ -7,6 +7,7 @@ use Rattle.std.specs.Cmp.Lexicographic.{pointwise_decides, bytes_decides}
 use Rattle.std.proofs.lemmas.List.{append-nil, take-append-drop, take_more}
 use Rattle.std.proofs.lemmas.List.Elements.{filter_map-append}
 use Rattle.ovl_names.specs.Names.{PathName, name_eq}
+use Rattle.ovl_lookup.specs.Trace.{things_found}
 use Rattle.ovl_names.specs.Paths.{PathNames, child_path, parent_path, path_eq, path_text, is_root}
 use Rattle.ovl_inode.specs.declared.inodes.Inode.{Inode}
 use Rattle.ovl_inode.specs.Attributes.{redirect_name, metacopy_name}
@@ -22,7 +23,7 @@ use Rattle.ovl_lookup.proofs.LookLaws.{nothing-under}
 use Rattle.ovl_lookup.specs.Walk.{walk}
 use Rattle.ovl_lookup.specs.Stacks.{StackView, from_layer}
 use Rattle.ovl_lookup.specs.Passes.{own_names_along, put_names, kids_along}
-use Rattle.ovl_lookup.specs.Merged.{look, shows_directory, AreKids}
+use Rattle.ovl_lookup.specs.Merged.{look, shows_directory, place_told, AreKids}
 use Rattle.ovl_lookup.specs.Words.{top_layer, lower_layers}
 use Rattle.ovl_lookup.proofs.WalkFacts.{length-child, parent_path-child}
 use Rattle.ovl_lookup.proofs.KidLemmas.{put_names-append}
@@ -31,7 +32,7 @@ use Rattle.ovl_rewrite.specs.Directories.{NamedInode}
 use Rattle.ovl_merge.specs.declared.passages.Passage.{Passage}
 use Rattle.ovl_merge.specs.declared.near.Near.{Near}
 use Rattle.ovl_merge.specs.Places.{Merge, two_layers, merge_of, lower_path, first_hit, passes, shows_own_directory, reach, reach_of, shows_directory_at, gets_opaque_at}
-use Rattle.ovl_merge.specs.MergeDown.{with_value, with_contents, last_name, redirected, redirected_from, merged_directory, merged_metacopy, merged_inode, merged_entry, merged_entry_of}
+use Rattle.ovl_merge.specs.MergeDown.{with_value, with_contents, last_name, redirected, redirected_from, merged_directory, merged_metacopy, unreached_metacopy, unshown_place, kept_place, merged_inode, merged_entry, merged_entry_of}
 use Rattle.ovl_merge.specs.Directories.{named_inode, candidate_names, entries_in}
 use Rattle.ovl_merge.specs.Reckoned.{IsPassage, IsViewIn, IsNear, found_by, first_in, goes_on_at, name_directly_in}
 use Rattle.ovl_merge.proofs.Firsts.{first_step, first_hit-steps}
@@ -199,12 +200,25 @@ module _ (m : Merge) (above path : PathNames) (name : PathName) (is : path ≡ c
       ∙ (redirected-child m above path name is (with_value (visible inode) metacopy_name []) place
       ∙ sym (ap (merged_metacopy m path inode) e)))
 
-pub contents-told : (stack : StackView) → 1 < length stack.layers → (path : PathNames) (inode shown : Inode) → shown ≡ visible inode → (own : Option PathNames) → own ≡ None → (found : Look) → found ≡ look stack path
+pub contents-told : (stack : StackView) → 1 < length stack.layers → (path : PathNames) (inode shown : Inode) → shown ≡ visible inode → (own : Option PathNames) → own ≡ None → (kept : Option PathNames) → kept ≡ kept_place (merge_of stack) path → kept ≡ None → (found : Look) → found ≡ look stack path
     → with_contents shown found ≡ merged_metacopy (merge_of stack) path inode own
-contents-told stack several path inode shown seen own none found e =
+contents-told stack several path inode shown seen own none kept is none-kept found e =
     (λ j. with_contents (seen j) (e j))
     ∙ (ap (λ (s : StackView). with_contents (visible inode) (look s path)) (sym (merge-whole stack several))
-    ∙ sym (ap (merged_metacopy (merge_of stack) path inode) none))
+    ∙ sym (ap (merged_metacopy (merge_of stack) path inode) none ∙ ap (unreached_metacopy (merge_of stack) path inode) (sym is ∙ none-kept)))
+
+-- one whose data lies in data-only layers
+pub kept-told : (m : Merge) (path : PathNames) (inode shown : Inode) → shown ≡ visible inode → (own : Option PathNames) → own ≡ None → (kept : Option PathNames) → kept ≡ kept_place m path → (place : PathNames) → kept ≡ Some place → (copied : Inode) → copied ≡ with_value shown metacopy_name []
+    → with_value copied redirect_name (path_text place) ≡ merged_metacopy m path inode own
+kept-told m path inode shown seen own none kept is place some copied made =
+    (λ j. with_value (made j) redirect_name (path_text place))
+    ∙ ((λ j. with_value (with_value (seen j) metacopy_name []) redirect_name (path_text place))
+    ∙ sym (ap (merged_metacopy m path inode) none ∙ ap (unreached_metacopy m path inode) (sym is ∙ some)))
+
+-- the place that is kept, as the program comes to it
+pub kept-found : (stack : StackView) → 1 < length stack.layers → (path : PathNames) (told : Option PathNames) → told ≡ place_told (things_found stack.layers path) → unshown_place (merge_of stack) told ≡ kept_place (merge_of stack) path
+kept-found stack several path told is =
+    ap (unshown_place (merge_of stack)) (is ∙ ap (λ (s : StackView). place_told (things_found s.layers path)) (sym (merge-whole stack several)))
 
 -- ---- looks near a directory of the rest
 

@@ -35,7 +35,7 @@ MergeHasCore = (m : Merge) (lower : Entries) → All IsLayer (whole m).layers �
 
 -- entries in order that are those of the new lower layer are a layer, but for the limits
 abbrev pub MergeGivesLayer : Type 0
-MergeGivesLayer = (m : Merge) → All IsLayer (whole m).layers → IsSoundStack (whole m) →
+MergeGivesLayer = (m : Merge) → All IsLayer (whole m).layers → All IsLayer m.rest.data_only → IsSoundStack (whole m) →
     (entries : Entries) → ascends entry_cmp entries ≡ true → IsMergedDown m entries →
     list_all (λ entry. is_within_limits entry.0) entries ≡ true → nat_le (length entries) entry_limit ≡ true →
     IsLayer entries

@@ -12,7 +12,8 @@ use Rattle.ovl_inode.specs.Inodes.{visible}
 use Rattle.ovl_manifest.specs.Layers.{Entries, entry_at}
 use Rattle.ovl_lookup.specs.declared.looks.Look.{Look}
 use Rattle.ovl_lookup.specs.declared.looks.Look.TheVariants.{Nothing, Shown, Broken}
-use Rattle.ovl_lookup.specs.Merged.{look}
+use Rattle.ovl_lookup.specs.Trace.{things_found}
+use Rattle.ovl_lookup.specs.Merged.{look, shows, place_told}
 use Rattle.ovl_merge.specs.Places.{Merge, whole, first_hit, shows_own_directory, is_hidden, reach, natural, gets_opaque, shows_at}
 
 -- the inode with this value of an attribute
@@ -46,6 +47,21 @@ with_contents inode Nothing = inode
 with_contents inode (Shown shown) = record inode { kind = shown.kind }
 with_contents inode (Broken broken) = record inode { kind = broken.kind }
 
+-- where data-only layers have the data of a path, if metacopy files alone are found there, and the rest shows nothing at
+-- that place
+abbrev pub unshown_place : Merge → Option PathNames → Option PathNames
+unshown_place m None = None
+unshown_place m (Some place) = if shows m.rest place then None else Some place
+
+abbrev pub kept_place : Merge → PathNames → Option PathNames
+kept_place m path = unshown_place m (place_told (things_found (whole m).layers path))
+
+-- a metacopy file without a reach: it keeps an absolute redirect to its data in data-only layers, or gets its contents
+abbrev pub unreached_metacopy : Merge → PathNames → Inode → Option PathNames → Inode
+unreached_metacopy m path inode (Some place) =
+    with_value (with_value (visible inode) metacopy_name []) redirect_name (path_text place)
+unreached_metacopy m path inode None = with_contents (visible inode) (look (whole m) path)
+
 -- the new inode of a shown directory, of a metacopy file, and of any other thing
 abbrev pub merged_directory : Merge → PathNames → Inode → Option PathNames → Inode
 merged_directory m path inode (Some place) = redirected m path (visible inode) place
@@ -53,7 +69,7 @@ merged_directory m path inode None = if gets_opaque m path then with_value (visi
 
 abbrev pub merged_metacopy : Merge → PathNames → Inode → Option PathNames → Inode
 merged_metacopy m path inode (Some place) = redirected m path (with_value (visible inode) metacopy_name []) place
-merged_metacopy m path inode None = with_contents (visible inode) (look (whole m) path)
+merged_metacopy m path inode None = unreached_metacopy m path inode (kept_place m path)
 
 abbrev pub merged_inode : Merge → PathNames → Inode → Inode
 merged_inode m path inode =

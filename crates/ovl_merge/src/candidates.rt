@@ -29,7 +29,7 @@ pub(crate) fn candidates(
         ≡ entries_in (merge_of stack.now) directory.now.path) }
 {
     // Each layer of a stack is one.
-    let _layers = stack.layers();
+    let _layers = stack.ordinary();
     let names = own_names(alloc, stack, directory)?;
     if directory.near.is_open() {
         return Ok(names);
@@ -46,7 +46,7 @@ fn own_names(alloc: Global, stack: &Stack, directory: &Directory) -> Result<Vec<
         ≡ put_names [] (own_names_along (two_layers (merge_of stack.now)).layers directory.now.path)) }
 {
     // Each layer of a stack is one.
-    let _layers = stack.layers();
+    let _layers = stack.ordinary();
     let upper = stack.own_names(alloc, 0, &directory.path)?;
     let Some(below) = &directory.near.lower else {
         return Ok(upper);

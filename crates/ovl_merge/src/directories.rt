@@ -42,7 +42,7 @@ impl Directory {
             (λ directory. IsVisited stack.now dir.now directory)) }
     {
         // Each layer of a stack is one.
-        let _layers = stack.layers();
+        let _layers = stack.ordinary();
         let Some(mut directory) = Directory::root(alloc, stack)? else {
             return Ok(None);
         };
@@ -115,7 +115,7 @@ impl Directory {
             (λ directory. IsVisited stack.now path directory)) }
     {
         // Each layer of a stack is one.
-        let _layers = stack.layers();
+        let _layers = stack.ordinary();
         let upper = Walked::of(alloc, stack.sheet(0), &above.upper, &path)?;
         let lower = above.lower_at(alloc, stack, &upper)?;
         if !is_shown(&upper, &lower) {
@@ -152,7 +152,7 @@ impl Directory {
         ensures { IsGlanceAt (merge_of stack.now) (child_path self.now.path name.now) result }
     {
         // Each layer of a stack is one.
-        let _layers = stack.layers();
+        let _layers = stack.ordinary();
         let Some(upper) = &self.near.upper else {
             return Glance::Unsaid;
         };

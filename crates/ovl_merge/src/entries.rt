@@ -3,7 +3,7 @@ ghost use Rattle.ovl_names.specs.Paths.{child_path, path_text as text_of_path};
 ghost use Rattle.ovl_lookup.specs.Merged.{look as the_look};
 ghost use Rattle.ovl_lookup.specs.DirViews.{IsViewOf};
 ghost use Rattle.ovl_merge.specs.Places.{merge_of};
-ghost use Rattle.ovl_merge.specs.MergeDown.{with_value as the_valued, redirected_from, with_contents as the_filled, new_whiteout as the_whiteout, merged_directory as the_directory, merged_metacopy as the_metacopy, merged_inode as the_inode, merged_entry};
+ghost use Rattle.ovl_merge.specs.MergeDown.{with_value as the_valued, redirected_from, with_contents as the_filled, new_whiteout as the_whiteout, merged_directory as the_directory, merged_metacopy as the_metacopy, kept_place as the_kept, merged_inode as the_inode, merged_entry};
 ghost use Rattle.ovl_merge.specs.Reckoned.{IsPlace, IsVisited};
 
 use crate::directories::Directory;
@@ -156,10 +156,36 @@ fn merged_metacopy(
             let copied = with_value(shown, overlay::METACOPY, b"")?;
             redirected(alloc, above, name, copied, reach)
         }
-        None => {
-            let found = look_in_whole(alloc, stack, whole, above, name)?;
-            with_contents(alloc, shown, &found)
-        }
+        None => match kept_place(alloc, stack, &place.path)? {
+            Some(kept) => {
+                let copied = with_value(shown, overlay::METACOPY, b"")?;
+                let text = path_text(alloc, &kept)?;
+                with_value(copied, overlay::REDIRECT, text.as_bytes())
+            }
+            None => {
+                let found = look_in_whole(alloc, stack, whole, above, name)?;
+                with_contents(alloc, shown, &found)
+            }
+        },
+    }
+}
+
+// Where data-only layers have the data of a path, if metacopy files alone are found there, and the rest shows nothing at
+// that place. overlayfs.rst: "Data-only lower layers".
+fn kept_place(alloc: Global, stack: &Stack, path: &Path) -> Result<Option<Path>, AllocError>
+    requires { 1 < length stack.now.layers }
+    ensures { IfOk result (λ kept. kept ≡ the_kept (merge_of stack.now) path.now) }
+{
+    // Each layer of a stack is one.
+    let _layers = stack.ordinary();
+    let Some(place) = stack.data_place(alloc, path)? else {
+        return Ok(None);
+    };
+    let shown = stack.look(alloc, 2, &place)?;
+    if shown.is_nothing() {
+        Ok(Some(place))
+    } else {
+        Ok(None)
     }
 }
 
@@ -177,7 +203,7 @@ fn look_in_whole(
     ensures whole { IfSome whole.new (IsViewOf stack.now 0 above.now.path) }
 {
     // Each layer of a stack is one.
-    let _layers = stack.layers();
+    let _layers = stack.ordinary();
     if let Some(view) = whole.as_ref() {
         return view.look(alloc, stack, name);
     }

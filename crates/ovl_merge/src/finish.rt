@@ -44,7 +44,7 @@ pub fn finish_merge(
     ensures two { result ≡ Err NoLower → ⊥ }
 {
     // Each layer of a stack is one.
-    let _layers = work.stack.layers();
+    let _layers = work.stack.ordinary();
     let root = root_of(alloc, work)?;
     let top = layer_of(alloc, root_alone(alloc, root.copy(alloc)?)?)?;
     let lower = layer_told(alloc, root, parcels)?;
@@ -56,7 +56,7 @@ fn root_of(alloc: Global, work: &MergeWork<'_>) -> Result<Inode, AllocError>
     ensures { IfOk result (λ root. option_map the_visible (entry_at (merge_of work.now).upper []) ≡ Some root) }
 {
     // A stack has a topmost layer.
-    let _layers = work.stack.layers();
+    let _layers = work.stack.ordinary();
     visible(alloc, work.stack.sheet(0).root().inode())
 }
 

@@ -63,7 +63,7 @@ impl Near {
         ensures { IfOk result (λ view. IsViewIn stack.now path.now view) }
     {
         // Each layer of a stack is one.
-        let _layers = stack.layers();
+        let _layers = stack.ordinary();
         let Some(name) = name_in(&self.base, path) else {
             return DirView::of(alloc, stack, 2, path);
         };

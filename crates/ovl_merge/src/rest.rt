@@ -22,7 +22,7 @@ pub(crate) fn look_in_rest(
     ensures { IfOk result (λ look. look ≡ the_look (merge_of stack.now).rest path.now) }
 {
     // Each layer of a stack is one.
-    let _layers = stack.layers();
+    let _layers = stack.ordinary();
     let Some(name) = name_in(&near.base, path) else {
         return stack.look(alloc, 2, path);
     };
@@ -44,7 +44,7 @@ pub(crate) fn shows_at(
     ensures { IfOk result (λ answer. answer ≡ shows_test (merge_of stack.now).rest place.now) }
 {
     // Each layer of a stack is one.
-    let _layers = stack.layers();
+    let _layers = stack.ordinary();
     let Some(path) = place else {
         return Ok(false);
     };
@@ -83,7 +83,7 @@ pub(crate) fn names_at(alloc: Global, stack: &Stack, near: &Near) -> Result<Vec<
     ensures { IfOk result (λ names. names.items ≡ base_names (merge_of stack.now).rest near.now.base) }
 {
     // Each layer of a stack is one.
-    let _layers = stack.layers();
+    let _layers = stack.ordinary();
     let Some(_base) = &near.base else {
         return Ok(Vec::new(alloc));
     };

@@ -42,7 +42,7 @@ impl<'a> MergeWork<'a> {
         ensures refused { (result ≡ Err NoLower) ↔ (length stack.now.layers ≡ 1) }
         ensures other { IfErr result (λ fault. fault ≡ NoLower) }
     {
-        if stack.layers() == 1 {
+        if stack.ordinary() == 1 {
             return Err(MergeFault::NoLower);
         }
         Ok(MergeWork { stack })
@@ -80,7 +80,7 @@ impl<'a> Work for MergeWork<'a> {
 
     fn deepest(&self) -> u32 {
         // A directory of the new layer is one that two layers show together.
-        let _layers = self.stack.layers();
+        let _layers = self.stack.ordinary();
         2 * DEPTH_LIMIT as u32
     }
 }
@@ -91,7 +91,7 @@ fn inodes_at(alloc: Global, stack: &Stack, dir: &Path) -> Result<Vec<(Name, Inod
     ensures { IfOk result (λ inodes. inodes.items ≡ entries_in (merge_of stack.now) dir.now) }
 {
     // Each layer of a stack is one.
-    let _layers = stack.layers();
+    let _layers = stack.ordinary();
     match Directory::at(alloc, stack, dir)? {
         Some(directory) => inodes_in(alloc, stack, &directory),
         None => Ok(Vec::new(alloc)),

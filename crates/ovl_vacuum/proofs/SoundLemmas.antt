@@ -145,8 +145,8 @@ module _ (top : Entries) (below : StackView) (is : IsLayer top) (each : All IsLa
       fitting = (λ j. is_moved (marked j) && not (walked j).closed && not (is_nothing (look below (walked j).next)) && not (is_shown_directory (look below (walked j).next))) ∙ was.fitting;
       single = false_from (redirect_is_double (vacuumed_layer top below) path) (redirect_is_double top path) double was.single;
       hidden = false_from (redirect_is_open (vacuumed_layer top below) path) (redirect_is_open top path) opened was.hidden;
-      full = (λ j. is_meta (marked j) && is_none (data_of (inode ∷ cond (walked j).closed [] (things_found below.layers (walked j).next)))) ∙ was.full;
-      sized = (λ j. is_meta (marked j) && has_other_size inode (data_of (inode ∷ cond (walked j).closed [] (things_found below.layers (walked j).next)))) ∙ was.sized;
+      full = (λ j. is_meta (marked j) && is_none (data_of below.data_only (inode ∷ cond (walked j).closed [] (things_found below.layers (walked j).next)))) ∙ was.full;
+      sized = (λ j. is_meta (marked j) && has_other_size inode (data_of below.data_only (inode ∷ cond (walked j).closed [] (things_found below.layers (walked j).next)))) ∙ was.sized;
     }
 
 pub VacuumKeepsSoundness-holds : VacuumKeepsSoundness

@@ -105,7 +105,7 @@ module _ (top : Entries) (below : StackView) (is : IsLayer top) (each : All IsLa
         walk-stop top directory name [] is holds (ap directory_found here ∙ file)
         ∙ ap (λ (o : Option Inode). walk_beyond o (turn top directory) (is_shut top directory) name []) here in
         ap is_shown_directory (idle-natural ∙ look-by top below (child_path directory name) (walk_beyond (Some inode) (turn top directory) (is_shut top directory) name []) walked)
-        ∙ file-walked inode (turn top directory) (is_shut top directory) name below.layers file
+        ∙ file-walked below.data_only inode (turn top directory) (is_shut top directory) name below.layers file
 
     -- and where it is a directory, it is plain, and goes on at its natural path
     pub idle-mark : is_directory inode ≡ true → mark_at top (child_path directory name) ≡ Some DirPlain

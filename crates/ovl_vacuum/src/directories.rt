@@ -41,7 +41,7 @@ impl Views {
         ensures { IfOk result (AreViews stack.now path.now) }
     {
         // A stack has a topmost layer.
-        let _layers = stack.layers();
+        let _layers = stack.ordinary();
         let step = step_of(alloc, stack, path)?;
         if step.closed {
             return Ok(None);
@@ -64,7 +64,7 @@ impl<'a> Directory<'a> {
             (λ directory. (directory.stack.now ≡ stack.now) × (directory.path.now ≡ path.now) × IsTopDirectory directory)) }
     {
         // A stack has a topmost layer.
-        let _layers = stack.layers();
+        let _layers = stack.ordinary();
         let Some(place) = stack.sheet(0).place(path) else {
             return Ok(None);
         };
@@ -155,7 +155,7 @@ impl<'a> Directory<'a> {
         ensures { IfOk result (λ idle. idle ≡ is_idle_at self.now.stack.now (child_path self.now.path.now name.now)) }
     {
         // Each layer of a stack is one.
-        let _layers = self.stack.layers();
+        let _layers = self.stack.ordinary();
         let Some(views) = &self.views else {
             return Ok(false);
         };
@@ -191,7 +191,7 @@ fn look_in(
     requires { IsOver stack.now view.now }
     ensures { IfOk result (λ look. look ≡ look_by stack.now name.now view.now) }
 {
-    let _layers = stack.layers();
+    let _layers = stack.ordinary();
     match view {
         Some(view) => view.look(alloc, stack, name),
         None => Ok(Look::Nothing),

@@ -37,7 +37,7 @@ pub fn finish_vacuum(
     ensures removed { IfOk result (λ done. done.removed.items ≡ removed_paths (top_layer work.now) (lower_layers work.now)) }
 {
     // Each layer of a stack is one.
-    let _layers = work.stack.layers();
+    let _layers = work.stack.ordinary();
     let paths = idle_paths(alloc, work, &parcels)?;
     let Passed { left, gone } = pass(alloc, paths)?;
     let layer = layer_of(alloc, work.stack, left)?;
@@ -56,7 +56,7 @@ fn idle_paths(
     requires { IsVacuumWalk work.now (parcel_views names_seen parcels.now) }
     ensures { IfOk result (λ paths. paths.items ≡ map (λ entry. idle_path work.now entry.0) (top_layer work.now)) }
 {
-    let _layers = work.stack.layers();
+    let _layers = work.stack.ordinary();
     let mut paths = Vec::new(alloc);
     paths.push((Path::root(alloc), false))?;
     push_under(alloc, work, parcels, 0, &mut paths)?;
@@ -144,7 +144,7 @@ fn layer_of(alloc: Global, stack: &Stack, left: Vec<Path>) -> Result<Layer, Allo
     ensures { IfOk result (λ layer. layer ≡ vacuumed_layer (top_layer stack.now) (lower_layers stack.now)) }
 {
     // Without what goes, the topmost layer is one, so that only want of memory can stand in the way.
-    let _layers = stack.layers();
+    let _layers = stack.ordinary();
     let entries = entries_of(alloc, stack, left)?;
     match from_entries(alloc, entries) {
         Ok(layer) => Ok(layer),

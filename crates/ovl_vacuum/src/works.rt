@@ -67,7 +67,7 @@ impl<'a> Work for VacuumWork<'a> {
 
     fn deepest(&self) -> u32 {
         // Each layer of a stack is within the limits of a manifest.
-        let _layers = self.stack.layers();
+        let _layers = self.stack.ordinary();
         DEPTH_LIMIT as u32
     }
 }

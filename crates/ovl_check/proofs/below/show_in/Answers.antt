@@ -2,4 +2,4 @@ use Rattle.ovl_check.proofs.BelowLemmas.{shows-nothing}
 use Rattle.ovl_check.proofs.below.show_in.Goals as goal
 
 pub returns-in-None : goal.returns-in-None
-returns-in-None c = shows-nothing c.args.stack.now c.layers-layers.ensures.each c.args._i c.args.directory.now.next (rw c.in-None.is at c.requires) c.args.name.now
+returns-in-None c = shows-nothing c.args.stack.now c.ordinary-layers.ensures.each c.args._i c.args.directory.now.next (rw c.in-None.is at c.requires) c.args.name.now

@@ -1,4 +1,5 @@
-use Rattle.std.proofs.Common.{◌∙◌, sym, ap, Bool, false, Option, Some, None}
+use Rattle.std.proofs.Common.{◌∙◌, sym, ap, cond, Bool, false, Option, Some, None}
+use Rattle.std.specs.Prelude.{not, ◌||◌, ◌&&◌}
 use Rattle.ovl_inode.specs.declared.inodes.Inode.{Inode}
 use Rattle.ovl_inode.specs.Marks.{is_directory}
 use Rattle.ovl_lookup.specs.Sound.{is_moved}
@@ -18,5 +19,5 @@ returns c =
     c.in_ok-push_files.ensures)
     gathered.next
     gathered.closed
-    c.place_of.ensures
-    (c.is_moved-moved.ensures ∙ ap is_moved (sym gathered.mark))
+    (c.place_of.ensures ∙ ap (λ (b : Bool). cond b None (Some directory.next)) (c.is_hidden.ensures ∙ ap (λ (o : Bool). not o || directory.closed) c.is_ordinary-ordinary.ensures))
+    (c.is_moved_in-moved.ensures ∙ (λ j. c.is_ordinary-ordinary.ensures j && is_moved (sym gathered.mark j)))

@@ -20,8 +20,8 @@ returns-clause-layer c =
     let walk : IsDerefWalk stack (parcel_views inodes_seen c.args.parcels.items) = c.requires in
     let tells : IsToldBy (new_at stack) c.in_ok-root.root (parcel_views inodes_seen c.args.parcels.items) =
     walk-tells stack
-    (subst (λ (s : StackView). All IsLayer s.layers) c.work.view_is c.layers-layers.ensures.each)
-    (subst (λ (s : StackView). 0 < length s.layers) c.work.view_is (subst (λ (n : ℕ). 0 < n) c.layers-layers.ensures.value c.layers-layers.ensures.some))
+    (subst (λ (s : StackView). All IsLayer s.layers) c.work.view_is c.ordinary-layers.ensures.each)
+    (subst (λ (s : StackView). 0 < length s.layers) c.work.view_is (subst (λ (n : ℕ). 0 < n) c.ordinary-layers.ensures.value c.ordinary-layers.ensures.some))
     c.in_ok-root.root (parcel_views inodes_seen c.args.parcels.items) here walk in
     IfOk-weaker c.layer_told.result _ _ (λ layer h. h (new_at stack) tells) c.layer_told.ensures.layer
 
@@ -34,9 +34,10 @@ returns-clause-kept c =
 pub returns-clause-limit : goal.returns-clause-limit
 returns-clause-limit c sound out =
     let stack = c.args.work.now in
-    let each = subst (λ (s : StackView). All IsLayer s.layers) c.work.view_is c.layers-layers.ensures.each in
-    let some = subst (λ (s : StackView). 0 < length s.layers) c.work.view_is (subst (λ (n : ℕ). 0 < n) c.layers-layers.ensures.value c.layers-layers.ensures.some) in
+    let each = subst (λ (s : StackView). All IsLayer s.layers) c.work.view_is c.ordinary-layers.ensures.each in
+    let deep = subst (λ (s : StackView). All IsLayer s.data_only) c.work.view_is c.ordinary-layers.ensures.data_only in
+    let some = subst (λ (s : StackView). 0 < length s.layers) c.work.view_is (subst (λ (n : ℕ). 0 < n) c.ordinary-layers.ensures.value c.ordinary-layers.ensures.some) in
     let here = root-there c.work.inside.stack.now stack c.work.view_is _ c.sheet.ensures _ c.root.ensures.value _ c.in_ok-root.root c.inode.ensures c.in_ok-root.ensures in
     let walk : IsDerefWalk stack (parcel_views inodes_seen c.args.parcels.items) = c.requires in
     let found = c.layer_told.ensures.limit out (new_at stack) (walk-tells stack each some c.in_ok-root.root (parcel_views inodes_seen c.args.parcels.items) here walk) in
-    limit-passed stack each some sound found.0 found.1 found.2 found.3
+    limit-passed stack each some deep sound found.0 found.1 found.2 found.3

@@ -1,4 +1,4 @@
-use Rattle.std.proofs.Common.{◌≡◌, ◌+◌, ◌∙◌, Some, Option, List, IfOk, drop, length, sym, ap, subst, arith}
+use Rattle.std.proofs.Common.{◌≡◌, ◌+◌, ◌∙◌, Some, None, Option, List, IfOk, drop, length, sym, ap, subst, arith}
 use Rattle.ovl_names.specs.Names.{PathName}
 use Rattle.ovl_names.specs.Paths.{PathNames}
 use Rattle.ovl_inode.specs.declared.inodes.Inode.{Inode}
@@ -11,7 +11,7 @@ use Rattle.ovl_lookup.specs.Views.{found_below}
 use Rattle.ovl_lookup.specs.DirViews.{place_in, places_in}
 use Rattle.ovl_lookup.proofs.ViewSteps.{found-none}
 use Rattle.ovl_lookup.proofs.DirViewLemmas.{place_read, place-read, over-read, layer-inside, on-path, on-name, on-none}
-use Rattle.ovl_lookup.proofs.ViewLookLemmas.{whiteout-data, own-data, other-data, onward-data}
+use Rattle.ovl_lookup.proofs.ViewLookLemmas.{onward-placed, whiteout-data, own-data, other-data, onward-data}
 use Rattle.ovl_lookup.proofs.view_looks.data_in.Goals as goal
 
 pub loop-place-preserved-in_default : goal.loop-place-preserved-in_default
@@ -21,7 +21,7 @@ loop-place-preserved-in_default c =
     let k = c.loop-place.place-index in
     let own : DirPlace = place_read places k in
     let at = place-read stack places k c.loop-place-test.true in
-    ap data_below (sym (found-none stack.layers c.loop-place.own.now (places_in stack places) k (place_in stack own) at c.in_default.ensures)) ∙ c.loop-place.invariant
+    ap (data_below stack.data_only None) (sym (found-none stack.layers c.loop-place.own.now (places_in stack places) k (place_in stack own) at c.in_default.ensures)) ∙ c.loop-place.invariant
 
 pub returns-then-is_whiteout : goal.returns-then-is_whiteout
 returns-then-is_whiteout c =
@@ -33,7 +33,7 @@ returns-then-is_whiteout c =
     let is = c.in-Some.ensures in
     let inode : Inode = c.in-Some.entry.inode.now in
     let mark : Mark = c.in-Some.entry.mark.now in
-    sym (sym c.loop-place.invariant ∙ whiteout-data stack.layers c.loop-place.own.now (places_in stack places) k (place_in stack own) at inode mark is.inode is.mark (sym c.is_whiteout.ensures ∙ c.if-is_whiteout.true))
+    sym (sym c.loop-place.invariant ∙ whiteout-data stack.data_only stack.layers c.loop-place.own.now (places_in stack places) k (place_in stack own) at inode mark is.inode is.mark (sym c.is_whiteout.ensures ∙ c.if-is_whiteout.true))
 
 pub returns-then-is_data : goal.returns-then-is_data
 returns-then-is_data c =
@@ -46,7 +46,7 @@ returns-then-is_data c =
     let inode : Inode = c.in-Some.entry.inode.now in
     let mark : Mark = c.in-Some.entry.mark.now in
     ap (λ (found : Inode). Some found) c.in_ok-copy.ensures
-    ∙ sym (sym c.loop-place.invariant ∙ own-data stack.layers c.loop-place.own.now (places_in stack places) k (place_in stack own) at inode mark is.inode is.mark (sym c.is_whiteout.ensures ∙ c.if-is_whiteout.false) (sym c.is_data.ensures ∙ c.if-is_data.true))
+    ∙ sym (sym c.loop-place.invariant ∙ own-data stack.data_only stack.layers c.loop-place.own.now (places_in stack places) k (place_in stack own) at inode mark is.inode is.mark (sym c.is_whiteout.ensures ∙ c.if-is_whiteout.false) (sym c.is_data.ensures ∙ c.if-is_data.true))
 
 pub returns-then-not-is_meta : goal.returns-then-not-is_meta
 returns-then-not-is_meta c =
@@ -58,7 +58,7 @@ returns-then-not-is_meta c =
     let is = c.in-Some.ensures in
     let inode : Inode = c.in-Some.entry.inode.now in
     let mark : Mark = c.in-Some.entry.mark.now in
-    sym (sym c.loop-place.invariant ∙ other-data stack.layers c.loop-place.own.now (places_in stack places) k (place_in stack own) at inode mark is.inode is.mark (sym c.is_whiteout.ensures ∙ c.if-is_whiteout.false) (sym c.is_data.ensures ∙ c.if-is_data.false) (sym c.is_meta.ensures ∙ c.if-not-is_meta.true))
+    sym (sym c.loop-place.invariant ∙ other-data stack.data_only stack.layers c.loop-place.own.now (places_in stack places) k (place_in stack own) at inode mark is.inode is.mark (sym c.is_whiteout.ensures ∙ c.if-is_whiteout.false) (sym c.is_data.ensures ∙ c.if-is_data.false) (sym c.is_meta.ensures ∙ c.if-not-is_meta.true))
 
 pub overflow_add-place : goal.overflow_add-place
 overflow_add-place c =
@@ -82,9 +82,9 @@ returns-in-Some-goes_on_at c =
     let mark : Mark = c.in-Some.entry.mark.now in
     let origin : PathNames = c.in-Some-goes_on_at.origin.now in
     let from_root = things_found (drop (own.layer + 1) stack.layers) in
-    let onward = onward-data stack.layers c.loop-place.own.now (places_in stack places) k (place_in stack own) at inode mark is.inode is.mark (sym c.is_whiteout.ensures ∙ c.if-is_whiteout.false) (sym c.is_meta.ensures ∙ c.if-not-is_meta.false) in
-    let same = ap (λ (p : PathNames). data_below (from_root p)) (c.in_ok-trail.ensures ∙ c.names.ensures.value)
-    ∙ sym (sym c.loop-place.invariant ∙ (onward ∙ ap data_below (on-path c.loop-place.own.now from_root (λ other. found_below stack.layers other (drop (k + 1) (places_in stack places))) mark origin (sym c.in-Some-goes_on_at.ensures)))) in
+    let onward = onward-data stack.data_only stack.layers c.loop-place.own.now (places_in stack places) k (place_in stack own) at inode mark is.inode is.mark (sym c.is_whiteout.ensures ∙ c.if-is_whiteout.false) (sym c.is_meta.ensures ∙ c.if-not-is_meta.false) in
+    let same = ap (λ (p : PathNames). data_below stack.data_only (Some origin) (from_root p)) (c.in_ok-trail.ensures ∙ c.names.ensures.value)
+    ∙ sym (sym c.loop-place.invariant ∙ (onward ∙ onward-placed stack.data_only mark (Some origin) _ _ (sym c.is_meta.ensures ∙ c.if-not-is_meta.false) (sym c.in-Some-goes_on_at.ensures) (on-path c.loop-place.own.now from_root (λ other. found_below stack.layers other (drop (k + 1) (places_in stack places))) mark origin (sym c.in-Some-goes_on_at.ensures)))) in
     subst (λ (wanted : Option Inode). IfOk c.data.result (λ found. found ≡ wanted)) same c.data.ensures
 
 pub returns-in_default-goes_on_by : goal.returns-in_default-goes_on_by
@@ -97,8 +97,8 @@ returns-in_default-goes_on_by c =
     let is = c.in-Some.ensures in
     let inode : Inode = c.in-Some.entry.inode.now in
     let mark : Mark = c.in-Some.entry.mark.now in
-    let onward = onward-data stack.layers c.loop-place.own.now (places_in stack places) k (place_in stack own) at inode mark is.inode is.mark (sym c.is_whiteout.ensures ∙ c.if-is_whiteout.false) (sym c.is_meta.ensures ∙ c.if-not-is_meta.false) in
-    sym (sym c.loop-place.invariant ∙ (onward ∙ ap data_below (on-none c.loop-place.own.now (things_found (drop (own.layer + 1) stack.layers)) (λ other. found_below stack.layers other (drop (k + 1) (places_in stack places))) mark (sym c.in_default-goes_on_at.ensures) (sym c.in_default-goes_on_by.ensures))))
+    let onward = onward-data stack.data_only stack.layers c.loop-place.own.now (places_in stack places) k (place_in stack own) at inode mark is.inode is.mark (sym c.is_whiteout.ensures ∙ c.if-is_whiteout.false) (sym c.is_meta.ensures ∙ c.if-not-is_meta.false) in
+    sym (sym c.loop-place.invariant ∙ (onward ∙ onward-placed stack.data_only mark None _ _ (sym c.is_meta.ensures ∙ c.if-not-is_meta.false) (sym c.in_default-goes_on_at.ensures) (on-none c.loop-place.own.now (things_found (drop (own.layer + 1) stack.layers)) (λ other. found_below stack.layers other (drop (k + 1) (places_in stack places))) mark (sym c.in_default-goes_on_at.ensures) (sym c.in_default-goes_on_by.ensures))))
 
 pub loop-place-preserved : goal.loop-place-preserved
 loop-place-preserved c =
@@ -111,5 +111,5 @@ loop-place-preserved c =
     let inode : Inode = c.in-Some.entry.inode.now in
     let mark : Mark = c.in-Some.entry.mark.now in
     let other : PathName = c.in-Some-goes_on_by.other.now in
-    let onward = onward-data stack.layers c.loop-place.own.now (places_in stack places) k (place_in stack own) at inode mark is.inode is.mark (sym c.is_whiteout.ensures ∙ c.if-is_whiteout.false) (sym c.is_meta.ensures ∙ c.if-not-is_meta.false) in
-    sym (sym c.loop-place.invariant ∙ (onward ∙ ap data_below (on-name c.loop-place.own.now (things_found (drop (own.layer + 1) stack.layers)) (λ name. found_below stack.layers name (drop (k + 1) (places_in stack places))) mark other (sym c.in-Some-goes_on_by.ensures))))
+    let onward = onward-data stack.data_only stack.layers c.loop-place.own.now (places_in stack places) k (place_in stack own) at inode mark is.inode is.mark (sym c.is_whiteout.ensures ∙ c.if-is_whiteout.false) (sym c.is_meta.ensures ∙ c.if-not-is_meta.false) in
+    sym (sym c.loop-place.invariant ∙ (onward ∙ onward-placed stack.data_only mark None _ _ (sym c.is_meta.ensures ∙ c.if-not-is_meta.false) (sym c.in_default-goes_on_at.ensures) (on-name c.loop-place.own.now (things_found (drop (own.layer + 1) stack.layers)) (λ name. found_below stack.layers name (drop (k + 1) (places_in stack places))) mark other (sym c.in-Some-goes_on_by.ensures))))

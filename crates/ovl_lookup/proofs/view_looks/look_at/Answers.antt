@@ -16,7 +16,7 @@ returns-then-is_whiteout c =
     let places : List Reached = places_in stack c.args.places.now in
     let inode : Inode = c.args.inode.now in
     let first = first-entry stack.layers c.args.name.now places inode c.requires.first in
-    sym (whiteout-shows stack.layers c.args.name.now places zero first.0 first.1 inode (mark_of inode) first.2 refl (sym c.is_whiteout.ensures ∙ c.if-is_whiteout.true))
+    sym (whiteout-shows stack.data_only stack.layers c.args.name.now places zero first.0 first.1 inode (mark_of inode) first.2 refl (sym c.is_whiteout.ensures ∙ c.if-is_whiteout.true))
 
 pub returns-then-not-lacks_contents : goal.returns-then-not-lacks_contents
 returns-then-not-lacks_contents c =
@@ -25,7 +25,7 @@ returns-then-not-lacks_contents c =
     let inode : Inode = c.args.inode.now in
     let first = first-entry stack.layers c.args.name.now places inode c.requires.first in
     ap Shown c.in_ok-visible.ensures
-    ∙ sym (full-shows stack.layers c.args.name.now places zero first.0 first.1 inode (mark_of inode) first.2 refl (sym c.is_whiteout.ensures ∙ c.if-is_whiteout.false) (sym c.lacks_contents.ensures ∙ c.if-not-lacks_contents.true))
+    ∙ sym (full-shows stack.data_only stack.layers c.args.name.now places zero first.0 first.1 inode (mark_of inode) first.2 refl (sym c.is_whiteout.ensures ∙ c.if-is_whiteout.false) (sym c.lacks_contents.ensures ∙ c.if-not-lacks_contents.true))
 
 pub returns : goal.returns
 returns c =
@@ -34,5 +34,5 @@ returns c =
     let inode : Inode = c.args.inode.now in
     let first = first-entry stack.layers c.args.name.now places inode c.requires.first in
     let same = ap (shown_with inode) c.in_ok-contents.ensures
-    ∙ sym (lacking-shows stack.layers c.args.name.now places zero first.0 first.1 inode (mark_of inode) first.2 refl (sym c.is_whiteout.ensures ∙ c.if-is_whiteout.false) (sym c.lacks_contents.ensures ∙ c.if-not-lacks_contents.false)) in
+    ∙ sym (lacking-shows stack.data_only stack.layers c.args.name.now places zero first.0 first.1 inode (mark_of inode) first.2 refl (sym c.is_whiteout.ensures ∙ c.if-is_whiteout.false) (sym c.lacks_contents.ensures ∙ c.if-not-lacks_contents.false)) in
     subst (λ (wanted : Look). IfOk c.metacopy_shown.result (λ look. look ≡ wanted)) same c.metacopy_shown.ensures

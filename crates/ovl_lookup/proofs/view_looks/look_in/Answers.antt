@@ -36,5 +36,5 @@ returns-in-Some c =
     let stack : StackView = c.args.stack.now in
     let places : List DirPlace = c.args.places.now in
     let k = c.loop-i.i in
-    let same = ap (λ (ps : List Reached). shown_of (found_below stack.layers c.args.name.now ps)) (slice-places stack places k) ∙ ap shown_of c.loop-i.invariant in
+    let same = ap (λ (ps : List Reached). shown_of stack.data_only (found_below stack.layers c.args.name.now ps)) (slice-places stack places k) ∙ ap (shown_of stack.data_only) c.loop-i.invariant in
     subst (λ (wanted : Look). IfOk c.look_at.result (λ look. look ≡ wanted)) same c.look_at.ensures

@@ -4,6 +4,7 @@ use Rattle.ovl_inode.specs.declared.marks.Mark.{Mark}
 use Rattle.ovl_lookup.specs.declared.views.DirPlace.{DirPlace}
 use Rattle.ovl_lookup.specs.declared.looks.Look.{Look}
 use Rattle.ovl_lookup.specs.declared.looks.Look.TheVariants.{Nothing}
+use Rattle.ovl_manifest.specs.Layers.{Entries}
 use Rattle.ovl_lookup.specs.Stacks.{StackView}
 use Rattle.ovl_lookup.specs.Merged.{shown_of, is_nothing}
 use Rattle.ovl_lookup.specs.Views.{found_below}
@@ -26,9 +27,9 @@ loop-place-preserved c =
     sym (found-none stack.layers c.args.name.now (places_in stack places) k (place_in stack own) at c.in_default.ensures) ∙ c.loop-place.invariant
 
 -- whether something is shown, by whether the first entry is a whiteout
-by : (left : List Inode) (white b : Bool) → white ≡ b → (white ≡ true → shown_of left ≡ Nothing) → (white ≡ false → not (is_nothing (shown_of left)) ≡ true) → not b ≡ not (is_nothing (shown_of left))
-by left white true e hidden shows = sym (ap (λ (look : Look). not (is_nothing look)) (hidden e))
-by left white false e hidden shows = sym (shows e)
+by : (data_only : List Entries) (left : List Inode) (white b : Bool) → white ≡ b → (white ≡ true → shown_of data_only left ≡ Nothing) → (white ≡ false → not (is_nothing (shown_of data_only left)) ≡ true) → not b ≡ not (is_nothing (shown_of data_only left))
+by data_only left white true e hidden shows = sym (ap (λ (look : Look). not (is_nothing look)) (hidden e))
+by data_only left white false e hidden shows = sym (shows e)
 
 pub returns-in-Some : goal.returns-in-Some
 returns-in-Some c =
@@ -41,5 +42,5 @@ returns-in-Some c =
     let inode : Inode = c.in-Some.entry.inode.now in
     let mark : Mark = c.in-Some.entry.mark.now in
     let left : List Inode = found_below stack.layers c.args.name.now (drop k (places_in stack places)) in
-    by left (is_whiteout inode) c.is_whiteout.result (sym c.is_whiteout.ensures) (whiteout-shows stack.layers c.args.name.now (places_in stack places) k (place_in stack own) at inode mark is.inode is.mark) (entry-shows stack.layers c.args.name.now (places_in stack places) k (place_in stack own) at inode mark is.inode is.mark)
-    ∙ ap (λ (found : List Inode). not (is_nothing (shown_of found))) c.loop-place.invariant
+    by stack.data_only left (is_whiteout inode) c.is_whiteout.result (sym c.is_whiteout.ensures) (whiteout-shows stack.data_only stack.layers c.args.name.now (places_in stack places) k (place_in stack own) at inode mark is.inode is.mark) (entry-shows stack.data_only stack.layers c.args.name.now (places_in stack places) k (place_in stack own) at inode mark is.inode is.mark)
+    ∙ ap (λ (found : List Inode). not (is_nothing (shown_of stack.data_only found))) c.loop-place.invariant

@@ -15,7 +15,7 @@ pub returns-then-is_open : goal.returns-then-is_open
 returns-then-is_open c =
     let stack = c.args.stack.now in
     let m = merge_of stack in
-    let each = merge-each stack stack refl c.requires.several c.layers-layers.ensures.each in
+    let each = merge-each stack stack refl c.requires.several c.ordinary-layers.ensures.each in
     let own = c.requires.visited in
     let dir = c.args.directory.now.path in
     ap (filter_map (named_inode m dir)) c.in_ok-names.ensures

@@ -19,9 +19,9 @@ pub returns-in_default : goal.returns-in_default
 returns-in_default c =
     let stack = c.args.stack.now in
     let m = merge_of stack in
-    let each = merge-each stack stack refl c.requires.several c.layers-layers.ensures.each in
+    let each = merge-each stack stack refl c.requires.several c.ordinary-layers.ensures.each in
     let path : PathNames = c.args.directory.now.path in
-    let names : c.in_ok-upper.upper.items ≡ names_below m.upper path = upper-layer stack c.requires.several (λ layer. c.in_ok-upper.upper.items ≡ names_below layer path) c.in_ok-upper.ensures in
+    let names : c.in_ok-upper.upper.items ≡ names_below m.upper path = upper-layer stack c.requires.several (λ layer. c.in_ok-upper.upper.items ≡ names_below layer path) c.in_ok-upper.ensures.ordinary in
     names
     ∙ (sym (put-none (names_below m.upper path) (kid-names-ascend m.upper path (upper m each).in_order))
     ∙ own-names m path None (sym (ap (option_map (λ (walked : Walked). walked.path)) (not-some c.args.directory.now.near.lower c.in_default.not-Some)) ∙ c.requires.visited.lower))
@@ -30,29 +30,29 @@ pub merged-requires-clause-one : goal.merged-requires-clause-one
 merged-requires-clause-one c =
     let stack = c.args.stack.now in
     let m = merge_of stack in
-    let each = merge-each stack stack refl c.requires.several c.layers-layers.ensures.each in
+    let each = merge-each stack stack refl c.requires.several c.ordinary-layers.ensures.each in
     let path : PathNames = c.args.directory.now.path in
-    let names : c.in_ok-upper.upper.items ≡ names_below m.upper path = upper-layer stack c.requires.several (λ layer. c.in_ok-upper.upper.items ≡ names_below layer path) c.in_ok-upper.ensures in
+    let names : c.in_ok-upper.upper.items ≡ names_below m.upper path = upper-layer stack c.requires.several (λ layer. c.in_ok-upper.upper.items ≡ names_below layer path) c.in_ok-upper.ensures.ordinary in
     ap (ascends name_cmp) names ∙ kid-names-ascend m.upper path (upper m each).in_order
 
 pub merged-requires-clause-other : goal.merged-requires-clause-other
 merged-requires-clause-other c =
     let stack = c.args.stack.now in
     let m = merge_of stack in
-    let each = merge-each stack stack refl c.requires.several c.layers-layers.ensures.each in
+    let each = merge-each stack stack refl c.requires.several c.ordinary-layers.ensures.each in
     let path : PathNames = c.path.result.now in
-    let names : c.in_ok-lower.lower.items ≡ names_below m.lower path = lower-layer stack c.requires.several (λ layer. c.in_ok-lower.lower.items ≡ names_below layer path) c.in_ok-lower.ensures in
+    let names : c.in_ok-lower.lower.items ≡ names_below m.lower path = lower-layer stack c.requires.several (λ layer. c.in_ok-lower.lower.items ≡ names_below layer path) c.in_ok-lower.ensures.ordinary in
     ap (ascends name_cmp) names ∙ kid-names-ascend m.lower path (lower m each).in_order
 
 pub returns : goal.returns
 returns c =
     let stack = c.args.stack.now in
     let m = merge_of stack in
-    let each = merge-each stack stack refl c.requires.several c.layers-layers.ensures.each in
+    let each = merge-each stack stack refl c.requires.several c.ordinary-layers.ensures.each in
     let path : PathNames = c.args.directory.now.path in
     let below : PathNames = c.path.result.now in
-    let names : c.in_ok-upper.upper.items ≡ names_below m.upper path = upper-layer stack c.requires.several (λ layer. c.in_ok-upper.upper.items ≡ names_below layer path) c.in_ok-upper.ensures in
-    let more : c.in_ok-lower.lower.items ≡ names_below m.lower below = lower-layer stack c.requires.several (λ layer. c.in_ok-lower.lower.items ≡ names_below layer below) c.in_ok-lower.ensures in
+    let names : c.in_ok-upper.upper.items ≡ names_below m.upper path = upper-layer stack c.requires.several (λ layer. c.in_ok-upper.upper.items ≡ names_below layer path) c.in_ok-upper.ensures.ordinary in
+    let more : c.in_ok-lower.lower.items ≡ names_below m.lower below = lower-layer stack c.requires.several (λ layer. c.in_ok-lower.lower.items ≡ names_below layer below) c.in_ok-lower.ensures.ordinary in
     IfOk-weaker c.merged.result _ _ (λ both are. are
     ∙ ((λ j. put_names (names j) (more j))
     ∙ (ap (λ (own : List PathName). put_names own (names_below m.lower below)) (sym (put-none (names_below m.upper path) (kid-names-ascend m.upper path (upper m each).in_order)))

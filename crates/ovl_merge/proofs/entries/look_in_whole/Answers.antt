@@ -12,4 +12,4 @@ returns-in_default-2-clause-look c =
     let stack = c.args.stack.now in
     let dir : PathNames = c.args.above.now.path in
     let none : shows_directory stack dir ≡ false = subst (λ (found : Option DirView). MatchOption found (shows_directory stack dir ≡ false) (IsViewOf stack 0 dir)) c.in_default-2.is c.in_ok-view.ensures in
-    sym (nothing-under stack c.layers-layers.ensures.each dir c.args.name.now [] none)
+    sym (nothing-under stack c.ordinary-layers.ensures.each dir c.args.name.now [] none)

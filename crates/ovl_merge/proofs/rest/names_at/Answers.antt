@@ -20,7 +20,7 @@ names-requires c =
 pub returns-in-Some-view : goal.returns-in-Some-view
 returns-in-Some-view c =
     let stack = c.args.stack.now in
-    let each = rest (merge_of stack) (merge-each stack stack refl c.requires.several c.layers-layers.ensures.each) in
+    let each = rest (merge_of stack) (merge-each stack stack refl c.requires.several c.ordinary-layers.ensures.each) in
     let base = subst (λ (base : Option PathNames). IfSome base (λ d. IsViewIn stack d c.args.near.now.view)) c.in-Some.is c.requires.near.base in
     IfOk-weaker c.names.result _ _
     (λ names are. view-kids stack each c.in-Some._base c.in-Some-view.view (subst (IsViewIn stack c.in-Some._base) c.in-Some-view.is base) names.items are
@@ -30,7 +30,7 @@ returns-in-Some-view c =
 pub returns-in-None : goal.returns-in-None
 returns-in-None c =
     let stack = c.args.stack.now in
-    let each = rest (merge_of stack) (merge-each stack stack refl c.requires.several c.layers-layers.ensures.each) in
+    let each = rest (merge_of stack) (merge-each stack stack refl c.requires.several c.ordinary-layers.ensures.each) in
     let base = subst (λ (base : Option PathNames). IfSome base (λ d. IsViewIn stack d c.args.near.now.view)) c.in-Some.is c.requires.near.base in
     c.new-in-None.ensures.items
     ∙ (none-along (merge_of stack).rest each c.in-Some._base (subst (IsViewIn stack c.in-Some._base) c.in-None.is base)

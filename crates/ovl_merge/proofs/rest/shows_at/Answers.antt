@@ -23,5 +23,5 @@ pub returns-in-None : goal.returns-in-None
 returns-in-None c =
     let stack = c.args.stack.now in
     ap (λ (shown : Look). not (is_nothing shown)) (near-nothing stack c.args.near.now c.requires.near c.in-Some.path c.in-Some-name_in.name.now c.in-Some-name_in.ensures
-    (rest (merge_of stack) (merge-each stack stack refl c.requires.several c.layers-layers.ensures.each)) c.in-None.is)
+    (rest (merge_of stack) (merge-each stack stack refl c.requires.several c.ordinary-layers.ensures.each)) c.in-None.is)
     ∙ sym (ap (λ (place : Option PathNames). shows_at (merge_of stack).rest place) c.in-Some.is)

@@ -3,4 +3,4 @@ use Rattle.ovl_check.proofs.LayerFacts.{check_kids-lawful}
 use Rattle.ovl_check.proofs.checks.CheckWorkWork.deepest.Goals as goal
 
 pub returns-clause-lawful : goal.returns-clause-lawful
-returns-clause-lawful c = check_kids-lawful (check_view c.args.self.now) c.layers-layers.ensures.each
+returns-clause-lawful c = check_kids-lawful (check_view c.args.self.now) c.layers-layers.ensures.all

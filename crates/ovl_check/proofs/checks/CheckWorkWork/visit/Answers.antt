@@ -6,6 +6,7 @@ use Rattle.ovl_names.specs.Paths.{child_path}
 use Rattle.ovl_inode.specs.Marks.{is_directory}
 use Rattle.ovl_board.specs.declared.pieces.Piece.{Piece}
 use Rattle.ovl_check.specs.declared.directories.Child.{Child}
+use Rattle.ovl_lookup.specs.Stacks.{all_layers}
 use Rattle.ovl_check.specs.Checks.{layer_at, directory_piece}
 use Rattle.ovl_check.specs.CheckViews.{check_view}
 use Rattle.ovl_check.specs.Facts.{child_seen, held_in}
@@ -21,7 +22,7 @@ returns-in_default-clause-kids c =
     let none : is_directory_at (layer_at stack c.from-i.result) dir ≡ false = rw c.in_default.is at c.in_ok-directory.ensures in
     c.new-in_default.ensures.items
     ∙ no-kids (check_view c.args.self.now) c.args.piece.now
-    (layer_at-is stack.layers c.layers.ensures.each c.args.piece.now.space (omega arith))
+    (layer_at-is (all_layers stack) c.layers.ensures.all c.args.piece.now.space (omega arith))
     (sym (ap (λ (n : ℕ). is_directory_at (layer_at stack n) dir) c.from-i.ensures) ∙ none)
 
 pub returns-clause-kids : goal.returns-clause-kids

@@ -15,8 +15,8 @@ returns-in-Meta c =
     let name = c.args.name.now in
     let inode : Inode = c.args.inode.now in
     let shown : Look = c.in_ok-look_in-in-Meta.field-0 in
-    let some : 0 < length stack.layers = subst (λ (n : ℕ). 0 < n) c.layers-layers.ensures.value c.layers-layers.ensures.some in
+    let some : 0 < length stack.layers = subst (λ (n : ℕ). 0 < n) c.ordinary-layers.ensures.value c.ordinary-layers.ensures.some in
     let same : dereferenced_inode (top_layer stack) (lower_layers stack) (child_path path name) inode ≡ filled inode shown =
     sym (filled-there stack path name inode c.in-Meta.field-0 shown some c.requires.entry (sym c.in_ok-mark_of.ensures ∙ c.in-Meta.is)
-    (c.in_ok-look_in-in-Meta.ensures ∙ sought-look stack path c.layers-layers.ensures.each name c.args.self.now.view c.requires.directory.view)) in
+    (c.in_ok-look_in-in-Meta.ensures ∙ sought-look stack path c.ordinary-layers.ensures.each name c.args.self.now.view c.requires.directory.view)) in
     rw same c.filled.ensures

@@ -20,12 +20,12 @@ returns-in_ok-dereferenced-in-Some c =
     let stack : StackView = c.args.self.now.stack.now in
     let path : PathNames = c.args.self.now.path.now in
     let name = c.args.name.now in
-    let some : 0 < length stack.layers = subst (λ (n : ℕ). 0 < n) c.layers-layers.ensures.value c.layers-layers.ensures.some in
+    let some : 0 < length stack.layers = subst (λ (n : ℕ). 0 < n) c.ordinary-layers.ensures.value c.ordinary-layers.ensures.some in
     let here : entry_at (top_layer stack) (child_path path name) ≡ Some c.inode.result.now =
     sym (entry-in (top_layer stack) path name c.args.self.now.place c.requires.directory.place)
     ∙ (ap (λ (entries : Entries). entry_at entries []) (sym c.in-Some.ensures.0) ∙ c.inode.ensures) in
     ap (λ (inode : Inode). Some inode) c.in_ok-dereferenced-in-Some.ensures
-    ∙ sym (new-own stack c.layers-layers.ensures.each some path name c.requires.free
+    ∙ sym (new-own stack c.ordinary-layers.ensures.each some path name c.requires.free
     ∙ ap (option_map (dereferenced_inode (top_layer stack) (lower_layers stack) (child_path path name))) here)
 
 pub returns-in-None : goal.returns-in-None
@@ -33,9 +33,9 @@ returns-in-None c =
     let stack : StackView = c.args.self.now.stack.now in
     let path : PathNames = c.args.self.now.path.now in
     let name = c.args.name.now in
-    let some : 0 < length stack.layers = subst (λ (n : ℕ). 0 < n) c.layers-layers.ensures.value c.layers-layers.ensures.some in
+    let some : 0 < length stack.layers = subst (λ (n : ℕ). 0 < n) c.ordinary-layers.ensures.value c.ordinary-layers.ensures.some in
     let none : entry_at (top_layer stack) (child_path path name) ≡ None =
     sym (entry-in (top_layer stack) path name c.args.self.now.place c.requires.directory.place)
     ∙ ap (λ (entries : Entries). entry_at entries []) c.in-None.ensures in
-    sym (new-own stack c.layers-layers.ensures.each some path name c.requires.free
+    sym (new-own stack c.ordinary-layers.ensures.each some path name c.requires.free
     ∙ ap (option_map (dereferenced_inode (top_layer stack) (lower_layers stack) (child_path path name))) none)

@@ -8,4 +8,4 @@ pub returns-clause-lawful : goal.returns-clause-lawful
 returns-clause-lawful c =
     let stack = c.self.inside.stack.now in
     rw (← c.self.view_is) (kids-lawful (new_at stack) (names_in stack) (deref_depth stack)
-    (told stack c.layers.ensures.each (subst (λ (n : ℕ). 0 < n) c.layers.ensures.value c.layers.ensures.some)) (deref_depth stack) (omega arith))
+    (told stack c.ordinary.ensures.each (subst (λ (n : ℕ). 0 < n) c.ordinary.ensures.value c.ordinary.ensures.some)) (deref_depth stack) (omega arith))

@@ -13,4 +13,4 @@ returns c =
     let some : 0 < length stack.layers = subst (λ (s : StackView). 0 < length s.layers) c.self.view_is c.self.invariant.0 in
     is-merged stack each (shows-root stack each some) c.push_looks.new.looks.items
     (c.in_ok-push_looks.ensures
-    ∙ ((λ j. c.new-looks.ensures.items j ++ looks_placed (c.root-root.ensures j) (looks_from (64 * c.layers.ensures.value j + 1) stack (c.root-root.ensures j)))))
+    ∙ ((λ j. c.new-looks.ensures.items j ++ looks_placed (c.root-root.ensures j) (looks_from (64 * c.ordinary.ensures.value j + 1) stack (c.root-root.ensures j)))))

@@ -12,7 +12,7 @@ pub returns-in-Some : goal.returns-in-Some
 returns-in-Some c =
     let layers : List Entries = c.args.self.now.layers in
     let inside : c.loop-i.i < length layers = omega arith in
-    subst (λ (found : List Inode). IfOk c.shown.result (λ look. look ≡ shown_of found))
+    subst (λ (found : List Inode). IfOk c.shown.result (λ look. look ≡ shown_of c.args.self.now.data_only found))
     (sym (found-first layers c.loop-i.i c.loop-i.next (step_of c.in_ok-found.field-0) inside c.in_ok-found.ensures.value c.in-Some.found.inode.now (ap (option_map (λ (found : Found). found.inode.now)) c.in-Some.is)) ∙ c.loop-i.invariant)
     c.shown.ensures
 
@@ -20,7 +20,7 @@ pub returns-then-closed : goal.returns-then-closed
 returns-then-closed c =
     let layers : List Entries = c.args.self.now.layers in
     let inside : c.loop-i.i < length layers = omega arith in
-    ap shown_of (sym (found-closed layers c.loop-i.i c.loop-i.next (step_of c.in_ok-found.field-0) inside c.in_ok-found.ensures.value (ap (option_map (λ (found : Found). found.inode.now)) c.in_default.is) c.if-closed.true) ∙ c.loop-i.invariant)
+    ap (shown_of c.args.self.now.data_only) (sym (found-closed layers c.loop-i.i c.loop-i.next (step_of c.in_ok-found.field-0) inside c.in_ok-found.ensures.value (ap (option_map (λ (found : Found). found.inode.now)) c.in_default.is) c.if-closed.true) ∙ c.loop-i.invariant)
 
 pub loop-i-preserved : goal.loop-i-preserved
 loop-i-preserved c =

@@ -45,5 +45,5 @@ returns c =
     let are = tops-lent stack c.deref.result.now places tops c.in_ok-tops.tops.items c.deref.ensures.value c.deref-top-items.ensures.value c.in_ok-tops.ensures in
     let all : take c.loop-top.top-index tops ≡ tops = take_all c.loop-top.top-index tops c.loop-top-test.false in
     subst (λ (looks : List (PathName × Look)). AreLooks (from_layer c.args.self.now.from stack) c.args.self.now.path looks)
-    (sym (c.loop-top.invariant ∙ (λ j. looks_from_tops stack.layers (c.requires.reached j) (tops_told (all j)))))
+    (sym (c.loop-top.invariant ∙ (λ j. looks_from_tops stack (c.requires.reached j) (tops_told (all j)))))
     (looks-of-tops stack each c.args.self.now.from c.args.self.now.path (tops_told tops) (subst (λ (ps : List Reached). AreTops stack.layers 0 ps (tops_told tops)) c.requires.reached are))

@@ -23,7 +23,7 @@ loop-top-preserved c =
     let tops : List Top = c.deref-top-items.result.now in
     let name : PathName = c.top-item.result.name.now in
     let are = tops-lent stack c.deref.result.now places tops c.in_ok-tops.tops.items c.deref.ensures.value c.deref-top-items.ensures.value c.in_ok-tops.ensures in
-    let before : List PathName = map (λ e. e.0) (looks_from_tops stack.layers (places_in stack places) (tops_told (take c.loop-top.top-index tops))) in
+    let before : List PathName = map (λ e. e.0) (looks_from_tops stack (places_in stack places) (tops_told (take c.loop-top.top-index tops))) in
     let more = names-more stack places tops are c.loop-top.top-index c.top-item.result c.loop-top-test.true c.top-item.is c.is_whiteout.result c.is_whiteout.ensures in
     elim c.if-not-is_whiteout.branch [
       | then-not-is_whiteout+in_ok-copy+in_ok-push w ↦
@@ -46,5 +46,5 @@ returns c =
     let are = tops-lent stack c.deref.result.now places tops c.in_ok-tops.tops.items c.deref.ensures.value c.deref-top-items.ensures.value c.in_ok-tops.ensures in
     let all : take c.loop-top.top-index tops ≡ tops = take_all c.loop-top.top-index tops c.loop-top-test.false in
     subst (λ (names : List PathName). AreKids (from_layer c.args.self.now.from stack) c.args.self.now.path names)
-    (sym (c.loop-top.invariant ∙ (λ j. map (λ e. e.0) (looks_from_tops stack.layers (c.requires.reached j) (tops_told (all j))))))
+    (sym (c.loop-top.invariant ∙ (λ j. map (λ e. e.0) (looks_from_tops stack (c.requires.reached j) (tops_told (all j))))))
     (looks-of-tops stack each c.args.self.now.from c.args.self.now.path (tops_told tops) (subst (λ (ps : List Reached). AreTops stack.layers 0 ps (tops_told tops)) c.requires.reached are)).names

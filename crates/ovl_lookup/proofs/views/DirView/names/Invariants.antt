@@ -5,4 +5,4 @@ use Rattle.ovl_lookup.proofs.views.DirView.names.Given as goal
 
 -- the names so far at which something is shown
 abbrev pub invariant-loop-top : goal.invariant-loop-top
-invariant-loop-top l = l.names.items ≡ map (λ e. e.0) (looks_from_tops l.stack.layers (places_in l.stack l.self.places.items) (tops_told (take l.top-index l.top-items)))
+invariant-loop-top l = l.names.items ≡ map (λ e. e.0) (looks_from_tops l.stack (places_in l.stack l.self.places.items) (tops_told (take l.top-index l.top-items)))

@@ -16,4 +16,4 @@ returns c =
     let each : All IsLayer stack.layers = subst (λ (s : StackView). All IsLayer s.layers) c.stack.view_is c.stack.invariant.2 in
     let same = ap (found_below stack.layers c.args.name.now) (ap (places_in stack) c.deref.ensures.value ∙ c.requires.reached)
     ∙ sym (views-find stack each c.args.self.now.from c.args.self.now.path c.args.name.now) in
-    c.shows_in.ensures ∙ ap (λ (found : List Inode). not (is_nothing (shown_of found))) same
+    c.shows_in.ensures ∙ ap (λ (found : List Inode). not (is_nothing (shown_of stack.data_only found))) same

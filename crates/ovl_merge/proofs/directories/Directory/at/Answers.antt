@@ -19,7 +19,7 @@ pub returns-in_default : goal.returns-in_default
 returns-in_default c =
     let stack = c.args.stack.now in
     let m = merge_of stack in
-    let each = merge-each stack stack refl c.requires c.layers-layers.ensures.each in
+    let each = merge-each stack stack refl c.requires c.ordinary-layers.ensures.each in
     unshown-under m (upper m each) (lower m each) [] c.args.dir.now
     (subst (λ (found : Option Directory). MatchOption found (shows_own_directory m [] ≡ false) (λ directory. IsVisited stack [] directory)) c.in_default.is c.in_ok-directory.ensures)
 
@@ -27,7 +27,7 @@ pub returns-in_default-2 : goal.returns-in_default-2
 returns-in_default-2 c =
     let stack = c.args.stack.now in
     let m = merge_of stack in
-    let each = merge-each stack stack refl c.requires c.layers-layers.ensures.each in
+    let each = merge-each stack stack refl c.requires c.ordinary-layers.ensures.each in
     let dir : PathNames = c.args.dir.now in
     let i : ℕ = c.loop-name.name-index in
     let items = c.names-name-items.ensures.value in

@@ -17,7 +17,7 @@ pub returns-in-Some-lower : goal.returns-in-Some-lower
 returns-in-Some-lower c =
     let stack = c.args.stack.now in
     let m = merge_of stack in
-    let each = merge-each stack stack refl c.requires.several c.layers-layers.ensures.each in
+    let each = merge-each stack stack refl c.requires.several c.ordinary-layers.ensures.each in
     let dir : PathNames = c.args.self.now.path in
     let name = c.args.name.now in
     let here : c.in-Some.upper.path ≡ dir = subst (λ (kept : Option Walked). IfSome kept (λ walked. walked.path ≡ dir)) c.in-Some.is c.requires.visited.upper in

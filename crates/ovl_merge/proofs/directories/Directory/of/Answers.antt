@@ -19,7 +19,7 @@ pub returns-in_default : goal.returns-in_default
 returns-in_default c =
     let stack = c.args.stack.now in
     let m = merge_of stack in
-    let each = merge-each stack stack refl c.requires.several c.layers-layers.ensures.each in
+    let each = merge-each stack stack refl c.requires.several c.ordinary-layers.ensures.each in
     let path : PathNames = c.args.path in
     let walked : IsWalked m.upper c.in_ok-upper.upper = walked-upper stack c.sheet.result.now c.sheet.ensures c.in_ok-upper.upper c.in_ok-upper.ensures.walked in
     let above : IsStand m.upper path c.in_ok-upper.upper.stand = subst (λ (p : PathNames). IsStand m.upper p c.in_ok-upper.upper.stand) c.in_ok-upper.ensures.path walked in

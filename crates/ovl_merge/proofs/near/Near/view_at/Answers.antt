@@ -21,4 +21,4 @@ pub returns-in-None : goal.returns-in-None
 returns-in-None c =
     let stack = c.args.stack.now in
     sym (ap is_shown_directory (near-nothing stack c.args.self.now c.requires.near c.args.path.now c.in-Some.name.now c.in-Some.ensures
-    (rest (merge_of stack) (merge-each stack stack refl c.requires.several c.layers-layers.ensures.each)) c.in-None.is))
+    (rest (merge_of stack) (merge-each stack stack refl c.requires.several c.ordinary-layers.ensures.each)) c.in-None.is))

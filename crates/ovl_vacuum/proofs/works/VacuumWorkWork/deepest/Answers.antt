@@ -7,4 +7,4 @@ use Rattle.ovl_vacuum.proofs.works.VacuumWorkWork.deepest.Goals as goal
 
 pub returns-clause-lawful : goal.returns-clause-lawful
 returns-clause-lawful c =
-    rw (← c.self.view_is) (kids-lawful (top_layer c.self.inside.stack.now) (is_directory_at (top_layer c.self.inside.stack.now)) (top-layer c.self.inside.stack.now (subst (λ (n : ℕ). 0 < n) c.layers-layers.ensures.value c.layers-layers.ensures.some) c.layers-layers.ensures.each))
+    rw (← c.self.view_is) (kids-lawful (top_layer c.self.inside.stack.now) (is_directory_at (top_layer c.self.inside.stack.now)) (top-layer c.self.inside.stack.now (subst (λ (n : ℕ). 0 < n) c.ordinary-layers.ensures.value c.ordinary-layers.ensures.some) c.ordinary-layers.ensures.each))
