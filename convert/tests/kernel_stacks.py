@@ -1,10 +1,11 @@
 """Stacks that the kernel's overlayfs makes, compared with what is scanned of them.
 
-    unshare --mount --propagation private python3 kernel_stacks.py FOLDER SEED COUNT [PROGRAM..]
+    unshare --mount --propagation private python3 kernel_stacks.py KIND FOLDER SEED COUNT [PROGRAM..]
 
 Runs in a mount namespace of its own, so its mounts end with it. Each stack is made by mounting an
 overlay and working in it, layer on layer. Then the tree that the kernel shows must be the one that it
 shows of the folders built from the scanned manifests, and the one that PROGRAM shows of the manifests.
+KIND is `plain`, or `data-only` for stacks over layers that have the contents of the others' files.
 """
 
 import contextlib
@@ -13,6 +14,7 @@ import itertools
 import os
 import random
 import shutil
+import stat
 import subprocess
 import sys
 from collections.abc import Callable, Iterator
@@ -32,10 +34,12 @@ def mount(kind: str, place: str, options: str) -> None:
 
 
 @contextlib.contextmanager
-def mounted_overlay(place: str, layers: list[str], options: str, work: str | None = None) -> Iterator[None]:
-    """An overlay of folders, the topmost first; that one is written to where there is a work folder."""
+def mounted_overlay(
+    place: str, layers: list[str], data_only: list[str], options: str, work: str | None = None
+) -> Iterator[None]:
+    """An overlay of folders, the topmost first, over data-only ones; where there is a work folder, it can be written."""
     upper = f"upperdir={layers[0]},workdir={work}," if work else ""
-    lower = ":".join(layers[1:] if work else layers)
+    lower = "::".join([":".join(layers[1:] if work else layers), *data_only])
     mount("overlay", place, f"{upper}lowerdir={lower},{options}")
     try:
         yield
@@ -158,32 +162,39 @@ class Stack:
         self._folder = folder
         self._pick = random.Random(seed)
         self._layers: list[str] = []
+        self._data_only: list[str] = []
 
     def make(self) -> None:
         """Makes two to four layers; the lowest is a plain folder."""
         lowest = self._new("layer")
         Worker(self._pick, lowest).work(30)
-        self._layers = [lowest]
+        self._put_on_top(lowest)
         for _ in range(self._pick.randrange(1, 4)):
             upper, work, place = self._new("layer"), self._new("work"), self._new("mnt")
-            with mounted_overlay(place, [upper, *self._layers], _MAKING, work):
+            with mounted_overlay(place, [upper, *self._layers], self._data_only, _MAKING, work):
                 Worker(self._pick, place).work(20)
-            self._layers.insert(0, upper)
+            self._put_on_top(upper)
+
+    def _put_on_top(self, layer: str) -> None:
+        self._layers.insert(0, layer)
 
     def compare(self, program: list[str]) -> list[str]:
         """What differs, line by line."""
-        shown = self._kernel(self._layers)
-        manifests = [f"{self._folder}/l{number}.json" for number in range(len(self._layers))]
-        built = [self._new(f"built{number}") for number in range(len(self._layers))]
-        for layer, manifest, again in zip(self._layers, manifests, built):
+        layers = self._layers + self._data_only
+        shown = self._kernel(layers)
+        manifests = [f"{self._folder}/l{number}.json" for number in range(len(layers))]
+        built = [self._new(f"built{number}") for number in range(len(layers))]
+        for layer, manifest, again in zip(layers, manifests, built):
             _done("scan", layer, "--out", manifest, "--blobs", f"{self._folder}/blobs")
             _done("build", manifest, "--blobs", f"{self._folder}/blobs", "--out", again)
         others = [self._kernel(built)]
         if program:
-            result = subprocess.run([*program, "show", *manifests], capture_output=True, text=True, check=False)
+            bottom = ["--data-layers", str(len(self._data_only))] if self._data_only else []
+            words = [*program, "show", *bottom, *manifests]
+            result = subprocess.run(words, capture_output=True, text=True, check=False)
             others.append(result.stdout + result.stderr)
             blobs = ["--blobs", f"{self._folder}/blobs"]
-            words = [*program, "fsck", *blobs, *manifests]
+            words = [*program, "fsck", *blobs, *bottom, *manifests]
             checked = subprocess.run(words, capture_output=True, text=True, check=False)
             faults = [line for line in checked.stdout.splitlines() if line.startswith("fault ")]
         else:
@@ -193,8 +204,8 @@ class Stack:
         ]
 
     def _kernel(self, layers: list[str]) -> str:
-        place = self._new("mnt")
-        with mounted_overlay(place, layers, _LOOKING):
+        place, count = self._new("mnt"), len(self._layers)
+        with mounted_overlay(place, layers[:count], layers[count:], _LOOKING):
             return _done("mounted", place)
 
     def _new(self, name: str) -> str:
@@ -206,6 +217,58 @@ class Stack:
         raise AssertionError
 
 
+class StackOverData(Stack):
+    """A stack whose files have their contents, most of them, in one to three data-only layers, as tools that make
+    images put them there: in each layer, once it was worked in, a metacopy file with an absolute redirect takes the
+    file's place. No ordinary layer has a directory on the way of a redirect or anything at its end, and a data-only
+    layer has no other regular file before the one that is meant: there kernels differ."""
+
+    def make(self) -> None:
+        self._data_only = [self._new("data") for _ in range(self._pick.randrange(1, 4))]
+        for layer in self._data_only:
+            os.mkdir(f"{layer}/objects")
+            if self._pick.random() < 0.3:
+                os.setxattr(f"{layer}/objects", "trusted.overlay.opaque", b"y")
+        self._places = (f"/{folder}{number}" for number in itertools.count() for folder in ("", "objects/"))
+        super().make()
+
+    def _put_on_top(self, layer: str) -> None:
+        seen = set()
+        for folder, _, names in os.walk(layer):
+            for path in (os.path.join(folder, name) for name in sorted(names)):
+                about = os.lstat(path)
+                if stat.S_ISREG(about.st_mode) and about.st_ino not in seen and self._is_moved_out(path):
+                    self._move_out(path, about)
+                seen.add(about.st_ino)
+        super()._put_on_top(layer)
+
+    def _is_moved_out(self, path: str) -> bool:
+        return "trusted.overlay.metacopy" not in os.listxattr(path) and self._pick.random() < 0.8
+
+    def _move_out(self, path: str, about: os.stat_result) -> None:
+        with open(path, "r+b") as file:
+            contents = file.read()
+            file.truncate(0)
+            file.truncate(len(contents))
+            os.setxattr(file.fileno(), "trusted.overlay.metacopy", b"")
+            os.setxattr(file.fileno(), "trusted.overlay.redirect", self._place_of(path, contents).encode())
+        os.utime(path, ns=(about.st_atime_ns, about.st_mtime_ns))
+
+    def _place_of(self, path: str, contents: bytes) -> str:
+        """Where a data-only layer has these contents now: one before it has no file there, one after it maybe another."""
+        is_in_lowest_root = not self._layers and path.count("/") == self._folder.count("/") + 2
+        own = "/" + os.path.basename(path)
+        place = own if is_in_lowest_root and self._pick.random() < 0.5 else next(self._places)
+        first = self._pick.randrange(len(self._data_only))
+        for number, layer in enumerate(self._data_only):
+            if number == first or number > first and self._pick.random() < 0.5:
+                with open(layer + place, "xb") as file:
+                    file.write(contents if number == first else b"of a layer below")
+            elif number < first and self._pick.random() < 0.5:
+                self._pick.choice((os.mkdir, lambda it: os.symlink("objects", it)))(layer + place)
+        return place
+
+
 def _done(*words: str) -> str:
     status, printed, told = call(*words)
     if status != 0:
@@ -213,14 +276,17 @@ def _done(*words: str) -> str:
     return printed
 
 
-def main(folder: str, seed: int, count: int, program: list[str]) -> int:
-    """Makes and compares so many stacks; the status is 1 where one differs."""
+KINDS = {"plain": Stack, "data-only": StackOverData}
+
+
+def main(kind: str, folder: str, seed: int, count: int, program: list[str]) -> int:
+    """Makes and compares so many stacks of a kind; the status is 1 where one differs."""
     mount("tmpfs", folder, "mode=700,size=1g")
     different = 0
     for number in range(seed, seed + count):
         place = f"{folder}/{number}"
         os.mkdir(place)
-        stack = Stack(place, number)
+        stack = KINDS[kind](place, number)
         stack.make()
         difference = stack.compare(program)
         if difference:
@@ -232,4 +298,4 @@ def main(folder: str, seed: int, count: int, program: list[str]) -> int:
 
 
 if __name__ == "__main__":
-    sys.exit(main(sys.argv[1], int(sys.argv[2]), int(sys.argv[3]), sys.argv[4:]))
+    sys.exit(main(sys.argv[1], sys.argv[2], int(sys.argv[3]), int(sys.argv[4]), sys.argv[5:]))
