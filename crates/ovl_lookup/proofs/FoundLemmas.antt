@@ -1,7 +1,7 @@
 -- What the walks through layers find, layer by layer, and what is shown of it.
 use Rattle.std.proofs.Common.{◌≡◌, ℕ, zero, suc, ◌+◌, ◌<◌, ◌≤◌, length, drop, Bool, true, false, cond, Option, Some, None, List, [], ◌∷◌, refl, sym, ap, ◌∙◌, arith, add-one}
 use Rattle.std.specs.Prelude.{slice_get, IfSome, not, ◌&&◌}
-use Rattle.std.specs.List.{filter_map, cons_option, list_all}
+use Rattle.std.specs.List.{filter_map, cons_option, list_all, find}
 use Rattle.ovl_names.specs.Paths.{PathNames}
 use Rattle.ovl_inode.specs.declared.inodes.Inode.{Inode}
 use Rattle.ovl_inode.specs.declared.inodes.Kind.{Kind}
@@ -17,7 +17,7 @@ use Rattle.ovl_manifest.specs.Layers.{Entries, entry_at}
 use Rattle.ovl_lookup.specs.declared.steps.Step.{Step}
 use Rattle.ovl_lookup.specs.Walk.{walk}
 use Rattle.ovl_lookup.specs.Trace.{walks, things_found, leading_files, leading_directories}
-use Rattle.ovl_lookup.specs.Merged.{data_of, last_of, shown_of, without_blob, full_file_in, place_of_data, place_told, data_at_place, last_place}
+use Rattle.ovl_lookup.specs.Merged.{data_of, last_of, shown_of, without_blob, is_full_file, full_file_in, place_of_data, place_told, data_at_place, last_place}
 use Rattle.ovl_inode.specs.Inodes.{visible}
 use Rattle.ovl_lookup.specs.declared.looks.Look.{Look}
 use Rattle.ovl_lookup.specs.declared.looks.Look.TheVariants.{Shown, Broken}
@@ -126,21 +126,32 @@ directory-plain inode directory = (by (is_metacopy inode) refl, ap (λ b. b && n
 abbrev chosen : List Inode → Option Inode
 chosen inodes = elim (last_of inodes) as (λ _. Option Inode) [ Some inode ↦ cond (is_data inode) (Some inode) None | None ↦ None ]
 
--- ---- the file with contents that data-only layers have
+-- ---- the full file that data-only layers have
 
--- such a file is one with contents itself
-pub full_file-data : (layers : List Entries) (path : PathNames) (contents : Inode) → full_file_in layers path ≡ Some contents → is_data contents ≡ true
-full_file-data [] path contents e = let bad : None ≡ Some contents = e in cc
-full_file-data (layer ∷ layers) path contents e = at (entry_at layer path) (full_file-data layers path contents) e
+-- what is found passes the test by which it is found, and one that all pass
+find-passes : {X : Type 0} (test : X → Bool) (xs : List X) (x : X) → find test xs ≡ Some x → test x ≡ true
+find-passes test [] x e = let bad : None ≡ Some x = e in cc
+find-passes test (one ∷ xs) x e = by (test one) refl (find-passes test xs x) e
   where
-    at : (entry : Option Inode) → (full_file_in layers path ≡ Some contents → is_data contents ≡ true)
-        → elim entry as (λ _. Option Inode) [ Some inode ↦ cond (is_data inode && not (is_whiteout inode)) (Some inode) (full_file_in layers path) | None ↦ full_file_in layers path ] ≡ Some contents → is_data contents ≡ true
-    at None later e = later e
-    at (Some inode) later e = by (is_data inode && not (is_whiteout inode)) refl e
-      where
-        by : (b : Bool) → (is_data inode && not (is_whiteout inode)) ≡ b → cond b (Some inode) (full_file_in layers path) ≡ Some contents → is_data contents ≡ true
-        by true own e = let same : inode ≡ contents = cc in ap is_data (sym same) ∙ (both {a = is_data inode} {b = not (is_whiteout inode)} own).0
-        by false own e = later e
+    by : (b : Bool) → test one ≡ b → (find test xs ≡ Some x → test x ≡ true) → cond b (Some one) (find test xs) ≡ Some x → test x ≡ true
+    by true h later e = let same : one ≡ x = cc in ap test (sym same) ∙ h
+    by false h later e = later e
+
+pub find-all : {X : Type 0} (test passed : X → Bool) (xs : List X) (x : X) → list_all passed xs ≡ true → find test xs ≡ Some x → passed x ≡ true
+find-all test passed [] x all e = let bad : None ≡ Some x = e in cc
+find-all test passed (one ∷ xs) x all e = by (test one) (find-all test passed xs x parts.1) e
+  where
+    parts : (passed one ≡ true) × (list_all passed xs ≡ true)
+    parts = both {a = passed one} {b = list_all passed xs} all
+
+    by : (b : Bool) → (find test xs ≡ Some x → passed x ≡ true) → cond b (Some one) (find test xs) ≡ Some x → passed x ≡ true
+    by true later e = let same : one ≡ x = cc in ap passed (sym same) ∙ parts.0
+    by false later e = later e
+
+-- such a file has its contents itself
+pub full_file-data : (layers : List Entries) (path : PathNames) (contents : Inode) → full_file_in layers path ≡ Some contents → is_data contents ≡ true
+full_file-data layers path contents e =
+    (both {a = is_data contents} {b = not (is_whiteout contents)} (find-passes is_full_file (filter_map (λ (layer : Entries). entry_at layer path) layers) contents e)).0
 
 pub placed-data : (data_only : List Entries) (place : Option PathNames) (contents : Inode) → data_at_place data_only place ≡ Some contents → is_data contents ≡ true
 placed-data data_only None contents e = let bad : None ≡ Some contents = e in cc

@@ -1,7 +1,7 @@
 -- What is found and shown can be stated in a manifest: names, sound inodes, no escaped attribute.
 use Rattle.std.proofs.Common.{◌≡◌, ℕ, Bool, true, false, cond, Option, Some, None, List, [], ◌∷◌, refl, sym, ap, ◌∙◌}
 use Rattle.std.specs.Prelude.{◌||◌, ◌&&◌, not, filter, nat_le, is_some}
-use Rattle.std.specs.List.{list_all, list_any, cons_option, All}
+use Rattle.std.specs.List.{list_all, list_any, filter_map, cons_option, All}
 use Rattle.std.specs.Cmp.Lexicographic.{bytes_decides}
 use Rattle.std.proofs.lemmas.List.Folds.{list_all-append, list_any-append}
 use Rattle.ovl_names.specs.Names.{PathName, name_eq, is_name}
@@ -12,7 +12,7 @@ use Rattle.ovl_inode.specs.declared.inodes.Kind.{Kind}
 use Rattle.ovl_inode.specs.declared.inodes.Kind.TheVariants.{Dir, File, Symlink, Char, Block, Fifo, Socket}
 use Rattle.ovl_inode.specs.Attributes.{Attributes, attribute, visible_attributes, are_attributes, has_escaped_name, is_escaped_name, is_overlay_name, metacopy_name}
 use Rattle.ovl_inode.specs.Inodes.{visible}
-use Rattle.ovl_inode.specs.Marks.{is_directory, is_regular, is_metacopy, is_whiteout, has_metacopy, is_data}
+use Rattle.ovl_inode.specs.Marks.{is_directory, is_regular, is_metacopy, has_metacopy, is_data}
 use Rattle.ovl_inode.specs.Sound.{is_sound_inode, is_sound_kind, is_word, is_seconds, mode_limit}
 use Rattle.ovl_inode.proofs.AttributeLemmas.{are_attributes-visible}
 use Rattle.ovl_manifest.specs.Layers.{Entries, Entry, entry_at, name_below, names_below, IsLayer}
@@ -21,10 +21,10 @@ use Rattle.ovl_lookup.specs.declared.looks.Look.TheVariants.{Nothing, Shown, Bro
 use Rattle.ovl_lookup.specs.Walk.{walk}
 use Rattle.ovl_lookup.specs.Stacks.{StackView}
 use Rattle.ovl_lookup.specs.Trace.{things_found, hits_of, leading_directories, leading_files}
-use Rattle.ovl_lookup.specs.Merged.{look, shows, shown_of, data_of, last_of, full_file_in, data_at_place, last_place, without_blob}
+use Rattle.ovl_lookup.specs.Merged.{look, shows, shown_of, data_of, last_of, is_full_file, full_file_in, data_at_place, last_place, without_blob}
 use Rattle.ovl_lookup.specs.Passes.{own_names_along}
 use Rattle.ovl_lookup.proofs.ChildLemmas.{all-first, all-rest, child_found}
-use Rattle.ovl_lookup.proofs.FoundLemmas.{things_found-step}
+use Rattle.ovl_lookup.proofs.FoundLemmas.{things_found-step, find-all}
 use Rattle.ovl_lookup.proofs.KidLemmas.{shows-found}
 use Rattle.ovl_lookup.proofs.LawLemmas.{ShowsParents-holds}
 use Rattle.ovl_lookup.proofs.WalkFacts.{lookup-all}
@@ -88,19 +88,21 @@ last-all test [] inode all last = let bad : None ≡ Some inode = last in cc
 last-all test (hit ∷ []) inode all last = let same : hit ≡ inode = cc in ap test (sym same) ∙ (both {a = test hit} {b = true} all).0
 last-all test (hit ∷ other ∷ hits) inode all last = last-all test (other ∷ hits) inode (both {a = test hit} {b = list_all test (other ∷ hits)} all).1 last
 
--- the file with contents that data-only layers have
-full_file-all : (test : Inode → Bool) → ((layer : Entries) → IsLayer layer → list_all (λ (entry : Entry). test entry.1) layer ≡ true) → (layers : List Entries) → All IsLayer layers → (path : PathNames) (contents : Inode) → full_file_in layers path ≡ Some contents → test contents ≡ true
-full_file-all test of [] each path contents e = let bad : None ≡ Some contents = e in cc
-full_file-all test of (layer ∷ layers) each path contents e = at (entry_at layer path) refl (full_file-all test of layers (all-rest IsLayer layer layers each) path contents) e
+-- what layers have at a path
+entries-all : (test : Inode → Bool) → ((layer : Entries) → IsLayer layer → list_all (λ (entry : Entry). test entry.1) layer ≡ true) → (layers : List Entries) → All IsLayer layers → (path : PathNames) → list_all test (filter_map (λ (layer : Entries). entry_at layer path) layers) ≡ true
+entries-all test of [] each path = refl
+entries-all test of (layer ∷ layers) each path = by (entry_at layer path) refl (entries-all test of layers (all-rest IsLayer layer layers each) path)
   where
-    at : (entry : Option Inode) → entry_at layer path ≡ entry → (full_file_in layers path ≡ Some contents → test contents ≡ true)
-        → elim entry as (λ _. Option Inode) [ Some inode ↦ cond (is_data inode && not (is_whiteout inode)) (Some inode) (full_file_in layers path) | None ↦ full_file_in layers path ] ≡ Some contents → test contents ≡ true
-    at None h later e = later e
-    at (Some inode) h later e = by (is_data inode && not (is_whiteout inode)) e
-      where
-        by : (b : Bool) → cond b (Some inode) (full_file_in layers path) ≡ Some contents → test contents ≡ true
-        by true e = let same : inode ≡ contents = cc in ap test (sym same) ∙ lookup-all (λ (entry : Entry). test entry.1) path layer inode (of layer (all-first IsLayer layer layers each)) h
-        by false e = later e
+    by : (here : Option Inode) → entry_at layer path ≡ here → list_all test (filter_map (λ (layer : Entries). entry_at layer path) layers) ≡ true
+        → list_all test (cons_option here (filter_map (λ (layer : Entries). entry_at layer path) layers)) ≡ true
+    by None h later = later
+    by (Some inode) h later =
+        let holds : test inode ≡ true = lookup-all (λ (entry : Entry). test entry.1) path layer inode (of layer (all-first IsLayer layer layers each)) h in
+        (λ j. holds j && later j)
+
+-- the full file that data-only layers have
+full_file-all : (test : Inode → Bool) → ((layer : Entries) → IsLayer layer → list_all (λ (entry : Entry). test entry.1) layer ≡ true) → (layers : List Entries) → All IsLayer layers → (path : PathNames) (contents : Inode) → full_file_in layers path ≡ Some contents → test contents ≡ true
+full_file-all test of layers each path contents e = find-all is_full_file test (filter_map (λ (layer : Entries). entry_at layer path) layers) contents (entries-all test of layers each path) e
 
 placed-all : (test : Inode → Bool) → ((layer : Entries) → IsLayer layer → list_all (λ (entry : Entry). test entry.1) layer ≡ true) → (data_only : List Entries) → All IsLayer data_only → (place : Option PathNames) (contents : Inode) → data_at_place data_only place ≡ Some contents → test contents ≡ true
 placed-all test of data_only each None contents e = let bad : None ≡ Some contents = e in cc

@@ -1,7 +1,7 @@
 -- The merged tree of a stack.
 use Rattle.std.specs.Prelude.{◌≡◌, ◌≢◌, Bool, true, false, ◌&&◌, not, Option, Some, None, List, [], ◌∷◌, if◌then◌else◌}
 use Rattle.std.specs.Map.{lookup}
-use Rattle.std.specs.List.{list_any, list_all}
+use Rattle.std.specs.List.{list_any, list_all, find, filter_map}
 use Rattle.std.specs.declared.cmp.Ordering.{Ordering}
 use Rattle.ovl_names.specs.Order.{ascends}
 use Rattle.ovl_names.specs.Names.{PathName, name_eq, name_cmp}
@@ -26,28 +26,29 @@ last_of [] = None
 last_of (inode ∷ []) = Some inode
 last_of (inode ∷ other ∷ inodes) = last_of (other ∷ inodes)
 
--- the file with contents that is the first at a path of data-only layers: no metacopy file, and no whiteout
+-- a full file: a regular file with its contents itself, and no whiteout
+abbrev pub is_full_file : Inode → Bool
+is_full_file inode = is_data inode && not (is_whiteout inode)
+
+-- the first full file that data-only layers have at a path
 abbrev pub full_file_in : List Entries → PathNames → Option Inode
-full_file_in [] path = None
-full_file_in (layer ∷ layers) path =
-    elim (entry_at layer path) [
-      | Some inode ↦ if is_data inode && not (is_whiteout inode) then Some inode else full_file_in layers path
-      | None ↦ full_file_in layers path
-    ]
+full_file_in data_only path = find is_full_file (filter_map (λ layer. entry_at layer path) data_only)
 
 -- where data-only layers have the data of a metacopy file: at its absolute redirect
 abbrev pub place_of_data : Mark → Option PathNames
 place_of_data (Meta (Some (To place))) = Some place
 place_of_data _ = None
 
+-- the full file at that place, where there is one
 abbrev pub data_at_place : List Entries → Option PathNames → Option Inode
 data_at_place data_only None = None
 data_at_place data_only (Some place) = full_file_in data_only place
 
+-- that place by the last of the things found
 abbrev pub last_place : List Inode → Option PathNames
 last_place found = elim (last_of found) [ Some inode ↦ place_of_data (mark_of inode) | None ↦ None ]
 
--- what the last of the things found says, where they are metacopy files alone
+-- the same where they are metacopy files alone
 abbrev pub place_told : List Inode → Option PathNames
 place_told found = if list_all is_metacopy found then last_place found else None
 

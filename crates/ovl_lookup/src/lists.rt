@@ -10,8 +10,8 @@ use std::collections::BTreeSet;
 
 impl Stack {
     /// The names that a directory has in the merged tree of the layers with index `from` and up, in order; none where
-    /// no directory is shown. `from` is at most the number of layers. Fails only for want of memory.
-    /// overlayfs.rst: "Directories", "readdir".
+    /// no directory is shown. `from` is at most the number of layers that aren't data-only. Fails only for want of
+    /// memory. overlayfs.rst: "Directories", "readdir".
     pub fn names(&self, alloc: Global, from: usize, path: &Path) -> Result<Vec<Name>, AllocError>
         requires { from ≤ length self.now.layers }
         ensures { IfOk result (λ names. AreKids (from_layer from self.now) path.now names.items) }

@@ -1,10 +1,10 @@
 ghost use Rattle.std.specs.Prelude.{◌≡◌, ◌<◌, ◌≤◌, ◌∷◌, ◌&&◌, true, not, length, drop, slice_get, IfOk, IfSome};
 ghost use Rattle.std.specs.Option.{option_map};
 ghost use Rattle.std.specs.Cmp.{partial_equiv_from_equiv};
-ghost use Rattle.ovl_inode.specs.Marks.{mark_of as the_mark, is_metacopy_mark, is_regular, has_metacopy, is_data as data_test, is_whiteout as whiteout_test};
+ghost use Rattle.ovl_inode.specs.Marks.{mark_of as the_mark, is_metacopy_mark, is_regular, has_metacopy};
 ghost use Rattle.ovl_lookup.specs.Stacks.{from_layer};
 ghost use Rattle.ovl_lookup.specs.Trace.{things_found};
-ghost use Rattle.ovl_lookup.specs.Merged.{look as the_look, shown_of, data_of as the_data, place_of_data as the_place, place_told as the_place_told, data_at_place, full_file_in as the_file, is_nothing as nothing_test, is_shown_directory as directory_test, without_blob as kind_without_blob};
+ghost use Rattle.ovl_lookup.specs.Merged.{look as the_look, shown_of, data_of as the_data, place_of_data as the_place, place_told as the_place_told, data_at_place, is_full_file as full_file_test, full_file_in as the_file, is_nothing as nothing_test, is_shown_directory as directory_test, without_blob as kind_without_blob};
 ghost use Rattle.ovl_lookup.specs.Walk.{walk as the_walk};
 ghost use Rattle.ovl_lookup.specs.Passes.{IsMarked, step_of, found_on, shown_with, data_below};
 ghost use Rattle.ovl_lookup.specs.Equal.{look_eq};
@@ -70,9 +70,9 @@ impl Look {
 }
 
 impl Stack {
-    /// What the layers with index `from` and up show at a path; `from` is at most the number of layers.
-    /// Fails only for want of memory. overlayfs.rst: "Directories", "Multiple lower layers",
-    /// "Metadata only copy up".
+    /// What the layers with index `from` and up show at a path, over the data-only ones; `from` is at most the number of
+    /// the others. Fails only for want of memory. overlayfs.rst: "Directories", "Multiple lower layers", "Metadata only
+    /// copy up", "Data-only lower layers".
     pub fn look(&self, alloc: Global, from: usize, path: &Path) -> Result<Look, AllocError>
         requires { from ≤ length self.now.layers }
         ensures { IfOk result (λ look. look ≡ the_look (from_layer from self.now) path.now) }
@@ -220,7 +220,7 @@ impl Stack {
         copied(alloc, told)
     }
 
-    // The file with contents that data-only layers have where the last metacopy file says so.
+    // The first full file that data-only layers have where the last metacopy file says so.
     pub(crate) fn data_at(
         &self,
         alloc: Global,
@@ -237,8 +237,8 @@ impl Stack {
         }
     }
 
-    /// The first file with contents that the data-only layers have at a path: no metacopy file, and no whiteout. Takes no
-    /// memory. overlayfs.rst: "Data-only lower layers".
+    /// The first full file that the data-only layers have at a path: a regular file with its contents itself, and no
+    /// whiteout. Takes no memory. overlayfs.rst: "Data-only lower layers".
     pub fn full_file(&self, path: &Path) -> Option<&Inode>
         ensures { option_map (λ inode. inode.now) result ≡ the_file self.now.data_only path.now }
     {
@@ -256,7 +256,7 @@ fn copied(alloc: Global, path: Option<&Path>) -> Result<Option<Path>, AllocError
     }
 }
 
-// The first file with contents that these layers have at a path.
+// The first full file that these layers have at a path.
 fn full_file_in<'a>(layers: &'a [Sheet], path: &Path) -> Option<&'a Inode>
     ensures { option_map (λ inode. inode.now) result ≡ the_file layers.now path.now }
 {
@@ -270,9 +270,9 @@ fn full_file_in<'a>(layers: &'a [Sheet], path: &Path) -> Option<&'a Inode>
     None
 }
 
-// Whether the inode is a regular file with contents, and no whiteout.
+// Whether the inode is a regular file with its contents itself, and no whiteout.
 fn is_full(inode: &Inode) -> bool
-    ensures { result ≡ (data_test inode.now && not (whiteout_test inode.now)) }
+    ensures { result ≡ full_file_test inode.now }
 {
     is_data(inode) && !is_whiteout(inode)
 }

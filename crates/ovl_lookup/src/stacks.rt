@@ -121,7 +121,7 @@ impl Stack {
         ensures limit { result ≤ layer_limit }
         ensures all { All IsLayer (all_layers self.now) }
     {
-        self.layers.len() + self.data_only.len()
+        self.ordinary() + self.data_only.len()
     }
 
     /// The number of layers that aren't data-only; there is one.
@@ -155,10 +155,11 @@ impl Stack {
         requires { i < length (all_layers self.now) }
         ensures { slice_get (all_layers self.now) i ≡ Some result.now }
     {
-        if i < self.layers.len() {
+        let ordinary = self.ordinary();
+        if i < ordinary {
             &self.layers[i]
         } else {
-            &self.data_only[i - self.layers.len()]
+            &self.data_only[i - ordinary]
         }
     }
 

@@ -60,8 +60,8 @@ impl DirPlace {
 
 impl DirView {
     /// The view of a path of the merged tree of the layers with index `from` and up, and `None` where they show no
-    /// directory there; `from` is at most the number of layers. Each layer is walked at most once. Fails only for want
-    /// of memory.
+    /// directory there; `from` is at most the number of layers that aren't data-only. Each of these is walked at most
+    /// once. Fails only for want of memory.
     pub fn of(
         alloc: Global,
         stack: &Stack,
