@@ -1,5 +1,5 @@
 -- What the layers below show where they show no directory.
-use Rattle.std.proofs.Common.{◌≡◌, ℕ, ◌+◌, ◌∙◌, Bool, true, false, None, List, [], ◌∷◌, refl, sym, ap, All}
+use Rattle.std.proofs.Common.{◌≡◌, ℕ, ◌∙◌, Bool, true, false, None, List, [], ◌∷◌, refl, sym, ap, All}
 use Rattle.std.specs.Prelude.{not}
 use Rattle.std.specs.Option.{option_map}
 use Rattle.std.proofs.lemmas.List.Elements.{All-drop}

@@ -11,9 +11,10 @@ use ovl_lookup::{Stack, Trail};
 pub struct CheckOut<'a> {
     /// What is found at the directory and at each entry in it that is no directory, redirect-double apart.
     pub findings: Vec<Finding>,
-    /// The path by which the layers below know the directory, where they aren't hidden, in names that the layer holds.
+    /// The path by which the layers below know the directory, where they aren't hidden, in names that the layer holds; none
+    /// in a data-only layer.
     pub place: Option<Trail<'a>>,
-    /// Whether the directory is a moved one.
+    /// Whether the directory is a moved one; none is in a data-only layer.
     pub moved: bool,
 }
 
