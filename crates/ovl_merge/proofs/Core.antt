@@ -7,7 +7,7 @@ use Rattle.std.proofs.lemmas.List.Elements.{All-cons}
 use Rattle.std.specs.Cmp.Lexicographic.{pointwise_decides, bytes_decides}
 use Rattle.ovl_names.specs.Names.{PathName, is_name}
 use Rattle.ovl_names.specs.Paths.{PathNames, path_eq, path_text, child_path, parent_path, is_root, has_names}
-use Rattle.ovl_names.proofs.Ascending.{both}
+use Rattle.ovl_names.proofs.Ascending.{both, not_true}
 use Rattle.ovl_inode.specs.declared.inodes.Inode.{Inode}
 use Rattle.ovl_inode.specs.declared.marks.Mark.{Mark}
 use Rattle.ovl_inode.specs.declared.marks.Mark.TheVariants.{DirPlain, Meta}
@@ -19,7 +19,7 @@ use Rattle.ovl_manifest.specs.Layers.{Entries, IsLayer, entry_at, is_directory_a
 use Rattle.ovl_lookup.specs.declared.steps.Step.{Step}
 use Rattle.ovl_lookup.specs.Walk.{walk, walk_to_file, nothing_found}
 use Rattle.ovl_lookup.specs.Trace.{things_found}
-use Rattle.ovl_lookup.specs.Merged.{look, shows, shows_directory, last_place}
+use Rattle.ovl_lookup.specs.Merged.{look, shows, shows_directory, last_place, full_file_in}
 use Rattle.ovl_lookup.specs.Passes.{entered_path, entered_closed}
 use Rattle.ovl_lookup.specs.WalkLaws.{PassesOver}
 use Rattle.ovl_lookup.proofs.WalkFacts.{length-child, parent_path-child, lookup-all}
@@ -28,7 +28,7 @@ use Rattle.ovl_lookup.proofs.ChildLemmas.{all-first, all-rest, child_found, any_
 use Rattle.ovl_lookup.proofs.KidLemmas.{shows-found}
 use Rattle.ovl_lookup.proofs.LawLemmas.{ShowsParents-holds}
 use Rattle.ovl_merge.specs.Places.{Merge, whole, two_layers, lower_path, rest_path, is_open, first_of, first_hit, passes, shows_own_directory, is_nothing_or, is_shown_regular, goes_on, reach, reach_of, shows_directory_at, shows_at, base_at, child_of, natural_below, natural, base, gets_opaque}
-use Rattle.ovl_merge.specs.MergeDown.{with_value, last_name, redirected, redirected_from, merged_directory, merged_metacopy, unreached_metacopy, unshown_place, kept_place, merged_inode, new_whiteout, needs_whiteout, merged_entry_of, IsMergedDown}
+use Rattle.ovl_merge.specs.MergeDown.{with_value, last_name, redirected, redirected_from, merged_directory, merged_metacopy, unreached_metacopy, has_data_alone, kept_if_alone, kept_place, merged_inode, new_whiteout, needs_whiteout, merged_entry_of, IsMergedDown}
 use Rattle.ovl_merge.proofs.Values.{with_metacopy, mark-copied, mark-copied_moved, mark-plain, mark-opaque, mark-moved}
 use Rattle.ovl_lookup.proofs.WalkLaws.{directory_found, by_child}
 use Rattle.ovl_lookup.proofs.ChildLaws.{walk-child_directory, walk-child_end}
@@ -247,16 +247,18 @@ kept-facts m path place k = by (list_all is_metacopy found) refl (last_place fou
     found : List Inode
     found = things_found (whole m).layers path
 
-    shown : (last : PathNames) → (b : Bool) → shows m.rest last ≡ b → cond b None (Some last) ≡ Some place → (last ≡ place) × (shows m.rest last ≡ false)
-    shown last true s e = let bad : None ≡ Some place = e in cc
-    shown last false s e = let same : last ≡ place = cc in (same, s)
+    shown : (last : PathNames) → (b : Bool) → has_data_alone m last ≡ b → cond b (Some last) None ≡ Some place → (last ≡ place) × (shows m.rest last ≡ false)
+    shown last false s e = let bad : None ≡ Some place = e in cc
+    shown last true s e =
+        let same : last ≡ place = cc in
+        (same, not_true (shows m.rest last) (both {a = is_some (full_file_in m.rest.data_only last)} {b = not (shows m.rest last)} s).1)
 
-    by : (b : Bool) → list_all is_metacopy (things_found (whole m).layers path) ≡ b → (o : Option PathNames) → last_place (things_found (whole m).layers path) ≡ o → unshown_place m (cond b (last_place (things_found (whole m).layers path)) None) ≡ Some place
+    by : (b : Bool) → list_all is_metacopy (things_found (whole m).layers path) ≡ b → (o : Option PathNames) → last_place (things_found (whole m).layers path) ≡ o → kept_if_alone m (cond b (last_place (things_found (whole m).layers path)) None) ≡ Some place
         → (list_all is_metacopy (things_found (whole m).layers path) ≡ true) × (last_place (things_found (whole m).layers path) ≡ Some place) × (shows m.rest place ≡ false)
     by false a o l e = let bad : None ≡ Some place = e in cc
-    by true a None l e = let bad : None ≡ Some place = sym (ap (unshown_place m) l) ∙ e in cc
+    by true a None l e = let bad : None ≡ Some place = sym (ap (kept_if_alone m) l) ∙ e in cc
     by true a (Some last) l e =
-        let own = shown last (shows m.rest last) refl (sym (ap (unshown_place m) l) ∙ e) in
+        let own = shown last (has_data_alone m last) refl (sym (ap (kept_if_alone m) l) ∙ e) in
         (a, l ∙ ap (λ (p : PathNames). Some p) own.0, ap (shows m.rest) (sym own.0) ∙ own.1)
 
 pub kept-named : (m : Merge) (path place : PathNames) → kept_place m path ≡ Some place → (has_names place ≡ true) × (is_root place ≡ false)

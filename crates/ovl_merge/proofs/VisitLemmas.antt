@@ -7,7 +7,6 @@ use Rattle.std.specs.Cmp.Lexicographic.{pointwise_decides, bytes_decides}
 use Rattle.std.proofs.lemmas.List.{append-nil, take-append-drop, take_more}
 use Rattle.std.proofs.lemmas.List.Elements.{filter_map-append}
 use Rattle.ovl_names.specs.Names.{PathName, name_eq}
-use Rattle.ovl_lookup.specs.Trace.{things_found}
 use Rattle.ovl_names.specs.Paths.{PathNames, child_path, parent_path, path_eq, path_text, is_root}
 use Rattle.ovl_inode.specs.declared.inodes.Inode.{Inode}
 use Rattle.ovl_inode.specs.Attributes.{redirect_name, metacopy_name}
@@ -23,7 +22,7 @@ use Rattle.ovl_lookup.proofs.LookLaws.{nothing-under}
 use Rattle.ovl_lookup.specs.Walk.{walk}
 use Rattle.ovl_lookup.specs.Stacks.{StackView, from_layer}
 use Rattle.ovl_lookup.specs.Passes.{own_names_along, put_names, kids_along}
-use Rattle.ovl_lookup.specs.Merged.{look, shows_directory, place_told, AreKids}
+use Rattle.ovl_lookup.specs.Merged.{look, shows_directory, AreKids}
 use Rattle.ovl_lookup.specs.Words.{top_layer, lower_layers}
 use Rattle.ovl_lookup.proofs.WalkFacts.{length-child, parent_path-child}
 use Rattle.ovl_lookup.proofs.KidLemmas.{put_names-append}
@@ -32,7 +31,7 @@ use Rattle.ovl_rewrite.specs.Directories.{NamedInode}
 use Rattle.ovl_merge.specs.declared.passages.Passage.{Passage}
 use Rattle.ovl_merge.specs.declared.near.Near.{Near}
 use Rattle.ovl_merge.specs.Places.{Merge, two_layers, merge_of, lower_path, first_hit, passes, shows_own_directory, reach, reach_of, shows_directory_at, gets_opaque_at}
-use Rattle.ovl_merge.specs.MergeDown.{with_value, with_contents, last_name, redirected, redirected_from, merged_directory, merged_metacopy, unreached_metacopy, unshown_place, kept_place, merged_inode, merged_entry, merged_entry_of}
+use Rattle.ovl_merge.specs.MergeDown.{with_value, with_contents, last_name, redirected, redirected_from, merged_directory, merged_metacopy, unreached_metacopy, kept_place, merged_inode, merged_entry, merged_entry_of}
 use Rattle.ovl_merge.specs.Directories.{named_inode, candidate_names, entries_in}
 use Rattle.ovl_merge.specs.Reckoned.{IsPassage, IsViewIn, IsNear, found_by, first_in, goes_on_at, name_directly_in}
 use Rattle.ovl_merge.proofs.Firsts.{first_step, first_hit-steps}
@@ -214,11 +213,6 @@ kept-told m path inode shown seen own none kept is place some copied made =
     (λ j. with_value (made j) redirect_name (path_text place))
     ∙ ((λ j. with_value (with_value (seen j) metacopy_name []) redirect_name (path_text place))
     ∙ sym (ap (merged_metacopy m path inode) none ∙ ap (unreached_metacopy m path inode) (sym is ∙ some)))
-
--- the place that is kept, as the program comes to it
-pub kept-found : (stack : StackView) → 1 < length stack.layers → (path : PathNames) (told : Option PathNames) → told ≡ place_told (things_found stack.layers path) → unshown_place (merge_of stack) told ≡ kept_place (merge_of stack) path
-kept-found stack several path told is =
-    ap (unshown_place (merge_of stack)) (is ∙ ap (λ (s : StackView). place_told (things_found s.layers path)) (sym (merge-whole stack several)))
 
 -- ---- looks near a directory of the rest
 

@@ -1,5 +1,5 @@
 -- The layers that a merge makes: what they have at each path.
-use Rattle.std.specs.Prelude.{◌≡◌, ℕ, pos, Bool, ◌&&◌, Option, Some, None, List, [], ◌∷◌, if◌then◌else◌, codes}
+use Rattle.std.specs.Prelude.{◌≡◌, ℕ, pos, Bool, ◌&&◌, not, Option, Some, None, List, [], ◌∷◌, if◌then◌else◌, codes, is_some}
 use Rattle.std.specs.Option.{option_map}
 use Rattle.std.specs.List.{cons_option}
 use Rattle.ovl_names.specs.Names.{PathName}
@@ -13,7 +13,7 @@ use Rattle.ovl_manifest.specs.Layers.{Entries, entry_at}
 use Rattle.ovl_lookup.specs.declared.looks.Look.{Look}
 use Rattle.ovl_lookup.specs.declared.looks.Look.TheVariants.{Nothing, Shown, Broken}
 use Rattle.ovl_lookup.specs.Trace.{things_found}
-use Rattle.ovl_lookup.specs.Merged.{look, shows, place_told}
+use Rattle.ovl_lookup.specs.Merged.{look, shows, place_told, full_file_in}
 use Rattle.ovl_merge.specs.Places.{Merge, whole, first_hit, shows_own_directory, is_hidden, reach, natural, gets_opaque, shows_at}
 
 -- the inode with this value of an attribute
@@ -47,14 +47,18 @@ with_contents inode Nothing = inode
 with_contents inode (Shown shown) = record inode { kind = shown.kind }
 with_contents inode (Broken broken) = record inode { kind = broken.kind }
 
--- where data-only layers have the data of a path, if metacopy files alone are found there, and the rest shows nothing at
--- that place
-abbrev pub unshown_place : Merge → Option PathNames → Option PathNames
-unshown_place m None = None
-unshown_place m (Some place) = if shows m.rest place then None else Some place
+-- data-only layers have a full file at a place, and the rest shows nothing there
+abbrev pub has_data_alone : Merge → PathNames → Bool
+has_data_alone m place = is_some (full_file_in m.rest.data_only place) && not (shows m.rest place)
 
+abbrev pub kept_if_alone : Merge → Option PathNames → Option PathNames
+kept_if_alone m None = None
+kept_if_alone m (Some place) = if has_data_alone m place then Some place else None
+
+-- where data-only layers have the data of a path, as the last of the metacopy files found there says, if the rest shows
+-- nothing at that place
 abbrev pub kept_place : Merge → PathNames → Option PathNames
-kept_place m path = unshown_place m (place_told (things_found (whole m).layers path))
+kept_place m path = kept_if_alone m (place_told (things_found (whole m).layers path))
 
 -- a metacopy file without a reach: it keeps an absolute redirect to its data in data-only layers, or gets its contents
 abbrev pub unreached_metacopy : Merge → PathNames → Inode → Option PathNames → Inode

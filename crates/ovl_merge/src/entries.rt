@@ -3,7 +3,7 @@ ghost use Rattle.ovl_names.specs.Paths.{child_path, path_text as text_of_path};
 ghost use Rattle.ovl_lookup.specs.Merged.{look as the_look};
 ghost use Rattle.ovl_lookup.specs.DirViews.{IsViewOf};
 ghost use Rattle.ovl_merge.specs.Places.{merge_of};
-ghost use Rattle.ovl_merge.specs.MergeDown.{with_value as the_valued, redirected_from, with_contents as the_filled, new_whiteout as the_whiteout, merged_directory as the_directory, merged_metacopy as the_metacopy, kept_place as the_kept, merged_inode as the_inode, merged_entry};
+ghost use Rattle.ovl_merge.specs.MergeDown.{with_value as the_valued, redirected_from, with_contents as the_filled, new_whiteout as the_whiteout, merged_directory as the_directory, merged_metacopy as the_metacopy, kept_place as the_kept, has_data_alone as data_alone_test, merged_inode as the_inode, merged_entry};
 ghost use Rattle.ovl_merge.specs.Reckoned.{IsPlace, IsVisited};
 
 use crate::directories::Directory;
@@ -170,23 +170,31 @@ fn merged_metacopy(
     }
 }
 
-// Where data-only layers have the data of a path, if metacopy files alone are found there, and the rest shows nothing at
-// that place. overlayfs.rst: "Data-only lower layers".
+// Where data-only layers have the data of a path, as the last of the metacopy files found there says, if the rest shows
+// nothing at that place. overlayfs.rst: "Data-only lower layers".
 fn kept_place(alloc: Global, stack: &Stack, path: &Path) -> Result<Option<Path>, AllocError>
     requires { 1 < length stack.now.layers }
     ensures { IfOk result (λ kept. kept ≡ the_kept (merge_of stack.now) path.now) }
 {
-    // Each layer of a stack is one.
-    let _layers = stack.ordinary();
     let Some(place) = stack.data_place(alloc, path)? else {
         return Ok(None);
     };
-    let shown = stack.look(alloc, 2, &place)?;
-    if shown.is_nothing() {
+    if has_data_alone(alloc, stack, &place)? {
         Ok(Some(place))
     } else {
         Ok(None)
     }
+}
+
+// Whether data-only layers have a full file at a place, and the rest shows nothing there.
+fn has_data_alone(alloc: Global, stack: &Stack, place: &Path) -> Result<bool, AllocError>
+    requires { 1 < length stack.now.layers }
+    ensures { IfOk result (λ alone. alone ≡ data_alone_test (merge_of stack.now) place.now) }
+{
+    if stack.full_file(place).is_none() {
+        return Ok(false);
+    }
+    Ok(stack.look(alloc, 2, place)?.is_nothing())
 }
 
 // What the whole stack shows at a name in a directory, by the view of that, which is made with the first
