@@ -13,6 +13,8 @@ mod commands;
 #[cfg(test)]
 mod fsck;
 #[cfg(test)]
+mod gates;
+#[cfg(test)]
 mod new_layers;
 #[cfg(test)]
 mod stacks;
