@@ -1,7 +1,7 @@
 -- What clauses see of lanes, thieves and passes: accounts, and which lane each is of.
-use Rattle.std.specs.Prelude.{◌≡◌, ℕ, ◌++◌, List}
+use Rattle.std.specs.Prelude.{◌≡◌, ◌⊎◌, ℕ, ◌≤◌, ◌+◌, ◌^◌, ◌++◌, List, length}
 use Rattle.std.specs.declared.alloc.Global.{Global}
-use Rattle.crossbeam_deque.specs.Handles.{view, IsPassOf, worker_deque, stealer_deque, worker_view}
+use Rattle.crossbeam_deque.specs.Handles.{view, IsPassOf, worker_deque, stealer_deque, worker_view, worker_capacity}
 use Rattle.ovl_board.specs.declared.pieces.Piece.{Piece}
 use Rattle.ovl_board.specs.Balance.{times}
 use Rattle.ovl_lanes.specs.declared.accounts.Account.{Account}
@@ -15,6 +15,10 @@ account_of lane = worker_view lane.deque
 -- each piece was pushed as often as it was taken or is left
 abbrev pub IsSettled : Account → List Piece → Type 0
 IsSettled a left = (p : Piece) → times p a.pushed ≡ times p (a.taken ++ left)
+
+-- as many pieces were pushed as the lane has slots or more, or as many as can be counted
+abbrev pub IsUsedUp : Lane → Type 0
+IsUsedUp lane = (worker_capacity lane.deque ≤ length (account_of lane).pushed) ⊎ (length (account_of lane).pushed + 1 ≡ 2 ^ 64)
 
 -- every pass that was split from the lane is joined again
 abbrev pub IsWhole : Lane → Type 0

@@ -1,5 +1,5 @@
-ghost use Rattle.std.specs.Prelude.{◌≡◌, true, false, length};
-ghost use Rattle.crossbeam_deque.specs.Handles.{view, worker_view, worker_flavor, stealer_flavor};
+ghost use Rattle.std.specs.Prelude.{◌≡◌, ◌≤◌, true, false, length};
+ghost use Rattle.crossbeam_deque.specs.Handles.{view, worker_view, worker_flavor, worker_index, stealer_flavor};
 
 use crate::accounts::Account;
 use crate::rules::{Fair, Left, Lends, Puts, Steals, Takes};
@@ -18,6 +18,7 @@ pub struct Lane {
     ghost owns: { (worker_view deque).owner ≡ true },
     ghost fifo: { worker_flavor deque ≡ 0 },
     ghost counted: { length (worker_view deque).pushed ≡ pushed },
+    ghost reached: { worker_index deque ≤ pushed },
 }
 
 /// The leave of one worker to steal from one lane. It is split from the lane, and joined to it again before the lane
@@ -36,11 +37,11 @@ pub struct Thief {
 }
 
 impl Lane {
-    ghost use Rattle.std.specs.Prelude.{◌≡◌, ◌≤◌, ◌+◌, [], ◌∷◌, ◌++◌, length, List, IfOk, IfSome, MatchResult, MatchOption};
+    ghost use Rattle.std.specs.Prelude.{◌≡◌, ◌≤◌, ◌+◌, [], ◌∷◌, ◌++◌, length, List, IfOk, IfErr, IfSome, MatchResult, MatchOption};
     ghost use Rattle.ovl_board.specs.declared.pieces.Piece.{Piece};
     ghost use Rattle.ovl_board.specs.Balance.{times};
     ghost use Rattle.ovl_lanes.specs.Accounts.{owned};
-    ghost use Rattle.ovl_lanes.specs.Lanes.{account_of, stolen_by, IsOfLane, IsOneLane, IsSameLane, IsSettled, IsWhole};
+    ghost use Rattle.ovl_lanes.specs.Lanes.{account_of, stolen_by, IsOfLane, IsOneLane, IsSameLane, IsSettled, IsUsedUp, IsWhole};
 
     /// A lane with nothing in it, and its thief.
     pub(crate) fn new(alloc: Global) -> Result<(Lane, Thief), AllocError>
@@ -71,12 +72,13 @@ impl Lane {
     }
 
     /// Adds a piece at the back of the lane. Gives it back, with nothing changed, where memory is wanted, the deque is at
-    /// its own end, or 2^64 - 1 pieces were pushed already.
+    /// its own end, or 2^64 - 1 pieces were pushed already; never while a slot of the lane wasn't used yet.
     pub fn push(&mut self, piece: Piece) -> Result<(), Piece>
         ensures same { IsSameLane self.old self.new }
         ensures counted { MatchResult result
             (λ _. account_of self.new ≡ record (account_of self.old) { pushed = (account_of self.old).pushed ++ piece ∷ [] })
             (λ back. (back ≡ piece) × (account_of self.new ≡ account_of self.old)) }
+        ensures refused { IfErr result (λ _. IsUsedUp self.old) }
     {
         if self.pushed == u64::MAX {
             return Err(piece);

@@ -1,6 +1,7 @@
 -- Pieces that are pushed and taken, weighed step by step.
-use Rattle.std.proofs.Common.{◌≡◌, ℕ, ◌+◌, ◌<◌, List, [], ◌∷◌, ◌++◌, length, get_or, set, refl, ap, ◌∙◌, arith, IsPermutation}
+use Rattle.std.proofs.Common.{◌≡◌, ℕ, ◌+◌, ◌<◌, ◌≤◌, Option, Some, None, List, [], ◌∷◌, ◌++◌, length, get_or, set, refl, ap, ◌∙◌, arith, IsPermutation}
 use Rattle.std.specs.List.{sum_by}
+use Rattle.std.specs.Option.{option_or}
 use Rattle.std.proofs.lemmas.List.Sums.{sum_by-cons, sum_by-append, sum_by_push, sum_by-set}
 use Rattle.std.proofs.lemmas.List.Sorted.{sum_by-IsPermutation}
 use Rattle.ovl_board.specs.declared.pieces.Piece.{Piece}
@@ -12,9 +13,10 @@ use Rattle.ovl_lanes.specs.declared.accounts.Account.{Account}
 use Rattle.ovl_lanes.specs.declared.ends.Lane.{Lane}
 use Rattle.ovl_lanes.specs.declared.ends.Pass.{Pass}
 use Rattle.ovl_lanes.specs.Lanes.{account_of, stolen_by}
+use Rattle.ovl_pool.specs.declared.hauls.Haul.{Haul}
 use Rattle.ovl_pool.specs.declared.workers.Worker.{Worker}
 use Rattle.ovl_pool.specs.declared.workers.Other.{Other}
-use Rattle.ovl_pool.specs.Flows.{lane_pushed, lane_taken, stolen, pushed, taken, all_pushed, all_taken, delivered, below, each_one, mark, IsPushed, IsTaken, IsUntouched, IsAdded, IsTied, AreTied, KeepsPace, AreCounted, HaveNothing, HaveGone, AreUntouched, AreSettled}
+use Rattle.ovl_pool.specs.Flows.{lane_pushed, lane_taken, stolen, pushed, taken, all_pushed, all_taken, delivered, below, refused_weight, accounted, each_one, indicator, IsPushed, IsPushedOf, PushesKids, IsTaken, IsUntouched, IsAdded, IsTied, IsWithin, AreTied, AreWithin, KeepsPace, StaysWithin, AreCounted, HaveNothing, HaveGone, AreUntouched, AreSettled}
 use Rattle.ovl_pool.proofs.CrewLemmas.{IsApart}
 
 -- pieces that all weigh 1 weigh their number
@@ -26,22 +28,7 @@ pub length_delivered : {O : Type 0} (parcels : List (Parcel O)) → delivered ea
 length_delivered [] = refl
 length_delivered {O} (c ∷ cs) = omega (arith, sum_by-cons (λ (parcel : Parcel O). each_one parcel.piece) c cs, length_delivered cs)
 
--- a piece was pushed to a lane, or taken from it by its owner
-pub pushed_one : (h : Piece → ℕ) (a b : Lane) (p : Piece) → account_of b ≡ record (account_of a) { pushed = (account_of a).pushed ++ p ∷ [] } → (lane_pushed h b ≡ lane_pushed h a + h p) × (lane_taken h b ≡ lane_taken h a)
-pushed_one h a b p e = (ap (λ (v : Account). sum_by h v.pushed) e ∙ sum_by_push h (account_of a).pushed p, ap (λ (v : Account). sum_by h v.taken) e)
-
-pub taken_one : (h : Piece → ℕ) (a b : Lane) (p : Piece) → account_of b ≡ record (account_of a) { taken = (account_of a).taken ++ p ∷ [] } → (lane_taken h b ≡ lane_taken h a + h p) × (lane_pushed h b ≡ lane_pushed h a)
-taken_one h a b p e = (ap (λ (v : Account). sum_by h v.taken) e ∙ sum_by_push h (account_of a).taken p, ap (λ (v : Account). sum_by h v.pushed) e)
-
-pub same_lane : (h : Piece → ℕ) (a b : Lane) → account_of b ≡ account_of a → (lane_taken h b ≡ lane_taken h a) × (lane_pushed h b ≡ lane_pushed h a)
-same_lane h a b e = (ap (λ (v : Account). sum_by h v.taken) e, ap (λ (v : Account). sum_by h v.pushed) e)
-
--- one of the passes steals a piece, or none
-pub stolen_one : (h : Piece → ℕ) (others : List Other) (i : ℕ) (a b : Other) (p : Piece) → i < length others → a ≡ get_or others i a → stolen_by b.pass ≡ stolen_by a.pass ++ p ∷ [] → stolen h (set others i b) ≡ stolen h others + h p
-stolen_one h others i a b p within is e =
-    let f : Other → ℕ = λ o. sum_by h (stolen_by o.pass) in
-    omega (arith, sum_by-set f others i b a within, ap f is, ap (sum_by h) e, sum_by_push h (stolen_by a.pass) p)
-
+-- one of the passes steals none
 pub stolen_none : (h : Piece → ℕ) (others : List Other) (i : ℕ) (a b : Other) → i < length others → a ≡ get_or others i a → stolen_by b.pass ≡ stolen_by a.pass → stolen h (set others i b) ≡ stolen h others
 stolen_none h others i a b within is e =
     let f : Other → ℕ = λ o. sum_by h (stolen_by o.pass) in
@@ -88,37 +75,37 @@ halves_tied all first second ended more xs ys zs e a b same h =
     )
 
 -- the pieces of parcels and their kids as lists
-delivered_pieces : {O : Type 0} (h : Piece → ℕ) (parcels : List (Parcel O)) → sum_by h (pieces_of (bare parcels)) ≡ delivered h parcels
+pub delivered_pieces : {O : Type 0} (h : Piece → ℕ) (parcels : List (Parcel O)) → sum_by h (pieces_of (bare parcels)) ≡ delivered h parcels
 delivered_pieces h [] = refl
 delivered_pieces {O} h (c ∷ cs) = omega (arith, sum_by-cons h c.piece (pieces_of (bare cs)), sum_by-cons (λ (parcel : Parcel O). h parcel.piece) c cs, delivered_pieces h cs)
 
-below_kids : {O : Type 0} (h : Piece → ℕ) (parcels : List (Parcel O)) → sum_by h (kids_in (bare parcels)) ≡ below h parcels
+pub below_kids : {O : Type 0} (h : Piece → ℕ) (parcels : List (Parcel O)) → sum_by h (kids_in (bare parcels)) ≡ below h parcels
 below_kids h [] = refl
 below_kids {O} h (c ∷ cs) = omega (arith, sum_by-append h c.kids.items (kids_in (bare cs)), sum_by-cons (λ (parcel : Parcel O). sum_by h parcel.kids.items) c cs, below_kids h cs)
 
 -- once the lanes are closed the parcels are in balance with what is left
 pub gathered_balance : {O : Type 0} (root : Piece) (workers : List Worker) (parcels : List (Parcel O)) (left : List Piece) → HaveGone root workers parcels → AreSettled workers left → IsBalanced root (bare parcels) left
 gathered_balance root workers parcels left gone settled p =
-    let g = gone (mark p) in
-    omega (arith, g.0, g.1, settled p, sum_by-cons (mark p) root (kids_in (bare parcels)), sum_by-append (mark p) (pieces_of (bare parcels)) left, delivered_pieces (mark p) parcels, below_kids (mark p) parcels)
+    let g = gone (indicator p) in
+    omega (arith, g.0, g.1, settled p, sum_by-cons (indicator p) root (kids_in (bare parcels)), sum_by-append (indicator p) (pieces_of (bare parcels)) left, delivered_pieces (indicator p) parcels, below_kids (indicator p) parcels)
 
 -- parcels in another order are in the same balance
 pub same_balance : {O : Type 0} (root : Piece) (xs ys : List (Parcel O)) (left : List Piece) → IsPermutation xs ys → IsBalanced root (bare xs) left → IsBalanced root (bare ys) left
 same_balance root xs ys left same balance p =
-    let s = same_parcels xs ys same (mark p) in
+    let s = same_parcels xs ys same (indicator p) in
     omega (
       arith,
       s.0,
       s.1,
       balance p,
-      sum_by-cons (mark p) root (kids_in (bare xs)),
-      sum_by-cons (mark p) root (kids_in (bare ys)),
-      sum_by-append (mark p) (pieces_of (bare xs)) left,
-      sum_by-append (mark p) (pieces_of (bare ys)) left,
-      delivered_pieces (mark p) xs,
-      delivered_pieces (mark p) ys,
-      below_kids (mark p) xs,
-      below_kids (mark p) ys,
+      sum_by-cons (indicator p) root (kids_in (bare xs)),
+      sum_by-cons (indicator p) root (kids_in (bare ys)),
+      sum_by-append (indicator p) (pieces_of (bare xs)) left,
+      sum_by-append (indicator p) (pieces_of (bare ys)) left,
+      delivered_pieces (indicator p) xs,
+      delivered_pieces (indicator p) ys,
+      below_kids (indicator p) xs,
+      below_kids (indicator p) ys,
     )
 
 -- one worker changes, and has taken and pushed as much as before
@@ -184,12 +171,12 @@ given_back workers i j w u x v other within is lane others within' is' account o
 
 -- of workers that were closed so far the pieces left are known, and of the rest what was pushed and taken
 pub settled_more : (all rest : List Worker) (w : Worker) (left more : List Piece) → w.others.items ≡ []
-    → ((p : Piece) → all_pushed (mark p) all + all_taken (mark p) (rest ++ w ∷ []) ≡ all_taken (mark p) all + all_pushed (mark p) (rest ++ w ∷ []) + times p left)
+    → ((p : Piece) → all_pushed (indicator p) all + all_taken (indicator p) (rest ++ w ∷ []) ≡ all_taken (indicator p) all + all_pushed (indicator p) (rest ++ w ∷ []) + times p left)
     → ((p : Piece) → times p (account_of w.lane).pushed ≡ times p ((account_of w.lane).taken ++ more))
-    → (p : Piece) → all_pushed (mark p) all + all_taken (mark p) rest ≡ all_taken (mark p) all + all_pushed (mark p) rest + times p (left ++ more)
+    → (p : Piece) → all_pushed (indicator p) all + all_taken (indicator p) rest ≡ all_taken (indicator p) all + all_pushed (indicator p) rest + times p (left ++ more)
 settled_more all rest w left more none so_far closed p =
-    let empty : stolen (mark p) w.others.items ≡ 0 = ap (stolen (mark p)) none in
-    omega (arith, so_far p, closed p, empty, sum_by_push (taken (mark p)) rest w, sum_by_push (pushed (mark p)) rest w, sum_by-append (mark p) (account_of w.lane).taken more, sum_by-append (mark p) left more)
+    let empty : stolen (indicator p) w.others.items ≡ 0 = ap (stolen (indicator p)) none in
+    omega (arith, so_far p, closed p, empty, sum_by_push (taken (indicator p)) rest w, sum_by_push (pushed (indicator p)) rest w, sum_by-append (indicator p) (account_of w.lane).taken more, sum_by-append (indicator p) left more)
 
 -- the numbers of a closed worker
 pub counted_more : (rest : List Worker) (w : Worker) → w.others.items ≡ [] → (all_taken each_one (rest ++ w ∷ []) ≡ all_taken each_one rest + length (account_of w.lane).taken) × (all_pushed each_one (rest ++ w ∷ []) ≡ all_pushed each_one rest + length (account_of w.lane).pushed)
@@ -219,23 +206,43 @@ last_tied rest w v xs tied h =
     let t = tied h in
     (omega (arith, t.0, sum_by_push (taken h) rest w, sum_by_push (taken h) rest v), omega (arith, t.1, sum_by_push (pushed h) rest w, sum_by_push (pushed h) rest v))
 
--- a turn of a worker: it takes a piece and pushes its kids, or does neither
-pub pace_served : {O : Type 0} (w v u : Worker) (xs ys : List (Parcel O)) (p : Piece) (kids : List Piece) → IsTaken w v p → u.others.items ≡ v.others.items → IsPushed v.lane u.lane kids → IsAdded xs ys p kids → KeepsPace w u xs ys
-pace_served w v u xs ys p kids took others push add h =
-    let t = took h in
-    let q = push h in
-    let a = add h in (omega (arith, t.0, q.1, a.0, ap (stolen h) others), omega (arith, t.1, q.0, a.1))
+-- as many kids were noted as were to be pushed
+pub noted_before : (old new : Lane) (pieces kids : List Piece) (count before after : ℕ) → IsPushedOf old new pieces → pieces ≡ kids → count ≡ length kids → after ≡ before + count
+    → lane_pushed each_one new + before ≤ lane_pushed each_one old + after
+noted_before old new pieces kids count before after push same many noted = omega (arith, (push each_one).0, ap (sum_by each_one) same, length_sum kids, many, noted)
 
-pub pace_idle : {O : Type 0} (w v : Worker) (xs : List (Parcel O)) → IsUntouched w v → KeepsPace w v xs xs
-pace_idle w v xs same h = let s = same h in (omega (arith, s.0), omega (arith, s.1))
+-- parcels in another order, one worker of several, and both halves
+pub within_permuted : {O : Type 0} (w v : Worker) (a b : Haul O) → IsPermutation a.parcels.items b.parcels.items → b.refused ≡ a.refused → IsWithin w v a → IsWithin w v b
+within_permuted w v a b same refused within h =
+    let s = same_parcels a.parcels.items b.parcels.items same h in
+    let t = within h in (omega (arith, s.0, t.0, ap (refused_weight h) refused), omega (arith, s.1, t.1))
 
-pub tied_more : {O : Type 0} (w v u : Worker) (xs ys : List (Parcel O)) → IsTied w v xs → KeepsPace v u xs ys → IsTied w u ys
-tied_more w v u xs ys tied pace h =
-    let t = tied h in
-    let p = pace h in (omega (arith, t.0, p.0), omega (arith, t.1, p.1))
+pub last_within : {O : Type 0} (rest : List Worker) (w v : Worker) (a : Haul O) → IsWithin w v a → AreWithin (rest ++ w ∷ []) (rest ++ v ∷ []) a
+last_within rest w v a within h =
+    let t = within h in
+    (omega (arith, t.0, sum_by_push (taken h) rest w, sum_by_push (taken h) rest v), omega (arith, t.1, sum_by_push (pushed h) rest w, sum_by_push (pushed h) rest v))
 
-pub none_tied : (O : Type 0) (w : Worker) → IsTied {O = O} w w []
-none_tied O w h = (omega arith, omega arith)
+pub last_foreknown : (rest : List Worker) (w v : Worker) (known : ℕ) → pushed each_one v ≤ pushed each_one w + known → all_pushed each_one (rest ++ v ∷ []) ≤ all_pushed each_one (rest ++ w ∷ []) + known
+last_foreknown rest w v known few = omega (arith, few, sum_by_push (pushed each_one) rest w, sum_by_push (pushed each_one) rest v)
+
+refused_least : (h : Piece → ℕ) (o p : Option Piece) → refused_weight h (option_or o p) ≤ refused_weight h o + refused_weight h p
+refused_least h None p = omega arith
+refused_least h (Some x) p = omega arith
+
+pub halves_within : {O : Type 0} (all first second ended more : List Worker) (a b both : Haul O) → all ≡ first ++ second → AreWithin first ended a → AreWithin second more b
+    → IsPermutation (a.parcels.items ++ b.parcels.items) both.parcels.items → both.refused ≡ option_or a.refused b.refused → AreWithin all (ended ++ more) both
+halves_within all first second ended more a b both e left right same refused h =
+    let p = parcels_joined a.parcels.items b.parcels.items both.parcels.items same h in
+    let l = left h in
+    let r = right h in (
+      omega (arith, p.0, l.0, r.0, ap (refused_weight h) refused, refused_least h a.refused b.refused, sum_by-append (taken h) ended more, sum_by-append (taken h) first second, ap (all_taken h) e),
+      omega (arith, p.1, l.1, r.1, sum_by-append (pushed h) ended more, sum_by-append (pushed h) first second, ap (all_pushed h) e),
+    )
+
+pub halves_foreknown : (all first second ended more : List Worker) (known beside every : ℕ) → all ≡ first ++ second → all_pushed each_one ended ≤ all_pushed each_one first + known → all_pushed each_one more ≤ all_pushed each_one second + beside
+    → every ≡ known + beside → all_pushed each_one (ended ++ more) ≤ all_pushed each_one all + every
+halves_foreknown all first second ended more known beside every e left right sum =
+    omega (arith, left, right, sum, sum_by-append (pushed each_one) ended more, sum_by-append (pushed each_one) first second, ap (all_pushed each_one) e)
 
 -- the next worker is closed
 pub closed_numbers : (ws rest all : List Worker) (w : Worker) (pushed_all taken_now taken_so_far left_so_far left_now : ℕ) → ws ≡ rest ++ w ∷ [] → w.others.items ≡ []

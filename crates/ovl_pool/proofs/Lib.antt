@@ -1,4 +1,3 @@
-pub mod ChainLemmas
 pub mod CrewLemmas
 pub mod FlowLemmas
 pub mod MergeLemmas

@@ -1,6 +1,8 @@
 -- What workers bring.
-use Rattle.std.specs.Prelude.{◌≡◌, List, None, IfSome, false}
+use Rattle.std.specs.Prelude.{◌≡◌, List, [], ◌∷◌, None, IfSome, false, AllPairs}
 use Rattle.ovl_board.specs.declared.pieces.Piece.{Piece}
+use Rattle.ovl_board.specs.declared.works.Parcel.{Parcel}
+use Rattle.ovl_board.specs.Pieces.{IsBefore}
 use Rattle.ovl_board.specs.Parcels.{parcel_views, AreOwn}
 use Rattle.ovl_pool.specs.declared.hauls.Haul.{Haul}
 
@@ -11,3 +13,12 @@ IsOwnHaul seen kids out may_refuse haul = AreOwn kids out (parcel_views seen hau
 -- no memory was wanted, and the gate refused nothing
 abbrev pub IsClean : {O : Type 0} → Haul O → Type 0
 IsClean haul = (haul.starved ≡ false) × (haul.refused ≡ None)
+
+-- parcels come in the order of their pieces
+abbrev pub AreInOrder : {O : Type 0} → List (Parcel O) → Type 0
+AreInOrder {O} parcels = AllPairs (λ (a b : Parcel O). ¬ IsBefore b.piece a.piece) parcels
+
+-- the first of these parcels, if there is one, doesn't come before that parcel
+abbrev pub IsAtFront : {O : Type 0} → Parcel O → List (Parcel O) → Type 0
+IsAtFront parcel [] = Unit {0}
+IsAtFront parcel (other ∷ others) = ¬ IsBefore other.piece parcel.piece

@@ -1,7 +1,7 @@
-ghost use Rattle.std.specs.Prelude.{◌≡◌, ◌<◌, IfOk, All, map, vec_len};
+ghost use Rattle.std.specs.Prelude.{◌≡◌, ◌<◌, ◌≤◌, ◌+◌, IfOk, All, map, vec_len};
 ghost use Rattle.std.specs.Thread.{IsSync, IsSend};
-ghost use Rattle.ovl_pool.specs.Flows.{AreTied, AreCounted};
-ghost use Rattle.ovl_pool.specs.Hauls.{IsOwnHaul, IsClean};
+ghost use Rattle.ovl_pool.specs.Flows.{AreTied, AreWithin, AreCounted, all_pushed, each_one};
+ghost use Rattle.ovl_pool.specs.Hauls.{IsOwnHaul, IsClean, AreInOrder};
 ghost use Rattle.ovl_pool.specs.Passes.{HasPasses, post_of};
 
 use crate::gates::Gate;
@@ -45,6 +45,9 @@ where
     ensures passes { IfOk result (λ r. All (HasPasses thieves.now) r.0.items) }
     ensures same { IfOk result (λ r. map post_of r.0.items ≡ map post_of workers.items) }
     ensures parts { IfOk result (λ r. (r.2.known.parts ≡ vec_len workers) × (r.2.delivered.parts ≡ vec_len workers)) }
+    ensures within { IfOk result (λ r. AreWithin workers.items r.0.items r.1) }
+    ensures foreknown { IfOk result (λ r. all_pushed each_one r.0.items ≤ all_pushed each_one workers.items + r.2.known.amount) }
+    ensures order { IfOk result (λ r. IsClean r.1 → AreInOrder r.1.parcels.items) }
     ensures tied { IfOk result (λ r. IsClean r.1 → AreTied workers.items r.0.items r.1.parcels.items) }
     ensures counted { IfOk result (λ r. IsClean r.1 → AreCounted r.2.known.amount r.2.delivered.amount r.1.parcels.items) }
 {
@@ -89,6 +92,9 @@ where
     ensures passes { IfOk result (λ r. All (HasPasses thieves.now) r.0.items) }
     ensures same { IfOk result (λ r. map post_of r.0.items ≡ map post_of workers.items) }
     ensures parts { IfOk result (λ r. (r.2.known.parts ≡ vec_len workers) × (r.2.delivered.parts ≡ vec_len workers)) }
+    ensures within { IfOk result (λ r. AreWithin workers.items r.0.items r.1) }
+    ensures foreknown { IfOk result (λ r. all_pushed each_one r.0.items ≤ all_pushed each_one workers.items + r.2.known.amount) }
+    ensures order { IfOk result (λ r. IsClean r.1 → AreInOrder r.1.parcels.items) }
     ensures tied { IfOk result (λ r. IsClean r.1 → AreTied workers.items r.0.items r.1.parcels.items) }
     ensures counted { IfOk result (λ r. IsClean r.1 → AreCounted r.2.known.amount r.2.delivered.amount r.1.parcels.items) }
 {
@@ -105,6 +111,9 @@ where
         ensures passes { IfOk result (λ r. All (HasPasses thieves.entry.now) r.0.items) }
         ensures same { IfOk result (λ r. map post_of r.0.items ≡ map post_of later.items) }
         ensures parts { IfOk result (λ r. (r.2.known.parts ≡ vec_len later) × (r.2.delivered.parts ≡ vec_len later)) }
+        ensures within { IfOk result (λ r. AreWithin later.items r.0.items r.1) }
+        ensures foreknown { IfOk result (λ r. all_pushed each_one r.0.items ≤ all_pushed each_one later.items + r.2.known.amount) }
+        ensures order { IfOk result (λ r. IsClean r.1 → AreInOrder r.1.parcels.items) }
         ensures tied { IfOk result (λ r. IsClean r.1 → AreTied later.items r.0.items r.1.parcels.items) }
         ensures counted { IfOk result (λ r. IsClean r.1 → AreCounted r.2.known.amount r.2.delivered.amount r.1.parcels.items) }
     { crew(rt, alloc, work, gate, tally, thieves, later, latter) };
@@ -118,6 +127,9 @@ where
         ensures passes { IfOk result (λ r. All (HasPasses thieves.entry.now) r.0.items) }
         ensures same { IfOk result (λ r. map post_of r.0.items ≡ map post_of workers.items) }
         ensures parts { IfOk result (λ r. (r.2.known.parts ≡ vec_len workers) × (r.2.delivered.parts ≡ vec_len workers)) }
+        ensures within { IfOk result (λ r. AreWithin workers.items r.0.items r.1) }
+        ensures foreknown { IfOk result (λ r. all_pushed each_one r.0.items ≤ all_pushed each_one workers.items + r.2.known.amount) }
+        ensures order { IfOk result (λ r. IsClean r.1 → AreInOrder r.1.parcels.items) }
         ensures tied { IfOk result (λ r. IsClean r.1 → AreTied workers.items r.0.items r.1.parcels.items) }
         ensures counted { IfOk result (λ r. IsClean r.1 → AreCounted r.2.known.amount r.2.delivered.amount r.1.parcels.items) }
     { crew(rt, alloc, work, gate, tally, thieves, workers, shares) };

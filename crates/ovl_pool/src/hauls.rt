@@ -1,5 +1,6 @@
-ghost use Rattle.std.specs.Prelude.{◌≡◌, ◌++◌, ◌⊎◌, None, IfOk, IsPermutation, [], false};
-ghost use Rattle.ovl_pool.specs.Hauls.{IsClean};
+ghost use Rattle.std.specs.Prelude.{◌≡◌, ◌++◌, ◌||◌, None, IfOk, IsPermutation, [], false};
+ghost use Rattle.std.specs.Option.{option_or};
+ghost use Rattle.ovl_pool.specs.Hauls.{AreInOrder};
 
 use crate::merging::merged;
 use ovl_board::{Parcel, Piece, sort_parcels};
@@ -30,19 +31,24 @@ impl<T: Drop> Haul<T> {
     pub(crate) fn sorted(mut self) -> Haul<T>
         ensures parcels { IsPermutation self.parcels.items result.parcels.items }
         ensures refused { result.refused ≡ self.refused }
-        ensures clean { IsClean result → IsClean self }
+        ensures starved { result.starved ≡ false → (self.starved ≡ false) × AreInOrder result.parcels.items }
     {
-        if sort_parcels(&mut self.parcels).is_err() {
-            self.starved = true;
+        match sort_parcels(&mut self.parcels) {
+            Ok(()) => self,
+            Err(AllocError) => {
+                self.starved = true;
+                self
+            }
         }
-        self
     }
 
     /// Both hauls in one, in the order of pieces where each of them is. Of two refused pieces it keeps the first.
     pub(crate) fn with(self, alloc: Global, other: Haul<T>) -> Result<Haul<T>, AllocError>
         ensures parcels { IfOk result (λ both. IsPermutation (self.parcels.items ++ other.parcels.items) both.parcels.items) }
-        ensures refused { IfOk result (λ both. (both.refused ≡ self.refused) ⊎ (both.refused ≡ other.refused)) }
-        ensures clean { IfOk result (λ both. IsClean both → IsClean self × IsClean other) }
+        ensures order { IfOk result (λ both.
+            AreInOrder self.parcels.items → AreInOrder other.parcels.items → AreInOrder both.parcels.items) }
+        ensures refused { IfOk result (λ both. both.refused ≡ option_or self.refused other.refused) }
+        ensures starved { IfOk result (λ both. both.starved ≡ (self.starved || other.starved)) }
     {
         let Haul {
             parcels,
@@ -56,7 +62,7 @@ impl<T: Drop> Haul<T> {
         } = other;
         Ok(Haul {
             parcels: merged(alloc, parcels, more)?,
-            refused: if refused.is_some() { refused } else { beside },
+            refused: refused.or(beside),
             starved: starved || too,
         })
     }

@@ -1,7 +1,6 @@
 //! Workers that share the visits of a work: at Ok their answer is the plain walk, on every schedule.
 #![tactic(auto)]
 
-mod chains;
 mod crews;
 mod gates;
 mod hauls;

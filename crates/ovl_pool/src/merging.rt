@@ -1,4 +1,5 @@
-ghost use Rattle.std.specs.Prelude.{◌≡◌, ◌∷◌, ◌++◌, ◌⊎◌, IfOk, MatchOption, IsPermutation, []};
+ghost use Rattle.std.specs.Prelude.{◌≡◌, ◌∷◌, ◌++◌, ◌⊎◌, IfOk, IfSome, MatchOption, IsPermutation, []};
+ghost use Rattle.ovl_pool.specs.Hauls.{AreInOrder, IsAtFront};
 
 use ovl_board::Parcel;
 use std::alloc::{AllocError, Global};
@@ -10,7 +11,8 @@ pub(crate) fn merged<T: Drop>(
     first: Vec<Parcel<T>>,
     second: Vec<Parcel<T>>,
 ) -> Result<Vec<Parcel<T>>, AllocError>
-    ensures { IfOk result (λ both. IsPermutation (first.items ++ second.items) both.items) }
+    ensures same { IfOk result (λ both. IsPermutation (first.items ++ second.items) both.items) }
+    ensures order { IfOk result (λ both. AreInOrder first.items → AreInOrder second.items → AreInOrder both.items) }
 {
     let mut both = Vec::with_capacity(alloc, first.len().saturating_add(second.len()))?;
     let mut first = VecDeque::from(first);
@@ -26,17 +28,19 @@ fn next_of<T>(
     first: &mut VecDeque<Parcel<T>>,
     second: &mut VecDeque<Parcel<T>>,
 ) -> Option<Parcel<T>>
-    ensures { MatchOption result
+    ensures taken { MatchOption result
         ((first.old.items ≡ []) × (second.old.items ≡ []))
         (λ parcel. ((first.old.items ≡ parcel ∷ first.new.items) × (second.new.items ≡ second.old.items))
         ⊎ ((second.old.items ≡ parcel ∷ second.new.items) × (first.new.items ≡ first.old.items))) }
+    ensures order { IfSome result (λ parcel. IsAtFront parcel first.old.items × IsAtFront parcel second.old.items) }
 {
-    let is_second = match (first.front(), second.front()) {
-        (Some(one), Some(other)) => other.piece < one.piece,
-        (Some(_), None) => false,
-        (None, _) => true,
+    let Some(one) = first.front() else {
+        return second.pop_front();
     };
-    if is_second {
+    let Some(other) = second.front() else {
+        return first.pop_front();
+    };
+    if other.piece < one.piece {
         second.pop_front()
     } else {
         first.pop_front()

@@ -1,4 +1,4 @@
-ghost use Rattle.std.specs.Prelude.{◌≡◌, ◌<◌, ◌+◌, ◌^◌, OnOk, IfOk};
+ghost use Rattle.std.specs.Prelude.{◌≡◌, ◌<◌, ◌+◌, ◌^◌, OnOk, IfOk, MatchResult};
 ghost use Rattle.ovl_pool.specs.declared.notes.Prospect.TheVariants.{End};
 
 use crate::shares::Shares;
@@ -54,7 +54,9 @@ impl<'a, R: Wait, K: Ledger, D: Ledger> Notes<'a, R, K, D> {
 
     /// Notes that a piece with so many kids was delivered, at once or later. Fails where the tally is at its end.
     pub(crate) fn deliver(&mut self, kids: u64) -> Result<Prospect, AllocError>
-        ensures known { OnOk result (self.new.shares.known.amount ≡ self.old.shares.known.amount + kids) }
+        ensures known { MatchResult result
+            (λ _. self.new.shares.known.amount ≡ self.old.shares.known.amount + kids)
+            (λ _. self.new.shares.known.amount ≡ self.old.shares.known.amount) }
         ensures delivered { OnOk result (self.new.shares.delivered.amount + self.new.unnoted
             ≡ self.old.shares.delivered.amount + self.old.unnoted + 1) }
         ensures settled { IfOk result (λ next. next ≡ End → self.new.unnoted ≡ 0) }
@@ -80,7 +82,7 @@ impl<'a, R: Wait, K: Ledger, D: Ledger> Notes<'a, R, K, D> {
 
     /// Notes all that was delivered. Fails where the tally is at its end.
     pub(crate) fn settle(&mut self) -> Result<Prospect, AllocError>
-        ensures known { OnOk result (self.new.shares.known.amount ≡ self.old.shares.known.amount) }
+        ensures known { self.new.shares.known.amount ≡ self.old.shares.known.amount }
         ensures delivered { OnOk result (self.new.shares.delivered.amount + self.new.unnoted
             ≡ self.old.shares.delivered.amount + self.old.unnoted) }
         ensures settled { OnOk result (self.new.unnoted ≡ 0) }

@@ -1,14 +1,14 @@
-ghost use Rattle.std.specs.Prelude.{◌≡◌, ◌↔◌, ◌<◌, ◌⊎◌, [], Err, IfOk, IfErr, vec_len};
+ghost use Rattle.std.specs.Prelude.{◌≡◌, ◌↔◌, ◌<◌, ◌≤◌, ◌+◌, ◌⊎◌, [], List, length, Err, IfOk, IfErr, vec_len};
+ghost use Rattle.ovl_board.specs.declared.pieces.Piece.{Piece};
 ghost use Rattle.ovl_board.specs.Machine.{worker_limit};
 ghost use Rattle.ovl_board.specs.Parcels.{IsPlain, parcel_views};
 ghost use Rattle.ovl_pool.specs.declared.runs.RunFault.TheVariants.{Workers, Gate as GateFault, Board, Memory};
 ghost use Rattle.ovl_board.specs.Balance.{IsBalanced, AllLawful};
 ghost use Rattle.ovl_board.specs.Assembly.{IsInOrder, bare};
-ghost use Rattle.ovl_pool.specs.Flows.{HaveGone, AreCounted};
+ghost use Rattle.ovl_pool.specs.Flows.{AreSettled, CountsParcels, all_pushed, all_taken, each_one};
 ghost use Rattle.ovl_pool.specs.Passes.{AreSeated};
 ghost use Rattle.ovl_pool.specs.Runs.{MayBeRefused, IsBoardMemory, IsWantOfMemory, CountsAll, no_lanes};
 
-use crate::chains::leads_to;
 use crate::crews::crew;
 use crate::gates::Gate;
 use crate::hauls::Haul;
@@ -147,74 +147,79 @@ where
 {
     let _deepest = work.deepest();
     let seats = lanes(alloc, workers)?;
-    let (crowd, thieves) = seated(alloc, seats, root.copy(alloc)?)?;
+    let first = root.copy(alloc)?;
+    let (crowd, thieves) = seated(alloc, seats, first)?;
     let (kids, known) = kids.open::<K>();
     let (parcels, delivered) = parcels.open::<D>();
     let tally = Mutex::new(Tally::start(kids, parcels));
     let shares = Shares { known, delivered };
     let (ended, haul, shares) = crew(rt, alloc, work, gate, &tally, &thieves, crowd, shares)?;
+    let count = counted(tally.into_inner(), shares, ended, thieves);
     let Haul {
         parcels,
         refused,
         starved,
     } = haul;
-    if let Some(piece) = refused {
-        if leads_to(&parcels, &root, &piece) {
-            return Err(RunFault::Gate);
-        }
-        return Err(RunFault::Memory);
+    if refused.is_some() {
+        return Err(RunFault::Gate);
     }
     if starved {
         return Err(RunFault::Memory);
     }
-    told(
-        alloc,
-        &root,
-        tally.into_inner(),
-        shares,
-        ended,
-        thieves,
-        parcels,
-    )
+    told(alloc, &root, parcels, count)
 }
 
-// What came of a run that met no fault: the parcels in order, and the numbers of the run. Where the tally says that pieces
-// are left the workers ended too early, which no run has shown; it is told as want of memory.
-fn told<T: Drop, K: Ledger, D: Ledger>(
-    alloc: Global,
-    root: &Piece,
+// The numbers of the tally and of the lanes, once all workers ended: it puts the shares together, joins all passes to their
+// lanes again and closes the lanes.
+fn counted<K: Ledger, D: Ledger>(
     mut tally: Tally<K, D>,
     shares: Shares<K, D>,
     workers: Vec<Worker>,
     thieves: Vec<Thief>,
-    parcels: Vec<Parcel<T>>,
-) -> Result<(Vec<Parcel<T>>, RunCount), RunFault>
-    requires lawful { AllLawful (bare parcels.items) }
+) -> RunCount
     requires seated { AreSeated thieves.items workers.items }
-    requires gone { HaveGone root.now workers.items parcels.items }
     requires whole { (shares.known.parts ≡ K.parts) × (shares.delivered.parts ≡ D.parts) }
-    requires counted { AreCounted shares.known.amount shares.delivered.amount parcels.items }
-    ensures order { IfOk result (λ done. IsInOrder root.now parcels.items done.0.items) }
-    ensures balance { IfOk result (λ done. IsBalanced root.now (bare done.0.items) []) }
-    ensures counted { IfOk result (λ done. CountsAll (vec_len done.0) done.1) }
-    ensures fault { IfErr result IsWantOfMemory }
+    requires foreknown { all_pushed each_one workers.items ≤ shares.known.amount + 1 }
+    ensures known { result.known ≡ shares.known.amount + 1 }
+    ensures delivered { result.delivered ≡ shares.delivered.amount }
+    ensures taken { result.taken ≡ all_taken each_one workers.items }
+    ensures pushed { all_pushed each_one workers.items ≡ result.taken + result.left }
+    ensures left { (left : List Piece) × ((length left ≡ result.left) × AreSettled workers.items left) }
 {
     let Shares {
         mut known,
         mut delivered,
     } = shares;
     tally.audit(&mut known, &mut delivered);
-    if tally.known != tally.delivered {
-        return Err(RunFault::Memory);
-    }
-    balanced_parcels_have_no_fault();
     let (taken, left) = closed(workers, thieves);
-    let walk = assemble(alloc, root, parcels)?;
-    let count = RunCount {
+    RunCount {
         known: tally.known,
         delivered: tally.delivered,
         taken,
         left,
-    };
+    }
+}
+
+// What came of a run that met no fault: the parcels in order, with the numbers of the run. Where fewer pieces were delivered
+// than are known the workers ended too early, which no run has shown; it is told as want of memory.
+fn told<T: Drop>(
+    alloc: Global,
+    root: &Piece,
+    parcels: Vec<Parcel<T>>,
+    count: RunCount,
+) -> Result<(Vec<Parcel<T>>, RunCount), RunFault>
+    requires lawful { AllLawful (bare parcels.items) }
+    requires counted { CountsParcels parcels.items count }
+    requires left { (left : List Piece) × ((length left ≡ count.left) × IsBalanced root.now (bare parcels.items) left) }
+    ensures order { IfOk result (λ done. IsInOrder root.now parcels.items done.0.items) }
+    ensures balance { IfOk result (λ done. IsBalanced root.now (bare done.0.items) []) }
+    ensures counted { IfOk result (λ done. CountsAll (vec_len done.0) done.1) }
+    ensures fault { IfErr result IsWantOfMemory }
+{
+    if count.known != count.delivered {
+        return Err(RunFault::Memory);
+    }
+    balanced_parcels_have_no_fault();
+    let walk = assemble(alloc, root, parcels)?;
     Ok((walk, count))
 }

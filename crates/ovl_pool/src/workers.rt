@@ -1,8 +1,9 @@
-ghost use Rattle.std.specs.Prelude.{◌≡◌, ◌<◌, ◌+◌, OnOk, IfOk, vec_len};
+ghost use Rattle.std.specs.Prelude.{◌≡◌, ◌<◌, ◌≤◌, ◌+◌, ℕ, OnOk, IfOk, vec_len};
+ghost use Rattle.ovl_board.specs.declared.pieces.Piece.{Piece};
 ghost use Rattle.ovl_board.specs.Parcels.{AreOwn, parcel_views};
 ghost use Rattle.ovl_pool.specs.declared.notes.Prospect.TheVariants.{End};
-ghost use Rattle.ovl_pool.specs.Hauls.{IsOwnHaul, IsClean};
-ghost use Rattle.ovl_pool.specs.Flows.{IsPushed, IsAdded, IsTied, KeepsPace, AreCounted, below, each_one};
+ghost use Rattle.ovl_pool.specs.Hauls.{IsOwnHaul, IsClean, AreInOrder};
+ghost use Rattle.ovl_pool.specs.Flows.{IsPushed, IsPushedOf, PushesKids, IsAdded, IsTied, IsWithin, KeepsPace, StaysWithin, AreCounted, lane_pushed, pushed, delivered, accounted, below, each_one};
 ghost use Rattle.ovl_pool.specs.Passes.{HasPasses, ends_of, post_of};
 
 use crate::gates::Gate;
@@ -92,8 +93,11 @@ pub(crate) fn labor<W: Work, G: Gate, R: Wait, K: Ledger, D: Ledger>(
     ensures passes { HasPasses thieves.now result.0 }
     ensures same { post_of result.0 ≡ post_of worker }
     ensures parts { (result.2.known.parts ≡ shares.known.parts) × (result.2.delivered.parts ≡ shares.delivered.parts) }
+    ensures within { IsWithin worker result.0 result.1 }
+    ensures foreknown { pushed each_one result.0 ≤ pushed each_one worker + result.2.known.amount }
     ensures tied { IsClean result.1 → IsTied worker result.0 result.1.parcels.items }
     ensures counted { IsClean result.1 → AreCounted result.2.known.amount result.2.delivered.amount result.1.parcels.items }
+    ensures order { IsClean result.1 → AreInOrder result.1.parcels.items }
 {
     let (worker, haul, shares) = serve_all(rt, alloc, work, gate, tally, thieves, worker, shares);
     (worker, haul.sorted(), shares)
@@ -118,6 +122,8 @@ fn serve_all<W: Work, G: Gate, R: Wait, K: Ledger, D: Ledger>(
     ensures passes { HasPasses thieves.now result.0 }
     ensures same { post_of result.0 ≡ post_of worker }
     ensures parts { (result.2.known.parts ≡ shares.known.parts) × (result.2.delivered.parts ≡ shares.delivered.parts) }
+    ensures within { IsWithin worker result.0 result.1 }
+    ensures foreknown { pushed each_one result.0 ≤ pushed each_one worker + result.2.known.amount }
     ensures tied { IsClean result.1 → IsTied worker result.0 result.1.parcels.items }
     ensures counted { IsClean result.1 → AreCounted result.2.known.amount result.2.delivered.amount result.1.parcels.items }
 {
@@ -163,6 +169,9 @@ fn turn<W: Work, G: Gate, R: Wait, K: Ledger, D: Ledger>(
     ensures own { IsOwnHaul W.seen (W.kids_of work.now) (W.out_of work.now) (G.may_refuse gate.now) haul.new }
     ensures same { post_of worker.new ≡ post_of worker.old }
     ensures clean { OnOk result (IsClean haul.new → IsClean haul.old) }
+    ensures within { StaysWithin worker.old worker.new haul.old haul.new }
+    ensures foreknown { pushed each_one worker.new + notes.old.shares.known.amount
+        ≤ pushed each_one worker.old + notes.new.shares.known.amount }
     ensures tied { OnOk result (IsClean haul.new
         → KeepsPace worker.old worker.new haul.old.parcels.items haul.new.parcels.items) }
     ensures known { OnOk result (IsClean haul.new
@@ -197,6 +206,10 @@ fn attend<W: Work, G: Gate, R: Wait, K: Ledger, D: Ledger>(
     ensures same { ends_of lane.new ≡ ends_of lane.old }
     ensures clean { OnOk result (IsClean haul.new → IsClean haul.old) }
     ensures pushed { OnOk result (IsClean haul.new → IsPushed lane.old lane.new (W.kids_of work.now piece)) }
+    ensures within { PushesKids lane.old lane.new haul.old.parcels.items haul.new.parcels.items }
+    ensures foreknown { lane_pushed each_one lane.new + notes.old.shares.known.amount
+        ≤ lane_pushed each_one lane.old + notes.new.shares.known.amount }
+    ensures accounts { (h : Piece → ℕ) → accounted h haul.new ≤ accounted h haul.old + h piece }
     ensures added { OnOk result (IsClean haul.new
         → IsAdded haul.old.parcels.items haul.new.parcels.items piece (W.kids_of work.now piece)) }
     ensures one { OnOk result (IsClean haul.new → vec_len haul.new.parcels ≡ vec_len haul.old.parcels + 1) }
@@ -231,6 +244,10 @@ fn serve<W: Work, R: Wait, K: Ledger, D: Ledger>(
     ensures own { AreOwn (W.kids_of work.now) (W.out_of work.now) (parcel_views W.seen parcels.new.items) }
     ensures same { ends_of lane.new ≡ ends_of lane.old }
     ensures pushed { OnOk result (IsPushed lane.old lane.new (W.kids_of work.now piece)) }
+    ensures within { PushesKids lane.old lane.new parcels.old.items parcels.new.items }
+    ensures foreknown { lane_pushed each_one lane.new + notes.old.shares.known.amount
+        ≤ lane_pushed each_one lane.old + notes.new.shares.known.amount }
+    ensures accounts { (h : Piece → ℕ) → delivered h parcels.new.items ≤ delivered h parcels.old.items + h piece }
     ensures added { OnOk result (IsAdded parcels.old.items parcels.new.items piece (W.kids_of work.now piece)) }
     ensures one { OnOk result (vec_len parcels.new ≡ vec_len parcels.old + 1) }
     ensures known { OnOk result (notes.new.shares.known.amount + below each_one parcels.old.items
@@ -253,6 +270,7 @@ fn serve<W: Work, R: Wait, K: Ledger, D: Ledger>(
 fn push_all(lane: &mut Lane, pieces: Vec<Piece>) -> Result<(), AllocError>
     ensures same { ends_of lane.new ≡ ends_of lane.old }
     ensures pushed { OnOk result (IsPushed lane.old lane.new pieces.items) }
+    ensures within { IsPushedOf lane.old lane.new pieces.items }
 {
     let mut pieces = VecDeque::from(pieces);
     while let Some(piece) = pieces.pop_front() {

@@ -72,3 +72,13 @@ fn an_empty_lane_gives_nothing(rt: HostRuntime) -> Result<(), Fail> {
     assert_eq!(rt; (again, stolen), (None, None));
     Ok(())
 }
+
+#[test]
+fn a_lane_gives_its_first_piece(rt: HostRuntime) -> Result<(), Fail> {
+    let mut seat = seat(rt.alloc())?;
+    for text in ["/b", "/a"] {
+        assert_eq!(rt; seat.lane.push(piece(rt.alloc(), text)?), Ok(()));
+    }
+    assert_eq!(rt; seat.lane.pop(), Some(piece(rt.alloc(), "/b")?));
+    Ok(())
+}

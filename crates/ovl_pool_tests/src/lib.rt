@@ -8,3 +8,5 @@ mod board;
 mod lanes;
 #[cfg(test)]
 mod pool;
+#[cfg(test)]
+mod thieves;

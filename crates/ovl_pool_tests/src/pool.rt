@@ -10,13 +10,18 @@ use std::sync::atomic::{AtomicBool, AtomicU64, Ordering};
 use std::sync::ledger::{Blank, Ledger};
 use std::sync::{Mutex, Wait};
 use std::test::Fail;
-use std::thread::Threads;
+use std::thread::{self, Threads};
 
 const SMALL: &str = "/ /a /b";
 
 const WIDE: &str = "/ /a /b /c /d";
 
 const WIDEST: &str = "/ /a /b /c /d /e /f /g";
+
+const CROWDED: &str = "/ /a /b /c /d /e /f /g /h /i /j /k /l /m /n /o /p";
+
+const DEEP: &str =
+    "/ /a /b /b/c /b/c/d /b/c/d/e /b/c/d/e/f /b/c/d/e/f/g /b/c/d/e/f/g/h /b/c/d/e/f/g/h/i /b/c/d/e/f/g/h/i/j";
 
 type Answer = Result<(Vec<Parcel<()>>, RunCount), RunFault>;
 
@@ -26,6 +31,12 @@ const LOOKS_OF_A_GATE: u32 = 20_000_000;
 const LOOKS_IN_VAIN: u32 = 100_000;
 
 const LOOKS_OF_A_VISIT: u32 = 400_000_000;
+
+// How often it yields its processor where a worker is to see meanwhile that another one met a fault.
+const YIELDS: u32 = 50_000;
+
+// And how often where that one wasn't refused yet.
+const YIELDS_BEFORE: u32 = 10_000_000;
 
 fn piece(alloc: Global, text: &str) -> Result<Piece, Fail> {
     Ok(Piece {
@@ -328,7 +339,7 @@ fn gated<R: Threads + Wait + Sync>(
 
 #[test]
 fn as_many_workers_as_pieces_meet_at_the_gate(rt: HostRuntime) -> Result<(), Fail> {
-    for (texts, workers) in [(SMALL, 2), (WIDE, 4), (WIDEST, 7)] {
+    for (texts, workers) in [(SMALL, 2), (WIDE, 4), (WIDEST, 7), (CROWDED, 16)] {
         let wanted = whole(rt.alloc(), texts)?;
         let answer = gated(&rt, rt.alloc(), texts, workers, LOOKS_OF_A_GATE)?;
         assert_eq!(rt; answer, wanted, "at {workers}");
@@ -346,6 +357,64 @@ fn fewer_workers_than_pieces_are_refused_at_the_gate(rt: HostRuntime) -> Result<
         let answer = gated(&rt, rt.alloc(), texts, workers, looks)?;
         assert_eq!(rt; answer, Err(RunFault::Gate), "at {workers}");
     }
+    Ok(())
+}
+
+// Refuses `/a`. Another piece below the root passes a while after that.
+#[derive(Drop)]
+struct Refusing {
+    refused: Piece,
+    last: Piece,
+    has_refused: AtomicBool,
+    was_asked_for_last: AtomicBool,
+}
+
+impl Refusing {
+    fn of(alloc: Global, last: &str) -> Result<Refusing, Fail> {
+        Ok(Refusing {
+            refused: piece(alloc, "/a")?,
+            last: piece(alloc, last)?,
+            has_refused: AtomicBool::new(false),
+            was_asked_for_last: AtomicBool::new(false),
+        })
+    }
+}
+
+impl Gate for Refusing {
+    ghost may_refuse = { λ _ p. ¬ (p.dir ≡ []) };
+
+    fn pass(&self, piece: &Piece) -> bool {
+        if piece.dir.is_empty() {
+            return true;
+        }
+        if *piece == self.refused {
+            self.has_refused.store(true, Ordering::SeqCst);
+            return false;
+        }
+        if *piece == self.last {
+            self.was_asked_for_last.store(true, Ordering::SeqCst);
+        }
+        for _ in 0..YIELDS_BEFORE {
+            if self.has_refused.load(Ordering::SeqCst) {
+                break;
+            }
+            thread::yield_now();
+        }
+        for _ in 0..YIELDS {
+            thread::yield_now();
+        }
+        true
+    }
+}
+
+#[test]
+fn the_others_end_once_a_worker_is_refused(rt: HostRuntime) -> Result<(), Fail> {
+    let work = tree(rt.alloc(), DEEP)?;
+    let gate = Refusing::of(rt.alloc(), "/b/c/d/e/f/g/h/i/j")?;
+    let root = piece(rt.alloc(), "/")?;
+    let answer = run(&rt, rt.alloc(), &work, root, 2, &gate);
+    assert_eq!(rt; answer, Err(RunFault::Gate));
+    assert!(rt; !gate.was_asked_for_last.load(Ordering::SeqCst));
     Ok(())
 }
 

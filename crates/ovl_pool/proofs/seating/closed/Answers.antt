@@ -1,5 +1,5 @@
 use Rattle.std.proofs.Common.{rules, ◌≤◌, length, arith}
-use Rattle.ovl_pool.specs.Flows.{mark}
+use Rattle.ovl_pool.specs.Flows.{indicator}
 use Rattle.ovl_pool.proofs.CrewLemmas.{whole_lanes}
 use Rattle.ovl_pool.proofs.seating.closed.Goals as goal
 
@@ -13,4 +13,4 @@ pub returns-clause-left : goal.returns-clause-left
 returns-clause-left c =
     let same = c.loop-number.invariant.same in
     let left = c.gathered.ensures.left in
-    (left.0, (left.1.0, λ p. let s = same (mark p) in omega (arith, left.1.1 p, s.0, s.1)))
+    (left.0, (left.1.0, λ p. let s = same (indicator p) in omega (arith, left.1.1 p, s.0, s.1)))

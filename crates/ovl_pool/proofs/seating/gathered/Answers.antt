@@ -4,7 +4,7 @@ use Rattle.ovl_board.specs.declared.pieces.Piece.{Piece}
 use Rattle.ovl_board.specs.Balance.{times}
 use Rattle.ovl_lanes.specs.Lanes.{IsWhole}
 use Rattle.ovl_pool.specs.declared.workers.Worker.{Worker}
-use Rattle.ovl_pool.specs.Flows.{all_pushed, all_taken, mark}
+use Rattle.ovl_pool.specs.Flows.{all_pushed, all_taken, indicator}
 use Rattle.ovl_pool.specs.Passes.{HasNone}
 use Rattle.ovl_pool.proofs.FlowLemmas.{settled_more, closed_numbers}
 use Rattle.ovl_pool.proofs.seating.gathered.Goals as goal
@@ -46,7 +46,7 @@ loop-lane-preserved c =
         (
           omega (arith, length-append left.0 more.0, left.1.0, more.1.0),
           settled_more c.args.workers.items rest w left.0 more.0 empty
-              (subst (λ (l : List Worker). (p : Piece) → all_pushed (mark p) c.args.workers.items + all_taken (mark p) l ≡ all_taken (mark p) c.args.workers.items + all_pushed (mark p) l + times p left.0) items left.1.1)
+              (subst (λ (l : List Worker). (p : Piece) → all_pushed (indicator p) c.args.workers.items + all_taken (indicator p) l ≡ all_taken (indicator p) c.args.workers.items + all_pushed (indicator p) l + times p left.0) items left.1.1)
               more.1.1,
         ),
       );
@@ -86,4 +86,4 @@ pub returns-clause-left : goal.returns-clause-left
 returns-clause-left c =
     let left = c.loop-lane.invariant.settled in
     let none : c.loop-lane.workers.items ≡ [] = search rules in
-    (left.0, (left.1.0, λ p. omega (arith, left.1.1 p, ap (all_taken (mark p)) none, ap (all_pushed (mark p)) none)))
+    (left.0, (left.1.0, λ p. omega (arith, left.1.1 p, ap (all_taken (indicator p)) none, ap (all_pushed (indicator p)) none)))
