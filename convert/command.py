@@ -13,6 +13,7 @@ from .mounted import report
 from .pack import PackOptions, pack
 from .scan import ScanOptions, scan
 from .shares import MOST_WORKERS, usual_workers
+from .stores import StoreOptions, store
 from .unpack import UnpackOptions, unpack
 
 NAME = "layers"
@@ -31,7 +32,8 @@ examples:
   ovl_layers show stack/l0.json stack/l1.json  what the layers show together
   ovl_layers fsck --blobs stack/blobs stack/l0.json stack/l1.json
   {name} pack stack/l0.json stack/l1.json --blobs stack/blobs --out new-image
-  sudo {name} scan /var/lib/docker/overlay2/ID/diff --out upper.json --blobs blobs
+  sudo {name} scan /srv/upper --out upper.json --blobs blobs
+  sudo {name} store /var/lib/docker/overlay2/ID --out stack
   sudo {name} build upper.json --blobs blobs --out upper
   ovl_layers show l0.json l1.json | diff - <(sudo {name} mounted /mnt)
 
@@ -51,6 +53,19 @@ Links are never followed, and other file systems aren't entered. Anything that a
 is refused, before anything is written: names that aren't UTF-8, paths over 64 names or 4,095 bytes,
 over 1,048,576 entries, trusted.overlay.overlay.* attributes. Times are cut to whole seconds, and each
 name of a hard link becomes a file of its own; both are counted and said.
+
+With --digests-only in place of --blobs contents are read for their digests and copied nowhere, which is
+enough for `ovl_layers show`.
+
+Reading the marks of an overlay (trusted.overlay.*) needs root."""
+
+_STORE = """\
+Writes a layer that docker (overlay2) or podman and buildah (containers-storage) keep on this machine, and
+those below it, as manifests: OUT/l0.json, the topmost, OUT/l1.json and so on, and the contents of all
+their files into OUT/blobs, as `scan` does.
+
+DIR is the folder of the topmost layer, such as /var/lib/docker/overlay2/ID or
+/var/lib/containers/storage/overlay/ID; its `lower` says which layers are below it.
 
 Reading the marks of an overlay (trusted.overlay.*) needs root."""
 
@@ -115,6 +130,7 @@ def _parser() -> argparse.ArgumentParser:
     parser.add_argument("--version", action="version", version=f"{NAME} {VERSION}", help="print the version and exit")
     commands = parser.add_subparsers(title="commands", metavar="COMMAND", required=True)
     _add_scan(_command(commands, "scan", "a layer's folder as a manifest and blobs", _SCAN, _scan))
+    _add_store(_command(commands, "store", "a layer of docker or podman with those below it", _STORE, _store))
     _add_build(_command(commands, "build", "the folder of a manifest", _BUILD, _build))
     _add_unpack(_command(commands, "unpack", "an image's layers as manifests and blobs", _UNPACK, _unpack))
     _add_pack(_command(commands, "pack", "manifests and blobs as an image", _PACK, _pack))
@@ -137,7 +153,27 @@ def _command(
 def _add_scan(parser: argparse.ArgumentParser) -> None:
     parser.add_argument("folder", metavar="DIR", help="folder of a layer")
     parser.add_argument("--out", metavar="FILE", required=True, help="manifest to write")
-    parser.add_argument("--blobs", metavar="DIR", required=True, help="folder of blobs, made where it is absent")
+    contents = parser.add_mutually_exclusive_group(required=True)
+    contents.add_argument("--blobs", metavar="DIR", help="folder of blobs, made where it is absent")
+    _add_digests_only(contents)
+    _add_reading(parser)
+
+
+def _add_store(parser: argparse.ArgumentParser) -> None:
+    parser.add_argument("folder", metavar="DIR", help="folder of the topmost layer in its store")
+    parser.add_argument("--out", metavar="OUT", required=True, help="folder to make, absent or empty")
+    _add_digests_only(parser)
+    _add_reading(parser)
+
+
+def _add_digests_only(parser: argparse._ActionsContainer) -> None:
+    parser.add_argument(
+        "--digests-only", action="store_true", help="writes no blobs: contents are read for their digests alone"
+    )
+
+
+def _add_reading(parser: argparse.ArgumentParser) -> None:
+    """How folders are read."""
     _add_userxattr(parser, "reads")
     _add_cross(parser)
     _add_skip(parser)
@@ -219,8 +255,15 @@ def _folder(path: str) -> str:
 
 def _scan(words: argparse.Namespace) -> None:
     scan(ScanOptions(
-        _folder(words.folder), words.out, _folder(words.blobs), words.userxattr,
+        _folder(words.folder), words.out, None if words.digests_only else _folder(words.blobs), words.userxattr,
         words.cross_file_systems, words.skip_unsupported, words.workers,
+    ))
+
+
+def _store(words: argparse.Namespace) -> None:
+    store(StoreOptions(
+        _folder(words.folder), _folder(words.out), words.userxattr, words.cross_file_systems,
+        words.skip_unsupported, words.digests_only, words.workers,
     ))
 
 

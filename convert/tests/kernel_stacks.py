@@ -3,12 +3,14 @@
     unshare --mount --propagation private python3 kernel_stacks.py FOLDER SEED COUNT [PROGRAM..]
 
 Runs in a mount namespace of its own, so its mounts end with it. Each stack is made by mounting an
-overlay and working in it, layer on layer. Then the tree that the kernel shows must be the one that it
-shows of the folders built from the scanned manifests, and the one that PROGRAM shows of the manifests.
+overlay and working in it, layer on layer, in folders that lie as docker's overlay2 has them. Then the tree
+that the kernel shows must be the one that it shows of the folders built from the scanned manifests, and
+the one that PROGRAM shows of the manifests; and `store` must write the manifests that `scan` does.
 """
 
 import contextlib
 import errno
+import filecmp
 import itertools
 import os
 import random
@@ -151,22 +153,51 @@ class Worker:
         os.setxattr(path, name, self._pick.randbytes(3), follow_symlinks=False)
 
 
+class Store:
+    """A folder of layers, each above those that were made before it, laid out by docker's overlay2."""
+
+    def __init__(self, home: str) -> None:
+        self._home = home
+        self._lowers: list[str] = []
+        os.makedirs(f"{home}/l")
+
+    def new_layer(self) -> str:
+        """Makes the folder of one more layer, with an empty `diff`."""
+        number = len(self._lowers)
+        layer, name = f"{self._home}/{number:064x}", f"SHORT{number:021}"
+        os.makedirs(f"{layer}/diff")
+        os.symlink(f"../{number:064x}/diff", f"{self._home}/l/{name}")
+        self._write(f"{layer}/link", name)
+        if self._lowers:
+            os.mkdir(f"{layer}/work")
+            self._write(f"{layer}/lower", ":".join(self._lowers))
+        self._lowers.insert(0, f"l/{name}")
+        return layer
+
+    def _write(self, path: str, text: str) -> None:
+        with open(path, "x", encoding="utf-8") as file:
+            file.write(text)
+
+
 class Stack:
     """A stack in a folder of its own."""
 
     def __init__(self, folder: str, seed: int) -> None:
         self._folder = folder
         self._pick = random.Random(seed)
+        self._store = Store(f"{folder}/overlay2")
+        self._top = ""
         self._layers: list[str] = []
 
     def make(self) -> None:
         """Makes two to four layers; the lowest is a plain folder."""
-        lowest = self._new("layer")
-        Worker(self._pick, lowest).work(30)
-        self._layers = [lowest]
+        self._top = self._store.new_layer()
+        self._layers = [f"{self._top}/diff"]
+        Worker(self._pick, self._layers[0]).work(30)
         for _ in range(self._pick.randrange(1, 4)):
-            upper, work, place = self._new("layer"), self._new("work"), self._new("mnt")
-            with mounted_overlay(place, [upper, *self._layers], _MAKING, work):
+            self._top = self._store.new_layer()
+            upper, place = f"{self._top}/diff", self._new("mnt")
+            with mounted_overlay(place, [upper, *self._layers], _MAKING, f"{self._top}/work"):
                 Worker(self._pick, place).work(20)
             self._layers.insert(0, upper)
 
@@ -178,6 +209,10 @@ class Stack:
         for layer, manifest, again in zip(self._layers, manifests, built):
             _done("scan", layer, "--out", manifest, "--blobs", f"{self._folder}/blobs")
             _done("build", manifest, "--blobs", f"{self._folder}/blobs", "--out", again)
+        stored = f"{self._folder}/stored"
+        _done("store", self._top, "--out", stored)
+        names = [*map(os.path.basename, manifests), *(f"blobs/{name}" for name in os.listdir(f"{self._folder}/blobs"))]
+        strange = filecmp.cmpfiles(self._folder, stored, names, shallow=False)
         others = [self._kernel(built)]
         if program:
             result = subprocess.run([*program, "show", *manifests], capture_output=True, text=True, check=False)
@@ -188,7 +223,7 @@ class Stack:
             faults = [line for line in checked.stdout.splitlines() if line.startswith("fault ")]
         else:
             faults = []
-        return faults + [
+        return strange[1] + strange[2] + faults + [
             line for other in others for line in unified_diff(shown.splitlines(), other.splitlines(), lineterm="")
         ]
 

@@ -1,10 +1,14 @@
 """The command line: statuses, fault lines, and what is refused before anything is written."""
 
+import ast
 import contextlib
 import errno
+import filecmp
 import hashlib
+import io
 import json
 import os
+import runpy
 import shutil
 import signal
 import socket
@@ -30,6 +34,7 @@ if os.geteuid() == 0:
 sys.exit(main(sys.argv[2:]))
 """
 A = hashlib.sha256(b"a").hexdigest()
+COMMANDS = ("scan", "store", "build", "unpack", "pack", "mounted")
 
 
 def _clone(target: int, _: int, source: int) -> None:
@@ -59,17 +64,29 @@ class Words(FolderTest):
         for words in (
             (), ("dance",), ("scan",), ("scan", "x"), ("build", "x", "--out", "y"), ("mounted",), ("--he",),
             ("scan", "x", "--out", "y", "--blobs", "z", "--workers", "0"), ("pack", "--blobs", "b", "--out", "o"),
-            ("pack", "l", "--blobs", "b", "--out", "o", "--platform", "linux"),
+            ("pack", "l", "--blobs", "b", "--out", "o", "--platform", "linux"), ("store", "x"),
+            ("scan", "x", "--out", "y", "--blobs", "z", "--digests-only"),
         ):
             status, printed, told = call(*words)
             self.assertEqual((status, printed), (2, ""), words)
             self.assertTrue(told.startswith("usage: layers"), told)
 
     def test_help(self) -> None:
-        for words in (("--help",), *((name, "-h") for name in ("scan", "build", "unpack", "pack", "mounted"))):
+        for words in (("--help",), *((name, "-h") for name in COMMANDS)):
             status, printed, told = call(*words)
             self.assertEqual((status, told), (0, ""))
             self.assertTrue(printed.startswith("usage: layers"))
+
+    def test_older_pythons(self) -> None:
+        with open(COMMAND, encoding="utf-8") as file:
+            text = file.read()
+        ast.parse(text, feature_version=(3, 4))
+        told = io.StringIO()
+        for version, wanted in (((2, 7, 18), "2.7"), ((3, 9, 2), "3.9"), ((3, 10, 0), "3.10")):
+            with mock.patch("sys.version_info", version), contextlib.redirect_stderr(told):
+                self.assertEqual(runpy.run_path(str(COMMAND))["run"](["--help"]), 5)
+            self.assertIn(f"layers: this is Python {wanted}, and 3.11 or later is needed\n", told.getvalue())
+        self.assertEqual(told.getvalue().count("\n"), 3)
 
     def test_as_a_program(self) -> None:
         result = run("mounted", self.path("absent"))
@@ -282,6 +299,20 @@ class Scanning(CommandTest):
                 manifests.append(file.read())
             self.assertEqual(len(os.listdir(self.path("blobs"))), 1_000)
         self.assertEqual(manifests[0], manifests[1])
+
+    def test_digests_only(self) -> None:
+        os.mkdir(self.path("in"))
+        for number in range(600):
+            with open(self.path("in", str(number)), "wb") as file:
+                file.write(bytes([number % 256]) * (number % 3 * 200_000))
+        self.require_done(self.scan())
+        os.rename(self.path("out.json"), self.path("with-blobs.json"))
+        shutil.rmtree(self.path("blobs"))
+        words = ("scan", self.path("in"), "--out", self.path("out.json"), "--digests-only", "--userxattr")
+        for workers in (1, 3):
+            self.require_done(call(*words, "--workers", workers))
+            self.assertTrue(filecmp.cmp(self.path("out.json"), self.path("with-blobs.json"), shallow=False))
+            self.require_nothing_left("in", "out.json", "with-blobs.json")
 
     def _stages(self) -> list[str]:
         return os.listdir(self.path("blobs")) if os.path.exists(self.path("blobs")) else []

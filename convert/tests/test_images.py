@@ -3,6 +3,7 @@
 import hashlib
 import io
 import os
+import random
 import shutil
 import subprocess
 import tarfile
@@ -168,9 +169,15 @@ class Forms(ImageTest):
             result = call("unpack", self.path("image"), "--out", self.path("out"))
         self.require_fault(result, 3, "packed by zstd", "install zstd")
         shutil.rmtree(self.path("image"))
-        write_layout(self.path("image"), [data[:-20]], None)
-        self.require_fault(call("unpack", self.path("image"), "--out", self.path("out")), 3, "cannot read")
-        self.require_nothing_left("image")
+        large = archive([member("large", random.Random(1).randbytes(3_000_000))])
+        squeezed = subprocess.run(["zstd", "-q", "-c"], input=large, capture_output=True, check=True).stdout
+        for broken in (data[:-20], data[:-4] + b"sum?", squeezed[:2_000_000]):
+            write_layout(self.path("image"), [broken], None)
+            result = call("unpack", self.path("image"), "--out", self.path("out"))
+            self.require_fault(result, 3, "its zstd stream is broken: ")
+            self.assertRegex(result[2], r"is broken: [A-Z][a-z]+ .*\n\Z")
+            self.require_nothing_left("image")
+            shutil.rmtree(self.path("image"))
 
     def test_layers_are_in_order_and_equal_ones_stay_two(self) -> None:
         one, two = archive([member("one", b"a")]), archive([member("two", b"a")])
