@@ -8,6 +8,7 @@ from collections.abc import Callable, Sequence
 
 from . import VERSION
 from .build import BuildOptions, build
+from .configuration import USUAL_PLATFORM
 from .faults import OTHER, WRITING, Fault
 from .mounted import report
 from .pack import PackOptions, pack
@@ -31,7 +32,7 @@ examples:
   {name} unpack image.tar --out stack          an image's layers: stack/l0.json is the topmost
   ovl_layers show stack/l0.json stack/l1.json  what the layers show together
   ovl_layers fsck --blobs stack/blobs stack/l0.json stack/l1.json
-  {name} pack stack/l0.json stack/l1.json --blobs stack/blobs --out new-image
+  {name} pack stack/l0.json stack/l1.json --blobs stack/blobs --config stack/config.json --out new-image
   sudo {name} scan /srv/upper --out upper.json --blobs blobs
   sudo {name} store /var/lib/docker/overlay2/ID --out stack
   sudo {name} build upper.json --blobs blobs --out upper
@@ -76,7 +77,8 @@ attributes need root."""
 
 _UNPACK = """\
 Writes the layers of an image as manifests: DIR/l0.json, the topmost, DIR/l1.json and so on, and the
-contents of all their files into DIR/blobs.
+contents of all their files into DIR/blobs. DIR/config.json is the image's configuration with its platform,
+for `pack --config`.
 
 IMAGE is an OCI image layout (a folder or a tar archive of it) or what `docker save` writes. Layers may
 be plain, gzip, or zstd where the zstd program is there. Their digests are checked. A hard link becomes
@@ -85,7 +87,9 @@ directory."""
 
 _PACK = """\
 Writes manifests, the topmost first, as an OCI image layout: a folder, or one tar archive where the name
-ends in .tar. The same input gives the same bytes.
+ends in .tar. The same input gives the same bytes. The image's configuration (command, environment, user,
+labels, platform and all else) is that of --config; a history that tells of as many layers is kept as it is,
+any other stays as entries without layers, and each layer gets an entry of its own.
 
 A layer that has moved directories (redirects) or files without contents (metacopy) is refused: no image
 can state them. Run `ovl_layers deref` first, or `merge` down to one layer."""
@@ -205,8 +209,12 @@ def _add_pack(parser: argparse.ArgumentParser) -> None:
         "--out", metavar="IMAGE", required=True, help="folder to make, or a file whose name ends in .tar"
     )
     parser.add_argument(
-        "--platform", metavar="OS/ARCH", default="linux/amd64", type=_platform,
-        help="what the image says that it is for [default: linux/amd64]",
+        "--config", metavar="FILE",
+        help="what the image runs, as whom and on which platform, such as the config.json that unpack writes",
+    )
+    parser.add_argument(
+        "--platform", metavar="OS/ARCH", type=_platform,
+        help=f"what the image says that it is for [default: that of --config, or {USUAL_PLATFORM}]",
     )
     parser.add_argument("--tag", metavar="NAME", help="name of the image in its index")
     _add_skip(parser)
@@ -280,7 +288,7 @@ def _unpack(words: argparse.Namespace) -> None:
 def _pack(words: argparse.Namespace) -> None:
     pack(PackOptions(
         words.layers, _folder(words.blobs), _folder(words.out), words.platform, words.tag,
-        words.skip_unsupported,
+        words.skip_unsupported, words.config,
     ))
 
 

@@ -3,12 +3,12 @@
 import contextlib
 import hashlib
 import io
-import json
 import re
-from collections.abc import Iterator, Sequence
-from dataclasses import dataclass
+from collections.abc import Iterator, Mapping
+from dataclasses import dataclass, field, replace
 from typing import Any
 
+from .configuration import MAX_BYTES, Document, parse_json, platform_of, platform_text, with_platform
 from .contents import PIECE
 from .faults import ReadFault, cannot_read
 from .members import Members, opened_members
@@ -16,7 +16,6 @@ from .progress import Progress
 from .streams import Slice
 
 _DIGEST = re.compile(r"(sha256|sha384|sha512):([0-9a-f]{64,128})\Z")
-_MAX_DOCUMENT = 1 << 23
 _MAX_DEPTH = 4
 _INDEXES = (
     "application/vnd.oci.image.index.v1+json",
@@ -38,12 +37,21 @@ class ImageLayer:
 
 
 @dataclass(frozen=True)
+class Image:
+    """The layers of an image, the lowest first, and its configuration with the platform in it."""
+
+    layers: list[ImageLayer]
+    configuration: Document
+
+
+@dataclass(frozen=True)
 class _Choice:
-    """One of the images that a layout has."""
+    """One of the images that a layout has, and what the index says of its platform."""
 
     digest: str
     platform: str
     names: tuple[str, ...]
+    stated: Mapping[str, Any] = field(default_factory=dict)
 
     def matches(self, platform: str | None, tag: str | None) -> bool:
         """Whether it is meant by what a person asked for."""
@@ -55,13 +63,13 @@ class _Choice:
 
 
 @contextlib.contextmanager
-def opened_image(path: str, platform: str | None, tag: str | None) -> Iterator[Sequence[ImageLayer]]:
-    """The layers of an image, the lowest first."""
+def opened_image(path: str, platform: str | None, tag: str | None) -> Iterator[Image]:
+    """The one image at a path that is meant."""
     with opened_members(path) as members:
         if members.size("index.json") is not None:
-            yield _Layout(members).layers(platform, tag)
+            yield _Layout(members).image(platform, tag)
         elif members.size("manifest.json") is not None:
-            yield _saved_layers(members, platform, tag)
+            yield _saved_image(members, platform, tag)
         else:
             raise cannot_read(
                 path, "it is no image: neither index.json (OCI image layout) nor manifest.json (docker save) is there"
@@ -70,12 +78,12 @@ def opened_image(path: str, platform: str | None, tag: str | None) -> Iterator[S
 
 def _document(members: Members, name: str) -> Any:
     part = members.part(name)
-    data = io.BufferedReader(part).read(_MAX_DOCUMENT + 1)
-    if len(data) > _MAX_DOCUMENT:
-        raise cannot_read(f"{members.path}/{name}", f"it has over {_MAX_DOCUMENT:,} bytes")
+    data = io.BufferedReader(part).read(MAX_BYTES + 1)
+    if len(data) > MAX_BYTES:
+        raise cannot_read(f"{members.path}/{name}", f"it has over {MAX_BYTES:,} bytes")
     try:
-        return json.loads(data)
-    except (ValueError, RecursionError):
+        return parse_json(data)
+    except ValueError:
         raise cannot_read(f"{members.path}/{name}", "it isn't JSON") from None
 
 
@@ -101,18 +109,20 @@ class _Layout:
     def __init__(self, members: Members) -> None:
         self._members = members
 
-    def layers(self, platform: str | None, tag: str | None) -> list[ImageLayer]:
-        """The layers of the one image that is meant."""
-        choices = self._choices("index.json", (), None, 0)
-        name = self._blob_name(_one_of(self._members.path, choices, platform, tag).digest)
+    def image(self, platform: str | None, tag: str | None) -> Image:
+        """The one image that is meant."""
+        choices = self._choices("index.json", (), {}, 0)
+        chosen = _one_of(self._members.path, choices, platform, tag)
+        name = self._blob_name(chosen.digest)
         with _shaped(self._members, name):
             manifest = _document(self._members, name)
             stated = [(_digest_parts(layer["digest"]), int(layer["size"])) for layer in manifest["layers"]]
             config = self._blob_name(self._checked(manifest["config"]))
-        digests = _unpacked_digests(self._members, config, len(stated))
-        return [
-            self._layer(digest, size, unpacked) for (digest, size), unpacked in zip(stated, digests)
-        ]
+        configuration, digests = _configuration(self._members, config, len(stated))
+        return Image(
+            [self._layer(digest, size, unpacked) for (digest, size), unpacked in zip(stated, digests)],
+            with_platform(configuration, chosen.stated),
+        )
 
     def _layer(
         self, digest: tuple[str, str], size: int, unpacked: tuple[str, str] | None
@@ -125,7 +135,7 @@ class _Layout:
         return ImageLayer(name, path, self._members.part(name), unpacked)
 
     def _choices(
-        self, name: str, names: tuple[str, ...], platform: str | None, depth: int
+        self, name: str, names: tuple[str, ...], platform: Mapping[str, Any], depth: int
     ) -> Iterator[_Choice]:
         """The images of an index, and of those inside of it, whose manifests are there."""
         if depth > _MAX_DEPTH:
@@ -138,11 +148,12 @@ class _Layout:
                 if _ATTESTATION in notes or self._members.size(inner) is None:
                     continue
                 self._checked(descriptor)
-                stated = _platform_of(descriptor.get("platform")) or platform
+                stated = platform_of(descriptor.get("platform") or {}) or platform
                 if self._is_index(descriptor, inner):
                     yield from self._choices(inner, own, stated, depth + 1)
                 else:
-                    yield _Choice(descriptor["digest"], stated or self._config_platform(inner), own)
+                    told = platform_text(stated) or self._config_platform(inner)
+                    yield _Choice(descriptor["digest"], told, own, stated)
 
     def _is_index(self, descriptor: dict[str, Any], name: str) -> bool:
         kind = descriptor.get("mediaType") or _document(self._members, name).get("mediaType")
@@ -153,7 +164,7 @@ class _Layout:
         inner = self._blob_name(config["digest"])
         if self._members.size(inner) is None:
             return "unknown"
-        return _platform_of(_document(self._members, inner)) or "unknown"
+        return platform_text(_document(self._members, inner)) or "unknown"
 
     def _checked(self, descriptor: dict[str, Any]) -> str:
         digest: str = descriptor["digest"]
@@ -181,13 +192,6 @@ def _require_digest(members: Members, name: str, digest: tuple[str, str]) -> Non
         raise cannot_read(f"{members.path}/{name}", f"its bytes aren't those of the digest {algorithm}:{wanted}")
 
 
-def _platform_of(value: Any) -> str | None:
-    if not isinstance(value, dict) or not value.get("os") or not value.get("architecture"):
-        return None
-    parts = [str(value["os"]), str(value["architecture"])]
-    return "/".join(parts + ([str(value["variant"])] if value.get("variant") else []))
-
-
 def _one_of(
     path: str, choices: Iterator[_Choice], platform: str | None, tag: str | None
 ) -> _Choice:
@@ -196,7 +200,7 @@ def _one_of(
     for choice in choices:
         before = by_digest.get(choice.digest)
         names = (before.names if before else ()) + choice.names
-        by_digest[choice.digest] = _Choice(choice.digest, choice.platform, tuple(dict.fromkeys(names)))
+        by_digest[choice.digest] = replace(choice, names=tuple(dict.fromkeys(names)))
     fitting = [choice for choice in by_digest.values() if choice.matches(platform, tag)]
     if len(fitting) == 1:
         return fitting[0]
@@ -210,22 +214,25 @@ def _not_one(path: str, there: list[str], fitting: int) -> ReadFault:
     return cannot_read(path, f"it has {len(there)} images ({'; '.join(there)}); {which}")
 
 
-def _unpacked_digests(members: Members, config: str, count: int) -> list[tuple[str, str] | None]:
-    """The digests of the layers' unpacked bytes, which an image's configuration has."""
-    with _shaped(members, config):
-        rootfs = _document(members, config).get("rootfs")
+def _configuration(
+    members: Members, name: str, count: int
+) -> tuple[Document, list[tuple[str, str] | None]]:
+    """An image's configuration, and the digests of its layers' unpacked bytes where it has them."""
+    with _shaped(members, name):
+        configuration = dict(_document(members, name).items())
+        rootfs = configuration.get("rootfs")
         if rootfs is None:
-            return [None] * count
+            return configuration, [None] * count
         digests: list[tuple[str, str] | None] = [_digest_parts(digest) for digest in rootfs["diff_ids"]]
     if len(digests) != count:
         raise cannot_read(
-            f"{members.path}/{config}", f"it tells digests of {len(digests)} layers, and the manifest has {count}"
+            f"{members.path}/{name}", f"it tells digests of {len(digests)} layers, and the manifest has {count}"
         )
-    return digests
+    return configuration, digests
 
 
-def _saved_layers(members: Members, platform: str | None, tag: str | None) -> list[ImageLayer]:
-    """The layers of an image as `docker save` writes it."""
+def _saved_image(members: Members, platform: str | None, tag: str | None) -> Image:
+    """The one image that is meant of those that `docker save` wrote."""
     with _shaped(members, "manifest.json"):
         images = [
             (str(image["Config"]), [str(name) for name in image["Layers"]], tuple(image.get("RepoTags") or ()))
@@ -234,15 +241,18 @@ def _saved_layers(members: Members, platform: str | None, tag: str | None) -> li
     choices = []
     for number, (config, _, names) in enumerate(images):
         with _shaped(members, config):
-            there = _platform_of(_document(members, config)) or "unknown"
+            there = platform_text(_document(members, config)) or "unknown"
             choices.append(_Choice(str(number), there, names))
     chosen = _one_of(members.path, iter(choices), platform, tag)
     config, layers, _ = images[int(chosen.digest)]
     digits = re.search(r"([0-9a-f]{64})(\.json)?\Z", config)
     if digits:
         _require_digest(members, config, ("sha256", digits[1]))
-    digests = _unpacked_digests(members, config, len(layers))
-    return [
-        ImageLayer(name, f"{members.path}/{name}", members.part(name), digest)
-        for name, digest in zip(layers, digests)
-    ]
+    configuration, digests = _configuration(members, config, len(layers))
+    return Image(
+        [
+            ImageLayer(name, f"{members.path}/{name}", members.part(name), digest)
+            for name, digest in zip(layers, digests)
+        ],
+        configuration,
+    )

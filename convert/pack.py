@@ -10,6 +10,9 @@ from typing import Any
 from . import rules
 from . import tar_headers as tar
 from .blobs import blob_path, opened_blob
+from .configuration import (
+    USUAL_PLATFORM, Document, for_layers, platform_of, platform_text, read_configuration,
+)
 from .contents import PIECE
 from .entries import (
     BLOCK, CHAR, DIRECTORY, FIFO, FILE, IS_OPAQUE, OPAQUE, SOCKET, SYMLINK, Entry, is_opaque,
@@ -45,9 +48,10 @@ class PackOptions:
     layers: list[str]
     blobs: str
     out: str
-    platform: str = "linux/amd64"
+    platform: str | None = None
     tag: str | None = None
     skip_unsupported: bool = False
+    config: str | None = None
 
 
 @dataclass
@@ -86,17 +90,33 @@ def pack(options: PackOptions) -> None:
     """Writes the image: a folder, or one tar archive where the name ends in `.tar`."""
     if not 1 <= len(options.layers) <= rules.MAX_LAYERS:
         raise UsageFault(f"layers must be 1 to {rules.MAX_LAYERS}")
+    given = _given_configuration(options)
     layers = [_Layer(path, list(_packable(path, options))) for path in reversed(options.layers)]
     for layer in layers:
         counter = _Counter()
         _write_archive(layer, options.blobs, counter.write, "reading layer")
         layer.digest, layer.size = counter.digest.hexdigest(), counter.size
-    parts = _parts(layers, options)
+    configuration = for_layers(given, options.platform, [layer.digest for layer in layers])
+    parts = _parts(layers, configuration, options)
     if options.out.endswith(_ARCHIVE_SUFFIX):
         write_file(options.out, lambda path: _write_image_archive(path, parts))
     else:
         with new_folder(options.out) as stage:
             _write_image_folder(stage, parts)
+
+
+def _given_configuration(options: PackOptions) -> Document:
+    """What the image is to say of itself; without a file for it, a note says what it doesn't."""
+    if options.config is not None:
+        given = read_configuration(options.config)
+        if options.platform is None and platform_text(given) is None:
+            note(f"{printable(options.config)}: it names no platform; the image's is {USUAL_PLATFORM}")
+        return given
+    note(
+        "without --config the image has no command, entry point, environment, user, working directory, "
+        f"labels, volumes, ports and author; its platform is {options.platform or USUAL_PLATFORM}"
+    )
+    return {}
 
 
 def _packable(path: str, options: PackOptions) -> Iterator[Entry]:
@@ -185,22 +205,16 @@ def _write_contents(archive: TarWriter, entry: Entry, blobs: str) -> None:
 
 
 def _json(value: Any) -> bytes:
-    return json.dumps(value, ensure_ascii=False, separators=(",", ":"), sort_keys=True).encode()
+    return json.dumps(value, separators=(",", ":"), sort_keys=True).encode()
 
 
 def _descriptor(kind: str, data: bytes) -> dict[str, Any]:
     return {"mediaType": kind, "digest": f"sha256:{hashlib.sha256(data).hexdigest()}", "size": len(data)}
 
 
-def _parts(layers: list[_Layer], options: PackOptions) -> list[_Part]:
+def _parts(layers: list[_Layer], configuration: Document, options: PackOptions) -> list[_Part]:
     """The files of the layout, by name; nothing in them depends on when or where they are made."""
-    system, _, machine = options.platform.partition("/")
-    architecture, _, variant = machine.partition("/")
-    config = _json({
-        "architecture": architecture, "os": system, "config": {},
-        **({"variant": variant} if variant else {}),
-        "rootfs": {"type": "layers", "diff_ids": [f"sha256:{layer.digest}" for layer in layers]},
-    })
+    config = _json(configuration)
     manifest = _json({
         "schemaVersion": 2, "mediaType": _MANIFEST_TYPE, "config": _descriptor(_CONFIG_TYPE, config),
         "layers": [
@@ -208,9 +222,7 @@ def _parts(layers: list[_Layer], options: PackOptions) -> list[_Part]:
             for layer in layers
         ],
     })
-    listed = _descriptor(_MANIFEST_TYPE, manifest) | {
-        "platform": {"architecture": architecture, "os": system, **({"variant": variant} if variant else {})}
-    }
+    listed = _descriptor(_MANIFEST_TYPE, manifest) | {"platform": platform_of(configuration)}
     if options.tag is not None:
         listed["annotations"] = {_REF_NAME: options.tag}
     index = _json({"schemaVersion": 2, "mediaType": _INDEX_TYPE, "manifests": [listed]})

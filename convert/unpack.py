@@ -7,6 +7,7 @@ from dataclasses import dataclass, replace
 
 from . import rules
 from .blobs import BlobStore, BlobWriter
+from .configuration import configuration_text
 from .contents import PIECE, write_all
 from .entries import (
     BLOCK, CHAR, DIRECTORY, FIFO, FILE, NO_ATTRIBUTES, SYMLINK, WHITEOUT, Entry,
@@ -15,7 +16,7 @@ from .faults import cannot_read, cannot_write, reading, writing
 from .images import ImageLayer, opened_image
 from .layer_tree import LayerTree, TooMuch, Unfit, whiteout_at
 from .manifests import write_manifest
-from .outputs import new_folder
+from .outputs import new_folder, write_text
 from .progress import Progress, counted, note
 from .streams import Digesting, Source, buffered, unpacked
 from . import tar_headers as tar
@@ -23,6 +24,7 @@ from .tar_headers import HARD_LINK, REGULAR_TYPES, Header
 from .tar_reader import TarReader
 from .texts import printable
 
+CONFIG_NAME = "config.json"
 WHITEOUT_PREFIX = ".wh."
 OPAQUE_NAME = ".wh..wh..opq"
 _META_PREFIX = ".wh..wh."
@@ -45,8 +47,9 @@ class UnpackOptions:
 
 
 def unpack(options: UnpackOptions) -> None:
-    """Writes `l0.json`, the topmost, and so on, and the folder `blobs`."""
-    with opened_image(options.image, options.platform, options.tag) as layers:
+    """Writes `l0.json`, the topmost, and so on, the folder `blobs`, and `config.json`."""
+    with opened_image(options.image, options.platform, options.tag) as image:
+        layers = image.layers
         if not 1 <= len(layers) <= rules.MAX_LAYERS:
             raise cannot_read(options.image, f"it has {len(layers)} layers, not 1 to {rules.MAX_LAYERS}")
         with new_folder(options.out) as stage, BlobStore(f"{stage}/blobs") as store:
@@ -60,6 +63,7 @@ def unpack(options: UnpackOptions) -> None:
                     write_manifest(f"{stage}/l{number}.json", tree.entries())
             finally:
                 writer.close()
+            write_text(f"{stage}/{CONFIG_NAME}", [configuration_text(image.configuration)])
 
 
 def _spread_opaque_root(tree: LayerTree, lower_names: set[str], number: int) -> None:
