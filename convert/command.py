@@ -10,8 +10,10 @@ from . import VERSION
 from .build import BuildOptions, build
 from .configuration import USUAL_PLATFORM
 from .faults import OTHER, WRITING, Fault
+from .flatten import FlattenOptions, flatten
 from .mounted import report
 from .pack import PackOptions, pack
+from .rules import MAX_LAYERS
 from .scan import ScanOptions, scan
 from .shares import MOST_WORKERS, usual_workers
 from .stores import StoreOptions, store
@@ -29,6 +31,7 @@ a folder of blobs, each in a file named by its SHA-256 digest. This tool is test
 
 _MORE = """\
 examples:
+  {name} flatten image.tar --out flat.tar       an image of one layer that shows the same
   {name} unpack image.tar --out stack          an image's layers: stack/l0.json is the topmost
   ovl_layers show stack/l0.json stack/l1.json  what the layers show together
   ovl_layers fsck --blobs stack/blobs stack/l0.json stack/l1.json
@@ -40,6 +43,7 @@ examples:
 
 exit status:
   0  done
+  1  flatten: the layers have faults; the report of ovl_layers fsck is on standard output
   2  words that don't fit
   3  something can't be read, or can't be stated in a manifest or an image
   4  something can't be written
@@ -94,6 +98,18 @@ any other stays as entries without layers, and each layer gets an entry of its o
 A layer that has moved directories (redirects) or files without contents (metacopy) is refused: no image
 can state them. Run `ovl_layers deref` first, or `merge` down to one layer."""
 
+_FLATTEN = """\
+Writes an image with fewer layers that shows the same: its layers are merged from the topmost on, until N
+are left. The image's configuration and name stay. It is done by the proved program ovl_layers, which is
+found where it was built or installed, or on the PATH: after `unpack` it checks the layers (`fsck`), drops
+what changes nothing (`vacuum`), unfolds moved directories and metacopy files where there are any (`deref`),
+and merges (`merge`). Then `pack` writes the image. Each step is told with its time.
+
+Nothing is written unless the merged layers, and the new image when it is read again, show what the given
+image shows, byte for byte. What the program refuses is told as it is, with its status.
+
+--dry-run prints the commands that do the same by hand."""
+
 _MOUNTED = """\
 Prints what is in a folder, such as a mounted overlay, as `ovl_layers show` prints it, so that the two
 can be compared."""
@@ -138,6 +154,7 @@ def _parser() -> argparse.ArgumentParser:
     _add_build(_command(commands, "build", "the folder of a manifest", _BUILD, _build))
     _add_unpack(_command(commands, "unpack", "an image's layers as manifests and blobs", _UNPACK, _unpack))
     _add_pack(_command(commands, "pack", "manifests and blobs as an image", _PACK, _pack))
+    _add_flatten(_command(commands, "flatten", "an image with fewer layers that shows the same", _FLATTEN, _flatten))
     _add_mounted(_command(commands, "mounted", "the report of a mounted tree", _MOUNTED, _mounted))
     return parser
 
@@ -195,8 +212,13 @@ def _add_build(parser: argparse.ArgumentParser) -> None:
 
 
 def _add_unpack(parser: argparse.ArgumentParser) -> None:
-    parser.add_argument("image", metavar="IMAGE", help="OCI image layout (folder or tar), or what docker save wrote")
+    _add_image(parser)
     parser.add_argument("--out", metavar="DIR", required=True, help="folder to make, absent or empty")
+
+
+def _add_image(parser: argparse.ArgumentParser) -> None:
+    """Which image is read, and how."""
+    parser.add_argument("image", metavar="IMAGE", help="OCI image layout (folder or tar), or what docker save wrote")
     parser.add_argument("--platform", metavar="OS/ARCH", help="which of several images, such as linux/amd64")
     parser.add_argument("--tag", metavar="NAME", help="which of several images, by its name in the image's index")
     _add_skip(parser)
@@ -205,9 +227,7 @@ def _add_unpack(parser: argparse.ArgumentParser) -> None:
 def _add_pack(parser: argparse.ArgumentParser) -> None:
     parser.add_argument("layers", metavar="LAYER", nargs="+", help="manifest of a layer, the topmost layer first")
     parser.add_argument("--blobs", metavar="DIR", required=True, help="folder with the contents of their files")
-    parser.add_argument(
-        "--out", metavar="IMAGE", required=True, help="folder to make, or a file whose name ends in .tar"
-    )
+    _add_new_image(parser)
     parser.add_argument(
         "--config", metavar="FILE",
         help="what the image runs, as whom and on which platform, such as the config.json that unpack writes",
@@ -218,6 +238,23 @@ def _add_pack(parser: argparse.ArgumentParser) -> None:
     )
     parser.add_argument("--tag", metavar="NAME", help="name of the image in its index")
     _add_skip(parser)
+
+
+def _add_new_image(parser: argparse.ArgumentParser) -> None:
+    """Which image is written."""
+    parser.add_argument(
+        "--out", metavar="IMAGE", required=True, help="folder to make, or a file whose name ends in .tar"
+    )
+
+
+def _add_flatten(parser: argparse.ArgumentParser) -> None:
+    _add_image(parser)
+    _add_new_image(parser)
+    parser.add_argument(
+        "--layers", metavar="N", type=_layers, default=1, help="how many layers are left at most [default: 1]"
+    )
+    parser.add_argument("--keep", metavar="DIR", help="folder to make, absent or empty, for all that is made on the way")
+    parser.add_argument("--dry-run", action="store_true", help="prints the commands, as a shell takes them, and runs none")
 
 
 def _add_mounted(parser: argparse.ArgumentParser) -> None:
@@ -247,6 +284,13 @@ def _workers(text: str) -> int:
     number = int(text)
     if not 1 <= number <= MOST_WORKERS:
         raise argparse.ArgumentTypeError(f"workers must be 1 to {MOST_WORKERS}")
+    return number
+
+
+def _layers(text: str) -> int:
+    number = int(text)
+    if not 1 <= number <= MAX_LAYERS:
+        raise argparse.ArgumentTypeError(f"layers must be 1 to {MAX_LAYERS}")
     return number
 
 
@@ -289,6 +333,13 @@ def _pack(words: argparse.Namespace) -> None:
     pack(PackOptions(
         words.layers, _folder(words.blobs), _folder(words.out), words.platform, words.tag,
         words.skip_unsupported, words.config,
+    ))
+
+
+def _flatten(words: argparse.Namespace) -> None:
+    flatten(FlattenOptions(
+        _folder(words.image), _folder(words.out), words.layers, words.keep and _folder(words.keep), words.platform,
+        words.tag, words.skip_unsupported, words.dry_run,
     ))
 
 

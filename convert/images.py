@@ -38,10 +38,11 @@ class ImageLayer:
 
 @dataclass(frozen=True)
 class Image:
-    """The layers of an image, the lowest first, and its configuration with the platform in it."""
+    """The layers of an image, the lowest first, its configuration with the platform in it, and its names."""
 
     layers: list[ImageLayer]
     configuration: Document
+    names: tuple[str, ...]
 
 
 @dataclass(frozen=True)
@@ -122,6 +123,7 @@ class _Layout:
         return Image(
             [self._layer(digest, size, unpacked) for (digest, size), unpacked in zip(stated, digests)],
             with_platform(configuration, chosen.stated),
+            chosen.names,
         )
 
     def _layer(
@@ -255,4 +257,5 @@ def _saved_image(members: Members, platform: str | None, tag: str | None) -> Ima
             for name, digest in zip(layers, digests)
         ],
         configuration,
+        chosen.names,
     )

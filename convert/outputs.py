@@ -41,7 +41,7 @@ def new_folder(path: str) -> Iterator[str]:
 
     Where the body fails all of it is removed, and the folder too where it wasn't there.
     """
-    was_there = _require_empty(path)
+    was_there = require_empty(path)
     stage = os.path.join(path, STAGE_PREFIX + secrets.token_hex(8))
     moved: list[str] = [stage]
     try:
@@ -64,7 +64,28 @@ def new_folder(path: str) -> Iterator[str]:
         raise
 
 
-def _require_empty(path: str) -> bool:
+@contextlib.contextmanager
+def passing_folder(path: str) -> Iterator[str]:
+    """A new folder beside a path, which is taken away at the end whatever happens."""
+    folder = os.path.join(os.path.dirname(path), STAGE_PREFIX + secrets.token_hex(8))
+    with writing(path):
+        os.mkdir(folder, 0o700)
+    try:
+        yield folder
+    finally:
+        _remove(folder)
+
+
+@contextlib.contextmanager
+def kept_folder(path: str) -> Iterator[str]:
+    """A folder that is absent or empty, made where it is absent; what the body puts there stays."""
+    if not require_empty(path):
+        with writing(path):
+            os.mkdir(path, 0o700)
+    yield path
+
+
+def require_empty(path: str) -> bool:
     """Whether the folder is there; refuses one that holds anything."""
     try:
         names = os.listdir(path)

@@ -38,7 +38,7 @@ _MANIFEST_TYPE = "application/vnd.oci.image.manifest.v1+json"
 _INDEX_TYPE = "application/vnd.oci.image.index.v1+json"
 _LAYOUT = {"imageLayoutVersion": "1.0.0"}
 _REF_NAME = "org.opencontainers.image.ref.name"
-_ARCHIVE_SUFFIX = ".tar"
+ARCHIVE_SUFFIX = ".tar"
 
 
 @dataclass(frozen=True)
@@ -86,8 +86,11 @@ class _Counter:
         self.digest.update(piece)
 
 
-def pack(options: PackOptions) -> None:
-    """Writes the image: a folder, or one tar archive where the name ends in `.tar`."""
+def pack(options: PackOptions, look: Callable[[str], None] = lambda _: None) -> None:
+    """Writes the image: a folder, or one tar archive where the name ends in `.tar`.
+
+    Before it is moved into place, `look` is called with where it is, and may refuse it by a fault.
+    """
     if not 1 <= len(options.layers) <= rules.MAX_LAYERS:
         raise UsageFault(f"layers must be 1 to {rules.MAX_LAYERS}")
     given = _given_configuration(options)
@@ -98,11 +101,17 @@ def pack(options: PackOptions) -> None:
         layer.digest, layer.size = counter.digest.hexdigest(), counter.size
     configuration = for_layers(given, options.platform, [layer.digest for layer in layers])
     parts = _parts(layers, configuration, options)
-    if options.out.endswith(_ARCHIVE_SUFFIX):
-        write_file(options.out, lambda path: _write_image_archive(path, parts))
+    if options.out.endswith(ARCHIVE_SUFFIX):
+
+        def fill(path: str) -> None:
+            _write_image_archive(path, parts)
+            look(path)
+
+        write_file(options.out, fill)
     else:
         with new_folder(options.out) as stage:
             _write_image_folder(stage, parts)
+            look(stage)
 
 
 def _given_configuration(options: PackOptions) -> Document:

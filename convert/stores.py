@@ -11,7 +11,7 @@ import re
 from collections.abc import Iterator
 from dataclasses import dataclass
 
-from . import rules
+from . import rules, stacks
 from .attributes import require_trusted
 from .faults import cannot_read, reading
 from .outputs import new_folder
@@ -56,11 +56,12 @@ def store(options: StoreOptions) -> None:
     with new_folder(options.out) as stage:
         for number, layer in enumerate(layers):
             scan_folder(ScanOptions(
-                layer, f"{stage}/l{number}.json", None if options.digests_only else f"{stage}/blobs",
+                layer, f"{stage}/{stacks.layer_name(number)}",
+                None if options.digests_only else f"{stage}/{stacks.BLOBS}",
                 options.userxattr, options.cross_file_systems, options.skip_unsupported, options.workers,
             ), losses)
     for number, layer in enumerate(layers):
-        note_path(layer, f"is l{number}.json")
+        note_path(layer, f"is {stacks.layer_name(number)}")
     losses.tell()
 
 

@@ -5,7 +5,7 @@ import os
 from collections.abc import Mapping
 from dataclasses import dataclass, replace
 
-from . import rules
+from . import rules, stacks
 from .blobs import BlobStore, BlobWriter
 from .configuration import configuration_text
 from .contents import PIECE, write_all
@@ -13,7 +13,7 @@ from .entries import (
     BLOCK, CHAR, DIRECTORY, FIFO, FILE, NO_ATTRIBUTES, SYMLINK, WHITEOUT, Entry,
 )
 from .faults import cannot_read, cannot_write, reading, writing
-from .images import ImageLayer, opened_image
+from .images import Image, ImageLayer, opened_image
 from .layer_tree import LayerTree, TooMuch, Unfit, whiteout_at
 from .manifests import write_manifest
 from .outputs import new_folder, write_text
@@ -24,7 +24,6 @@ from .tar_headers import HARD_LINK, REGULAR_TYPES, Header
 from .tar_reader import TarReader
 from .texts import printable
 
-CONFIG_NAME = "config.json"
 WHITEOUT_PREFIX = ".wh."
 OPAQUE_NAME = ".wh..wh..opq"
 _META_PREFIX = ".wh..wh."
@@ -46,13 +45,13 @@ class UnpackOptions:
     skip_unsupported: bool = False
 
 
-def unpack(options: UnpackOptions) -> None:
-    """Writes `l0.json`, the topmost, and so on, the folder `blobs`, and `config.json`."""
+def unpack(options: UnpackOptions) -> Image:
+    """Writes `l0.json`, the topmost, and so on, the folder `blobs`, and `config.json`. Gives the image."""
     with opened_image(options.image, options.platform, options.tag) as image:
         layers = image.layers
         if not 1 <= len(layers) <= rules.MAX_LAYERS:
             raise cannot_read(options.image, f"it has {len(layers)} layers, not 1 to {rules.MAX_LAYERS}")
-        with new_folder(options.out) as stage, BlobStore(f"{stage}/blobs") as store:
+        with new_folder(options.out) as stage, BlobStore(f"{stage}/{stacks.BLOBS}") as store:
             writer = store.writer()
             try:
                 lower_names: set[str] = set()
@@ -60,16 +59,17 @@ def unpack(options: UnpackOptions) -> None:
                     tree = _Unpacking(options, layer, writer).tree()
                     _spread_opaque_root(tree, lower_names, number)
                     lower_names |= tree.shown_at_root()
-                    write_manifest(f"{stage}/l{number}.json", tree.entries())
+                    write_manifest(f"{stage}/{stacks.layer_name(number)}", tree.entries())
             finally:
                 writer.close()
-            write_text(f"{stage}/{CONFIG_NAME}", [configuration_text(image.configuration)])
+            write_text(f"{stage}/{stacks.CONFIG}", [configuration_text(image.configuration)])
+    return image
 
 
 def _spread_opaque_root(tree: LayerTree, lower_names: set[str], number: int) -> None:
     """Overlayfs has no opaque roots, so each name of the lower layers is hidden by itself."""
     if tree.has_opaque_root():
-        note(f"l{number}.json: its root hides all lower layers; told by whiteouts of their names")
+        note(f"{stacks.layer_name(number)}: its root hides all lower layers; told by whiteouts of their names")
         tree.hide_at_root(lower_names)
 
 
