@@ -79,9 +79,10 @@ def run_program(program: str, words: Sequence[str], report: str) -> str:
     if result.returncode == _FAULTY:
         _print(report)
     if result.returncode < 0:
-        raise Refused(f"{NAME} {words[0]} was ended by signal {-result.returncode}", OTHER)
+        raise Refused(f"{NAME} {words[0]} was ended by signal {-result.returncode}; nothing is written", OTHER)
     if result.returncode > 0:
-        raise Refused(f"{NAME} {words[0]} ended with status {result.returncode}", result.returncode)
+        ending = f"{NAME} {words[0]} ended with status {result.returncode}; nothing is written"
+        raise Refused(ending, result.returncode)
     return _last_line(report)
 
 

@@ -24,9 +24,11 @@ def member(
     return info, data
 
 
-def folder(name: str, mode: int = 0o755) -> tuple[tarfile.TarInfo, bytes]:
+def folder(
+    name: str, mode: int = 0o755, pax: dict[str, str] | None = None
+) -> tuple[tarfile.TarInfo, bytes]:
     """A directory in a layer's archive."""
-    return member(name, kind=tarfile.DIRTYPE, mode=mode)
+    return member(name, kind=tarfile.DIRTYPE, mode=mode, pax=pax)
 
 
 def archive(members: Iterable[tuple[tarfile.TarInfo, bytes]]) -> bytes:

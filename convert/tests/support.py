@@ -20,6 +20,11 @@ from convert import command  # noqa: E402
 from convert.attributes import can_read_trusted  # noqa: E402
 
 
+def program_words() -> list[str]:
+    """How the program is run: where it is built, or as `LAYERS_TEST_PROGRAM` says; nothing where it can't be."""
+    return os.environ.get("LAYERS_TEST_PROGRAM", str(PROGRAM) if PROGRAM.exists() else "").split()
+
+
 def call(*words: object) -> tuple[int, str, str]:
     """Runs the command in this process: status, standard output, standard error."""
     printed, told = io.StringIO(), io.StringIO()
