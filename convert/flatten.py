@@ -54,7 +54,7 @@ def flatten(options: FlattenOptions) -> None:
         return
     _require_free(options)
     begun = time.monotonic()
-    made = passing_folder(options.out) if options.keep is None else kept_folder(options.keep)
+    made = passing_folder(os.path.realpath(options.out)) if options.keep is None else kept_folder(options.keep)
     with made as folder:
         before, after = _carry_out(_Doing(options, folder), options.layers)
     seconds = time.monotonic() - begun
@@ -173,18 +173,21 @@ class _Doing:
 
     def pack(self, layers: Sequence[str]) -> None:
         """See `_Steps`."""
-        begun = time.monotonic()
-
-        def look(image: str) -> None:
-            _tell("pack", [counted(len(layers), "layer", "layers")], begun)
+        place = os.path.realpath(self._options.out)
+        with passing_folder(place) as folder:
+            # As `pack` tells an archive from a folder, whatever a link leads to.
+            image = f"{folder}/image" + (ARCHIVE_SUFFIX if self._options.out.endswith(ARCHIVE_SUFFIX) else "")
+            with _timed("pack") as told:
+                pack(PackOptions(
+                    [self._path(layer) for layer in layers], self._path(f"{_STACK}/{stacks.BLOBS}"), image,
+                    tag=self._name, config=self._path(f"{_STACK}/{stacks.CONFIG}"),
+                ))
+                told.append(counted(len(layers), "layer", "layers"))
             with _timed("the new image, read again") as told:
                 told.append(self._shown(image))
                 self.compare(_IMAGE)
-
-        pack(PackOptions(
-            [self._path(layer) for layer in layers], self._path(f"{_STACK}/{stacks.BLOBS}"), self._options.out,
-            tag=self._name, config=self._path(f"{_STACK}/{stacks.CONFIG}"),
-        ), look)
+            with writing(self._options.out):
+                os.rename(image, place)
 
     def _shown(self, image: str) -> str:
         """Writes what an image shows."""

@@ -86,11 +86,8 @@ class _Counter:
         self.digest.update(piece)
 
 
-def pack(options: PackOptions, look: Callable[[str], None] = lambda _: None) -> None:
-    """Writes the image: a folder, or one tar archive where the name ends in `.tar`.
-
-    Before it is moved into place, `look` is called with where it is, and may refuse it by a fault.
-    """
+def pack(options: PackOptions) -> None:
+    """Writes the image: a folder, or one tar archive where the name ends in `.tar`."""
     if not 1 <= len(options.layers) <= rules.MAX_LAYERS:
         raise UsageFault(f"layers must be 1 to {rules.MAX_LAYERS}")
     given = _given_configuration(options)
@@ -102,16 +99,10 @@ def pack(options: PackOptions, look: Callable[[str], None] = lambda _: None) -> 
     configuration = for_layers(given, options.platform, [layer.digest for layer in layers])
     parts = _parts(layers, configuration, options)
     if options.out.endswith(ARCHIVE_SUFFIX):
-
-        def fill(path: str) -> None:
-            _write_image_archive(path, parts)
-            look(path)
-
-        write_file(options.out, fill)
+        write_file(options.out, lambda path: _write_image_archive(path, parts))
     else:
         with new_folder(options.out) as stage:
             _write_image_folder(stage, parts)
-            look(stage)
 
 
 def _given_configuration(options: PackOptions) -> Document:

@@ -34,7 +34,7 @@ if os.geteuid() == 0:
 sys.exit(main(sys.argv[2:]))
 """
 A = hashlib.sha256(b"a").hexdigest()
-COMMANDS = ("scan", "store", "build", "unpack", "pack", "mounted")
+COMMANDS = ("scan", "store", "build", "unpack", "pack", "flatten", "mounted")
 
 
 def _clone(target: int, _: int, source: int) -> None:

@@ -201,6 +201,20 @@ class Steps(FlattenTest):
             self.assertEqual(self.calls(), [])
         self.left("full", "fifo.tar")
 
+    def test_what_may_be_there(self) -> None:
+        os.mkdir(self.path("all", "empty"))
+        for name in ("old.tar", "linked"):
+            with open(self.path("in", name), "wb"):
+                pass
+        os.rename(self.path("in", "old.tar"), self.path("all", "old.tar"))
+        os.symlink(self.path("in", "linked"), self.path("all", "link.tar"))
+        for out in ("empty", "old.tar", "link.tar"):
+            self.require_done(self.flatten(out=out))
+            self.assertEqual(self.layers_of(self.path("all", out)), 1)
+        self.left("empty", "old.tar", "link.tar")
+        self.assertTrue(os.path.islink(self.path("all", "link.tar")))
+        self.assertEqual(sorted(os.listdir(self.hands)), ["calls", "linked", "manner", "ovl_layers", "stack"])
+
     def test_names(self) -> None:
         described = [put_manifest(self.image, [archive(layer)], None, "linux/amd64") for layer in LAYERS[:2]]
         put_index(self.image, [
@@ -303,8 +317,8 @@ class Processes(FlattenTest):
             shutil.rmtree(self.path("in", "kept"))
 
 
-class Images(FlattenTest):
-    """Images that the program itself flattens."""
+class ImageTest(FlattenTest):
+    """A test with the program itself."""
 
     def setUp(self) -> None:
         super().setUp()
@@ -327,6 +341,10 @@ class Images(FlattenTest):
         self.assertEqual(checked.returncode, 0, checked.stdout)
         shutil.rmtree(stack)
         return result.stdout
+
+
+class Images(ImageTest):
+    """Images that the program flattens."""
 
     def test_a_small_image(self) -> None:
         made = self.path("in", "small")
@@ -360,7 +378,7 @@ class Images(FlattenTest):
             shutil.rmtree(self.path("in", "marked"))
 
 
-class Umoci(Images):
+class Umoci(ImageTest):
     """An image that umoci makes; the new one is the same to umoci and skopeo."""
 
     def setUp(self) -> None:
@@ -372,12 +390,78 @@ class Umoci(Images):
         if reason:
             self.skipTest(reason)
 
-    def umoci(self, *words: str) -> None:
-        """Runs umoci in the folder of what is given."""
-        subprocess.run(["umoci", *words], check=True, capture_output=True, cwd=self.hands)
+    def run_in(self, *words: str) -> str:
+        """What a tool prints, run in the folder of what is given."""
+        return subprocess.run(words, check=True, capture_output=True, text=True, cwd=self.hands).stdout
 
     @contextlib.contextmanager
     def layer(self) -> Iterator[str]:
         """The root of a bundle; what is changed in it becomes a layer."""
-        yield self.path("in", "bundle", "rootfs")
-        self.umoci("repack", "--refresh-bundle", "--image", "made:small", "bundle")
+        root = self.path("in", "bundle", "rootfs")
+        yield root
+        for path in (root, f"{root}/etc"):
+            os.utime(path, (1_700_000_000, 1_700_000_000))
+        self.run_in("umoci", "repack", "--refresh-bundle", "--image", "made:small", "bundle")
+
+    def make(self) -> None:
+        """An image of three layers, with a configuration."""
+        self.run_in("umoci", "init", "--layout", "made")
+        self.run_in("umoci", "new", "--image", "made:small")
+        self.run_in("umoci", "unpack", "--image", "made:small", "bundle")
+        with self.layer() as root:
+            for name in ("etc/app", "srv/data", "usr/bin"):
+                os.makedirs(f"{root}/{name}")
+            for name in ("etc/shadow", "etc/app/a", "etc/app/b", "srv/data/x", "usr/bin/tool"):
+                self.write(f"{root}/{name}")
+            os.chmod(f"{root}/usr/bin/tool", 0o4755)
+            os.chmod(f"{root}/srv", 0o700)
+            os.chown(f"{root}/srv", 33, 33)
+            os.symlink("../usr/bin/tool", f"{root}/etc/tool")
+            os.mknod(f"{root}/etc/null", 0o20666, os.makedev(1, 3))
+        with self.layer() as root:
+            os.unlink(f"{root}/etc/app/a")
+            os.chmod(f"{root}/etc/shadow", 0o640)
+            shutil.rmtree(f"{root}/srv/data")
+            os.symlink("../etc", f"{root}/srv/data")
+            os.setxattr(f"{root}/usr/bin/tool", "user.note", b"2")
+        with self.layer() as root:
+            shutil.rmtree(f"{root}/etc/app")
+            os.mkdir(f"{root}/etc/app", 0o711)
+            self.write(f"{root}/etc/app/c")
+            self.write(f"{root}/usr/bin/new")
+        self.run_in(
+            "umoci", "config", "--image", "made:small", "--config.cmd", "/usr/bin/tool", "--config.user", "33:33",
+            "--config.env", "A=b", "--config.workingdir", "/srv", "--config.label", "org.example=1", "--config.volume",
+            "/srv", "--config.exposedports", "80/tcp", "--author", "A. Uthor", "--architecture", "arm64",
+        )
+
+    def write(self, path: str) -> None:
+        """Writes a file that holds its own name."""
+        with open(path, "w", encoding="utf-8") as file:
+            file.write(os.path.basename(path))
+
+    def tree(self, image: str, bundle: str) -> str:
+        """The tree that umoci makes of an image."""
+        self.run_in("umoci", "unpack", "--image", f"{image}:small", bundle)
+        status, printed, told = call("mounted", self.path("in", bundle, "rootfs"))
+        self.assertEqual(status, 0, told)
+        return printed
+
+    def configuration(self, image: str) -> dict[str, object]:
+        """The configuration that skopeo tells of an image, but for its layers."""
+        told = json.loads(self.run_in("skopeo", "inspect", "--config", f"oci:{image}:small"))
+        return {name: value for name, value in told.items() if name not in ("rootfs", "history")}
+
+    def test_trees_and_configurations(self) -> None:
+        self.make()
+        tree, configuration = self.tree("made", "bundle-of-made"), self.configuration("made")
+        self.assertEqual(configuration["config"]["Cmd"], ["/usr/bin/tool"])  # type: ignore[index]
+        for layers in (1, 2):
+            flat = self.path("all", f"flat{layers}")
+            self.require_done(self.flatten("--layers", layers, image=self.path("in", "made"), out=f"flat{layers}"))
+            self.assertEqual(self.tree(flat, f"bundle-{layers}"), tree)
+            self.assertEqual(self.configuration(flat), configuration)
+
+
+if __name__ == "__main__":
+    unittest.main()
