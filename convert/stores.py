@@ -20,6 +20,7 @@ from .scan import Losses, ScanOptions, scan_folder
 from .texts import printable
 
 _DIFF = "diff"
+_MERGED = "merged"
 _LINKS = "l"
 _LINK = "link"
 _LOWER = "lower"
@@ -62,6 +63,8 @@ def store(options: StoreOptions) -> None:
             ), losses)
     for number, layer in enumerate(layers):
         note_path(layer, f"is {stacks.layer_name(number)}")
+    if os.path.ismount(os.path.join(options.folder, _MERGED)):
+        note_path(options.folder, "it is mounted; what was written meanwhile may be missing")
     losses.tell()
 
 
@@ -70,15 +73,24 @@ def chain(folder: str) -> list[str]:
     with reading(folder):
         there = os.listdir(folder)
     if _DIFF not in there:
-        is_store = _LINKS in there or not _DRIVERS.isdisjoint(there)
-        hint = "; name the folder of a layer in it" if is_store else ""
-        raise cannot_read(folder, f"it is no layer's folder of docker's overlay2 or of containers-storage{hint}")
+        raise cannot_read(
+            folder, f"it is no layer's folder of docker's overlay2 or of containers-storage{_hint(folder, there)}"
+        )
     home = os.path.dirname(os.path.realpath(folder))
     names = _Names(home)
     layers = list(_parts(folder))
     for lower in _lowers(folder):
         layers += _parts(os.path.join(home, names.layer(lower)))
     return layers
+
+
+def _hint(folder: str, there: list[str]) -> str:
+    """Which folder is meant, where a person named one near it."""
+    if _LINKS in there or not _DRIVERS.isdisjoint(there):
+        return "; name the folder of a layer in it"
+    if os.path.lexists(os.path.join(folder, os.pardir, _LINK)):
+        return "; name the folder that it is in"
+    return ""
 
 
 def _parts(folder: str) -> Iterator[str]:

@@ -104,6 +104,7 @@ def main(folder: str) -> None:
         os.chmod(f"{place}/etc/conf.d/b", 0o600)
         top = os.path.dirname(place)
         told = {"chain": chain(top), "mounted": folders_of_mount(place), "kernel": done("mounted", place)}
+        told["noted"] = call("store", top, "--out", f"{folder}/mounted", "--digests-only")[2]
     print(json.dumps(told | {"shown": shown(folder, top)}))
 
 

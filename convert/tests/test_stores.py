@@ -97,7 +97,8 @@ class Chains(FolderTest):
     def test_folders_that_are_no_layers(self) -> None:
         words = ("--out", self.path("out"), "--userxattr")
         for folder, reason in (
-            (self.home, "; name the folder of a layer in it"), (f"{self.layers[0]}/diff", "it is no layer's folder"),
+            (self.home, "; name the folder of a layer in it"), (f"{self.layers[0]}/diff", "; name the folder that it is in"),
+            (self.folder, "; name the folder of a layer in it"), (f"{self.home}/l", "or of containers-storage\n"),
             (self.path("absent"), "No such file"), (f"{self.layers[0]}/link", "Not a directory"),
         ):
             self.require_fault(call("store", folder, *words), 3, f"cannot read {folder}: ", reason)
@@ -132,6 +133,7 @@ class Buildah(FolderTest):
         self.assertEqual(told["chain"], told["mounted"])
         self.assertEqual(len(told["chain"]), 3)
         self.assertEqual(told["shown"], told["kernel"])
+        self.assertIn(": it is mounted; what was written meanwhile may be missing\n", told["noted"])
 
 
 if __name__ == "__main__":
