@@ -44,6 +44,24 @@ def run(*words: object, **more: object) -> "subprocess.CompletedProcess[str]":
     )
 
 
+_AS_ANYBODY = """
+import os, sys
+sys.path.insert(0, sys.argv[1])
+from convert.command import main
+if os.geteuid() == 0:
+    os.setgid(65534)
+    os.setuid(65534)
+sys.exit(main(sys.argv[2:]))
+"""
+
+
+def run_as_anybody(*words: str) -> "subprocess.CompletedProcess[str]":
+    """Runs the command as a user without rights."""
+    return subprocess.run(
+        [sys.executable, "-B", "-c", _AS_ANYBODY, str(ROOT), *words], capture_output=True, text=True, check=False
+    )
+
+
 def why_no_trusted(folder: str) -> str | None:
     """Why `trusted.*` attributes and devices can't be had in a folder, or nothing where they can."""
     if os.geteuid() != 0:

@@ -18,21 +18,12 @@ import time
 import unittest
 from unittest import mock
 
-from support import COMMAND, ROOT, FolderTest, call, run
+from support import COMMAND, FolderTest, call, run, run_as_anybody
 
 from convert import places
 from convert.entries import Entry
 from convert.manifests import read_manifest
 
-_AS_ANYBODY = """
-import os, sys
-sys.path.insert(0, sys.argv[1])
-from convert.command import main
-if os.geteuid() == 0:
-    os.setgid(65534)
-    os.setuid(65534)
-sys.exit(main(sys.argv[2:]))
-"""
 A = hashlib.sha256(b"a").hexdigest()
 COMMANDS = ("scan", "store", "build", "unpack", "pack", "flatten", "mounted")
 
@@ -206,6 +197,8 @@ class Scanning(CommandTest):
             with mock.patch("convert.scan.Survey.entries") as entries:
                 entries.return_value = [Entry("/", "dir", 0), Entry("/f", "file", 0, size=size)]
                 self.require_fault(self.scan(), 3, "/in/f: it was changed meanwhile")
+                words = ("scan", self.path("in"), "--out", self.path("out.json"), "--digests-only", "--userxattr")
+                self.require_fault(call(*words), 3, "/in/f: it was changed meanwhile")
             self.require_nothing_left("in")
 
     def test_ways_of_copying(self) -> None:
@@ -278,10 +271,8 @@ class Scanning(CommandTest):
     def test_the_right_to_read_marks(self) -> None:
         os.mkdir(self.path("in"))
         os.chmod(self.folder, 0o755)
-        result = subprocess.run(
-            [sys.executable, "-B", "-c", _AS_ANYBODY, str(ROOT), "scan", self.path("in"), "--out",
-             self.path("out.json"), "--blobs", self.path("blobs")],
-            capture_output=True, text=True, check=False,
+        result = run_as_anybody(
+            "scan", self.path("in"), "--out", self.path("out.json"), "--blobs", self.path("blobs")
         )
         self.assertEqual(result.returncode, 3, result.stderr)
         self.assertIn("run it with sudo, or give --userxattr", result.stderr)

@@ -9,7 +9,7 @@ import unittest
 from pathlib import Path
 
 from kernel_stacks import Store
-from support import FolderTest, call
+from support import FolderTest, call, run_as_anybody
 from test_kernel import why_no_overlay
 
 from convert.manifests import read_manifest
@@ -106,6 +106,14 @@ class Chains(FolderTest):
             os.mkdir(f"{self.layers[0]}/{name}")
             self.require_fault(self.store(), 3, f"cannot read {self.layers[0]}: it is kept in a way that isn't read: it has {name}")
             os.rmdir(f"{self.layers[0]}/{name}")
+        self.require_nothing_left("overlay2")
+
+    def test_the_right_to_read_marks(self) -> None:
+        os.chmod(self.folder, 0o755)
+        os.chmod(self.home, 0o700)
+        result = run_as_anybody("store", self.layers[2], "--out", self.path("out"))
+        self.assertEqual(result.returncode, 3, result.stderr)
+        self.assertIn("run it with sudo, or give --userxattr", result.stderr)
         self.require_nothing_left("overlay2")
 
     def test_the_number_of_layers(self) -> None:
