@@ -12,7 +12,7 @@ from typing import Protocol
 
 from . import stacks
 from .entries import METACOPY, REDIRECT
-from .faults import ReadFault, UsageFault, cannot_write, writing
+from .faults import Fault, UsageFault, cannot_write, writing
 from .images import Image, opened_image
 from .manifests import blobs_named_in, has_attribute
 from .outputs import kept_folder, passing_folder, require_empty
@@ -169,7 +169,7 @@ class _Doing:
         """See `_Steps`."""
         if not filecmp.cmp(self._path(_BEFORE), self._path(report), shallow=False):
             where = f"{_BEFORE} and {report} in {self._folder}" if self._options.keep else "--keep DIR keeps both reports"
-            raise ReadFault(f"the new layers show something else, so nothing is written; {where}")
+            raise Fault(f"the new layers show something else, so nothing is written; {where}")
 
     def pack(self, layers: Sequence[str]) -> None:
         """See `_Steps`."""

@@ -183,7 +183,7 @@ class Steps(FlattenTest):
             for out in ("flat", "flat.tar"):
                 self.manner(f'[ $what = show ] && [ $(grep -c ^show "$here/calls") = {number} ] && {{ echo other; exit; }}')
                 self.require_fault_at_end(
-                    self.flatten(out=out), 3,
+                    self.flatten(out=out), 5,
                     "the new layers show something else, so nothing is written; --keep DIR keeps both reports",
                 )
                 self.left()
