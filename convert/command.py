@@ -8,12 +8,14 @@ from collections.abc import Callable, Sequence
 
 from . import VERSION
 from .build import BuildOptions, build
+from .compression import COMPRESSIONS, NONE
 from .configuration import USUAL_PLATFORM
 from .faults import OTHER, WRITING, Fault
 from .mounted import report
 from .pack import PackOptions, pack
 from .scan import ScanOptions, scan
 from .shares import MOST_WORKERS, usual_workers
+from .texts import printable
 from .unpack import UnpackOptions, unpack
 
 NAME = "layers"
@@ -65,10 +67,11 @@ Writes the layers of an image as manifests: DIR/l0.json, the topmost, DIR/l1.jso
 contents of all their files into DIR/blobs. DIR/config.json is the image's configuration with its platform,
 for `pack --config`.
 
-IMAGE is an OCI image layout (a folder or a tar archive of it) or what `docker save` writes. Layers may
-be plain, gzip, or zstd where the zstd program is there. Their digests are checked. A hard link becomes
-a file with the same contents, a whiteout (.wh.NAME) a char device 0:0, and .wh..wh..opq an opaque
-directory."""
+IMAGE is an OCI image layout (a folder or a tar archive of it), what `docker save` writes, or a folder of
+skopeo's dir:. It may also be named as skopeo does it (oci:DIR:TAG, docker-archive:FILE); - is an archive
+from standard input. Layers may be plain, gzip, or zstd where the zstd program is there. Their digests are
+checked. A directory that a layer leaves out is as the layers below show it. A hard link becomes a file
+with the same contents, a whiteout (.wh.NAME) a char device 0:0, and .wh..wh..opq an opaque directory."""
 
 _PACK = """\
 Writes manifests, the topmost first, as an OCI image layout: a folder, or one tar archive where the name
@@ -101,8 +104,8 @@ def main(words: Sequence[str]) -> int:
     except MemoryError:
         print(f"{NAME}: out of memory", file=sys.stderr)
         return OTHER
-    except OSError as error:
-        print(f"{NAME}: {error}", file=sys.stderr)
+    except (OSError, RecursionError) as error:
+        print(f"{NAME}: {printable(str(error))}", file=sys.stderr)
         return OTHER
 
 
@@ -140,7 +143,7 @@ def _command(
 
 def _add_scan(parser: argparse.ArgumentParser) -> None:
     parser.add_argument("folder", metavar="DIR", help="folder of a layer")
-    parser.add_argument("--out", metavar="FILE", required=True, help="manifest to write")
+    parser.add_argument("--out", metavar="FILE", required=True, help="manifest to write; - is standard output")
     parser.add_argument("--blobs", metavar="DIR", required=True, help="folder of blobs, made where it is absent")
     _add_userxattr(parser, "reads")
     _add_cross(parser)
@@ -159,10 +162,14 @@ def _add_build(parser: argparse.ArgumentParser) -> None:
 
 
 def _add_unpack(parser: argparse.ArgumentParser) -> None:
-    parser.add_argument("image", metavar="IMAGE", help="OCI image layout (folder or tar), or what docker save wrote")
+    parser.add_argument("image", metavar="IMAGE", help="OCI image layout (folder or tar), or what docker save wrote; - is standard input")
     parser.add_argument("--out", metavar="DIR", required=True, help="folder to make, absent or empty")
     parser.add_argument("--platform", metavar="OS/ARCH", help="which of several images, such as linux/amd64")
     parser.add_argument("--tag", metavar="NAME", help="which of several images, by its name in the image's index")
+    parser.add_argument(
+        "--overlay-marks", action="store_true",
+        help="takes attributes trusted.overlay.* of the image's archives too, which change what the layers show",
+    )
     _add_skip(parser)
 
 
@@ -180,7 +187,11 @@ def _add_pack(parser: argparse.ArgumentParser) -> None:
         "--platform", metavar="OS/ARCH", type=_platform,
         help=f"what the image says that it is for [default: that of --config, or {USUAL_PLATFORM}]",
     )
-    parser.add_argument("--tag", metavar="NAME", help="name of the image in its index")
+    parser.add_argument("--tag", metavar="NAME", type=_name, help="name of the image in its index")
+    parser.add_argument(
+        "--compress", choices=COMPRESSIONS, default=NONE,
+        help="packs the layers; zstd needs the program of that name [default: none]",
+    )
     _add_skip(parser)
 
 
@@ -220,6 +231,14 @@ def _platform(text: str) -> str:
     return text
 
 
+def _name(text: str) -> str:
+    try:
+        text.encode()
+    except UnicodeEncodeError:
+        raise argparse.ArgumentTypeError("a name isn't UTF-8") from None
+    return text
+
+
 def _folder(path: str) -> str:
     """A folder as given, without slashes at its end, so that paths in it read well."""
     return path.rstrip("/") or ("/" if path else "")
@@ -238,14 +257,15 @@ def _build(words: argparse.Namespace) -> None:
 
 def _unpack(words: argparse.Namespace) -> None:
     unpack(UnpackOptions(
-        _folder(words.image), _folder(words.out), words.platform, words.tag, words.skip_unsupported
+        _folder(words.image), _folder(words.out), words.platform, words.tag, words.skip_unsupported,
+        words.overlay_marks,
     ))
 
 
 def _pack(words: argparse.Namespace) -> None:
     pack(PackOptions(
         words.layers, _folder(words.blobs), _folder(words.out), words.platform, words.tag,
-        words.skip_unsupported, words.config,
+        words.skip_unsupported, words.config, words.compress,
     ))
 
 

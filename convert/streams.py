@@ -35,8 +35,13 @@ class Slice(io.RawIOBase):
     def __init__(self, file: int, begin: int, size: int) -> None:
         super().__init__()
         self._file = file
+        self._begin = begin
         self.place = begin
         self._end = begin + size
+
+    def again(self) -> "Slice":
+        """The same part, from its front."""
+        return Slice(self._file, self._begin, self._end - self._begin)
 
     def readable(self) -> bool:
         """It is."""
