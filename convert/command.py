@@ -8,6 +8,7 @@ from collections.abc import Callable, Sequence
 
 from . import VERSION
 from .build import BuildOptions, build
+from .compression import COMPRESSIONS, NONE
 from .configuration import USUAL_PLATFORM
 from .faults import OTHER, WRITING, Fault
 from .flatten import FlattenOptions, flatten
@@ -17,6 +18,7 @@ from .rules import MAX_LAYERS
 from .scan import ScanOptions, scan
 from .shares import MOST_WORKERS, usual_workers
 from .stores import StoreOptions, store
+from .texts import printable
 from .unpack import UnpackOptions, unpack
 
 NAME = "layers"
@@ -82,12 +84,14 @@ attributes need root."""
 _UNPACK = """\
 Writes the layers of an image as manifests: DIR/l0.json, the topmost, DIR/l1.json and so on, and the
 contents of all their files into DIR/blobs. DIR/config.json is the image's configuration with its platform,
-for `pack --config`.
+for `pack --config`. With --digests-only contents are read for their digests and copied nowhere, which is
+enough for `ovl_layers show`.
 
-IMAGE is an OCI image layout (a folder or a tar archive of it) or what `docker save` writes. Layers may
-be plain, gzip, or zstd where the zstd program is there. Their digests are checked. A hard link becomes
-a file with the same contents, a whiteout (.wh.NAME) a char device 0:0, and .wh..wh..opq an opaque
-directory."""
+IMAGE is an OCI image layout (a folder or a tar archive of it), what `docker save` writes, or a folder of
+skopeo's dir:. It may also be named as skopeo does it (oci:DIR:TAG, docker-archive:FILE); - is an archive
+from standard input. Layers may be plain, gzip, or zstd where the zstd program is there. Their digests are
+checked. A directory that a layer leaves out is as the layers below show it. A hard link becomes a file
+with the same contents, a whiteout (.wh.NAME) a char device 0:0, and .wh..wh..opq an opaque directory."""
 
 _PACK = """\
 Writes manifests, the topmost first, as an OCI image layout: a folder, or one tar archive where the name
@@ -132,8 +136,8 @@ def main(words: Sequence[str]) -> int:
     except MemoryError:
         print(f"{NAME}: out of memory", file=sys.stderr)
         return OTHER
-    except OSError as error:
-        print(f"{NAME}: {error}", file=sys.stderr)
+    except (OSError, RecursionError) as error:
+        print(f"{NAME}: {printable(str(error))}", file=sys.stderr)
         return OTHER
 
 
@@ -173,7 +177,7 @@ def _command(
 
 def _add_scan(parser: argparse.ArgumentParser) -> None:
     parser.add_argument("folder", metavar="DIR", help="folder of a layer")
-    parser.add_argument("--out", metavar="FILE", required=True, help="manifest to write")
+    parser.add_argument("--out", metavar="FILE", required=True, help="manifest to write; - is standard output")
     contents = parser.add_mutually_exclusive_group(required=True)
     contents.add_argument("--blobs", metavar="DIR", help="folder of blobs, made where it is absent")
     _add_digests_only(contents)
@@ -214,13 +218,21 @@ def _add_build(parser: argparse.ArgumentParser) -> None:
 def _add_unpack(parser: argparse.ArgumentParser) -> None:
     _add_image(parser)
     parser.add_argument("--out", metavar="DIR", required=True, help="folder to make, absent or empty")
+    _add_digests_only(parser)
 
 
 def _add_image(parser: argparse.ArgumentParser) -> None:
     """Which image is read, and how."""
-    parser.add_argument("image", metavar="IMAGE", help="OCI image layout (folder or tar), or what docker save wrote")
+    parser.add_argument(
+        "image", metavar="IMAGE",
+        help="OCI image layout (folder or tar), or what docker save wrote; - is standard input",
+    )
     parser.add_argument("--platform", metavar="OS/ARCH", help="which of several images, such as linux/amd64")
     parser.add_argument("--tag", metavar="NAME", help="which of several images, by its name in the image's index")
+    parser.add_argument(
+        "--overlay-marks", action="store_true",
+        help="takes attributes trusted.overlay.* of the image's archives too, which change what the layers show",
+    )
     _add_skip(parser)
 
 
@@ -236,7 +248,7 @@ def _add_pack(parser: argparse.ArgumentParser) -> None:
         "--platform", metavar="OS/ARCH", type=_platform,
         help=f"what the image says that it is for [default: that of --config, or {USUAL_PLATFORM}]",
     )
-    parser.add_argument("--tag", metavar="NAME", help="name of the image in its index")
+    parser.add_argument("--tag", metavar="NAME", type=_name, help="name of the image in its index")
     _add_skip(parser)
 
 
@@ -244,6 +256,10 @@ def _add_new_image(parser: argparse.ArgumentParser) -> None:
     """Which image is written."""
     parser.add_argument(
         "--out", metavar="IMAGE", required=True, help="folder to make, or a file whose name ends in .tar"
+    )
+    parser.add_argument(
+        "--compress", choices=COMPRESSIONS, default=NONE,
+        help="packs the layers; zstd needs the program of that name [default: none]",
     )
 
 
@@ -300,6 +316,14 @@ def _platform(text: str) -> str:
     return text
 
 
+def _name(text: str) -> str:
+    try:
+        text.encode()
+    except UnicodeEncodeError:
+        raise argparse.ArgumentTypeError("a name isn't UTF-8") from None
+    return text
+
+
 def _folder(path: str) -> str:
     """A folder as given, without slashes at its end, so that paths in it read well."""
     return path.rstrip("/") or ("/" if path else "")
@@ -325,21 +349,22 @@ def _build(words: argparse.Namespace) -> None:
 
 def _unpack(words: argparse.Namespace) -> None:
     unpack(UnpackOptions(
-        _folder(words.image), _folder(words.out), words.platform, words.tag, words.skip_unsupported
+        _folder(words.image), _folder(words.out), words.platform, words.tag, words.skip_unsupported,
+        words.overlay_marks, words.digests_only,
     ))
 
 
 def _pack(words: argparse.Namespace) -> None:
     pack(PackOptions(
         words.layers, _folder(words.blobs), _folder(words.out), words.platform, words.tag,
-        words.skip_unsupported, words.config,
+        words.skip_unsupported, words.config, words.compress,
     ))
 
 
 def _flatten(words: argparse.Namespace) -> None:
     flatten(FlattenOptions(
         _folder(words.image), _folder(words.out), words.layers, words.keep and _folder(words.keep), words.platform,
-        words.tag, words.skip_unsupported, words.dry_run,
+        words.tag, words.skip_unsupported, words.overlay_marks, words.compress, words.dry_run,
     ))
 
 

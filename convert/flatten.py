@@ -6,14 +6,15 @@ import os
 import shlex
 import time
 from collections.abc import Iterator, Sequence
-from dataclasses import dataclass
+from dataclasses import dataclass, replace
 from pathlib import Path
 from typing import Protocol
 
 from . import stacks
+from .compression import NONE
 from .entries import METACOPY, REDIRECT
 from .faults import Fault, UsageFault, cannot_write, writing
-from .images import Image, opened_image
+from .images import Image, image_place, opened_image
 from .manifests import blobs_named_in, has_attribute
 from .outputs import kept_folder, passing_folder, require_empty
 from .pack import ARCHIVE_SUFFIX, PackOptions, pack
@@ -41,6 +42,8 @@ class FlattenOptions:
     platform: str | None = None
     tag: str | None = None
     skip_unsupported: bool = False
+    overlay_marks: bool = False
+    compress: str = NONE
     dry_run: bool = False
 
 
@@ -49,6 +52,8 @@ def flatten(options: FlattenOptions) -> None:
 
     Nothing is written unless it shows, read again, what the given image shows.
     """
+    image, tag = image_place(options.image, options.tag)
+    options = replace(options, image=image, tag=tag)
     if options.dry_run:
         _carry_out(_Telling(options), options.layers)
         return
@@ -138,7 +143,8 @@ class _Doing:
         options = self._options
         with _timed("unpack") as told:
             image = _unpacked(UnpackOptions(
-                options.image, self._path(_STACK), options.platform, options.tag, options.skip_unsupported
+                options.image, self._path(_STACK), options.platform, options.tag, options.skip_unsupported,
+                options.overlay_marks,
             ))
             self._name = _name_of(image, options)
             told.append(counted(len(image.layers), "layer", "layers"))
@@ -180,7 +186,7 @@ class _Doing:
             with _timed("pack") as told:
                 pack(PackOptions(
                     [self._path(layer) for layer in layers], self._path(f"{_STACK}/{stacks.BLOBS}"), image,
-                    tag=self._name, config=self._path(f"{_STACK}/{stacks.CONFIG}"),
+                    tag=self._name, config=self._path(f"{_STACK}/{stacks.CONFIG}"), compress=self._options.compress,
                 ))
                 told.append(counted(len(layers), "layer", "layers"))
             with _timed("the new image, read again") as told:
@@ -193,8 +199,8 @@ class _Doing:
         """Writes what an image shows."""
         with passing_folder(self._path(_AGAIN)) as folder:
             again = f"{folder}/{_AGAIN}"
-            count = len(unpack(UnpackOptions(image, again)).layers)
-            return self._run("show", stacks.layer_paths(again, count), self._path(_IMAGE))
+            found = unpack(UnpackOptions(image, again, overlay_marks=self._options.overlay_marks, digests_only=True))
+            return self._run("show", stacks.layer_paths(again, len(found.layers)), self._path(_IMAGE))
 
 
 def _unpacked(options: UnpackOptions) -> Image:
@@ -242,6 +248,7 @@ class _Telling:
         self._options = options
         self._program = find_program() or NAME
         self._name: str | None = None
+        self._marks = ["--overlay-marks"] if options.overlay_marks else []
         keep = options.keep
         print("set -e", "work=$(mktemp -d)" if keep is None else f"work={shlex.quote(keep)}", sep="\n")
         if keep is not None:
@@ -255,7 +262,7 @@ class _Telling:
         words = _given("--platform", options.platform) + _given("--tag", options.tag)
         if options.skip_unsupported:
             words.append("--skip-unsupported")
-        self._print_tool("unpack", options.image, "--out", self._path(_STACK), *words)
+        self._print_tool("unpack", options.image, "--out", self._path(_STACK), *words, *self._marks)
         return count
 
     def run(self, step: str, what: str, layers: Sequence[str], new: str) -> None:
@@ -269,8 +276,9 @@ class _Telling:
         self._print(self._program, *words, into=report)
 
     def moved(self, layers: Sequence[str]) -> list[int]:
-        """None: it isn't known before the image is unpacked."""
-        print(f"# here `{NAME} deref` of each layer with redirects or metacopy files, the lowest first")
+        """None: without marks of the image's own there are none, and with them nobody knows before it is unpacked."""
+        if self._marks:
+            print(f"# here `{NAME} deref` of each layer with redirects or metacopy files, the lowest first")
         return []
 
     def compare(self, report: str) -> None:
@@ -282,9 +290,10 @@ class _Telling:
         paths, out = [self._path(layer) for layer in layers], self._options.out
         blobs, config = (self._path(f"{_STACK}/{name}") for name in (stacks.BLOBS, stacks.CONFIG))
         self._print_tool(
-            "pack", *paths, "--blobs", blobs, "--config", config, "--out", out, *_given("--tag", self._name)
+            "pack", *paths, "--blobs", blobs, "--config", config, "--out", out, "--compress", self._options.compress,
+            *_given("--tag", self._name),
         )
-        self._print_tool("unpack", out, "--out", self._path(_AGAIN))
+        self._print_tool("unpack", out, "--out", self._path(_AGAIN), "--digests-only", *self._marks)
         again = [self._path(layer) for layer in stacks.layer_paths(_AGAIN, len(layers))]
         self._print(self._program, "show", *again, into=self._path(_IMAGE))
         self.compare(_IMAGE)

@@ -1,14 +1,13 @@
 """`scan`: a layer's folder as a manifest and blobs."""
 
-import contextlib
 import os
 import stat
-from collections.abc import Callable, Iterator, Mapping, Sequence
+from collections.abc import Iterator, Mapping, Sequence
 from dataclasses import dataclass
 
 from . import rules
 from .attributes import Unstated, marks_from_user, read_attributes, require_trusted
-from .blobs import BlobStore, BlobWriter, Digester
+from .blobs import Writer, writers
 from .entries import BLOCK, CHAR, DIRECTORY, FILE, NO_ATTRIBUTES, SYMLINK, Entry, is_whiteout
 from .faults import cannot_read, reading, reason_of
 from .manifests import write_manifest
@@ -171,7 +170,7 @@ def _store_contents(options: ScanOptions, root: int, entries: list[Entry]) -> No
     files = [entry for entry in entries if entry.size and entry.names_contents()]
     progress = Progress("reading files", len(files))
 
-    with _writers(options.blobs) as new_writer:
+    with writers(options.blobs) as new_writer:
 
         def job(share: Sequence[Entry]) -> Iterator[str]:
             chain, writer = Chain(root), new_writer()
@@ -188,17 +187,7 @@ def _store_contents(options: ScanOptions, root: int, entries: list[Entry]) -> No
             progress.end()
 
 
-@contextlib.contextmanager
-def _writers(blobs: str | None) -> Iterator[Callable[[], BlobWriter | Digester]]:
-    """What makes a writer, for a process of its own."""
-    if blobs is None:
-        yield Digester
-    else:
-        with BlobStore(blobs) as store:
-            yield store.writer
-
-
-def _stored(folder: str, chain: Chain, writer: BlobWriter | Digester, entry: Entry) -> str:
+def _stored(folder: str, chain: Chain, writer: Writer, entry: Entry) -> str:
     path = folder + entry.path
     *names, name = entry.path[1:].split("/")
     file = -1

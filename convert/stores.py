@@ -17,7 +17,6 @@ from .faults import cannot_read, reading
 from .outputs import new_folder
 from .progress import note_path
 from .scan import Losses, ScanOptions, scan_folder
-from .texts import printable
 
 _DIFF = "diff"
 _MERGED = "merged"
@@ -159,7 +158,7 @@ class _Names:
             raise cannot_read(path, f"it is no link to a layer: {error.strerror}") from error
         found = _TARGET.match(target)
         if not found:
-            raise cannot_read(path, f"it leads to {printable(target)}, which is no layer of this store")
+            raise cannot_read(path, f"it leads to {target}, which is no layer of this store")
         return found[1]
 
     def _by_link_file(self, name: str, path: str) -> str:

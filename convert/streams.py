@@ -16,7 +16,6 @@ from typing import IO, Protocol
 from .contents import PIECE
 from .faults import cannot_read
 from .tar_headers import TarFault
-from .texts import printable
 
 _GZIP = b"\x1f\x8b"
 _GZIP_WINDOW = 31  # zlib's number for a gzip header and trailer
@@ -40,8 +39,13 @@ class Slice(io.RawIOBase):
     def __init__(self, file: int, begin: int, size: int) -> None:
         super().__init__()
         self._file = file
+        self._begin = begin
         self.place = begin
         self._end = begin + size
+
+    def again(self) -> "Slice":
+        """The same part, from its front."""
+        return Slice(self._file, self._begin, self._end - self._begin)
 
     def readable(self) -> bool:
         """It is."""
@@ -184,7 +188,7 @@ def _zstd_reason(told: IO[bytes], status: int) -> str:
     """What zstd said, in one line, or its status where it said nothing."""
     told.seek(0)
     lines = told.read(_MOST_TOLD).decode("utf-8", "surrogateescape").splitlines()
-    reasons = [printable(_ZSTD_INPUT.sub("", line).strip()) for line in lines]
+    reasons = [_ZSTD_INPUT.sub("", line).strip() for line in lines]
     return "; ".join(reasons) or f"zstd ended with status {status}"
 
 

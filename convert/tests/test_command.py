@@ -362,7 +362,8 @@ class Packing(CommandTest):
         layer = self.write_manifest({"path": "/x", "xattrs": marks})
         words = ("--blobs", self.path("blobs"), "--out", self.path("image"), "--tag", "t")
         self.require_done(call("pack", layer, *words))
-        self.require_done(call("unpack", self.path("image"), "--out", self.path("out"), "--tag", "t"))
+        more = ("--tag", "t", "--overlay-marks")
+        self.require_done(call("unpack", self.path("image"), "--out", self.path("out"), *more))
         self.assertEqual(read_manifest(self.path("out", "l0.json")), read_manifest(layer))
 
 

@@ -17,8 +17,8 @@ from images import archive, folder, member, put_index, put_manifest, write_layou
 from support import ROOT, FolderTest, call, program_words, why_no_trusted
 
 LAYERS = [
-    [folder("d"), member("d/f", b"lowest"), member("d/g", b"g")],
-    [folder("d"), member("d/.wh.g"), member("d/h", b"h"), member("d/h", b"second")],
+    [folder("./"), folder("d"), member("d/f", b"lowest"), member("d/g", b"g")],
+    [member("d/.wh.g"), member("d/h", b"h"), member("d/h", b"second")],
     [folder("d"), member("d/f", b"topmost")],
 ]
 
@@ -149,7 +149,7 @@ class Steps(FlattenTest):
         write_layout(self.path("in", "marked"), [archive(layer) for layer in ([folder("d")], [meta], [moved], [moved])])
         # Once a layer is unfolded it has none.
         self.manner("""[ "$what" = deref ] && sed 's/"trusted[^,}]*"//' "$1" > "$out/layer-0.json" && exit 0""")
-        self.require_done(self.flatten("--layers", 4, image=self.path("in", "marked")))
+        self.require_done(self.flatten("--layers", 4, "--overlay-marks", image=self.path("in", "marked")))
         self.assertEqual([words for words in self.calls() if words.startswith("deref")], [
             "deref stack/l2.json stack/l3.json", "deref stack/l1.json deref-2/layer-0.json stack/l3.json",
             "deref vacuum/layer-0.json deref-1/layer-0.json deref-2/layer-0.json stack/l3.json",
@@ -331,10 +331,10 @@ class ImageTest(FlattenTest):
         os.chmod(self.program, 0o755)
         self.use(self.program)
 
-    def shown(self, image: str) -> str:
+    def shown(self, image: str, *words: str) -> str:
         """What the layers of an image show."""
         stack = self.path("in", "stack")
-        self.require_done(call("unpack", image, "--out", stack))
+        self.require_done(call("unpack", image, "--out", stack, *words))
         layers = [f"{stack}/l{number}.json" for number in range(len(os.listdir(stack)) - 2)]
         result = subprocess.run([self.program, "show", *layers], capture_output=True, text=True, check=True)
         checked = subprocess.run([self.program, "fsck", "--blobs", f"{stack}/blobs", *layers], capture_output=True, check=False)
@@ -358,7 +358,7 @@ class Images(ImageTest):
     def test_faults_of_an_image(self) -> None:
         moved = folder("new", pax={"SCHILY.xattr.trusted.overlay.redirect": "/lost"})
         write_layout(self.path("in", "faulty"), [archive([folder("d")]), archive([moved])])
-        result = self.flatten(image=self.path("in", "faulty"))
+        result = self.flatten("--overlay-marks", image=self.path("in", "faulty"))
         self.assertEqual(result[:2], (
             1, "fault redirect-lost 0 /new\nfault redirect-open 0 /new\nfaults 2 notes 0\n"
         ), result[2])
@@ -370,11 +370,12 @@ class Images(ImageTest):
         for redirected in ([moved, member(".wh.d")], [folder("d"), meta]):
             layers = [*LAYERS, redirected, [member("more", b"more")]]
             write_layout(self.path("in", "marked"), [archive(layer) for layer in layers])
-            wanted = self.shown(self.path("in", "marked"))
-            for number in (1, 3, 5):
-                self.require_done(self.flatten("--layers", number, image=self.path("in", "marked")))
-                self.assertEqual(self.shown(self.path("all", "flat")), wanted)
-                shutil.rmtree(self.path("all", "flat"))
+            for marks in ((), ("--overlay-marks",)):
+                wanted = self.shown(self.path("in", "marked"), *marks)
+                for number in (1, 5):
+                    self.require_done(self.flatten("--layers", number, *marks, image=self.path("in", "marked")))
+                    self.assertEqual(self.shown(self.path("all", "flat")), wanted)
+                    shutil.rmtree(self.path("all", "flat"))
             shutil.rmtree(self.path("in", "marked"))
 
 
