@@ -227,18 +227,34 @@ class Steps(FlattenTest):
             with open(self.path("all", name, "index.json"), encoding="utf-8") as file:
                 (listed,) = json.load(file)["manifests"]
             self.assertEqual(listed["annotations"], {"org.opencontainers.image.ref.name": "b"})
+        self.require_done(self.flatten(image=f"oci:{self.image}:a", out="named"))
+        with open(self.path("all", "named", "index.json"), encoding="utf-8") as file:
+            self.assertIn('"a"', file.read())
+
+    def test_packed_layers(self) -> None:
+        for kind, begin in (("gzip", b"\x1f\x8b"), ("none", b"./")):
+            self.require_done(self.flatten("--compress", kind, out=kind))
+            with open(self.path("all", kind, "index.json"), encoding="utf-8") as file:
+                document = json.load(file)["manifests"][0]
+            for name in ("layers", None):
+                path = self.path("all", kind, "blobs", "sha256", document["digest"].split(":")[1])
+                with open(path, "rb") as file:
+                    data = file.read()
+                document = json.loads(data)[name][0] if name else document
+            self.assertTrue(data.startswith(begin), data[:4])
 
     def test_dry_run(self) -> None:
         given = self.path("in", "an image's $x")
         shutil.copytree(self.image, given)
         os.environ["TMPDIR"] = self.hands
         self.addCleanup(os.environ.pop, "TMPDIR")
-        for words in ((), ("--layers", 2), ("--keep", self.path("in", "kept \"here\""), "--platform", "linux/amd64")):
+        kept = ("--keep", self.path("in", "kept \"here\""))
+        for words, keep in (((), ()), (("--layers", 2, "--platform", "linux/amd64", "--compress", "gzip"), kept)):
             self.manner("")
-            status, script, told = self.flatten(*words, "--dry-run", image=given)
+            status, script, told = self.flatten(*words, *keep, "--dry-run", image=given)
             self.assertEqual((status, told, self.calls()), (0, "", []))
             self.left()
-            self.require_done(self.flatten(*words[:2][:words[:1] != ("--keep",) and 2 or 0], image=given, out="wanted"))
+            self.require_done(self.flatten(*words, image=given, out="wanted"))
             calls = self.calls()
             self.manner("")
             result = subprocess.run(["sh"], input=script, capture_output=True, text=True, check=False)
@@ -248,6 +264,8 @@ class Steps(FlattenTest):
             for name in ("flat", "wanted"):
                 shutil.rmtree(self.path("all", name))
         self.assertTrue(os.path.exists(self.path("in", "kept \"here\"", "before.show")))
+        words = (*kept, "--overlay-marks", "--skip-unsupported", "--dry-run")
+        self.assertIn("\n# here `ovl_layers deref` of each layer", self.flatten(*words)[1])
 
     def test_usage(self) -> None:
         for words in ((), ("x",), ("x", "--out", "y", "--layers", "0"), ("x", "--out", "y", "--layers", "129")):

@@ -179,6 +179,15 @@ class Forms(ImageTest):
             self.require_nothing_left("image")
             shutil.rmtree(self.path("image"))
 
+    def test_digests_only(self) -> None:
+        write_layout(self.path("image"), [archive([*PLAIN, member("d/g", bytes(700_000)), member("d/h")])])
+        words = ("unpack", self.path("image"), "--out")
+        self.require_done(call(*words, self.path("whole")))
+        self.require_done(call(*words, self.path("digests"), "--digests-only"))
+        self.assertEqual(sorted(os.listdir(self.path("digests"))), ["config.json", "l0.json"])
+        manifests = [read_manifest(self.path(name, "l0.json")) for name in ("whole", "digests")]
+        self.assertEqual(*manifests)
+
     def test_layers_are_in_order_and_equal_ones_stay_two(self) -> None:
         one, two = archive([member("one", b"a")]), archive([member("two", b"a")])
         shown = [["dir 755 /", f"file 644 /{name} {A[:4]}"] for name in ("one", "two", "one")]

@@ -42,6 +42,10 @@ class Pages(unittest.TestCase):
         text = page("layers.1")
         self.assertEqual(set(_OPTION.findall(section(text, "OPTIONS"))), options)
         self.assertEqual(set(_OPTION.findall(section(text, "SYNOPSIS"))), options)
+        synopsis = section(text, "SYNOPSIS")
+        for command, told in zip(_COMMANDS, helps[1:]):
+            own = synopsis.split(f".B layers {command}\n", 1)[1].split("\n.br\n", 1)[0]
+            self.assertEqual(set(_OPTION.findall(own)), set(_OPTION.findall(told.split("\n\n", 1)[0])), command)
         commands = helps[0].split("commands:", 1)[1].split("examples:", 1)[0]
         self.assertEqual(set(_HELP_COMMAND.findall(commands)), set(_COMMANDS))
         self.assertEqual(page_commands(text), set(_COMMANDS))
