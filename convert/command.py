@@ -4,14 +4,14 @@ import argparse
 import os
 import signal
 import sys
-from collections.abc import Callable, Sequence
+from collections.abc import Callable, Iterable, Sequence
 
 from . import VERSION
 from .build import BuildOptions, build
 from .compression import COMPRESSIONS, NONE
 from .configuration import USUAL_PLATFORM
 from .faults import OTHER, WRITING, Fault
-from .flatten import FlattenOptions, flatten
+from .flatten import FlattenOptions, flatten, flatten_commands
 from .mounted import report
 from .pack import PackOptions, pack
 from .rules import MAX_LAYERS
@@ -362,15 +362,24 @@ def _pack(words: argparse.Namespace) -> None:
 
 
 def _flatten(words: argparse.Namespace) -> None:
-    flatten(FlattenOptions(
+    options = FlattenOptions(
         _folder(words.image), _folder(words.out), words.layers, words.keep and _folder(words.keep), words.platform,
-        words.tag, words.skip_unsupported, words.overlay_marks, words.compress, words.dry_run,
-    ))
+        words.tag, words.skip_unsupported, words.overlay_marks, words.compress,
+    )
+    if words.dry_run:
+        _print(flatten_commands(options))
+    else:
+        flatten(options)
 
 
 def _mounted(words: argparse.Namespace) -> None:
+    _print(report(_folder(words.folder), words.cross_file_systems))
+
+
+def _print(lines: Iterable[str]) -> None:
+    """Writes lines to standard output, or tells that this can't be done."""
     try:
-        for line in report(_folder(words.folder), words.cross_file_systems):
+        for line in lines:
             sys.stdout.write(line)
         sys.stdout.flush()
     except OSError:

@@ -44,7 +44,6 @@ class FlattenOptions:
     skip_unsupported: bool = False
     overlay_marks: bool = False
     compress: str = NONE
-    dry_run: bool = False
 
 
 def flatten(options: FlattenOptions) -> None:
@@ -52,11 +51,7 @@ def flatten(options: FlattenOptions) -> None:
 
     Nothing is written unless it shows, read again, what the given image shows.
     """
-    image, tag = image_place(options.image, options.tag)
-    options = replace(options, image=image, tag=tag)
-    if options.dry_run:
-        _carry_out(_Telling(options), options.layers)
-        return
+    options = _with_place(options)
     _require_free(options)
     begun = time.monotonic()
     made = passing_folder(os.path.realpath(options.out)) if options.keep is None else kept_folder(options.keep)
@@ -64,6 +59,18 @@ def flatten(options: FlattenOptions) -> None:
         before, after = _carry_out(_Doing(options, folder), options.layers)
     seconds = time.monotonic() - begun
     note_path(options.out, f"{counted(after, 'layer', 'layers')} in place of {before}, {seconds:.2f} s in all")
+
+
+def flatten_commands(options: FlattenOptions) -> list[str]:
+    """The commands that do the same by hand, each a line for a shell."""
+    telling = _Telling(_with_place(options))
+    _carry_out(telling, options.layers)
+    return telling.lines
+
+
+def _with_place(options: FlattenOptions) -> FlattenOptions:
+    image, tag = image_place(options.image, options.tag)
+    return replace(options, image=image, tag=tag)
 
 
 def _require_free(options: FlattenOptions) -> None:
@@ -242,17 +249,19 @@ class _InWork(str):
 
 
 class _Telling:
-    """Prints a command for each step, as a shell takes them."""
+    """Tells a command for each step, as a shell takes them."""
 
     def __init__(self, options: FlattenOptions) -> None:
         self._options = options
         self._program = find_program() or NAME
         self._name: str | None = None
         self._marks = ["--overlay-marks"] if options.overlay_marks else []
-        keep = options.keep
-        print("set -e", "work=$(mktemp -d)" if keep is None else f"work={shlex.quote(keep)}", sep="\n")
-        if keep is not None:
-            self._print("mkdir", "-p", "--", _InWork(""))
+        self.lines = ["set -e\n"]
+        if options.keep is None:
+            self.lines.append("work=$(mktemp -d)\n")
+        else:
+            self.lines.append(f"work={shlex.quote(options.keep)}\n")
+            self._add("mkdir", "-p", "--", _InWork(""))
 
     def unpack(self) -> int:
         """See `_Steps`."""
@@ -262,50 +271,51 @@ class _Telling:
         words = _given("--platform", options.platform) + _given("--tag", options.tag)
         if options.skip_unsupported:
             words.append("--skip-unsupported")
-        self._print_tool("unpack", options.image, "--out", self._path(_STACK), *words, *self._marks)
+        self._add_tool("unpack", options.image, "--out", self._path(_STACK), *words, *self._marks)
         return count
 
     def run(self, step: str, what: str, layers: Sequence[str], new: str) -> None:
         """See `_Steps`."""
         report = self._path(new)
         if makes_layers(what):
-            self._print("mkdir", report)
+            self._add("mkdir", report)
             report = self._path(f"{new}/{_REPORT}")
         blobs = self._path(f"{_STACK}/{stacks.BLOBS}")
         words = words_of(what, [self._path(layer) for layer in layers], blobs, self._path(new))
-        self._print(self._program, *words, into=report)
+        self._add(self._program, *words, into=report)
 
     def moved(self, layers: Sequence[str]) -> list[int]:
         """None: without marks of the image's own there are none, and with them nobody knows before it is unpacked."""
         if self._marks:
-            print(f"# here `{NAME} deref` of each layer with redirects or metacopy files, the lowest first")
+            self.lines.append(f"# here `{NAME} deref` of each layer with redirects or metacopy files, the lowest first\n")
         return []
 
     def compare(self, report: str) -> None:
         """See `_Steps`."""
-        self._print("cmp", self._path(_BEFORE), self._path(report))
+        self._add("cmp", self._path(_BEFORE), self._path(report))
 
     def pack(self, layers: Sequence[str]) -> None:
         """See `_Steps`."""
         paths, out = [self._path(layer) for layer in layers], self._options.out
         blobs, config = (self._path(f"{_STACK}/{name}") for name in (stacks.BLOBS, stacks.CONFIG))
-        self._print_tool(
+        self._add_tool(
             "pack", *paths, "--blobs", blobs, "--config", config, "--out", out, "--compress", self._options.compress,
             *_given("--tag", self._name),
         )
-        self._print_tool("unpack", out, "--out", self._path(_AGAIN), "--digests-only", *self._marks)
+        self._add_tool("unpack", out, "--out", self._path(_AGAIN), "--digests-only", *self._marks)
         again = [self._path(layer) for layer in stacks.layer_paths(_AGAIN, len(layers))]
-        self._print(self._program, "show", *again, into=self._path(_IMAGE))
+        self._add(self._program, "show", *again, into=self._path(_IMAGE))
         self.compare(_IMAGE)
 
     def _path(self, name: str) -> _InWork:
         return _InWork(name)
 
-    def _print_tool(self, *words: str) -> None:
-        self._print(str(_TOOL), *words)
+    def _add_tool(self, *words: str) -> None:
+        self._add(str(_TOOL), *words)
 
-    def _print(self, *words: str, into: str | None = None) -> None:
-        print(*map(_quoted, words), *([] if into is None else [">", _quoted(into)]))
+    def _add(self, *words: str, into: str | None = None) -> None:
+        report = [] if into is None else [">", _quoted(into)]
+        self.lines.append(" ".join([*map(_quoted, words), *report]) + "\n")
 
 
 def _given(option: str, value: str | None) -> list[str]:
