@@ -20,6 +20,7 @@ from .outputs import kept_folder, passing_folder, require_empty
 from .pack import ARCHIVE_SUFFIX, PackOptions, pack
 from .program import NAME, find_program, makes_layers, require_program, run_program, words_of
 from .progress import counted, note, note_path
+from .stages import tidy, told
 from .unpack import UnpackOptions, unpack
 
 _STACK = "stack"
@@ -54,8 +55,10 @@ def flatten(options: FlattenOptions) -> None:
     options = _with_place(options)
     _require_free(options)
     begun = time.monotonic()
-    made = passing_folder(os.path.realpath(options.out)) if options.keep is None else kept_folder(options.keep)
-    with made as folder:
+    place = os.path.realpath(options.out)
+    for stage in tidy(os.path.dirname(place)):
+        note(f"there is {told(stage)}")
+    with passing_folder(place) if options.keep is None else kept_folder(options.keep) as folder:
         before, after = _carry_out(_Doing(options, folder), options.layers)
     seconds = time.monotonic() - begun
     note_path(options.out, f"{counted(after, 'layer', 'layers')} in place of {before}, {seconds:.2f} s in all")
@@ -148,19 +151,19 @@ class _Doing:
     def unpack(self) -> int:
         """See `_Steps`."""
         options = self._options
-        with _timed("unpack") as told:
+        with _timed("unpack") as words:
             image = _unpacked(UnpackOptions(
                 options.image, self._path(_STACK), options.platform, options.tag, options.skip_unsupported,
                 options.overlay_marks,
             ))
             self._name = _name_of(image, options)
-            told.append(counted(len(image.layers), "layer", "layers"))
+            words.append(counted(len(image.layers), "layer", "layers"))
         return len(image.layers)
 
     def run(self, step: str, what: str, layers: Sequence[str], new: str) -> None:
         """See `_Steps`."""
-        with _timed(step) as told:
-            told.append(self._run(what, [self._path(layer) for layer in layers], self._path(new)))
+        with _timed(step) as words:
+            words.append(self._run(what, [self._path(layer) for layer in layers], self._path(new)))
 
     def _run(self, what: str, layers: Sequence[str], new: str) -> str:
         blobs = self._path(f"{_STACK}/{stacks.BLOBS}")
@@ -190,14 +193,14 @@ class _Doing:
         with passing_folder(place) as folder:
             # As `pack` tells an archive from a folder, whatever a link leads to.
             image = f"{folder}/image" + (ARCHIVE_SUFFIX if self._options.out.endswith(ARCHIVE_SUFFIX) else "")
-            with _timed("pack") as told:
+            with _timed("pack") as words:
                 pack(PackOptions(
                     [self._path(layer) for layer in layers], self._path(f"{_STACK}/{stacks.BLOBS}"), image,
                     tag=self._name, config=self._path(f"{_STACK}/{stacks.CONFIG}"), compress=self._options.compress,
                 ))
-                told.append(counted(len(layers), "layer", "layers"))
-            with _timed("the new image, read again") as told:
-                told.append(self._shown(image))
+                words.append(counted(len(layers), "layer", "layers"))
+            with _timed("the new image, read again") as words:
+                words.append(self._shown(image))
                 self.compare(_IMAGE)
             with writing(self._options.out):
                 os.rename(image, place)

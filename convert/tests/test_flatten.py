@@ -215,6 +215,17 @@ class Steps(FlattenTest):
         self.assertTrue(os.path.islink(self.path("all", "link.tar")))
         self.assertEqual(sorted(os.listdir(self.hands)), ["calls", "linked", "manner", "ovl_layers", "stack"])
 
+    def test_stages_of_runs_that_were_cut_off(self) -> None:
+        new, old = (self.path("all", f".layers-{name}") for name in ("new", "old"))
+        for stage in (new, old):
+            os.mkdir(stage)
+        os.utime(old, (0, 0))
+        result = self.flatten()
+        self.require_done(result)
+        self.assertIn(f"layers: took away {old}, which a run that was cut off left over a day ago\n", result[2])
+        self.assertIn(f"layers: there is {new}, the stage of a run that was cut off\n", result[2])
+        self.left(".layers-new", "flat")
+
     def test_names(self) -> None:
         described = [put_manifest(self.image, [archive(layer)], None, "linux/amd64") for layer in LAYERS[:2]]
         put_index(self.image, [
