@@ -3,18 +3,20 @@
 import contextlib
 import hashlib
 import os
-import shutil
 import stat
 import tempfile
-from collections.abc import Iterator
+from collections.abc import Callable, Iterable, Iterator
 from types import TracebackType
 
 from .contents import PIECE, Copier, digest_and_size, read_small, write_all
-from .faults import cannot_read, writing
+from .faults import cannot_read, is_of_writing, writing
+from .progress import note
+from .stages import Stage, tidy, told
 
 _READ = os.O_RDONLY | os.O_NOFOLLOW | os.O_NONBLOCK | os.O_CLOEXEC
 _CREATE = os.O_RDWR | os.O_CREAT | os.O_EXCL | os.O_NOFOLLOW | os.O_CLOEXEC
-_MODE = 0o666  # less what the umask takes
+_MODE = 0o600  # blobs hold what the files hold, secret ones too
+_FOLDER_MODE = 0o700
 _SCRATCH = "scratch"
 
 
@@ -27,14 +29,14 @@ class BlobStore:
 
     def __init__(self, folder: str) -> None:
         self.folder = folder
-        self._stage = ""
+        self._stage: Stage | None = None
         self._is_new = False
         self._was_empty = False
 
     def __enter__(self) -> "BlobStore":
         try:
             with writing(self.folder):
-                self._make_stage()
+                self._stage = self._new_stage()
         except BaseException:
             self._take_away()
             raise
@@ -50,50 +52,57 @@ class BlobStore:
                     self._publish()
                 is_done = True
         finally:
-            shutil.rmtree(self._stage, ignore_errors=True)
+            if self._stage is not None:
+                self._stage.close()
             if not is_done:
                 self._take_away()
 
-    def _make_stage(self) -> None:
+    def _new_stage(self) -> Stage:
         self._is_new = not os.path.isdir(self.folder)
         if self._is_new:
-            os.mkdir(self.folder)
+            os.mkdir(self.folder, _FOLDER_MODE)
+        for stage in tidy(self.folder):
+            note(f"there is {told(stage)}")
         with os.scandir(self.folder) as names:
             self._was_empty = next(names, None) is None
-        self._stage = tempfile.mkdtemp(prefix=".layers-", dir=self.folder)
+        return Stage(self.folder)
 
     def _take_away(self) -> None:
-        """Takes the stage away, and a folder that wasn't there and is empty."""
-        if self._stage:
-            shutil.rmtree(self._stage, ignore_errors=True)
+        """Takes away a folder that wasn't there and is empty."""
         if self._is_new:
             with contextlib.suppress(OSError):
                 os.rmdir(self.folder)
 
     def writer(self) -> "BlobWriter":
         """One that puts contents in. Several may write at the same time, each in a process of its own."""
+        assert self._stage is not None
         with writing(self.folder):
-            folder = tempfile.mkdtemp(dir=self._stage)
-        return BlobWriter(folder, None if self._was_empty else self.folder)
+            own = tempfile.mkdtemp(dir=self._stage.path)
+        return BlobWriter(self.folder, own, not self._was_empty)
 
     def _publish(self) -> None:
-        for writer in os.listdir(self._stage):
-            folder = f"{self._stage}/{writer}"
+        assert self._stage is not None
+        for writer in os.listdir(self._stage.path):
+            folder = f"{self._stage.path}/{writer}"
             for name in os.listdir(folder):
                 if name != _SCRATCH:
                     os.rename(f"{folder}/{name}", f"{self.folder}/{name}")
 
 
 class BlobWriter:
-    """Writes blobs into a folder of its own, each once, but for those that another folder has."""
+    """Writes blobs into a folder of its own, each once, but for those that the folder of blobs has.
 
-    def __init__(self, folder: str, others: str | None) -> None:
-        self._path = folder
-        self._others = others
+    What that has is trusted only once its bytes were digested; otherwise it is written anew.
+    """
+
+    def __init__(self, folder: str, own: str, has_others: bool) -> None:
+        self._blobs = folder
+        self._path = own
+        self._has_others = has_others
         self._copier = Copier()
         self._scratch = -1
         with writing(folder):
-            self._folder = os.open(folder, os.O_RDONLY | os.O_DIRECTORY | os.O_CLOEXEC)
+            self._folder = os.open(own, os.O_RDONLY | os.O_DIRECTORY | os.O_CLOEXEC)
 
     def close(self) -> None:
         """Closes what is open."""
@@ -103,28 +112,39 @@ class BlobWriter:
     def scratch(self) -> int:
         """An empty open file, for contents that `keep` takes."""
         if self._scratch < 0:
-            with writing(self._path):
+            with writing(self._blobs):
                 self._scratch = os.open(_SCRATCH, _CREATE, _MODE, dir_fd=self._folder)
         return self._scratch
 
     def keep(self, digest: str, size: int) -> None:
         """Makes the scratch file the blob of this digest, or empties it where that is there."""
         scratch = self.scratch()
-        if size == 0 or self._holds(digest, size):
-            os.ftruncate(scratch, 0)
-            os.lseek(scratch, 0, os.SEEK_SET)
-        else:
-            with writing(self._path):
+        with writing(self._blobs):
+            if size == 0 or self._is_written(digest) or self._has(digest, size):
+                os.ftruncate(scratch, 0)
+                os.lseek(scratch, 0, os.SEEK_SET)
+            else:
                 os.rename(_SCRATCH, digest, src_dir_fd=self._folder, dst_dir_fd=self._folder)
-            self._drop_scratch()
+                self._drop_scratch()
 
     def put(self, source: int, size: int) -> str | None:
-        """Copies an open file of this size in and gives its digest; nothing where its size is another."""
-        if size > PIECE:
-            self._copier.copy(source, self.scratch())
-        elif not self._copier.can_clone or not self._copier.clone(source, self.scratch()):
-            return self._put_small(source, size)
-        digest, copied = digest_and_size(self.scratch())
+        """Copies an open file of this size in and gives its digest; nothing where its size is another.
+
+        An error of the system is one of reading the source; one of writing is a fault of its own.
+        """
+        scratch = self.scratch()
+        try:
+            if size > PIECE:
+                self._copier.copy(source, scratch)
+            elif not self._copier.can_clone or not self._copier.clone(source, scratch):
+                return self._put_small(source, size)
+        except OSError as error:
+            if is_of_writing(error):
+                with writing(self._blobs):
+                    raise
+            raise
+        with writing(self._blobs):
+            digest, copied = digest_and_size(scratch)
         if copied != size:
             return None
         self.keep(digest, size)
@@ -136,21 +156,34 @@ class BlobWriter:
         if len(piece) != size:
             return None
         digest = hashlib.sha256(piece).hexdigest()
-        if self._others is None or not _is_file_of_size(blob_path(self._others, digest), size):
-            try:
+        if not self._has(digest, size):
+            with writing(self._blobs), contextlib.suppress(FileExistsError):
                 file = os.open(digest, _CREATE, _MODE, dir_fd=self._folder)
-            except FileExistsError:
-                return digest
-            try:
-                write_all(file, piece)
-            finally:
-                os.close(file)
+                try:
+                    write_all(file, piece)
+                finally:
+                    os.close(file)
         return digest
 
-    def _holds(self, digest: str, size: int) -> bool:
-        if _is_file_of_size(blob_path(self._path, digest), size):
-            return True
-        return self._others is not None and _is_file_of_size(blob_path(self._others, digest), size)
+    def _is_written(self, digest: str) -> bool:
+        """Whether this run has written the blob, which nobody else can reach."""
+        return os.access(digest, os.F_OK, dir_fd=self._folder, follow_symlinks=False)
+
+    def _has(self, digest: str, size: int) -> bool:
+        """Whether the folder of blobs has these very bytes."""
+        if not self._has_others:
+            return False
+        try:
+            file = os.open(blob_path(self._blobs, digest), _READ)
+        except OSError:
+            return False
+        try:
+            found = os.fstat(file)
+            return stat.S_ISREG(found.st_mode) and found.st_size == size and digest_and_size(file) == (digest, size)
+        except OSError:
+            return False
+        finally:
+            os.close(file)
 
     def _drop_scratch(self) -> None:
         if self._scratch >= 0:
@@ -158,12 +191,37 @@ class BlobWriter:
             self._scratch = -1
 
 
-def _is_file_of_size(path: str, size: int) -> bool:
-    try:
-        found = os.lstat(path)
-    except FileNotFoundError:
-        return False
-    return stat.S_ISREG(found.st_mode) and found.st_size == size
+class Digester:
+    """Stands for a writer where no blobs are wanted: contents are read for their digest alone."""
+
+    def put(self, source: int, size: int) -> str | None:
+        """The digest of an open file of this size; nothing where its size is another."""
+        digest, found = digest_and_size(source)
+        return digest if found == size else None
+
+    def take(self, pieces: Iterable[bytes]) -> tuple[str, int]:
+        """The digest of contents that come in pieces, and how many bytes they are."""
+        digest, size = hashlib.sha256(), 0
+        for piece in pieces:
+            digest.update(piece)
+            size += len(piece)
+        return digest.hexdigest(), size
+
+    def close(self) -> None:
+        """Nothing is open."""
+
+
+Writer = BlobWriter | Digester
+
+
+@contextlib.contextmanager
+def writers(blobs: str | None) -> Iterator[Callable[[], Writer]]:
+    """What makes writers into a folder of blobs, or such as digest alone. Each process has one of its own."""
+    if blobs is None:
+        yield Digester
+    else:
+        with BlobStore(blobs) as store:
+            yield store.writer
 
 
 def blob_path(folder: str, digest: str) -> str:

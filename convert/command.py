@@ -4,15 +4,21 @@ import argparse
 import os
 import signal
 import sys
-from collections.abc import Callable, Sequence
+from collections.abc import Callable, Iterable, Sequence
 
 from . import VERSION
 from .build import BuildOptions, build
+from .compression import COMPRESSIONS, NONE
+from .configuration import USUAL_PLATFORM
 from .faults import OTHER, WRITING, Fault
+from .flatten import FlattenOptions, flatten, flatten_commands
 from .mounted import report
 from .pack import PackOptions, pack
+from .rules import MAX_LAYERS
 from .scan import ScanOptions, scan
 from .shares import MOST_WORKERS, usual_workers
+from .stores import StoreOptions, store
+from .texts import printable
 from .unpack import UnpackOptions, unpack
 
 NAME = "layers"
@@ -27,16 +33,19 @@ a folder of blobs, each in a file named by its SHA-256 digest. This tool is test
 
 _MORE = """\
 examples:
+  {name} flatten image.tar --out flat.tar       an image of one layer that shows the same
   {name} unpack image.tar --out stack          an image's layers: stack/l0.json is the topmost
   ovl_layers show stack/l0.json stack/l1.json  what the layers show together
   ovl_layers fsck --blobs stack/blobs stack/l0.json stack/l1.json
-  {name} pack stack/l0.json stack/l1.json --blobs stack/blobs --out new-image
-  sudo {name} scan /var/lib/docker/overlay2/ID/diff --out upper.json --blobs blobs
+  {name} pack stack/l0.json stack/l1.json --blobs stack/blobs --config stack/config.json --out new-image
+  sudo {name} scan /srv/upper --out upper.json --blobs blobs
+  sudo {name} store /var/lib/docker/overlay2/ID --out stack
   sudo {name} build upper.json --blobs blobs --out upper
   ovl_layers show l0.json l1.json | diff - <(sudo {name} mounted /mnt)
 
 exit status:
   0  done
+  1  flatten: the layers have faults; the report of ovl_layers fsck is on standard output
   2  words that don't fit
   3  something can't be read, or can't be stated in a manifest or an image
   4  something can't be written
@@ -52,6 +61,19 @@ is refused, before anything is written: names that aren't UTF-8, paths over 64 n
 over 1,048,576 entries, trusted.overlay.overlay.* attributes. Times are cut to whole seconds, and each
 name of a hard link becomes a file of its own; both are counted and said.
 
+With --digests-only in place of --blobs contents are read for their digests and copied nowhere, which is
+enough for `ovl_layers show`.
+
+Reading the marks of an overlay (trusted.overlay.*) needs root."""
+
+_STORE = """\
+Writes a layer that docker (overlay2) or podman and buildah (containers-storage) keep on this machine, and
+those below it, as manifests: OUT/l0.json, the topmost, OUT/l1.json and so on, and the contents of all
+their files into OUT/blobs, as `scan` does.
+
+DIR is the folder of the topmost layer, such as /var/lib/docker/overlay2/ID or
+/var/lib/containers/storage/overlay/ID; its `lower` says which layers are below it.
+
 Reading the marks of an overlay (trusted.overlay.*) needs root."""
 
 _BUILD = """\
@@ -61,19 +83,36 @@ attributes need root."""
 
 _UNPACK = """\
 Writes the layers of an image as manifests: DIR/l0.json, the topmost, DIR/l1.json and so on, and the
-contents of all their files into DIR/blobs.
+contents of all their files into DIR/blobs. DIR/config.json is the image's configuration with its platform,
+for `pack --config`. With --digests-only contents are read for their digests and copied nowhere, which is
+enough for `ovl_layers show`.
 
-IMAGE is an OCI image layout (a folder or a tar archive of it) or what `docker save` writes. Layers may
-be plain, gzip, or zstd where the zstd program is there. Their digests are checked. A hard link becomes
-a file with the same contents, a whiteout (.wh.NAME) a char device 0:0, and .wh..wh..opq an opaque
-directory."""
+IMAGE is an OCI image layout (a folder or a tar archive of it), what `docker save` writes, or a folder of
+skopeo's dir:. It may also be named as skopeo does it (oci:DIR:TAG, docker-archive:FILE); - is an archive
+from standard input. Layers may be plain, gzip, or zstd where the zstd program is there. Their digests are
+checked. A directory that a layer leaves out is as the layers below show it. A hard link becomes a file
+with the same contents, a whiteout (.wh.NAME) a char device 0:0, and .wh..wh..opq an opaque directory."""
 
 _PACK = """\
 Writes manifests, the topmost first, as an OCI image layout: a folder, or one tar archive where the name
-ends in .tar. The same input gives the same bytes.
+ends in .tar. The same input gives the same bytes. The image's configuration (command, environment, user,
+labels, platform and all else) is that of --config; a history that tells of as many layers is kept as it is,
+any other stays as entries without layers, and each layer gets an entry of its own.
 
 A layer that has moved directories (redirects) or files without contents (metacopy) is refused: no image
 can state them. Run `ovl_layers deref` first, or `merge` down to one layer."""
+
+_FLATTEN = """\
+Writes an image with fewer layers that shows the same: its layers are merged from the topmost on, until N
+are left. The image's configuration and name stay. It is done by the proved program ovl_layers, which is
+found where it was built or installed, or on the PATH: after `unpack` it checks the layers (`fsck`), drops
+what changes nothing (`vacuum`), unfolds moved directories and metacopy files where there are any (`deref`),
+and merges (`merge`). Then `pack` writes the image. Each step is told with its time.
+
+Nothing is written unless the merged layers, and the new image when it is read again, show what the given
+image shows, byte for byte. What the program refuses is told as it is, with its status.
+
+--dry-run prints the commands that do the same by hand."""
 
 _MOUNTED = """\
 Prints what is in a folder, such as a mounted overlay, as `ovl_layers show` prints it, so that the two
@@ -97,8 +136,8 @@ def main(words: Sequence[str]) -> int:
     except MemoryError:
         print(f"{NAME}: out of memory", file=sys.stderr)
         return OTHER
-    except OSError as error:
-        print(f"{NAME}: {error}", file=sys.stderr)
+    except (OSError, RecursionError) as error:
+        print(f"{NAME}: {printable(str(error))}", file=sys.stderr)
         return OTHER
 
 
@@ -115,9 +154,11 @@ def _parser() -> argparse.ArgumentParser:
     parser.add_argument("--version", action="version", version=f"{NAME} {VERSION}", help="print the version and exit")
     commands = parser.add_subparsers(title="commands", metavar="COMMAND", required=True)
     _add_scan(_command(commands, "scan", "a layer's folder as a manifest and blobs", _SCAN, _scan))
+    _add_store(_command(commands, "store", "a layer of docker or podman with those below it", _STORE, _store))
     _add_build(_command(commands, "build", "the folder of a manifest", _BUILD, _build))
     _add_unpack(_command(commands, "unpack", "an image's layers as manifests and blobs", _UNPACK, _unpack))
     _add_pack(_command(commands, "pack", "manifests and blobs as an image", _PACK, _pack))
+    _add_flatten(_command(commands, "flatten", "an image with fewer layers that shows the same", _FLATTEN, _flatten))
     _add_mounted(_command(commands, "mounted", "the report of a mounted tree", _MOUNTED, _mounted))
     return parser
 
@@ -136,8 +177,28 @@ def _command(
 
 def _add_scan(parser: argparse.ArgumentParser) -> None:
     parser.add_argument("folder", metavar="DIR", help="folder of a layer")
-    parser.add_argument("--out", metavar="FILE", required=True, help="manifest to write")
-    parser.add_argument("--blobs", metavar="DIR", required=True, help="folder of blobs, made where it is absent")
+    parser.add_argument("--out", metavar="FILE", required=True, help="manifest to write; - is standard output")
+    contents = parser.add_mutually_exclusive_group(required=True)
+    contents.add_argument("--blobs", metavar="DIR", help="folder of blobs, made where it is absent")
+    _add_digests_only(contents)
+    _add_reading(parser)
+
+
+def _add_store(parser: argparse.ArgumentParser) -> None:
+    parser.add_argument("folder", metavar="DIR", help="folder of the topmost layer in its store")
+    parser.add_argument("--out", metavar="OUT", required=True, help="folder to make, absent or empty")
+    _add_digests_only(parser)
+    _add_reading(parser)
+
+
+def _add_digests_only(parser: argparse._ActionsContainer) -> None:
+    parser.add_argument(
+        "--digests-only", action="store_true", help="writes no blobs: contents are read for their digests alone"
+    )
+
+
+def _add_reading(parser: argparse.ArgumentParser) -> None:
+    """How folders are read."""
     _add_userxattr(parser, "reads")
     _add_cross(parser)
     _add_skip(parser)
@@ -155,25 +216,61 @@ def _add_build(parser: argparse.ArgumentParser) -> None:
 
 
 def _add_unpack(parser: argparse.ArgumentParser) -> None:
-    parser.add_argument("image", metavar="IMAGE", help="OCI image layout (folder or tar), or what docker save wrote")
+    _add_image(parser)
     parser.add_argument("--out", metavar="DIR", required=True, help="folder to make, absent or empty")
+    _add_digests_only(parser)
+
+
+def _add_image(parser: argparse.ArgumentParser) -> None:
+    """Which image is read, and how."""
+    parser.add_argument(
+        "image", metavar="IMAGE",
+        help="OCI image layout (folder or tar), or what docker save wrote; - is standard input",
+    )
     parser.add_argument("--platform", metavar="OS/ARCH", help="which of several images, such as linux/amd64")
     parser.add_argument("--tag", metavar="NAME", help="which of several images, by its name in the image's index")
+    parser.add_argument(
+        "--overlay-marks", action="store_true",
+        help="takes attributes trusted.overlay.* of the image's archives too, which change what the layers show",
+    )
     _add_skip(parser)
 
 
 def _add_pack(parser: argparse.ArgumentParser) -> None:
     parser.add_argument("layers", metavar="LAYER", nargs="+", help="manifest of a layer, the topmost layer first")
     parser.add_argument("--blobs", metavar="DIR", required=True, help="folder with the contents of their files")
+    _add_new_image(parser)
+    parser.add_argument(
+        "--config", metavar="FILE",
+        help="what the image runs, as whom and on which platform, such as the config.json that unpack writes",
+    )
+    parser.add_argument(
+        "--platform", metavar="OS/ARCH", type=_platform,
+        help=f"what the image says that it is for [default: that of --config, or {USUAL_PLATFORM}]",
+    )
+    parser.add_argument("--tag", metavar="NAME", type=_name, help="name of the image in its index")
+    _add_skip(parser)
+
+
+def _add_new_image(parser: argparse.ArgumentParser) -> None:
+    """Which image is written."""
     parser.add_argument(
         "--out", metavar="IMAGE", required=True, help="folder to make, or a file whose name ends in .tar"
     )
     parser.add_argument(
-        "--platform", metavar="OS/ARCH", default="linux/amd64", type=_platform,
-        help="what the image says that it is for [default: linux/amd64]",
+        "--compress", choices=COMPRESSIONS, default=NONE,
+        help="packs the layers; zstd needs the program of that name [default: none]",
     )
-    parser.add_argument("--tag", metavar="NAME", help="name of the image in its index")
-    _add_skip(parser)
+
+
+def _add_flatten(parser: argparse.ArgumentParser) -> None:
+    _add_image(parser)
+    _add_new_image(parser)
+    parser.add_argument(
+        "--layers", metavar="N", type=_layers, default=1, help="how many layers are left at most [default: 1]"
+    )
+    parser.add_argument("--keep", metavar="DIR", help="folder to make, absent or empty, for all that is made on the way")
+    parser.add_argument("--dry-run", action="store_true", help="prints the commands, as a shell takes them, and runs none")
 
 
 def _add_mounted(parser: argparse.ArgumentParser) -> None:
@@ -206,9 +303,24 @@ def _workers(text: str) -> int:
     return number
 
 
+def _layers(text: str) -> int:
+    number = int(text)
+    if not 1 <= number <= MAX_LAYERS:
+        raise argparse.ArgumentTypeError(f"layers must be 1 to {MAX_LAYERS}")
+    return number
+
+
 def _platform(text: str) -> str:
     if text.count("/") not in (1, 2) or not all(text.split("/")):
         raise argparse.ArgumentTypeError("a platform is OS/ARCH or OS/ARCH/VARIANT")
+    return text
+
+
+def _name(text: str) -> str:
+    try:
+        text.encode()
+    except UnicodeEncodeError:
+        raise argparse.ArgumentTypeError("a name isn't UTF-8") from None
     return text
 
 
@@ -219,8 +331,15 @@ def _folder(path: str) -> str:
 
 def _scan(words: argparse.Namespace) -> None:
     scan(ScanOptions(
-        _folder(words.folder), words.out, _folder(words.blobs), words.userxattr,
+        _folder(words.folder), words.out, None if words.digests_only else _folder(words.blobs), words.userxattr,
         words.cross_file_systems, words.skip_unsupported, words.workers,
+    ))
+
+
+def _store(words: argparse.Namespace) -> None:
+    store(StoreOptions(
+        _folder(words.folder), _folder(words.out), words.userxattr, words.cross_file_systems,
+        words.skip_unsupported, words.digests_only, words.workers,
     ))
 
 
@@ -230,20 +349,37 @@ def _build(words: argparse.Namespace) -> None:
 
 def _unpack(words: argparse.Namespace) -> None:
     unpack(UnpackOptions(
-        _folder(words.image), _folder(words.out), words.platform, words.tag, words.skip_unsupported
+        _folder(words.image), _folder(words.out), words.platform, words.tag, words.skip_unsupported,
+        words.overlay_marks, words.digests_only,
     ))
 
 
 def _pack(words: argparse.Namespace) -> None:
     pack(PackOptions(
         words.layers, _folder(words.blobs), _folder(words.out), words.platform, words.tag,
-        words.skip_unsupported,
+        words.skip_unsupported, words.config, words.compress,
     ))
 
 
+def _flatten(words: argparse.Namespace) -> None:
+    options = FlattenOptions(
+        _folder(words.image), _folder(words.out), words.layers, words.keep and _folder(words.keep), words.platform,
+        words.tag, words.skip_unsupported, words.overlay_marks, words.compress,
+    )
+    if words.dry_run:
+        _print(flatten_commands(options))
+    else:
+        flatten(options)
+
+
 def _mounted(words: argparse.Namespace) -> None:
+    _print(report(_folder(words.folder), words.cross_file_systems))
+
+
+def _print(lines: Iterable[str]) -> None:
+    """Writes lines to standard output, or tells that this can't be done."""
     try:
-        for line in report(_folder(words.folder), words.cross_file_systems):
+        for line in lines:
             sys.stdout.write(line)
         sys.stdout.flush()
     except OSError:

@@ -11,6 +11,7 @@ REDIRECT = OVERLAY + "redirect"
 METACOPY = OVERLAY + "metacopy"
 WHITEOUT = OVERLAY + "whiteout"
 IS_OPAQUE = b"y"
+HOST_MARKS = frozenset(OVERLAY + name for name in ("origin", "impure", "uuid", "nlink", "upper"))  # of its inodes
 
 DIRECTORY = "dir"
 FILE = "file"

@@ -1,6 +1,7 @@
 """What ends a command, with the text and the exit status that it is told with."""
 
 import contextlib
+import errno
 import os
 from collections.abc import Iterator
 
@@ -13,13 +14,13 @@ OTHER = 5
 
 
 class Fault(Exception):
-    """Ends the command: `layers: TEXT` on standard error, and the status."""
+    """Ends the command: `layers: TEXT` on standard error, in one line, and the status."""
 
     status = OTHER
 
     def __init__(self, text: str) -> None:
-        super().__init__(text)
-        self.text = text
+        self.text = printable(text)
+        super().__init__(self.text)
 
 
 class UsageFault(Fault):
@@ -41,18 +42,26 @@ class WriteFault(Fault):
 
 
 def cannot_read(path: str, reason: str) -> ReadFault:
-    """The fault of a path that can't be read, as a person sees the path."""
-    return ReadFault(f"cannot read {printable(path)}: {reason}")
+    """The fault of a path that can't be read."""
+    return ReadFault(f"cannot read {path}: {reason}")
 
 
 def cannot_write(path: str, reason: str) -> WriteFault:
-    """The fault of a path that can't be written, as a person sees the path."""
-    return WriteFault(f"cannot write {printable(path)}: {reason}")
+    """The fault of a path that can't be written."""
+    return WriteFault(f"cannot write {path}: {reason}")
 
 
 def reason_of(error: OSError) -> str:
     """The system's words for an error."""
     return error.strerror or str(error)
+
+
+_FULL = (errno.ENOSPC, errno.EDQUOT, errno.EFBIG, errno.EROFS)
+
+
+def is_of_writing(error: OSError) -> bool:
+    """Whether an error of copying can only be of what is written: it has no more space, or takes nothing."""
+    return error.errno in _FULL
 
 
 @contextlib.contextmanager

@@ -1,49 +1,74 @@
-"""Images: OCI image layouts, and what `docker save` writes."""
+"""Images: OCI image layouts, what `docker save` writes, and the folders of skopeo's `dir:`."""
 
 import contextlib
 import hashlib
 import io
-import json
+import os
 import re
-from collections.abc import Iterator, Sequence
-from dataclasses import dataclass
+from collections.abc import Callable, Iterator, Mapping, Sequence
+from dataclasses import dataclass, field, replace
 from typing import Any
 
+from . import rules
+from .configuration import MAX_BYTES, Document, parse_json, platform_of, platform_text, with_platform
 from .contents import PIECE
-from .faults import ReadFault, cannot_read
+from .faults import ReadFault, UsageFault, cannot_read, reading
 from .members import Members, opened_members
-from .progress import Progress
+from .progress import Progress, note
 from .streams import Slice
 
+MAX_DOCUMENTS = 1 << 26  # bytes of an image's documents together, each as often as it is named
 _DIGEST = re.compile(r"(sha256|sha384|sha512):([0-9a-f]{64,128})\Z")
-_MAX_DOCUMENT = 1 << 23
 _MAX_DEPTH = 4
+_MOST_TOLD = 20
 _INDEXES = (
     "application/vnd.oci.image.index.v1+json",
     "application/vnd.docker.distribution.manifest.list.v2+json",
 )
+_TRANSPORTS = ("oci", "oci-archive", "docker-archive", "dir")
 _REF_NAME = "org.opencontainers.image.ref.name"
 _FULL_NAME = "io.containerd.image.name"
 _ATTESTATION = "vnd.docker.reference.type"
+Digest = tuple[str, str]  # the algorithm and the hexadecimal digits
+BlobName = Callable[[Digest], str]
 
 
 @dataclass(frozen=True)
 class ImageLayer:
-    """The archive of a layer; its bytes are those of its digest in the image's manifest."""
+    """The archive of a layer, and the digests that the image has of its bytes."""
 
     name: str
     path: str
-    part: Slice
-    unpacked_digest: tuple[str, str] | None
+    members: Members
+    digest: Digest | None
+    unpacked_digest: Digest | None
+
+    @contextlib.contextmanager
+    def opened(self) -> Iterator[Slice]:
+        """The archive's bytes, which are those of its digest."""
+        with self.members.opened(self.name) as part:
+            if self.digest is not None:
+                _require_digest(self, part.again(), self.digest)
+            yield part
+
+
+@dataclass(frozen=True)
+class Image:
+    """The layers of an image, the lowest first, its configuration with the platform in it, and its names."""
+
+    layers: list[ImageLayer]
+    configuration: Document
+    names: tuple[str, ...] = ()
 
 
 @dataclass(frozen=True)
 class _Choice:
-    """One of the images that a layout has."""
+    """One of the images that a layout has, and what the index says of its platform."""
 
     digest: str
     platform: str
     names: tuple[str, ...]
+    stated: Mapping[str, Any] = field(default_factory=dict)
 
     def matches(self, platform: str | None, tag: str | None) -> bool:
         """Whether it is meant by what a person asked for."""
@@ -54,149 +79,228 @@ class _Choice:
         return " ".join([self.platform, *self.names])
 
 
+def image_place(word: str, tag: str | None) -> tuple[str, str | None]:
+    """The path and the tag of an image that a word names, as a path or as skopeo has it: `oci:PATH:TAG`."""
+    transport, colon, rest = word.partition(":")
+    if not colon or transport not in _TRANSPORTS or os.path.lexists(word):
+        return word, tag
+    path, _, own = (rest, "", "") if transport == "dir" else rest.partition(":")
+    if own and tag not in (None, own):
+        raise UsageFault(f"{word} and --tag name two images")
+    return path, own or tag
+
+
 @contextlib.contextmanager
-def opened_image(path: str, platform: str | None, tag: str | None) -> Iterator[Sequence[ImageLayer]]:
-    """The layers of an image, the lowest first."""
+def opened_image(path: str, platform: str | None, tag: str | None) -> Iterator[Image]:
+    """The one image at a path that is meant."""
     with opened_members(path) as members:
+        documents = _Documents(members)
         if members.size("index.json") is not None:
-            yield _Layout(members).layers(platform, tag)
+            yield _Layout(documents).image(platform, tag)
         elif members.size("manifest.json") is not None:
-            yield _saved_layers(members, platform, tag)
+            manifest = documents.read("manifest.json")
+            if isinstance(manifest, dict):
+                yield _copied_image(documents, manifest)
+            else:
+                yield _saved_image(documents, manifest, platform, tag)
         else:
             raise cannot_read(
-                path, "it is no image: neither index.json (OCI image layout) nor manifest.json (docker save) is there"
+                members.path,
+                "it is no image: neither index.json (OCI image layout) nor manifest.json (docker save) is there",
             )
 
 
-def _document(members: Members, name: str) -> Any:
-    part = members.part(name)
-    data = io.BufferedReader(part).read(_MAX_DOCUMENT + 1)
-    if len(data) > _MAX_DOCUMENT:
-        raise cannot_read(f"{members.path}/{name}", f"it has over {_MAX_DOCUMENT:,} bytes")
-    try:
-        return json.loads(data)
-    except (ValueError, RecursionError):
-        raise cannot_read(f"{members.path}/{name}", "it isn't JSON") from None
+class _Documents:
+    """The JSON documents of an image, within a bound."""
+
+    def __init__(self, members: Members) -> None:
+        self.members = members
+        self._left = MAX_DOCUMENTS
+
+    def path(self, name: str) -> str:
+        """A member as a person sees it."""
+        return f"{self.members.path}/{name}"
+
+    def read(self, name: str, digest: Digest | None = None) -> Any:
+        """The value of a document whose bytes are those of a digest."""
+        with self.members.opened(name) as part, reading(self.path(name)):
+            data = io.BufferedReader(part).read(MAX_BYTES + 1)
+        self._left -= len(data)
+        if len(data) > MAX_BYTES:
+            raise cannot_read(self.path(name), f"it has over {MAX_BYTES:,} bytes")
+        if self._left < 0:
+            raise cannot_read(self.members.path, f"its manifests and indexes have over {MAX_DOCUMENTS:,} bytes")
+        if digest and hashlib.new(digest[0], data).hexdigest() != digest[1]:
+            raise _wrong_bytes(self.path(name), digest)
+        try:
+            return parse_json(data)
+        except ValueError:
+            raise cannot_read(self.path(name), "it isn't JSON") from None
+
+    @contextlib.contextmanager
+    def shaped(self, name: str) -> Iterator[None]:
+        """Tells a member that isn't there, or of another shape, as a fault of this document."""
+        try:
+            yield
+        except (KeyError, TypeError, AttributeError, IndexError, ValueError, OverflowError):
+            raise cannot_read(self.path(name), "it has a wrong shape") from None
+
+    def configuration(self, name: str, digest: Digest | None, count: int) -> tuple[Document, list[Digest | None]]:
+        """An image's configuration, and the digests of its layers' unpacked bytes where it has them."""
+        value = self.read(name, digest)
+        with self.shaped(name):
+            configuration = dict(value.items())
+            rootfs = configuration.get("rootfs")
+            if rootfs is None:
+                return configuration, [None] * count
+            digests: list[Digest | None] = [_digest_parts(each) for each in rootfs["diff_ids"]]
+        if len(digests) != count:
+            raise cannot_read(
+                self.path(name), f"it tells digests of {len(digests)} layers, and the manifest has {count}"
+            )
+        return configuration, digests
+
+    def layer(self, name: str, digest: Digest | None, size: int | None, unpacked: Digest | None) -> ImageLayer:
+        """A layer that is there, of the size that is stated."""
+        there = self.members.size(name)
+        if there is None:
+            raise cannot_read(self.path(name), "the image has no such file")
+        if size not in (None, there):
+            raise cannot_read(self.path(name), f"it has another size than the {size:,} bytes of the image's manifest")
+        return ImageLayer(name, self.path(name), self.members, digest, unpacked)
 
 
-@contextlib.contextmanager
-def _shaped(members: Members, name: str) -> Iterator[None]:
-    """Tells a member that isn't there, or of another shape, as a fault of this document."""
-    try:
-        yield
-    except (KeyError, TypeError, AttributeError, IndexError, ValueError):
-        raise cannot_read(f"{members.path}/{name}", "it has a wrong shape") from None
-
-
-def _digest_parts(digest: Any) -> tuple[str, str]:
+def _digest_parts(digest: Any) -> Digest:
     found = _DIGEST.match(digest)
     if not found:
         raise ValueError(digest)
     return found[1], found[2]
 
 
+def _wrong_bytes(path: str, digest: Digest) -> ReadFault:
+    return cannot_read(path, f"its bytes aren't those of the digest {':'.join(digest)}")
+
+
+def _require_digest(layer: ImageLayer, part: Slice, digest: Digest) -> None:
+    found = hashlib.new(digest[0])
+    progress = Progress(f"checking bytes of {layer.name[-20:]}")
+    with reading(layer.path):
+        while piece := part.read(PIECE):
+            found.update(piece)
+            progress.step(len(piece))
+    progress.end()
+    if found.hexdigest() != digest[1]:
+        raise _wrong_bytes(layer.path, digest)
+
+
+def _blob_in_layout(digest: Digest) -> str:
+    return f"blobs/{digest[0]}/{digest[1]}"
+
+
+def _texts(values: Sequence[Any]) -> tuple[str, ...]:
+    """Values that must be texts."""
+    if not all(isinstance(value, str) for value in values):
+        raise TypeError(values)
+    return tuple(values)
+
+
+def _stated_size(layer: Mapping[str, Any]) -> int:
+    size = layer["size"]
+    if type(size) is not int or size < 0:
+        raise ValueError(size)
+    return size
+
+
 class _Layout:
     """An OCI image layout."""
 
-    def __init__(self, members: Members) -> None:
-        self._members = members
+    def __init__(self, documents: _Documents) -> None:
+        self._documents = documents
+        self._members = documents.members
+        self._choices: list[_Choice] = []
+        self._visited: set[tuple[str, tuple[str, ...]]] = set()
 
-    def layers(self, platform: str | None, tag: str | None) -> list[ImageLayer]:
-        """The layers of the one image that is meant."""
-        choices = self._choices("index.json", (), None, 0)
-        name = self._blob_name(_one_of(self._members.path, choices, platform, tag).digest)
-        with _shaped(self._members, name):
-            manifest = _document(self._members, name)
-            stated = [(_digest_parts(layer["digest"]), int(layer["size"])) for layer in manifest["layers"]]
-            config = self._blob_name(self._checked(manifest["config"]))
-        digests = _unpacked_digests(self._members, config, len(stated))
-        return [
-            self._layer(digest, size, unpacked) for (digest, size), unpacked in zip(stated, digests)
-        ]
+    def image(self, platform: str | None, tag: str | None) -> Image:
+        """The one image that is meant."""
+        self._visit(self._documents.read("index.json"), "index.json", (), {}, 0)
+        chosen = _one_of(self._members.path, self._choices, platform, tag)
+        digest = _digest_parts(chosen.digest)
+        name = _blob_in_layout(digest)
+        manifest = self._documents.read(name, digest)
+        image = _image(self._documents, name, manifest, _blob_in_layout, chosen.stated)
+        return replace(image, names=chosen.names)
 
-    def _layer(
-        self, digest: tuple[str, str], size: int, unpacked: tuple[str, str] | None
-    ) -> ImageLayer:
-        name = self._blob_name(":".join(digest))
-        path = f"{self._members.path}/{name}"
-        if self._members.size(name) not in (None, size):
-            raise cannot_read(path, f"it has another size than the {size:,} bytes of the image's manifest")
-        self._require_digest(name, digest)
-        return ImageLayer(name, path, self._members.part(name), unpacked)
-
-    def _choices(
-        self, name: str, names: tuple[str, ...], platform: str | None, depth: int
-    ) -> Iterator[_Choice]:
-        """The images of an index, and of those inside of it, whose manifests are there."""
+    def _visit(
+        self, index: Any, name: str, names: tuple[str, ...], platform: Mapping[str, Any], depth: int
+    ) -> None:
+        """Finds the images of an index, and of those inside of it, whose manifests are there."""
         if depth > _MAX_DEPTH:
-            raise cannot_read(f"{self._members.path}/{name}", "an index inside too many others")
-        with _shaped(self._members, name):
-            for descriptor in _document(self._members, name)["manifests"]:
+            raise cannot_read(self._documents.path(name), "an index inside too many others")
+        with self._documents.shaped(name):
+            for descriptor in index["manifests"]:
                 notes = descriptor.get("annotations") or {}
-                own = tuple(notes[key] for key in (_REF_NAME, _FULL_NAME) if key in notes) or names
-                inner = self._blob_name(descriptor["digest"])
-                if _ATTESTATION in notes or self._members.size(inner) is None:
+                own = _texts([notes[key] for key in (_REF_NAME, _FULL_NAME) if key in notes]) or names
+                digest = _digest_parts(descriptor["digest"])
+                is_there = self._members.size(_blob_in_layout(digest)) is not None
+                if _ATTESTATION in notes or not is_there or (descriptor["digest"], own) in self._visited:
                     continue
-                self._checked(descriptor)
-                stated = _platform_of(descriptor.get("platform")) or platform
-                if self._is_index(descriptor, inner):
-                    yield from self._choices(inner, own, stated, depth + 1)
-                else:
-                    yield _Choice(descriptor["digest"], stated or self._config_platform(inner), own)
+                self._visited.add((descriptor["digest"], own))
+                stated = platform_of(descriptor.get("platform") or {}) or platform
+                self._take(descriptor, digest, own, stated, depth)
 
-    def _is_index(self, descriptor: dict[str, Any], name: str) -> bool:
-        kind = descriptor.get("mediaType") or _document(self._members, name).get("mediaType")
-        return kind in _INDEXES
+    def _take(
+        self, descriptor: Mapping[str, Any], digest: Digest, names: tuple[str, ...], stated: Mapping[str, Any],
+        depth: int,
+    ) -> None:
+        """An image, or an index inside of the one that is visited."""
+        kind, name = descriptor.get("mediaType"), _blob_in_layout(digest)
+        told = platform_text(stated)
+        document = self._documents.read(name, digest)
+        with self._documents.shaped(name):
+            if (kind or document.get("mediaType")) in _INDEXES:
+                self._visit(document, name, names, stated, depth + 1)
+            else:
+                told = told or self._config_platform(document)
+                self._choices.append(_Choice(descriptor["digest"], told, names, stated))
 
-    def _config_platform(self, name: str) -> str:
-        config = _document(self._members, name)["config"]
-        inner = self._blob_name(config["digest"])
-        if self._members.size(inner) is None:
+    def _config_platform(self, manifest: Any) -> str:
+        name = _blob_in_layout(_digest_parts(manifest["config"]["digest"]))
+        if self._members.size(name) is None:
             return "unknown"
-        return _platform_of(_document(self._members, inner)) or "unknown"
-
-    def _checked(self, descriptor: dict[str, Any]) -> str:
-        digest: str = descriptor["digest"]
-        self._require_digest(self._blob_name(digest), _digest_parts(digest))
-        return digest
-
-    def _blob_name(self, digest: Any) -> str:
-        algorithm, digits = _digest_parts(digest)
-        return f"blobs/{algorithm}/{digits}"
-
-    def _require_digest(self, name: str, digest: tuple[str, str]) -> None:
-        _require_digest(self._members, name, digest)
+        return platform_text(self._documents.read(name)) or "unknown"
 
 
-def _require_digest(members: Members, name: str, digest: tuple[str, str]) -> None:
-    algorithm, wanted = digest
-    found = hashlib.new(algorithm)
-    progress = Progress(f"checking bytes of {name[-20:]}")
-    stream = io.BufferedReader(members.part(name), PIECE)
-    while piece := stream.read(PIECE):
-        found.update(piece)
-        progress.step(len(piece))
-    progress.end()
-    if found.hexdigest() != wanted:
-        raise cannot_read(f"{members.path}/{name}", f"its bytes aren't those of the digest {algorithm}:{wanted}")
+def _image(
+    documents: _Documents, name: str, manifest: Any, blob: BlobName, stated: Mapping[str, Any]
+) -> Image:
+    """The image of a manifest, whose layers and configuration are members of these names."""
+    with documents.shaped(name):
+        listed = [(_digest_parts(layer["digest"]), _stated_size(layer)) for layer in manifest["layers"]]
+        digest = _digest_parts(manifest["config"]["digest"])
+        if manifest.get("annotations"):
+            note("the image's manifest has annotations, which aren't kept")
+    _require_count(documents, len(listed))
+    configuration, unpacked = documents.configuration(blob(digest), digest, len(listed))
+    return Image(
+        [documents.layer(blob(own), own, size, inner) for (own, size), inner in zip(listed, unpacked)],
+        with_platform(configuration, stated),
+    )
 
 
-def _platform_of(value: Any) -> str | None:
-    if not isinstance(value, dict) or not value.get("os") or not value.get("architecture"):
-        return None
-    parts = [str(value["os"]), str(value["architecture"])]
-    return "/".join(parts + ([str(value["variant"])] if value.get("variant") else []))
+def _require_count(documents: _Documents, count: int) -> None:
+    if not 1 <= count <= rules.MAX_LAYERS:
+        raise cannot_read(documents.members.path, f"it has {count} layers, not 1 to {rules.MAX_LAYERS}")
 
 
 def _one_of(
-    path: str, choices: Iterator[_Choice], platform: str | None, tag: str | None
+    path: str, choices: Sequence[_Choice], platform: str | None, tag: str | None
 ) -> _Choice:
     """The one image that is meant, or a fault that tells those that are there."""
     by_digest: dict[str, _Choice] = {}
     for choice in choices:
         before = by_digest.get(choice.digest)
-        names = (before.names if before else ()) + choice.names
-        by_digest[choice.digest] = _Choice(choice.digest, choice.platform, tuple(dict.fromkeys(names)))
+        names = dict.fromkeys((before.names if before else ()) + choice.names)
+        by_digest[choice.digest] = replace(choice, names=tuple(names))
     fitting = [choice for choice in by_digest.values() if choice.matches(platform, tag)]
     if len(fitting) == 1:
         return fitting[0]
@@ -207,42 +311,33 @@ def _not_one(path: str, there: list[str], fitting: int) -> ReadFault:
     if not there:
         return cannot_read(path, "it has no image whose manifest is there")
     which = "none of them is meant" if not fitting else "say which by --platform or --tag"
-    return cannot_read(path, f"it has {len(there)} images ({'; '.join(there)}); {which}")
+    more = "; .." if len(there) > _MOST_TOLD else ""
+    return cannot_read(path, f"it has {len(there)} images ({'; '.join(there[:_MOST_TOLD])}{more}); {which}")
 
 
-def _unpacked_digests(members: Members, config: str, count: int) -> list[tuple[str, str] | None]:
-    """The digests of the layers' unpacked bytes, which an image's configuration has."""
-    with _shaped(members, config):
-        rootfs = _document(members, config).get("rootfs")
-        if rootfs is None:
-            return [None] * count
-        digests: list[tuple[str, str] | None] = [_digest_parts(digest) for digest in rootfs["diff_ids"]]
-    if len(digests) != count:
-        raise cannot_read(
-            f"{members.path}/{config}", f"it tells digests of {len(digests)} layers, and the manifest has {count}"
-        )
-    return digests
+def _copied_image(documents: _Documents, manifest: Mapping[str, Any]) -> Image:
+    """The image in a folder of skopeo's `dir:`, whose blobs have their digits as names."""
+    if "manifests" in manifest:
+        raise cannot_read(documents.members.path, "it is an index in the form dir:; copy one image of it")
+    return _image(documents, "manifest.json", manifest, lambda digest: digest[1], {})
 
 
-def _saved_layers(members: Members, platform: str | None, tag: str | None) -> list[ImageLayer]:
-    """The layers of an image as `docker save` writes it."""
-    with _shaped(members, "manifest.json"):
+def _saved_image(documents: _Documents, manifest: Any, platform: str | None, tag: str | None) -> Image:
+    """The one image that is meant of those that `docker save` wrote."""
+    with documents.shaped("manifest.json"):
         images = [
-            (str(image["Config"]), [str(name) for name in image["Layers"]], tuple(image.get("RepoTags") or ()))
-            for image in _document(members, "manifest.json")
+            (str(image["Config"]), _texts(image["Layers"]), _texts(image.get("RepoTags") or ()))
+            for image in manifest
         ]
-    choices = []
-    for number, (config, _, names) in enumerate(images):
-        with _shaped(members, config):
-            there = _platform_of(_document(members, config)) or "unknown"
-            choices.append(_Choice(str(number), there, names))
-    chosen = _one_of(members.path, iter(choices), platform, tag)
-    config, layers, _ = images[int(chosen.digest)]
-    digits = re.search(r"([0-9a-f]{64})(\.json)?\Z", config)
-    if digits:
-        _require_digest(members, config, ("sha256", digits[1]))
-    digests = _unpacked_digests(members, config, len(layers))
-    return [
-        ImageLayer(name, f"{members.path}/{name}", members.part(name), digest)
-        for name, digest in zip(layers, digests)
+    choices = [
+        _Choice(str(number), platform_text(documents.read(config)) or "unknown", names)
+        for number, (config, _, names) in enumerate(images)
     ]
+    chosen = _one_of(documents.members.path, choices, platform, tag)
+    config, layers, names = images[int(chosen.digest)]
+    _require_count(documents, len(layers))
+    digits = re.search(r"([0-9a-f]{64})(\.json)?\Z", config)
+    configuration, digests = documents.configuration(config, ("sha256", digits[1]) if digits else None, len(layers))
+    return Image(
+        [documents.layer(name, None, None, digest) for name, digest in zip(layers, digests)], configuration, names
+    )

@@ -1,16 +1,23 @@
 """A layer that is put together from the entries of an archive, in whatever order they come."""
 
-from collections.abc import Iterator
-from dataclasses import dataclass
+import sys
+from collections.abc import Callable, Iterator, Mapping
+from dataclasses import dataclass, field
+from enum import Enum, auto
 
 from . import rules
-from .entries import DIRECTORY, IS_OPAQUE, OPAQUE, SYMLINK, Entry
+from .entries import CHAR, DIRECTORY, IS_OPAQUE, NO_ATTRIBUTES, OPAQUE, OVERLAY, SYMLINK, Entry, is_whiteout
 
 _IMPLIED_MODE = 0o755
+_ATTRIBUTE_BYTES = 256  # that an attribute takes at most beside its name and value
 
 
 class Unfit(Exception):
     """An entry can't be stated in a manifest, or has no place in its layer."""
+
+
+class Blocked(Unfit):
+    """The way to an entry leads through what is no directory."""
 
 
 class TooMuch(Exception):
@@ -18,157 +25,277 @@ class TooMuch(Exception):
 
 
 @dataclass(slots=True)
-class _Node:
+class Folder:
+    """A directory. `is_stated` is false where the archive leaves it out and has only what is in it."""
+
     entry: Entry
-    children: dict[str, "_Node"] | None
-    whiteout: Entry | None = None
+    children: dict[str, "Folder | Entry"] = field(default_factory=dict)
+    whiteouts: dict[str, Entry] = field(default_factory=dict)
     is_opaque: bool = False
     is_stated: bool = True
+    is_root: bool = False
+
+    def hides_all(self) -> bool:
+        """Whether nothing that lower layers have in it is shown. The root's mark says nothing."""
+        return self.is_opaque or (not self.is_root and self.entry.attributes.get(OPAQUE) == IS_OPAQUE)
+
+    def lower(self, under: "Folder | None", name: str) -> "Folder | Entry | None":
+        """What lower layers show in this directory by this name, where they show `under` in its place."""
+        is_hidden = under is None or name in self.whiteouts or self.hides_all()
+        return None if is_hidden or under is None else under.children.get(name)
+
+    def says_nothing(self, under: "Folder | Entry | None") -> bool:
+        """Whether it may be left out: it isn't stated, and has nothing in but whiteouts of what isn't there."""
+        hides = bool(self.whiteouts) or self.is_opaque
+        return not (self.is_stated or self.children or (hides and isinstance(under, Folder)))
+
+
+class Gap(Enum):
+    """What is put right once a layer is whole."""
+
+    UNKNOWN = auto()  # a directory that neither this layer nor those below state
+    OVER_OTHER = auto()  # a directory that isn't stated, above a file or a link
+    WHITEOUT = auto()  # a whiteout in no directory
+
+
+class Held:
+    """What the layers of an image hold in memory, within bounds."""
+
+    def __init__(self) -> None:
+        self._entries = 0
+        self._bytes = 0
+        self._sets: dict[tuple[tuple[str, bytes], ...], Mapping[str, bytes]] = {}
+
+    def grow(self) -> None:
+        """One entry more."""
+        self._entries += 1
+        if self._entries > rules.MAX_IMAGE_ENTRIES:
+            raise TooMuch(f"the image's layers have over {rules.MAX_IMAGE_ENTRIES:,} entries")
+
+    def weigh(self, size: int) -> None:
+        """So many bytes of text more."""
+        self._bytes += size
+        if self._bytes > rules.MAX_IMAGE_TEXT:
+            raise TooMuch(f"names, targets and attributes of the image take over {rules.MAX_IMAGE_TEXT:,} bytes")
+
+    def attributes(self, attributes: Mapping[str, bytes]) -> Mapping[str, bytes]:
+        """An equal set of attributes, which is held once."""
+        if not attributes:
+            return NO_ATTRIBUTES
+        key = tuple(sorted(attributes.items()))
+        found = self._sets.get(key)
+        if found is None:
+            self.weigh(sum(_ATTRIBUTE_BYTES + len(name) + len(value) for name, value in key))
+            found = self._sets[key] = attributes
+        return found
 
 
 class LayerTree:
-    """Entries by path. A later entry of a path takes the place of an earlier one.
+    """Entries by path, which they don't hold themselves. A later entry of a path takes the place of an earlier one.
 
     A whiteout hides what lower layers have, not what the layer itself has. So beside an entry of the
     same path it says nothing more than that a directory there is opaque.
     """
 
-    def __init__(self) -> None:
-        self._root = _implied([])
+    def __init__(self, held: Held) -> None:
+        self.root = _implied()
+        self.root.is_root = True
+        self._held = held
         self._count = 1
-        self._attribute_bytes = 0
+        self._way: list[str] = []
+        self._last = self.root
 
     def put(self, names: list[str], entry: Entry) -> None:
         """Puts an entry in. A directory in place of another one keeps what is in it."""
-        self._weigh(entry)
         if not names:
             if entry.kind != DIRECTORY:
                 raise Unfit("the root is no directory")
-            self._root.entry = entry
+            self.root.entry, self.root.is_stated = entry, True
             return
-        children = self._children(names[:-1])
-        node = children.get(names[-1])
-        if node is None:
+        *way, name = names
+        folder = self.folder(way)
+        before = folder.children.get(name)
+        if isinstance(before, Folder):
+            if entry.kind == DIRECTORY:
+                before.entry, before.is_stated = entry, True
+                return
+            self._cut(before)
+        elif before is None and name not in folder.whiteouts:
             self._grow()
-            children[names[-1]] = _Node(entry, {} if entry.kind == DIRECTORY else None)
-            return
-        if entry.kind != DIRECTORY or node.children is None:
-            self._count -= _size(node) - 1
-            node.children = {} if entry.kind == DIRECTORY else None
-            node.is_opaque = False
-        node.entry, node.is_stated = entry, True
-
-    def make_way(self, names: list[str]) -> None:
-        """Makes sure that there is a directory at a path."""
-        self._children(names)
+        self._weigh(name, entry)
+        folder.children[name] = Folder(entry) if entry.kind == DIRECTORY else entry
 
     def put_whiteout(self, names: list[str], whiteout: Entry) -> None:
         """Hides what lower layers have at a path."""
-        self._weigh(whiteout)
-        children = self._children(names[:-1])
-        node = children.get(names[-1])
-        if node is None:
+        *way, name = names
+        folder = self.folder(way)
+        if name not in folder.children and name not in folder.whiteouts:
             self._grow()
-            children[names[-1]] = _Node(whiteout, None, whiteout, is_stated=False)
-        else:
-            node.whiteout = whiteout
+        self._weigh(name, whiteout)
+        folder.whiteouts[name] = whiteout
 
     def put_opaque(self, names: list[str]) -> None:
         """Hides all that lower layers have below a directory."""
-        self._children(names)
-        self._node(names).is_opaque = True
+        self.folder(names).is_opaque = True
 
-    def at(self, names: list[str]) -> Entry | None:
-        """The entry of a path, where the archive had one."""
-        node = self._root
-        for name in names:
-            if node.children is None or name not in node.children:
+    def folder(self, names: list[str]) -> Folder:
+        """A directory. Those that the archive leaves out are made."""
+        if names == self._way:
+            return self._last
+        folder = self.root
+        for depth, name in enumerate(names, 1):
+            found = folder.children.get(name)
+            if found is None:
+                if name not in folder.whiteouts:
+                    self._grow()
+                self._held.weigh(sys.getsizeof(name))
+                found = folder.children[name] = _implied()
+            elif not isinstance(found, Folder):
+                sort = "the symlink" if found.kind == SYMLINK else "what is no directory,"
+                raise Blocked(f"its path leads through {sort} /{'/'.join(names[:depth])}")
+            folder = found
+        self._way, self._last = names, folder
+        return folder
+
+    def file_at(self, names: list[str], below: "Folder | None") -> Entry | None:
+        """What isn't a directory at a path: of this layer as far as it has come, or of what is below it."""
+        here: Folder | None = self.root
+        for name in names[:-1]:
+            under = here.lower(below, name) if here else below.children.get(name) if below else None
+            inner = here.children.get(name) if here else None
+            if isinstance(inner, Entry):
                 return None
-            node = node.children[name]
-        return node.entry if node.is_stated else None
+            here, below = inner, under if isinstance(under, Folder) else None
+        name = names[-1]
+        found = here.children.get(name) if here else None
+        if found is None:
+            found = here.lower(below, name) if here else below.children.get(name) if below else None
+        return None if found is None or isinstance(found, Folder) or is_whiteout(found) else found
 
-    def has_opaque_root(self) -> bool:
-        """Whether the layer hides all lower ones."""
-        return self._root.is_opaque
+    def settle(self, below: "Folder | None", tell: Callable[[Gap, str], None]) -> None:
+        """Gives directories that the archive leaves out what the layers below show there.
 
-    def hide_at_root(self, names: set[str]) -> None:
-        """Hides these names of lower layers one by one."""
-        self._root.is_opaque = False
-        for name in sorted(names):
-            self.put_whiteout([name], whiteout_at(f"/{name}"))
+        Where these show nothing, whiteouts alone make no directory. An opaque root, which overlayfs
+        hasn't, becomes whiteouts of what is below.
+        """
+        self._settle(self.root, below, "", tell)
+        if self.root.is_opaque:
+            self.root.is_opaque = False
+            for name in below.children if below else ():
+                self.put_whiteout([name], whiteout())
 
-    def shown_at_root(self) -> set[str]:
-        """The names directly below the root that aren't whiteouts alone."""
-        return {name for name, node in (self._root.children or {}).items() if node.is_stated}
+    def _settle(
+        self, folder: Folder, below: "Folder | None", path: str, tell: Callable[[Gap, str], None]
+    ) -> None:
+        inner = [(name, child) for name, child in folder.children.items() if isinstance(child, Folder)]
+        for name, child in inner:
+            under = folder.lower(below, name)
+            self._settle(child, under if isinstance(under, Folder) else None, f"{path}/{name}", tell)
+            if child.says_nothing(under):
+                self._drop(folder, name, child)
+                for hidden in [*child.whiteouts, *([""] if child.is_opaque else [])]:
+                    tell(Gap.WHITEOUT, f"{path}/{name}/{hidden}")
+            elif not child.is_stated and isinstance(under, Entry):
+                tell(Gap.OVER_OTHER, f"{path}/{name}")
+        if not folder.is_stated:
+            if below is not None:
+                folder.entry = _shown_directory(below.entry)
+            elif folder.children or folder.is_root:
+                tell(Gap.UNKNOWN, path or "/")
+
+    def _drop(self, parent: Folder, name: str, folder: Folder) -> None:
+        """Takes a directory away with the whiteouts in it."""
+        self._cut(folder)
+        del parent.children[name]
+        if name not in parent.whiteouts:
+            self._count -= 1
 
     def entries(self) -> Iterator[Entry]:
-        """All entries, in path order."""
-        levels = [iter([self._root])]
+        """All entries, in path order. Each has its path until the next one is asked for."""
+        yield from _with_path(self.root.entry, "/")
+        levels = [("", _sorted_names(self.root), self.root)]
         while levels:
-            node = next(levels[-1], None)
-            if node is None:
+            path, names, folder = levels[-1]
+            name = next(names, None)
+            if name is None:
                 levels.pop()
                 continue
-            yield _finished(node)
-            if node.children:
-                levels.append(iter([node.children[name] for name in sorted(node.children)]))
+            child = folder.children.get(name) or folder.whiteouts[name]
+            if isinstance(child, Entry):
+                yield from _with_path(child, f"{path}/{name}")
+                continue
+            if child.is_opaque or name in folder.whiteouts:
+                child.entry.attributes = {**child.entry.attributes, OPAQUE: IS_OPAQUE}
+            yield from _with_path(child.entry, f"{path}/{name}")
+            levels.append((f"{path}/{name}", _sorted_names(child), child))
 
-    def _children(self, names: list[str]) -> dict[str, _Node]:
-        """What is in a directory. Those that the archive leaves out are made."""
-        node = self._root
-        for depth, name in enumerate(names, 1):
-            children = _children_of(node)
-            if name not in children:
-                self._grow()
-                children[name] = _implied(names[:depth])
-            elif children[name].children is None and not children[name].is_stated:
-                whiteout = children[name].whiteout
-                children[name] = _implied(names[:depth])
-                children[name].whiteout = whiteout
-            node = children[name]
-        return _children_of(node)
-
-    def _node(self, names: list[str]) -> _Node:
-        node = self._root
-        for name in names:
-            node = _children_of(node)[name]
-        return node
+    def _cut(self, folder: Folder) -> None:
+        """Counts what is in a directory out."""
+        self._count -= _size(folder) - 1
+        self._way, self._last = [], self.root
 
     def _grow(self) -> None:
+        self._held.grow()
         self._count += 1
         if self._count > rules.MAX_ENTRIES:
             raise TooMuch(f"the layer has over {rules.MAX_ENTRIES:,} entries")
 
-    def _weigh(self, entry: Entry) -> None:
-        """Bounds the attributes, since their values are held until the layer is written."""
-        if entry.attributes:
-            self._attribute_bytes += sum(2 * len(value) for value in entry.attributes.values())
-            if self._attribute_bytes > rules.MAX_MANIFEST_BYTES:
-                raise TooMuch(f"the attributes of its entries have over {rules.MAX_MANIFEST_BYTES:,} bytes")
+    def _weigh(self, name: str, entry: Entry) -> None:
+        self._held.weigh(sys.getsizeof(name) + (sys.getsizeof(entry.target) if entry.target else 0))
 
 
-def whiteout_at(path: str, uid: int = 0, gid: int = 0, mtime: int = 0) -> Entry:
+class Below:
+    """What the layers so far show together."""
+
+    def __init__(self) -> None:
+        self.root: Folder | None = None
+
+    def cover(self, tree: LayerTree) -> None:
+        """Puts a layer above the others. The layer is used up."""
+        self.root = _merged(self.root, tree.root)
+
+
+def _merged(below: Folder | None, upper: Folder) -> Folder:
+    """What a directory shows above another one, or alone."""
+    children = {} if below is None or upper.hides_all() else below.children
+    for name in upper.whiteouts:
+        children.pop(name, None)
+    for name, child in upper.children.items():
+        if isinstance(child, Folder):
+            under = children.get(name)
+            children[name] = _merged(under if isinstance(under, Folder) else None, child)
+        elif is_whiteout(child):
+            children.pop(name, None)
+        else:
+            children[name] = child
+    return Folder(upper.entry, children)
+
+
+def whiteout(uid: int = 0, gid: int = 0, mtime: int = 0) -> Entry:
     """A whiteout as the kernel makes it."""
-    return Entry(path, "char", 0, uid, gid, mtime)
+    return Entry("", CHAR, 0, uid, gid, mtime)
 
 
-def _implied(names: list[str]) -> _Node:
-    return _Node(Entry("/" + "/".join(names), DIRECTORY, _IMPLIED_MODE), {})
+def _implied() -> Folder:
+    return Folder(Entry("", DIRECTORY, _IMPLIED_MODE), is_stated=False)
 
 
-def _children_of(node: _Node) -> dict[str, _Node]:
-    if node.children is None:
-        sort = "the symlink" if node.entry.kind == SYMLINK else "what is no directory,"
-        raise Unfit(f"its path leads through {sort} {node.entry.path}")
-    return node.children
+def _shown_directory(entry: Entry) -> Entry:
+    """A directory as lower layers show it: all but the overlay's marks."""
+    attributes = {name: value for name, value in entry.attributes.items() if not name.startswith(OVERLAY)}
+    return Entry("", DIRECTORY, entry.mode, entry.uid, entry.gid, entry.mtime, attributes or NO_ATTRIBUTES)
 
 
-def _size(node: _Node) -> int:
-    return 1 + sum(map(_size, (node.children or {}).values()))
+def _with_path(entry: Entry, path: str) -> Iterator[Entry]:
+    entry.path = path
+    yield entry
+    entry.path = ""
 
 
-def _finished(node: _Node) -> Entry:
-    entry = node.entry
-    if node.children is not None and (node.is_opaque or node.whiteout is not None):
-        entry.attributes = {**entry.attributes, OPAQUE: IS_OPAQUE}
-    return entry
+def _sorted_names(folder: Folder) -> Iterator[str]:
+    return iter(sorted(folder.children.keys() | folder.whiteouts.keys() if folder.whiteouts else folder.children))
+
+
+def _size(folder: Folder) -> int:
+    inner = sum(_size(child) if isinstance(child, Folder) else 1 for child in folder.children.values())
+    return 1 + inner + len(folder.whiteouts.keys() - folder.children.keys())

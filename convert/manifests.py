@@ -1,6 +1,8 @@
 """The layer manifest, version 1: reading it, and the one text that is written of a layer."""
 
+import contextlib
 import json
+import mmap
 import os
 import re
 from collections.abc import Iterable, Iterator
@@ -25,6 +27,9 @@ _MORE: dict[str, frozenset[str]] = {
     "socket": frozenset(),
 }
 _HEXADECIMAL = re.compile(r"(?:[0-9a-f]{2})*\Z")
+
+
+_BLOB = re.compile(rb'"blob":"([0-9a-f]{64})"')
 
 
 class _Refused(Exception):
@@ -213,3 +218,22 @@ def _attributes_text(entry: Entry) -> str:
         for name in sorted(entry.attributes)
     )
     return "{" + ",".join(parts) + "}"
+
+
+def blobs_named_in(path: str) -> set[str]:
+    """The blobs that a manifest names, of one in the text that is written of a layer."""
+    with _mapped(path) as text:
+        return {found[1].decode() for found in _BLOB.finditer(text)}
+
+
+def has_attribute(path: str, names: Iterable[str]) -> bool:
+    """Whether an entry has one of these attributes, in a manifest of the same text."""
+    with _mapped(path) as text:
+        return any(text.find(f'"{name}":'.encode()) >= 0 for name in names)
+
+
+@contextlib.contextmanager
+def _mapped(path: str) -> Iterator[mmap.mmap]:
+    """The bytes of a manifest's file, which isn't empty."""
+    with reading(path), open(path, "rb") as file, mmap.mmap(file.fileno(), 0, access=mmap.ACCESS_READ) as text:
+        yield text

@@ -4,14 +4,17 @@ import contextlib
 import os
 import posixpath
 import stat
+import tempfile
 from collections.abc import Iterator
 from typing import Protocol
 
-from .faults import cannot_read, reading
+from .contents import PIECE, write_all
+from .faults import cannot_read, reading, writing
 from .streams import SeekingSlice, Slice
 from .tar_headers import HARD_LINK, REGULAR_TYPES, SYMLINK, TarFault
 from .tar_reader import TarReader
 
+STANDARD_INPUT = "-"
 _MAX_MEMBERS = 100_000
 _MAX_LINKS = 8
 _READ = os.O_RDONLY | os.O_NONBLOCK | os.O_CLOEXEC
@@ -25,47 +28,82 @@ class Members(Protocol):
     def size(self, name: str) -> int | None:
         """The size of a file, or nothing where there is none of this name."""
 
-    def part(self, name: str) -> Slice:
-        """The bytes of a file; fails where there is none."""
+    def opened(self, name: str) -> contextlib.AbstractContextManager[Slice]:
+        """The bytes of a file while it is open; fails where there is none."""
 
 
 @contextlib.contextmanager
 def opened_members(path: str) -> Iterator[Members]:
-    """The files of the image at a path."""
+    """The files of the image at a path, or of the archive that standard input gives."""
+    is_input = path == STANDARD_INPUT
+    told = "standard input" if is_input else path
+    with reading(told):
+        is_folder = not is_input and stat.S_ISDIR(os.stat(path).st_mode)
+    if is_folder:
+        yield _Folder(path)
+        return
     with contextlib.ExitStack() as files:
-        with reading(path):
-            is_folder = stat.S_ISDIR(os.stat(path).st_mode)
-        yield _Folder(path, files) if is_folder else _Archive(path, files)
+        with reading(told):
+            file = os.dup(0) if is_input else os.open(path, os.O_RDONLY | os.O_CLOEXEC)
+            files.callback(os.close, file)
+            status = os.fstat(file)
+        if stat.S_ISFIFO(status.st_mode) or stat.S_ISSOCK(status.st_mode):
+            file = _copied(file, told, files)
+        elif not stat.S_ISREG(status.st_mode):
+            raise cannot_read(told, "it is neither a folder, nor a regular file, nor a pipe")
+        yield _Archive(file, told)
+
+
+def _copied(pipe: int, told: str, files: contextlib.ExitStack) -> int:
+    """What a pipe gives, in an open file without a name, which can be read here and there."""
+    with writing(tempfile.gettempdir()):
+        copy = files.enter_context(tempfile.TemporaryFile(buffering=0)).fileno()
+        while piece := _read(pipe, told):
+            write_all(copy, piece)
+    return copy
+
+
+def _read(file: int, told: str) -> bytes:
+    with reading(told):
+        return os.read(file, PIECE)
 
 
 def _inner(name: str) -> str | None:
     """A name as a way inside the image, or nothing where it leads out."""
     way = posixpath.normpath(name)
+    try:
+        os.fsencode(way)
+    except UnicodeEncodeError:
+        return None
     return None if way.startswith(("/", "../")) or way in ("..", ".") or "\0" in way else way
 
 
 class _Folder:
     """An image in a folder."""
 
-    def __init__(self, path: str, files: contextlib.ExitStack) -> None:
+    def __init__(self, path: str) -> None:
         self.path = path
         self._root = os.path.realpath(path)
-        self._files = files
 
     def size(self, name: str) -> int | None:
         """The size of a file that is inside of the folder, through links too."""
         way = self._way(name)
         return None if way is None else os.stat(way).st_size
 
-    def part(self, name: str) -> Slice:
+    @contextlib.contextmanager
+    def opened(self, name: str) -> Iterator[Slice]:
         """The bytes of a file."""
         way = self._way(name)
         if way is None:
             raise cannot_read(f"{self.path}/{name}", "the image has no such file")
         with reading(f"{self.path}/{name}"):
             file = os.open(way, _READ)
-            self._files.callback(os.close, file)
-            return Slice(file, 0, os.fstat(file).st_size)
+        try:
+            with reading(f"{self.path}/{name}"):
+                size = os.fstat(file).st_size
+            yield Slice(file, 0, size)
+        finally:
+            os.close(file)
 
     def _way(self, name: str) -> str | None:
         inner = _inner(name)
@@ -79,25 +117,24 @@ class _Folder:
 class _Archive:
     """An image in a tar archive, whose files are found once."""
 
-    def __init__(self, path: str, files: contextlib.ExitStack) -> None:
+    def __init__(self, file: int, path: str) -> None:
         self.path = path
+        self._file = file
         self._places: dict[str, tuple[int, int]] = {}
         self._links: dict[str, str] = {}
         with reading(path):
-            self._file = os.open(path, _READ)
-            files.callback(os.close, self._file)
-            status = os.fstat(self._file)
-            if not stat.S_ISREG(status.st_mode):
-                raise cannot_read(path, "it is neither a folder nor a regular file")
-            self._find(status.st_size)
+            self._find(os.fstat(file).st_size)
 
     def _find(self, size: int) -> None:
         source = SeekingSlice(self._file, 0, size)
+        archive = TarReader(source)
         try:
-            for header in TarReader(source):
+            for header in archive:
                 name = _inner(os.fsdecode(header.name))
                 if name is None:
                     continue
+                if archive.is_sparse():
+                    raise TarFault(f"{name} is a sparse file in it")
                 if header.type in REGULAR_TYPES:
                     self._places[name] = source.place, header.size
                 elif header.type == SYMLINK:
@@ -115,12 +152,13 @@ class _Archive:
         place = self._place(name)
         return None if place is None else place[1]
 
-    def part(self, name: str) -> Slice:
+    @contextlib.contextmanager
+    def opened(self, name: str) -> Iterator[Slice]:
         """The bytes of a file."""
         place = self._place(name)
         if place is None:
             raise cannot_read(f"{self.path}/{name}", "the image has no such file")
-        return Slice(self._file, *place)
+        yield Slice(self._file, *place)
 
     def _place(self, name: str) -> tuple[int, int] | None:
         way = _inner(name)

@@ -2,37 +2,103 @@
 
 import contextlib
 import os
-import secrets
-import shutil
+import stat
+import sys
 from collections.abc import Callable, Iterable, Iterator
 
 from .faults import cannot_write, reason_of, writing
+from .stages import Stage, remove, tidy, told
 
-STAGE_PREFIX = ".layers-"
+STANDARD_OUTPUT = "-"
+Write = Callable[[bytes], object]
+_AT_ONCE = 1 << 18
+_USUAL_MODE = 0o666  # less what the umask takes
 
 
 def write_text(path: str, pieces: Iterable[str]) -> None:
-    """Writes a file of UTF-8 text under another name beside it, and moves it into place."""
+    """Writes a file of UTF-8 text: see `write_file`."""
 
-    def fill(temporary: str) -> None:
-        with open(temporary, "x", encoding="utf-8", newline="", buffering=1 << 18) as file:
-            file.writelines(pieces)
+    def fill(write: Write) -> None:
+        held: list[str] = []
+        size = 0
+        for piece in pieces:
+            held.append(piece)
+            size += len(piece)
+            if size > _AT_ONCE:
+                write("".join(held).encode())
+                held, size = [], 0
+        write("".join(held).encode())
 
     write_file(path, fill)
 
 
-def write_file(path: str, fill: Callable[[str], None]) -> None:
-    """Has a file filled under another name beside its own, and moves it into place."""
-    temporary = os.path.join(os.path.dirname(path), STAGE_PREFIX + secrets.token_hex(8))
+def write_file(path: str, fill: Callable[[Write], None], mode: int = _USUAL_MODE) -> None:
+    """Has a file filled.
+
+    Nothing, or a regular file, is replaced as a whole by one that was filled under another name beside
+    it; a link leads there. Anything else that stands there, such as a device or a pipe, is written
+    through, as standard output is, which `-` means.
+    """
+    place = _place(path)
+    with writing(path):
+        if place is None:
+            _write_through(path, fill)
+        else:
+            _replace(place, fill, mode)
+
+
+def _place(path: str) -> str | None:
+    """Where a regular file is to stand, or nothing where what is there is to be written through."""
+    if path == STANDARD_OUTPUT:
+        return None
+    with writing(path):
+        try:
+            status = os.stat(path)
+        except FileNotFoundError:
+            return os.path.realpath(path)
+        if stat.S_ISDIR(status.st_mode):
+            raise IsADirectoryError(None, "it is a folder")
+        if not stat.S_ISREG(status.st_mode) or _is_standard_output(status):
+            return None
+        return os.path.realpath(path)
+
+
+def _is_standard_output(status: os.stat_result) -> bool:
+    with contextlib.suppress(OSError, ValueError):
+        return os.path.samestat(status, os.fstat(sys.stdout.fileno()))
+    return False
+
+
+def _write_through(path: str, fill: Callable[[Write], None]) -> None:
+    if path == STANDARD_OUTPUT or _is_standard_output(os.stat(path)):
+        with standard_output() as write:
+            fill(write)
+    else:
+        with open(os.open(path, os.O_WRONLY | os.O_CLOEXEC | os.O_NOCTTY), "wb", buffering=_AT_ONCE) as file:
+            fill(file.write)
+
+
+@contextlib.contextmanager
+def standard_output() -> Iterator[Write]:
+    """Writes to standard output to its end, or tells that this can't be done."""
     try:
-        with writing(path):
-            fill(temporary)
-            if os.path.isdir(path):
-                raise IsADirectoryError(None, "it is a folder")
-            os.rename(temporary, path)
+        yield sys.stdout.buffer.write
+        sys.stdout.buffer.flush()
+    except OSError as error:
+        os.dup2(os.open(os.devnull, os.O_WRONLY), sys.stdout.fileno())
+        raise cannot_write("standard output", reason_of(error)) from None
+
+
+def _replace(place: str, fill: Callable[[Write], None], mode: int) -> None:
+    folder = os.path.dirname(place)
+    tidy(folder)
+    stage = Stage(folder, mode)
+    try:
+        with open(stage.file, "wb", buffering=_AT_ONCE, closefd=False) as file:
+            fill(file.write)
+        os.rename(stage.path, place)
     finally:
-        with contextlib.suppress(OSError):
-            os.unlink(temporary)
+        stage.close()
 
 
 @contextlib.contextmanager
@@ -41,45 +107,64 @@ def new_folder(path: str) -> Iterator[str]:
 
     Where the body fails all of it is removed, and the folder too where it wasn't there.
     """
-    was_there = _require_empty(path)
-    stage = os.path.join(path, STAGE_PREFIX + secrets.token_hex(8))
-    moved: list[str] = [stage]
+    was_there = require_empty(path)
+    moved: list[str] = []
+    stage: Stage | None = None
     try:
         with writing(path):
             if not was_there:
-                os.mkdir(path)
-            os.mkdir(stage, 0o700)
-        yield stage
+                os.mkdir(path, 0o700)
+            stage = Stage(path)
+        yield stage.path
         with writing(path):
-            for name in sorted(os.listdir(stage)):
+            for name in sorted(os.listdir(stage.path)):
                 moved.append(os.path.join(path, name))
-                os.rename(os.path.join(stage, name), moved[-1])
-            os.rmdir(stage)
+                os.rename(os.path.join(stage.path, name), moved[-1])
+            stage.close()
     except BaseException:
+        if stage is not None:
+            stage.close()
         for place in moved:
-            _remove(place)
+            remove(place)
         if not was_there:
             with contextlib.suppress(OSError):
                 os.rmdir(path)
         raise
 
 
-def _require_empty(path: str) -> bool:
-    """Whether the folder is there; refuses one that holds anything."""
+@contextlib.contextmanager
+def passing_folder(path: str) -> Iterator[str]:
+    """A stage beside a path, a folder that is taken away at the end whatever happens."""
+    folder = os.path.dirname(path)
+    with writing(path):
+        tidy(folder)
+        stage = Stage(folder)
     try:
+        yield stage.path
+    finally:
+        stage.close()
+
+
+@contextlib.contextmanager
+def kept_folder(path: str) -> Iterator[str]:
+    """A folder that is absent or empty, made where it is absent; what the body puts there stays."""
+    if not require_empty(path):
+        with writing(path):
+            os.mkdir(path, 0o700)
+    yield path
+
+
+def require_empty(path: str) -> bool:
+    """Whether the folder is there; refuses one that holds anything but old stages, which go."""
+    try:
+        stages = tidy(path)
         names = os.listdir(path)
     except FileNotFoundError:
         return False
     except OSError as error:
         raise cannot_write(path, reason_of(error)) from error
+    if stages and len(stages) == len(names):
+        raise cannot_write(path, f"it holds {told(stages[0])}; take that away, or name another folder")
     if names:
         raise cannot_write(path, "it isn't empty; name a folder that is empty or absent")
     return True
-
-
-def _remove(path: str) -> None:
-    if os.path.isdir(path) and not os.path.islink(path):
-        shutil.rmtree(path, ignore_errors=True)
-    else:
-        with contextlib.suppress(OSError):
-            os.unlink(path)

@@ -4,38 +4,43 @@ import hashlib
 import json
 import os
 from collections.abc import Callable, Iterator
-from dataclasses import dataclass, field
+from dataclasses import dataclass
 from typing import Any
 
 from . import rules
 from . import tar_headers as tar
+from .archive_names import OPAQUE_NAME, WHITEOUT_PREFIX
 from .blobs import blob_path, opened_blob
-from .contents import PIECE
+from .compression import NONE, media_type, packing, require_program
+from .configuration import (
+    USUAL_PLATFORM, Document, for_layers, platform_of, platform_text, read_configuration,
+)
+from .contents import PIECE, digest_and_size
 from .entries import (
-    BLOCK, CHAR, DIRECTORY, FIFO, FILE, IS_OPAQUE, OPAQUE, SOCKET, SYMLINK, Entry, is_opaque,
+    BLOCK, CHAR, DIRECTORY, FIFO, FILE, HOST_MARKS, IS_OPAQUE, OPAQUE, SOCKET, SYMLINK, Entry, is_opaque,
     is_whiteout, needs_lower_layers,
 )
-from .faults import UsageFault, cannot_read, writing
+from .faults import UsageFault, cannot_read, reading, writing
 from .manifests import read_manifest
 from .outputs import new_folder, write_file
-from .progress import Progress, note
+from .progress import Progress, counted, note, note_path
+from .stages import Stage
 from .tar_headers import Header
 from .tar_writer import TarWriter
-from .texts import printable
-from .unpack import OPAQUE_NAME, WHITEOUT_PREFIX
 
 _TYPES = {
     DIRECTORY: tar.DIRECTORY, FILE: b"0", SYMLINK: tar.SYMLINK, CHAR: tar.CHAR, BLOCK: tar.BLOCK,
     FIFO: tar.FIFO,
 }
 _LINK_MODE = 0o777
-_LAYER_TYPE = "application/vnd.oci.image.layer.v1.tar"
+_IMAGE_MODE = 0o600  # an image holds what the files hold, secret ones too
 _CONFIG_TYPE = "application/vnd.oci.image.config.v1+json"
 _MANIFEST_TYPE = "application/vnd.oci.image.manifest.v1+json"
 _INDEX_TYPE = "application/vnd.oci.image.index.v1+json"
 _LAYOUT = {"imageLayoutVersion": "1.0.0"}
 _REF_NAME = "org.opencontainers.image.ref.name"
-_ARCHIVE_SUFFIX = ".tar"
+ARCHIVE_SUFFIX = ".tar"
+_BLOBS = "blobs/sha256"
 
 
 @dataclass(frozen=True)
@@ -45,77 +50,77 @@ class PackOptions:
     layers: list[str]
     blobs: str
     out: str
-    platform: str = "linux/amd64"
+    platform: str | None = None
     tag: str | None = None
     skip_unsupported: bool = False
+    config: str | None = None
+    compress: str = NONE
 
 
-@dataclass
-class _Part:
-    """A file of the layout: given bytes, or the archive of a layer."""
+@dataclass(frozen=True)
+class _Packed:
+    """A layer's archive in the layout: the digest of its bytes, and of those before they were packed."""
 
-    name: str
+    digest: str
     size: int
-    write: Callable[[Callable[[bytes], object]], None]
-
-
-@dataclass
-class _Layer:
-    """A layer that can be packed."""
-
-    path: str
-    entries: list[Entry]
-    digest: str = ""
-    size: int = 0
-
-
-@dataclass
-class _Counter:
-    """Digests and counts the bytes of an archive without keeping them."""
-
-    size: int = 0
-    digest: Any = field(default_factory=hashlib.sha256)
-
-    def write(self, piece: bytes) -> None:
-        """Takes a piece."""
-        self.size += len(piece)
-        self.digest.update(piece)
+    unpacked_digest: str
 
 
 def pack(options: PackOptions) -> None:
     """Writes the image: a folder, or one tar archive where the name ends in `.tar`."""
     if not 1 <= len(options.layers) <= rules.MAX_LAYERS:
         raise UsageFault(f"layers must be 1 to {rules.MAX_LAYERS}")
-    layers = [_Layer(path, list(_packable(path, options))) for path in reversed(options.layers)]
-    for layer in layers:
-        counter = _Counter()
-        _write_archive(layer, options.blobs, counter.write, "reading layer")
-        layer.digest, layer.size = counter.digest.hexdigest(), counter.size
-    parts = _parts(layers, options)
-    if options.out.endswith(_ARCHIVE_SUFFIX):
-        write_file(options.out, lambda path: _write_image_archive(path, parts))
-    else:
-        with new_folder(options.out) as stage:
-            _write_image_folder(stage, parts)
+    require_program(options.compress)
+    given = _given_configuration(options)
+    layers = [list(_packable(path, options)) for path in reversed(options.layers)]
+    if not options.out.endswith(ARCHIVE_SUFFIX):
+        with new_folder(options.out) as folder:
+            _write_layout(folder, layers, given, options)
+        return
+    with writing(options.out):
+        stage = Stage(os.path.dirname(options.out))
+    try:
+        _write_layout(stage.path, layers, given, options)
+        write_file(options.out, lambda write: _write_image_archive(stage.path, write), _IMAGE_MODE)
+    finally:
+        stage.close()
+
+
+def _given_configuration(options: PackOptions) -> Document:
+    """What the image is to say of itself; without a file for it, a note says what it doesn't."""
+    if options.config is not None:
+        given = read_configuration(options.config)
+        if options.platform is None and platform_text(given) is None:
+            note_path(options.config, f"it names no platform; the image's is {USUAL_PLATFORM}")
+        return given
+    note(
+        "without --config the image has no command, entry point, environment, user, working directory, "
+        f"labels, volumes, ports and author; its platform is {options.platform or USUAL_PLATFORM}"
+    )
+    return {}
 
 
 def _packable(path: str, options: PackOptions) -> Iterator[Entry]:
     """The entries of a layer that an archive can state; refuses the others, or leaves them out."""
+    marks = 0
     for entry in read_manifest(path):
         reason = needs_lower_layers(entry)
         if reason:
             raise cannot_read(
                 path,
-                f"{printable(entry.path)} is {reason}, which no image has; "
+                f"{entry.path} is {reason}, which no image has; "
                 "run `ovl_layers deref` on the stack first, or `merge` down to one layer",
             )
         problem = _problem(entry)
         if problem is None:
+            marks += _drop_host_marks(entry)
             yield entry
         elif options.skip_unsupported:
-            note(f"{printable(path)}: {printable(entry.path)}: left out: {problem}")
+            note_path(path, f"{entry.path}: left out: {problem}")
         else:
-            raise cannot_read(path, f"{printable(entry.path)}: {problem}")
+            raise cannot_read(path, f"{entry.path}: {problem}")
+    if marks:
+        note_path(path, counted(marks, "mark", "marks") + " of the host's overlay left out (origin, impure, uuid)")
 
 
 def _problem(entry: Entry) -> str | None:
@@ -131,17 +136,63 @@ def _problem(entry: Entry) -> str | None:
     return None
 
 
-def _write_archive(
-    layer: _Layer, blobs: str, write: Callable[[bytes], object], doing: str
-) -> None:
+def _drop_host_marks(entry: Entry) -> int:
+    """Leaves out what means something on the host alone that the layer comes from; tells how many marks."""
+    found = [name for name in entry.attributes if name in HOST_MARKS]
+    if found:
+        entry.attributes = {name: value for name, value in entry.attributes.items() if name not in HOST_MARKS}
+    return len(found)
+
+
+def _write_layout(folder: str, layers: list[list[Entry]], given: Document, options: PackOptions) -> None:
+    """The files of the layout; nothing in them depends on when or where they are made."""
+    with writing(options.out):
+        os.makedirs(f"{folder}/{_BLOBS}")
+        packed = [_write_layer(folder, layer, options) for layer in layers]
+        configuration = for_layers(given, options.platform, [layer.unpacked_digest for layer in packed])
+        manifest = {
+            "schemaVersion": 2, "mediaType": _MANIFEST_TYPE,
+            "config": _put(folder, _CONFIG_TYPE, configuration),
+            "layers": [_descriptor(media_type(options.compress), layer.digest, layer.size) for layer in packed],
+        }
+        listed = _put(folder, _MANIFEST_TYPE, manifest) | {"platform": platform_of(configuration)}
+        if options.tag is not None:
+            listed["annotations"] = {_REF_NAME: options.tag}
+        index = {"schemaVersion": 2, "mediaType": _INDEX_TYPE, "manifests": [listed]}
+        _write_bytes(f"{folder}/index.json", _json(index))
+        _write_bytes(f"{folder}/oci-layout", _json(_LAYOUT))
+
+
+def _write_layer(folder: str, entries: list[Entry], options: PackOptions) -> _Packed:
+    """Writes a layer's archive under a name that waits for its digest."""
+    path = f"{folder}/{_BLOBS}/layer"
+    unpacked = hashlib.sha256()
+    with open(path, "x+b", buffering=PIECE) as file:
+        with packing(options.compress, file) as write:
+
+            def take(piece: bytes) -> None:
+                unpacked.update(piece)
+                write(piece)
+
+            _write_archive(entries, options.blobs, take)
+        if options.compress == NONE:
+            digest, size = unpacked.hexdigest(), file.tell()
+        else:
+            digest, size = digest_and_size(file.fileno())
+    os.rename(path, f"{folder}/{_BLOBS}/{digest}")
+    return _Packed(digest, size, unpacked.hexdigest())
+
+
+def _write_archive(entries: list[Entry], blobs: str, write: Callable[[bytes], object]) -> None:
     """The archive of a layer. A directory's `.wh..wh..opq` comes right after it."""
     archive = TarWriter(write)
-    progress = Progress(doing, len(layer.entries))
-    for entry in layer.entries:
-        header = _header(entry)
-        archive.entry(header)
+    progress = Progress("packing entries", len(entries))
+    for entry in entries:
+        archive.entry(_header(entry))
         if entry.names_contents():
-            _write_contents(archive, entry, blobs)
+            for piece in _contents(entry, blobs):
+                archive.data(piece)
+            archive.end_data(entry.size)
         if is_opaque(entry):
             name = f"{entry.path[1:]}/{OPAQUE_NAME}".encode()
             archive.entry(Header(name, b"0", 0, entry.uid, entry.gid, 0, entry.mtime, b"", 0, 0))
@@ -168,89 +219,54 @@ def _header(entry: Entry) -> Header:
     )
 
 
-def _write_contents(archive: TarWriter, entry: Entry, blobs: str) -> None:
-    digest = hashlib.sha256()
+def _contents(entry: Entry, blobs: str) -> Iterator[bytes]:
+    """A file's contents, which are those of its digest."""
+    digest, left, path = hashlib.sha256(), entry.size, blob_path(blobs, str(entry.blob))
     with opened_blob(blobs, str(entry.blob), entry.size) as file:
-        left = entry.size
         while left:
-            piece = os.read(file, min(PIECE, left))
+            with reading(path):
+                piece = os.read(file, min(PIECE, left))
             if not piece:
                 break
             digest.update(piece)
-            archive.data(piece)
+            yield piece
             left -= len(piece)
     if left or digest.hexdigest() != entry.blob:
-        raise cannot_read(blob_path(blobs, str(entry.blob)), "its contents have another digest")
-    archive.end_data(entry.size)
+        raise cannot_read(path, "its contents have another digest")
 
 
 def _json(value: Any) -> bytes:
-    return json.dumps(value, ensure_ascii=False, separators=(",", ":"), sort_keys=True).encode()
+    return json.dumps(value, separators=(",", ":"), sort_keys=True).encode()
 
 
-def _descriptor(kind: str, data: bytes) -> dict[str, Any]:
-    return {"mediaType": kind, "digest": f"sha256:{hashlib.sha256(data).hexdigest()}", "size": len(data)}
+def _descriptor(kind: str, digest: str, size: int) -> dict[str, Any]:
+    return {"mediaType": kind, "digest": f"sha256:{digest}", "size": size}
 
 
-def _parts(layers: list[_Layer], options: PackOptions) -> list[_Part]:
-    """The files of the layout, by name; nothing in them depends on when or where they are made."""
-    system, _, machine = options.platform.partition("/")
-    architecture, _, variant = machine.partition("/")
-    config = _json({
-        "architecture": architecture, "os": system, "config": {},
-        **({"variant": variant} if variant else {}),
-        "rootfs": {"type": "layers", "diff_ids": [f"sha256:{layer.digest}" for layer in layers]},
-    })
-    manifest = _json({
-        "schemaVersion": 2, "mediaType": _MANIFEST_TYPE, "config": _descriptor(_CONFIG_TYPE, config),
-        "layers": [
-            {"mediaType": _LAYER_TYPE, "digest": f"sha256:{layer.digest}", "size": layer.size}
-            for layer in layers
-        ],
-    })
-    listed = _descriptor(_MANIFEST_TYPE, manifest) | {
-        "platform": {"architecture": architecture, "os": system, **({"variant": variant} if variant else {})}
-    }
-    if options.tag is not None:
-        listed["annotations"] = {_REF_NAME: options.tag}
-    index = _json({"schemaVersion": 2, "mediaType": _INDEX_TYPE, "manifests": [listed]})
-    parts = {part.name: part for part in (_archive_part(layer, options.blobs) for layer in layers)}
-    for data in (config, manifest):
-        name = f"blobs/sha256/{hashlib.sha256(data).hexdigest()}"
-        parts[name] = _bytes_part(name, data)
-    parts["index.json"] = _bytes_part("index.json", index)
-    parts["oci-layout"] = _bytes_part("oci-layout", _json(_LAYOUT))
-    return [parts[name] for name in sorted(parts)]
+def _put(folder: str, kind: str, document: Any) -> dict[str, Any]:
+    """Writes a document as a blob of the layout; gives its descriptor."""
+    data = _json(document)
+    digest = hashlib.sha256(data).hexdigest()
+    _write_bytes(f"{folder}/{_BLOBS}/{digest}", data)
+    return _descriptor(kind, digest, len(data))
 
 
-def _bytes_part(name: str, data: bytes) -> _Part:
-    def write(put: Callable[[bytes], object]) -> None:
-        put(data)
-
-    return _Part(name, len(data), write)
+def _write_bytes(path: str, data: bytes) -> None:
+    with open(path, "wb") as file:
+        file.write(data)
 
 
-def _archive_part(layer: _Layer, blobs: str) -> _Part:
-    def write(put: Callable[[bytes], object]) -> None:
-        _write_archive(layer, blobs, put, "writing layer")
-
-    return _Part(f"blobs/sha256/{layer.digest}", layer.size, write)
-
-
-def _write_image_folder(stage: str, parts: list[_Part]) -> None:
-    os.makedirs(f"{stage}/blobs/sha256")
-    for part in parts:
-        with writing(f"{stage}/{part.name}"), open(f"{stage}/{part.name}", "xb", buffering=PIECE) as file:
-            part.write(file.write)
-
-
-def _write_image_archive(path: str, parts: list[_Part]) -> None:
-    with open(path, "xb", buffering=PIECE) as file:
-        archive = TarWriter(file.write)
-        for name in (b"blobs/", b"blobs/sha256/"):
-            archive.entry(Header(name, tar.DIRECTORY, 0o755, 0, 0, 0, 0, b"", 0, 0))
-        for part in parts:
-            archive.entry(Header(part.name.encode(), b"0", 0o644, 0, 0, part.size, 0, b"", 0, 0))
-            part.write(archive.data)
-            archive.end_data(part.size)
-        archive.end()
+def _write_image_archive(folder: str, write: Callable[[bytes], object]) -> None:
+    """The layout in a folder as one archive, in the order of its names."""
+    archive = TarWriter(write)
+    for name in ("blobs/", f"{_BLOBS}/"):
+        archive.entry(Header(name.encode(), tar.DIRECTORY, 0o755, 0, 0, 0, 0, b"", 0, 0))
+    blobs = [f"{_BLOBS}/{name}" for name in sorted(os.listdir(f"{folder}/{_BLOBS}"))]
+    for name in [*blobs, "index.json", "oci-layout"]:
+        with open(f"{folder}/{name}", "rb", buffering=0) as file:
+            size = os.fstat(file.fileno()).st_size
+            archive.entry(Header(name.encode(), b"0", 0o644, 0, 0, size, 0, b"", 0, 0))
+            while piece := file.read(PIECE):
+                archive.data(piece)
+            archive.end_data(size)
+    archive.end()

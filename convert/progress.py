@@ -12,7 +12,7 @@ class Progress:
     """A line that counts, rewritten in place; silent where standard error is no terminal."""
 
     def __init__(self, doing: str, total: int | None = None) -> None:
-        self._doing = doing
+        self._doing = printable(doing)
         self._total = "" if total is None else f" of {total:,}"
         self._count = 0
         self._is_shown = sys.stderr.isatty()
@@ -36,13 +36,13 @@ class Progress:
 
 
 def note(text: str) -> None:
-    """Tells something that doesn't end the command."""
-    print(f"layers: {text}", file=sys.stderr)
+    """Tells something that doesn't end the command, in one line whatever names are in it."""
+    print(f"layers: {printable(text)}", file=sys.stderr)
 
 
 def note_path(path: str, text: str) -> None:
     """Tells something about a path that doesn't end the command."""
-    note(f"{printable(path)}: {text}")
+    note(f"{path}: {text}")
 
 
 def counted(count: int, one: str, many: str) -> str:

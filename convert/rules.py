@@ -1,6 +1,7 @@
 """The limits of a manifest, and what can't be stated in one."""
 
 import re
+from collections.abc import Iterable
 
 from .entries import ESCAPED
 
@@ -17,6 +18,9 @@ MAX_SIZE = 2**63 - 1
 MIN_TIME = -(2**63)
 MAX_TIME = 2**63 - 1
 MAX_MANIFEST_BYTES = 268_435_456
+MAX_IMAGE_ENTRIES = 4 * MAX_ENTRIES  # of all layers of an image, which are held to know what each one covers
+MAX_IMAGE_TEXT = 2 * MAX_MANIFEST_BYTES  # bytes that their names, targets and attributes take
+MAX_ATTRIBUTE_NAMES = 65_536  # bytes of the names of an entry's attributes; Linux has no more
 
 DIGEST = re.compile(r"[0-9a-f]{64}\Z")
 
@@ -58,6 +62,13 @@ def attribute_problem(name: str) -> str | None:
         return f"the name of an attribute isn't 1 to {MAX_ATTRIBUTE_NAME_BYTES} bytes without NUL"
     if name.startswith(ESCAPED):
         return f"it has the attribute {name}, of an overlay inside another"
+    return None
+
+
+def attributes_problem(names: Iterable[str]) -> str | None:
+    """Why attributes of these names can't be stated together, where each of them can."""
+    if sum(len(name) + 1 for name in names) > MAX_ATTRIBUTE_NAMES:
+        return f"the names of its attributes have over {MAX_ATTRIBUTE_NAMES} bytes"
     return None
 
 

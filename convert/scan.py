@@ -7,7 +7,7 @@ from dataclasses import dataclass
 
 from . import rules
 from .attributes import Unstated, marks_from_user, read_attributes, require_trusted
-from .blobs import BlobStore, BlobWriter
+from .blobs import Writer, writers
 from .entries import BLOCK, CHAR, DIRECTORY, FILE, NO_ATTRIBUTES, SYMLINK, Entry, is_whiteout
 from .faults import cannot_read, reading, reason_of
 from .manifests import write_manifest
@@ -21,11 +21,11 @@ _READ = os.O_RDONLY | os.O_NOFOLLOW | os.O_NONBLOCK | os.O_CLOEXEC
 
 @dataclass(frozen=True)
 class ScanOptions:
-    """What the words of `scan` say."""
+    """What the words of `scan` say. Without a folder of blobs contents are digested and not copied."""
 
     folder: str
     out: str
-    blobs: str
+    blobs: str | None
     userxattr: bool = False
     cross_file_systems: bool = False
     skip_unsupported: bool = False
@@ -54,10 +54,16 @@ class Losses:
 
 
 def scan(options: ScanOptions) -> None:
-    """Writes the manifest of a folder, and the contents of its files."""
+    """Writes the manifest of a folder, and the contents of its files. Tells what is lost."""
+    losses = Losses()
+    scan_folder(options, losses)
+    losses.tell()
+
+
+def scan_folder(options: ScanOptions, losses: Losses) -> None:
+    """The same, with what is lost counted."""
     if not options.userxattr:
         require_trusted(options.folder)
-    losses = Losses()
     with reading(options.folder):
         root = open_root(options.folder)
     try:
@@ -66,7 +72,6 @@ def scan(options: ScanOptions) -> None:
     finally:
         os.close(root)
     write_manifest(options.out, entries)
-    losses.tell()
 
 
 class Survey:
@@ -165,10 +170,10 @@ def _store_contents(options: ScanOptions, root: int, entries: list[Entry]) -> No
     files = [entry for entry in entries if entry.size and entry.names_contents()]
     progress = Progress("reading files", len(files))
 
-    with BlobStore(options.blobs) as store:
+    with writers(options.blobs) as new_writer:
 
         def job(share: Sequence[Entry]) -> Iterator[str]:
-            chain, writer = Chain(root), store.writer()
+            chain, writer = Chain(root), new_writer()
             try:
                 for entry in share:
                     yield _stored(options.folder, chain, writer, entry)
@@ -182,7 +187,7 @@ def _store_contents(options: ScanOptions, root: int, entries: list[Entry]) -> No
             progress.end()
 
 
-def _stored(folder: str, chain: Chain, writer: BlobWriter, entry: Entry) -> str:
+def _stored(folder: str, chain: Chain, writer: Writer, entry: Entry) -> str:
     path = folder + entry.path
     *names, name = entry.path[1:].split("/")
     file = -1

@@ -4,8 +4,10 @@ import contextlib
 import hashlib
 import io
 import os
+import re
 import shutil
 import subprocess
+import tempfile
 import threading
 import zlib
 from collections.abc import Iterator
@@ -21,6 +23,8 @@ _GZIP_PIECE = 1 << 14
 _ZSTD = b"\x28\xb5\x2f\xfd"
 _OTHERS = {b"BZh": "bzip2", b"\xfd7zXZ\0": "xz"}
 _PEEK = 6
+_ZSTD_INPUT = re.compile(r"(zstd: )?/\*stdin\*\\ ?: ")  # what zstd puts before what it says
+_MOST_TOLD = 1_000
 
 
 class Source(Protocol):
@@ -35,8 +39,13 @@ class Slice(io.RawIOBase):
     def __init__(self, file: int, begin: int, size: int) -> None:
         super().__init__()
         self._file = file
+        self._begin = begin
         self.place = begin
         self._end = begin + size
+
+    def again(self) -> "Slice":
+        """The same part, from its front."""
+        return Slice(self._file, self._begin, self._end - self._begin)
 
     def readable(self) -> bool:
         """It is."""
@@ -149,24 +158,38 @@ def _by_zstd(packed: io.BufferedReader, name: str) -> Iterator[Source]:
     if program is None:
         raise cannot_read(name, "it is packed by zstd, and there is no zstd program; install zstd")
     command = [program, "--decompress", "--stdout", "--quiet"]
-    process = subprocess.Popen(
-        command, stdin=subprocess.PIPE, stdout=subprocess.PIPE, stderr=subprocess.DEVNULL
-    )
-    assert process.stdin is not None and process.stdout is not None
-    feeder = threading.Thread(target=_feed, args=(packed, process.stdin), daemon=True)
-    feeder.start()
-    is_read = False
-    try:
-        yield process.stdout
-        is_read = True
-    finally:
-        process.stdout.close()
-        if not is_read:
-            process.kill()
-        status = process.wait()
-        feeder.join()
-    if status != 0:
-        raise cannot_read(name, "its zstd stream is broken")
+    with tempfile.TemporaryFile() as told:
+        process = subprocess.Popen(command, stdin=subprocess.PIPE, stdout=subprocess.PIPE, stderr=told)
+        assert process.stdin is not None and process.stdout is not None
+        feeder = threading.Thread(target=_feed, args=(packed, process.stdin), daemon=True)
+        feeder.start()
+        try:
+            yield process.stdout
+        except BaseException as error:
+            # An archive that seems to be cut short may be one of which zstd could unpack no more.
+            if not (isinstance(error, TarFault) and _has_failed(process)):
+                process.kill()
+                raise
+        finally:
+            process.stdout.close()
+            status = process.wait()
+            feeder.join()
+        if status != 0:
+            raise cannot_read(name, f"its zstd stream is broken: {_zstd_reason(told, status)}")
+
+
+def _has_failed(process: "subprocess.Popen[bytes]") -> bool:
+    """Whether it has written all that it could and then ended with a fault."""
+    assert process.stdout is not None
+    return not process.stdout.read(1) and process.wait() != 0
+
+
+def _zstd_reason(told: IO[bytes], status: int) -> str:
+    """What zstd said, in one line, or its status where it said nothing."""
+    told.seek(0)
+    lines = told.read(_MOST_TOLD).decode("utf-8", "surrogateescape").splitlines()
+    reasons = [_ZSTD_INPUT.sub("", line).strip() for line in lines]
+    return "; ".join(reasons) or f"zstd ended with status {status}"
 
 
 def _feed(packed: io.BufferedReader, program: IO[bytes]) -> None:

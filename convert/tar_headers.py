@@ -16,8 +16,13 @@ GNU_LONG_NAME = b"L"
 GNU_LONG_TARGET = b"K"
 
 XATTR_RECORD = b"SCHILY.xattr."
+_ACL_RECORD = b"SCHILY.acl."
 _SPARSE_RECORD = b"GNU.sparse."
-_MAX_RECORDS = 1 << 20  # bytes of PAX records or of a long name; real ones have a few thousand
+_SPARSE_PLACES = (b"GNU.sparse.offset", b"GNU.sparse.numbytes")
+_FIELD_RECORDS = (b"path", b"linkpath", b"size", b"uid", b"gid", b"mtime")
+SPARSE_MAP = b"GNU.sparse.map"
+GNU_SPARSE = b"S"
+_SIGNED = 256
 
 
 class TarFault(Exception):
@@ -40,15 +45,16 @@ class Header:
     minor: int
     attributes: dict[bytes, bytes] = field(default_factory=dict)
     cut_time: bool = False
-    is_sparse: bool = False
+    has_acl: bool = False
+    sparse: dict[bytes, bytes] = field(default_factory=dict)
 
 
 def parse_header(block: bytes) -> Header | None:
     """The header in a block of 512 bytes; nothing for a block of zeros."""
     if not any(block):
         return None
-    stated = _number(block[148:156])
-    if stated != 256 + sum(block[:148]) + sum(block[156:]):
+    total = 256 + sum(block[:148]) + sum(block[156:])
+    if number(block[148:156]) not in (total, total - _SIGNED * _high_bytes(block)):
         raise TarFault("a header has a wrong checksum")
     kind = block[156:157]
     name = _text(block[0:100])
@@ -56,19 +62,24 @@ def parse_header(block: bytes) -> Header | None:
         name = _text(block[345:500]) + b"/" + name
     is_old = block[257:262] != b"ustar"
     return Header(
-        name=name, type=kind, mode=_number(block[100:108]) & 0o7777, uid=_number(block[108:116]),
-        gid=_number(block[116:124]), size=_number(block[124:136]), mtime=_number(block[136:148]),
-        target=_text(block[157:257]), major=0 if is_old else _number(block[329:337]),
-        minor=0 if is_old else _number(block[337:345]), is_sparse=kind == b"S",
+        name=name, type=kind, mode=number(block[100:108]) & 0o7777, uid=number(block[108:116]),
+        gid=number(block[116:124]), size=number(block[124:136]), mtime=number(block[136:148]),
+        target=_text(block[157:257]), major=0 if is_old else number(block[329:337]),
+        minor=0 if is_old else number(block[337:345]),
     )
+
+
+def _high_bytes(block: bytes) -> int:
+    """How many bytes some old programs took as negative numbers in the checksum."""
+    return sum(byte >= 128 for byte in block[:148] + block[156:])
 
 
 def _text(data: bytes) -> bytes:
     return data.split(b"\0", 1)[0]
 
 
-def _number(data: bytes) -> int:
-    """Octal digits, or GNU's two's complement in base 256 where the first bit is set."""
+def number(data: bytes) -> int:
+    """A number of a header: octal digits, or GNU's two's complement in base 256 where the first bit is set."""
     if data[0] & 0x80:
         negative = data[0] & 0x40
         value = int.from_bytes(bytes([data[0] & 0x7F]) + data[1:], "big")
@@ -79,15 +90,14 @@ def _number(data: bytes) -> int:
     return int(digits, 8) if digits else 0
 
 
-def check_records_size(size: int) -> None:
-    """Refuses records that no honest archive has, before they are read."""
-    if not 0 <= size <= _MAX_RECORDS:
-        raise TarFault(f"a header of {size} bytes")
-
-
 def parse_records(data: bytes) -> dict[bytes, bytes]:
-    """PAX records: each its length, a space, `KEY=VALUE` and a newline. Later ones count."""
+    """PAX records: each its length, a space, `KEY=VALUE` and a newline. Later ones count.
+
+    Those that say nothing of an entry here are passed over. The places of a sparse file's data, which
+    come one by one in the oldest of its forms, are put together as in the next one.
+    """
     records: dict[bytes, bytes] = {}
+    places: list[bytes] = []
     place = 0
     while place < len(data):
         space = data.find(b" ", place, place + 20)
@@ -95,37 +105,50 @@ def parse_records(data: bytes) -> dict[bytes, bytes]:
         if not digits.isdigit():
             raise TarFault("a PAX record without its length")
         end = place + int(digits)
-        record = data[space + 1:end - 1]
-        if end > len(data) or end <= space + 1 or data[end - 1:end] != b"\n" or b"=" not in record:
+        equals = data.find(b"=", space, end)
+        if end > len(data) or end <= space + 1 or data[end - 1:end] != b"\n" or equals < 0:
             raise TarFault("a PAX record of a wrong length")
-        key, value = record.split(b"=", 1)
-        records[key] = value
+        key = data[space + 1:equals]
+        if key in _SPARSE_PLACES:
+            places.append(data[equals + 1:end - 1])
+        elif key in _FIELD_RECORDS or key.startswith((XATTR_RECORD, _ACL_RECORD, _SPARSE_RECORD)):
+            records[key] = data[equals + 1:end - 1]
         place = end
+    if places:
+        records[SPARSE_MAP] = b",".join(places)
     return records
 
 
 def apply_records(header: Header, records: dict[bytes, bytes]) -> None:
-    """What PAX records say in place of a header's fields."""
+    """What PAX records say in place of a header's fields. An empty value is as if it weren't there.
+
+    Attributes may have no bytes, so of them an empty value is one.
+    """
     for key, value in records.items():
-        if key == b"path":
+        if key.startswith(XATTR_RECORD):
+            header.attributes[key[len(XATTR_RECORD):]] = value
+        elif not value:
+            continue
+        elif key == b"path":
             header.name = value
         elif key == b"linkpath":
             header.target = value
         elif key == b"size":
-            header.size = _decimal(value)
+            header.size = decimal(value)
         elif key == b"uid":
-            header.uid = _decimal(value)
+            header.uid = decimal(value)
         elif key == b"gid":
-            header.gid = _decimal(value)
+            header.gid = decimal(value)
         elif key == b"mtime":
             header.mtime, header.cut_time = _seconds(value)
-        elif key.startswith(XATTR_RECORD):
-            header.attributes[key[len(XATTR_RECORD):]] = value
         elif key.startswith(_SPARSE_RECORD):
-            header.is_sparse = True
+            header.sparse[key] = value
+        elif key.startswith(_ACL_RECORD):
+            header.has_acl = True
 
 
-def _decimal(value: bytes) -> int:
+def decimal(value: bytes) -> int:
+    """A number of a PAX record."""
     digits = value[1:] if value[:1] == b"-" else value
     if not digits.isdigit() or len(digits) > 30:
         raise TarFault("a number in a PAX record isn't decimal")
@@ -138,7 +161,7 @@ def _seconds(value: bytes) -> tuple[int, bool]:
     if below.strip(b"0123456789"):
         raise TarFault("a time in a PAX record isn't decimal")
     is_cut = bool(below.strip(b"0"))
-    seconds = _decimal(whole if whole not in (b"", b"-") else whole + b"0")
+    seconds = decimal(whole if whole not in (b"", b"-") else whole + b"0")
     return seconds - (is_cut and whole.startswith(b"-")), is_cut
 
 

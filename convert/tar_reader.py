@@ -4,13 +4,20 @@ from collections.abc import Iterator
 from typing import Protocol, runtime_checkable
 
 from .contents import PIECE
+from .sparse import Places, old_places, record_places
 from .streams import Source
 from .tar_headers import (
-    BLOCK_BYTES, GNU_LONG_NAME, GNU_LONG_TARGET, PAX, PAX_GLOBAL, Header, TarFault,
-    apply_records, check_records_size, parse_header, parse_records,
+    BLOCK_BYTES, GNU_LONG_NAME, GNU_LONG_TARGET, GNU_SPARSE, PAX, PAX_GLOBAL, REGULAR_TYPES, Header, TarFault,
+    apply_records, parse_header, parse_records,
 )
 
+MAX_RECORDS = 1 << 20  # bytes of the PAX records and long names of an entry; real ones have a few thousand
+MAX_GLOBAL_RECORDS = 1 << 16  # bytes of the records for all entries
+MAX_ALL_RECORDS = 1 << 29  # bytes of an archive's records and long names; no manifest has place for more
+MAX_HEADERS = 1 << 23  # of an archive; a manifest has place for an eighth as many entries
+MAX_HOLES = 1 << 34  # bytes of an archive's holes, which have to be digested
 _WITHOUT_DATA = b"123456"  # links, devices, directories and fifos, whatever size they state
+_ZEROS = bytes(PIECE)
 
 
 @runtime_checkable
@@ -25,74 +32,128 @@ class TarReader:
 
     def __init__(self, source: Source) -> None:
         self._source = source
+        self._skipping = isinstance(source, Skipping)
         self._left = 0
         self._padding = 0
+        self._places: Places | None = None
+        self._size = 0
         self._globals: dict[bytes, bytes] = {}
+        self._record_bytes = 0
+        self._all_record_bytes = 0
+        self._headers = 0
+        self._holes = 0
 
     def __iter__(self) -> Iterator[Header]:
-        is_first = True
-        while (header := self._next(is_first)) is not None:
-            is_first = False
+        while (header := self._next()) is not None:
             yield header
         self._drain()
 
     def data(self) -> Iterator[bytes]:
-        """The data of the entry that was given last."""
-        while self._left:
-            piece = self._exactly(min(PIECE, self._left))
+        """The data of the entry that was given last, its holes as zeros."""
+        if self._places is None:
+            yield from self._stored(self._left)
+            return
+        at = 0
+        for begin, length in [*self._places, (self._size, 0)]:
+            for start in range(at, begin, PIECE):
+                yield _ZEROS[:begin - start]
+            yield from self._stored(length)
+            at = begin + length
+        self._places = None
+
+    def is_sparse(self) -> bool:
+        """Whether the entry that was given last has holes."""
+        return self._places is not None
+
+    def _stored(self, count: int) -> Iterator[bytes]:
+        while count:
+            piece = self._exactly(min(PIECE, count))
             self._left -= len(piece)
+            count -= len(piece)
             yield piece
 
-    def _next(self, is_first: bool) -> Header | None:
+    def _next(self) -> Header | None:
         records: dict[bytes, bytes] = {}
         name = target = None
+        self._record_bytes = 0
         while True:
-            self._skip()
+            if not self._skip():
+                return None
             block = self._source.read(BLOCK_BYTES)
-            if not block and not is_first:
+            if not block:
                 return None
             header = parse_header(self._whole(block, BLOCK_BYTES))
             if header is None:
                 return None
+            self._headers += 1
+            if self._headers > MAX_HEADERS:
+                raise TarFault(f"over {MAX_HEADERS:,} headers")
             if header.type == PAX:
                 records = parse_records(self._record_data(header.size))
             elif header.type == PAX_GLOBAL:
-                self._globals |= parse_records(self._record_data(header.size))
+                self._take_globals(parse_records(self._record_data(header.size)))
             elif header.type == GNU_LONG_NAME:
                 name = self._record_data(header.size).rstrip(b"\0")
             elif header.type == GNU_LONG_TARGET:
                 target = self._record_data(header.size).rstrip(b"\0")
             else:
                 break
-            is_first = False
         header.name = header.name if name is None else name
         header.target = header.target if target is None else target
-        apply_records(header, self._globals | records)
-        self._begin(header)
+        if self._globals or records:
+            apply_records(header, self._globals | records)
+        self._begin(header, block)
         return header
 
-    def _begin(self, header: Header) -> None:
+    def _take_globals(self, records: dict[bytes, bytes]) -> None:
+        self._globals |= records
+        if sum(len(key) + len(value) for key, value in self._globals.items()) > MAX_GLOBAL_RECORDS:
+            raise TarFault(f"PAX records for all entries of over {MAX_GLOBAL_RECORDS:,} bytes")
+
+    def _begin(self, header: Header, block: bytes) -> None:
         if header.size < 0:
             raise TarFault("an entry of a negative size")
         if header.type in _WITHOUT_DATA:
             header.size = 0
         self._left = header.size
         self._padding = -header.size % BLOCK_BYTES
+        self._places = None
+        if header.type == GNU_SPARSE:
+            header.size, self._places = old_places(block, header, self._exactly)
+            header.type = REGULAR_TYPES[-1:]
+        elif header.sparse and header.type in REGULAR_TYPES:
+            header.size, used, self._places = record_places(header, self._exactly)
+            self._left -= used
+        if self._places is not None:
+            self._size = header.size
+            self._holes += header.size - self._left
+            if self._holes > MAX_HOLES:
+                raise TarFault(f"its sparse files have over {MAX_HOLES:,} bytes of holes")
 
     def _record_data(self, size: int) -> bytes:
-        check_records_size(size)
+        """Records or a long name; refuses what no honest archive has, before it is read."""
+        self._record_bytes += size
+        self._all_record_bytes += size
+        if size < 0 or self._record_bytes > MAX_RECORDS:
+            raise TarFault(f"a header of {size} bytes" if size > MAX_RECORDS else "an entry with too long headers")
+        if self._all_record_bytes > MAX_ALL_RECORDS:
+            raise TarFault(f"PAX records and long names of over {MAX_ALL_RECORDS:,} bytes")
         data = self._exactly(size)
         self._exactly(-size % BLOCK_BYTES)
         return data
 
-    def _skip(self) -> None:
-        if isinstance(self._source, Skipping):
-            self._source.skip(self._left)
-            self._left = 0
-        for _ in self.data():
-            pass
-        self._exactly(self._padding)
+    def _skip(self) -> bool:
+        """Goes to the next header. The last one's data may end without what fills their block."""
+        if self._skipping:
+            self._source.skip(self._left)  # type: ignore[attr-defined]
+        else:
+            for _ in self._stored(self._left):
+                pass
+        self._left = 0
+        self._places = None
+        missing = self._padding - len(self._source.read(self._padding)) if self._padding else 0
         self._padding = 0
+        return not missing
 
     def _drain(self) -> None:
         """Reads what stands after the end, as its digest is of all bytes."""

@@ -1,7 +1,7 @@
 #!/usr/bin/env bash
 # Compares PROGRAM's report of each layer here with the `.show` file beside it, its reports of the stacks here, by
-# several numbers of workers, with what is expected of them, and its help and version with `help.txt` and `version.txt`,
-# byte for byte. Without PROGRAM it is the launcher's.
+# several numbers of workers, with what is expected of them, and its help, its version and what it says of unknown words
+# with `help.txt`, `version.txt` and the texts in `help`, byte for byte. Without PROGRAM it is the launcher's.
 set -uo pipefail
 
 here=$(dirname -- "$(readlink -f -- "${BASH_SOURCE[0]}")")
@@ -33,6 +33,18 @@ done
 for word in help version; do
     "$program" "--$word" < /dev/null > "$report" || other=$((other + 1))
     compare "$word.txt"
+done
+for text in "$here"/help/*.txt; do
+    name=$(basename -- "$text" .txt)
+    case $name in
+        unknown-word) "$program" unknown < /dev/null 2> "$report" ;;
+        unknown-option) "$program" --unknown < /dev/null 2> "$report" ;;
+        *) "$program" "$name" --help < /dev/null > "$report" ;;
+    esac
+    status=$?
+    [[ $name == unknown-* ]] && wanted=2 || wanted=0
+    ((status == wanted)) || other=$((other + 1))
+    compare "help/$name.txt"
 done
 echo "$same same, $other other"
 stacks=("$here"/{moved,faulty,copied,renamed,composed})

@@ -9,7 +9,7 @@ from dataclasses import dataclass, field
 from support import ROOT  # noqa: F401  (sets the path of the modules)
 
 from convert import rules
-from convert.entries import BLOCK, CHAR, DIRECTORY, FIFO, FILE, SOCKET, SYMLINK, Entry
+from convert.entries import BLOCK, CHAR, DIRECTORY, FIFO, FILE, HOST_MARKS, SOCKET, SYMLINK, Entry
 from convert.manifests import written
 
 _NAMES = (
@@ -131,6 +131,8 @@ class Generator:
                 choices += [("trusted.k", b"\xff\0"), ("security.k", b"s"), *_MARKS]
             elif holds_user:
                 choices += _MARKS
+            if self._style.is_image:
+                choices = [choice for choice in choices if choice[0] not in HOST_MARKS]
             for name, value in self._random.sample(choices, min(len(choices), 2)):
                 attributes[name] = value
         if kind == DIRECTORY and not is_root and self._random.random() < 0.2:

@@ -24,9 +24,11 @@ def member(
     return info, data
 
 
-def folder(name: str, mode: int = 0o755) -> tuple[tarfile.TarInfo, bytes]:
+def folder(
+    name: str, mode: int = 0o755, pax: dict[str, str] | None = None
+) -> tuple[tarfile.TarInfo, bytes]:
     """A directory in a layer's archive."""
-    return member(name, kind=tarfile.DIRTYPE, mode=mode)
+    return member(name, kind=tarfile.DIRTYPE, mode=mode, pax=pax)
 
 
 def archive(members: Iterable[tuple[tarfile.TarInfo, bytes]]) -> bytes:
@@ -54,10 +56,13 @@ def _describe(path: str, kind: str, data: bytes) -> dict[str, object]:
     return {"mediaType": f"application/vnd.oci.image.{kind}", "digest": _put(path, data), "size": len(data)}
 
 
-def put_manifest(path: str, layers: list[bytes], unpacked: list[bytes] | None, platform: str) -> dict[str, object]:
+def put_manifest(
+    path: str, layers: list[bytes], unpacked: list[bytes] | None, platform: str,
+    config: dict[str, object] | None = None,
+) -> dict[str, object]:
     """Writes an image's manifest and blobs; gives its descriptor."""
     system, architecture = platform.split("/")
-    config: dict[str, object] = {"os": system, "architecture": architecture}
+    config = dict(config or {"os": system, "architecture": architecture})
     if unpacked is not None:
         config["rootfs"] = {"type": "layers", "diff_ids": [f"sha256:{_sha256(data)}" for data in unpacked]}
     manifest = {
@@ -83,10 +88,10 @@ def write_layout(path: str, layers: list[bytes], unpacked: list[bytes] | None = 
     put_index(path, [put_manifest(path, layers, unpacked, "linux/amd64")])
 
 
-def write_saved(path: str, layers: list[bytes]) -> None:
+def write_saved(path: str, layers: list[bytes], more: dict[str, object] | None = None) -> None:
     """What `docker save` wrote before it wrote OCI layouts: a folder for each layer, links for equal ones."""
     config = json.dumps({
-        "os": "linux", "architecture": "amd64",
+        **(more or {"os": "linux", "architecture": "amd64"}),
         "rootfs": {"type": "layers", "diff_ids": [f"sha256:{_sha256(data)}" for data in layers]},
     }).encode()
     names = [f"{number:064x}/layer.tar" for number in range(len(layers))]

@@ -3,13 +3,15 @@
     unshare --mount --propagation private python3 kernel_stacks.py KIND FOLDER SEED COUNT [PROGRAM..]
 
 Runs in a mount namespace of its own, so its mounts end with it. Each stack is made by mounting an
-overlay and working in it, layer on layer. Then the tree that the kernel shows must be the one that it
-shows of the folders built from the scanned manifests, and the one that PROGRAM shows of the manifests.
+overlay and working in it, layer on layer, in folders that lie as docker's overlay2 has them. Then the tree
+that the kernel shows must be the one that it shows of the folders built from the scanned manifests, and
+the one that PROGRAM shows of the manifests; and `store` must write the manifests that `scan` does.
 KIND is `plain`, or `data-only` for stacks over layers that have the contents of the others' files.
 """
 
 import contextlib
 import errno
+import filecmp
 import itertools
 import os
 import random
@@ -155,25 +157,56 @@ class Worker:
         os.setxattr(path, name, self._pick.randbytes(3), follow_symlinks=False)
 
 
+class Store:
+    """A folder of layers, each above those that were made before it, laid out by docker's overlay2."""
+
+    def __init__(self, home: str) -> None:
+        self._home = home
+        self._lowers: list[str] = []
+        os.makedirs(f"{home}/l")
+
+    def new_layer(self) -> str:
+        """Makes the folder of one more layer, with an empty `diff`."""
+        number = len(self._lowers)
+        layer, name = f"{self._home}/{number:064x}", f"SHORT{number:021}"
+        os.makedirs(f"{layer}/diff")
+        os.symlink(f"../{number:064x}/diff", f"{self._home}/l/{name}")
+        self._write(f"{layer}/link", name)
+        if self._lowers:
+            os.mkdir(f"{layer}/work")
+            self._write(f"{layer}/lower", ":".join(self._lowers))
+        self._lowers.insert(0, f"l/{name}")
+        return layer
+
+    def _write(self, path: str, text: str) -> None:
+        with open(path, "x", encoding="utf-8") as file:
+            file.write(text)
+
+
 class Stack:
     """A stack in a folder of its own."""
 
     def __init__(self, folder: str, seed: int) -> None:
         self._folder = folder
         self._pick = random.Random(seed)
+        self._store = Store(f"{folder}/overlay2")
+        self._top = ""
         self._layers: list[str] = []
         self._data_only: list[str] = []
 
     def make(self) -> None:
         """Makes two to four layers; the lowest is a plain folder."""
-        lowest = self._new("layer")
-        Worker(self._pick, lowest).work(30)
-        self._put_on_top(lowest)
+        Worker(self._pick, self._begin_layer()).work(30)
+        self._put_on_top(f"{self._top}/diff")
         for _ in range(self._pick.randrange(1, 4)):
-            upper, work, place = self._new("layer"), self._new("work"), self._new("mnt")
-            with mounted_overlay(place, [upper, *self._layers], self._data_only, _MAKING, work):
+            upper, place = self._begin_layer(), self._new("mnt")
+            with mounted_overlay(place, [upper, *self._layers], self._data_only, _MAKING, f"{self._top}/work"):
                 Worker(self._pick, place).work(20)
             self._put_on_top(upper)
+
+    def _begin_layer(self) -> str:
+        self._top = self._store.new_layer()
+        return f"{self._top}/diff"
 
     def _put_on_top(self, layer: str) -> None:
         self._layers.insert(0, layer)
@@ -187,6 +220,7 @@ class Stack:
         for layer, manifest, again in zip(layers, manifests, built):
             _done("scan", layer, "--out", manifest, "--blobs", f"{self._folder}/blobs")
             _done("build", manifest, "--blobs", f"{self._folder}/blobs", "--out", again)
+        strange = self._stored_otherwise(manifests[:len(self._layers)])
         others = [self._kernel(built)]
         if program:
             bottom = ["--data-layers", str(len(self._data_only))] if self._data_only else []
@@ -199,9 +233,18 @@ class Stack:
             faults = [line for line in checked.stdout.splitlines() if line.startswith("fault ")]
         else:
             faults = []
-        return faults + [
+        return strange + faults + [
             line for other in others for line in unified_diff(shown.splitlines(), other.splitlines(), lineterm="")
         ]
+
+    def _stored_otherwise(self, manifests: list[str]) -> list[str]:
+        """What `store` writes otherwise than `scan`; it knows of no data-only layers."""
+        stored = f"{self._folder}/stored"
+        _done("store", self._top, "--out", stored)
+        blobs = os.listdir(f"{stored if self._data_only else self._folder}/blobs")
+        names = [*map(os.path.basename, manifests), *(f"blobs/{name}" for name in blobs)]
+        _, other, unread = filecmp.cmpfiles(self._folder, stored, names, shallow=False)
+        return other + unread
 
     def _kernel(self, layers: list[str]) -> str:
         place, count = self._new("mnt"), len(self._layers)
@@ -256,7 +299,7 @@ class StackOverData(Stack):
 
     def _place_of(self, path: str, contents: bytes) -> str:
         """Where a data-only layer has these contents now: one before it has no file there, one after it maybe another."""
-        is_in_lowest_root = not self._layers and path.count("/") == self._folder.count("/") + 2
+        is_in_lowest_root = not self._layers and os.path.dirname(path) == f"{self._top}/diff"
         own = "/" + os.path.basename(path)
         place = own if is_in_lowest_root and self._pick.random() < 0.5 else next(self._places)
         first = self._pick.randrange(len(self._data_only))

@@ -20,6 +20,11 @@ from convert import command  # noqa: E402
 from convert.attributes import can_read_trusted  # noqa: E402
 
 
+def program_words() -> list[str]:
+    """How the program is run: where it is built, or as `LAYERS_TEST_PROGRAM` says; nothing where it can't be."""
+    return os.environ.get("LAYERS_TEST_PROGRAM", str(PROGRAM) if PROGRAM.exists() else "").split()
+
+
 def call(*words: object) -> tuple[int, str, str]:
     """Runs the command in this process: status, standard output, standard error."""
     printed, told = io.StringIO(), io.StringIO()
@@ -36,6 +41,24 @@ def run(*words: object, **more: object) -> "subprocess.CompletedProcess[str]":
     return subprocess.run(
         [sys.executable, "-B", str(COMMAND), *map(str, words)],
         capture_output=True, text=True, check=False, **more,  # type: ignore[call-overload]
+    )
+
+
+_AS_ANYBODY = """
+import os, sys
+sys.path.insert(0, sys.argv[1])
+from convert.command import main
+if os.geteuid() == 0:
+    os.setgid(65534)
+    os.setuid(65534)
+sys.exit(main(sys.argv[2:]))
+"""
+
+
+def run_as_anybody(*words: str) -> "subprocess.CompletedProcess[str]":
+    """Runs the command as a user without rights."""
+    return subprocess.run(
+        [sys.executable, "-B", "-c", _AS_ANYBODY, str(ROOT), *words], capture_output=True, text=True, check=False
     )
 
 

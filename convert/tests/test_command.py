@@ -1,10 +1,14 @@
 """The command line: statuses, fault lines, and what is refused before anything is written."""
 
+import ast
 import contextlib
 import errno
+import filecmp
 import hashlib
+import io
 import json
 import os
+import runpy
 import shutil
 import signal
 import socket
@@ -14,22 +18,14 @@ import time
 import unittest
 from unittest import mock
 
-from support import COMMAND, ROOT, FolderTest, call, run
+from support import COMMAND, FolderTest, call, run, run_as_anybody
 
 from convert import places
 from convert.entries import Entry
 from convert.manifests import read_manifest
 
-_AS_ANYBODY = """
-import os, sys
-sys.path.insert(0, sys.argv[1])
-from convert.command import main
-if os.geteuid() == 0:
-    os.setgid(65534)
-    os.setuid(65534)
-sys.exit(main(sys.argv[2:]))
-"""
 A = hashlib.sha256(b"a").hexdigest()
+COMMANDS = ("scan", "store", "build", "unpack", "pack", "flatten", "mounted")
 
 
 def _clone(target: int, _: int, source: int) -> None:
@@ -59,17 +55,29 @@ class Words(FolderTest):
         for words in (
             (), ("dance",), ("scan",), ("scan", "x"), ("build", "x", "--out", "y"), ("mounted",), ("--he",),
             ("scan", "x", "--out", "y", "--blobs", "z", "--workers", "0"), ("pack", "--blobs", "b", "--out", "o"),
-            ("pack", "l", "--blobs", "b", "--out", "o", "--platform", "linux"),
+            ("pack", "l", "--blobs", "b", "--out", "o", "--platform", "linux"), ("store", "x"),
+            ("scan", "x", "--out", "y", "--blobs", "z", "--digests-only"),
         ):
             status, printed, told = call(*words)
             self.assertEqual((status, printed), (2, ""), words)
             self.assertTrue(told.startswith("usage: layers"), told)
 
     def test_help(self) -> None:
-        for words in (("--help",), *((name, "-h") for name in ("scan", "build", "unpack", "pack", "mounted"))):
+        for words in (("--help",), *((name, "-h") for name in COMMANDS)):
             status, printed, told = call(*words)
             self.assertEqual((status, told), (0, ""))
             self.assertTrue(printed.startswith("usage: layers"))
+
+    def test_older_pythons(self) -> None:
+        with open(COMMAND, encoding="utf-8") as file:
+            text = file.read()
+        ast.parse(text, feature_version=(3, 4))
+        told = io.StringIO()
+        for version, wanted in (((2, 7, 18), "2.7"), ((3, 9, 2), "3.9"), ((3, 10, 0), "3.10")):
+            with mock.patch("sys.version_info", version), contextlib.redirect_stderr(told):
+                self.assertEqual(runpy.run_path(str(COMMAND))["run"](["--help"]), 5)
+            self.assertIn(f"layers: this is Python {wanted}, and 3.11 or later is needed\n", told.getvalue())
+        self.assertEqual(told.getvalue().count("\n"), 3)
 
     def test_as_a_program(self) -> None:
         result = run("mounted", self.path("absent"))
@@ -189,6 +197,8 @@ class Scanning(CommandTest):
             with mock.patch("convert.scan.Survey.entries") as entries:
                 entries.return_value = [Entry("/", "dir", 0), Entry("/f", "file", 0, size=size)]
                 self.require_fault(self.scan(), 3, "/in/f: it was changed meanwhile")
+                words = ("scan", self.path("in"), "--out", self.path("out.json"), "--digests-only", "--userxattr")
+                self.require_fault(call(*words), 3, "/in/f: it was changed meanwhile")
             self.require_nothing_left("in")
 
     def test_ways_of_copying(self) -> None:
@@ -261,10 +271,8 @@ class Scanning(CommandTest):
     def test_the_right_to_read_marks(self) -> None:
         os.mkdir(self.path("in"))
         os.chmod(self.folder, 0o755)
-        result = subprocess.run(
-            [sys.executable, "-B", "-c", _AS_ANYBODY, str(ROOT), "scan", self.path("in"), "--out",
-             self.path("out.json"), "--blobs", self.path("blobs")],
-            capture_output=True, text=True, check=False,
+        result = run_as_anybody(
+            "scan", self.path("in"), "--out", self.path("out.json"), "--blobs", self.path("blobs")
         )
         self.assertEqual(result.returncode, 3, result.stderr)
         self.assertIn("run it with sudo, or give --userxattr", result.stderr)
@@ -282,6 +290,20 @@ class Scanning(CommandTest):
                 manifests.append(file.read())
             self.assertEqual(len(os.listdir(self.path("blobs"))), 1_000)
         self.assertEqual(manifests[0], manifests[1])
+
+    def test_digests_only(self) -> None:
+        os.mkdir(self.path("in"))
+        for number in range(600):
+            with open(self.path("in", str(number)), "wb") as file:
+                file.write(bytes([number % 256]) * (number % 3 * 200_000))
+        self.require_done(self.scan())
+        os.rename(self.path("out.json"), self.path("with-blobs.json"))
+        shutil.rmtree(self.path("blobs"))
+        words = ("scan", self.path("in"), "--out", self.path("out.json"), "--digests-only", "--userxattr")
+        for workers in (1, 3):
+            self.require_done(call(*words, "--workers", workers))
+            self.assertTrue(filecmp.cmp(self.path("out.json"), self.path("with-blobs.json"), shallow=False))
+            self.require_nothing_left("in", "out.json", "with-blobs.json")
 
     def _stages(self) -> list[str]:
         return os.listdir(self.path("blobs")) if os.path.exists(self.path("blobs")) else []
@@ -340,7 +362,8 @@ class Packing(CommandTest):
         layer = self.write_manifest({"path": "/x", "xattrs": marks})
         words = ("--blobs", self.path("blobs"), "--out", self.path("image"), "--tag", "t")
         self.require_done(call("pack", layer, *words))
-        self.require_done(call("unpack", self.path("image"), "--out", self.path("out"), "--tag", "t"))
+        more = ("--tag", "t", "--overlay-marks")
+        self.require_done(call("unpack", self.path("image"), "--out", self.path("out"), *more))
         self.assertEqual(read_manifest(self.path("out", "l0.json")), read_manifest(layer))
 
 

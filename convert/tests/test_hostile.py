@@ -6,6 +6,7 @@ import io
 import json
 import os
 import resource
+import subprocess
 import sys
 import tarfile
 import unittest
@@ -15,26 +16,29 @@ from images import archive, folder, member, packed, put_index, put_manifest, wri
 from support import FolderTest, call, run
 
 GIGABYTE = 1 << 30
-BOMB_BYTES = 10 * GIGABYTE
+BOMB_BYTES = 2 * GIGABYTE
 MEMORY = 200 * 1024  # KB, that the whole process may have
+SECONDS = 20  # of processor time
 
 
 class HostileTest(FolderTest):
     """A test that images are refused."""
 
-    def require_refused(self, *parts: str) -> None:
+    def require_refused(self, *parts: str, words: tuple[str, ...] = ()) -> None:
         """The image is refused with these words, and nothing is left of the attempt."""
         before = sorted(os.listdir(self.folder))
-        result = call("unpack", self.path("image"), "--out", self.path("out"))
+        result = call("unpack", self.path("image"), "--out", self.path("out"), *words)
         self.require_fault(result, 3, *parts)
         self.assertEqual(len(result[2].splitlines()), 1)
         self.require_nothing_left(*before)
 
-    def refuse(self, *members: tuple[tarfile.TarInfo, bytes], because: str) -> None:
+    def refuse(
+        self, *members: tuple[tarfile.TarInfo, bytes], because: str, words: tuple[str, ...] = ()
+    ) -> None:
         """A layer of these entries is refused; without its last entry it is read."""
         write_layout(self.path("image"), [archive(members)])
-        self.require_refused(because)
-        result = call("unpack", self.path("image"), "--out", self.path("out"), "--skip-unsupported")
+        self.require_refused(because, words=words)
+        result = call("unpack", self.path("image"), "--out", self.path("out"), "--skip-unsupported", *words)
         self.require_done(result)
         self.assertIn("left out", result[2])
         skipped = self._manifest()
@@ -53,12 +57,13 @@ class Paths(HostileTest):
     """Paths never lead outside."""
 
     def test_ways_up(self) -> None:
-        for name in ("../x", "a/../../x", "a/..", "..", "/../x", "a/../x"):
-            self.refuse(member(name, b"a"), because="its name holds ..")
+        for name in ("../x", "a/../../x", "..", "/../x", "a/../.."):
+            self.refuse(member(name, b"a"), because="its name leads out of the layer by ..")
+        self.refuse(member("a/..", b"a"), because="the root is no directory")
 
     def test_links_on_the_way(self) -> None:
         link = member("l", kind=tarfile.SYMTYPE, target="/")
-        for name in ("l/etc/passwd", "l/x", "l/.wh.etc", "l/.wh..wh..opq"):
+        for name in ("l/etc/passwd", "l/x"):
             self.refuse(link, member(name, b"a"), because="its path leads through the symlink /l")
         self.refuse(link, folder("l/d"), because="its path leads through the symlink /l")
 
@@ -97,11 +102,7 @@ class Whiteouts(HostileTest):
     def test_whiteouts_of_nothing(self) -> None:
         for name in (".wh.", "d/.wh.", ".wh..", ".wh..."):
             self.refuse(member(name), because="a whiteout of nothing")
-        self.refuse(member(".wh..wh.plnk"), because="kept for the makers of layers")
         self.refuse(member(".wh.d/f", b"a"), because="leads through a whiteout")
-
-    def test_opaque_on_a_file(self) -> None:
-        self.refuse(member("f", b"a"), member("f/.wh..wh..opq"), because="through what is no directory, /f")
 
     def test_a_file_below_a_file(self) -> None:
         self.refuse(member("f", b"a"), member("f/g", b"a"), because="through what is no directory, /f")
@@ -112,11 +113,12 @@ class Values(HostileTest):
 
     def test_attributes(self) -> None:
         pax = {"SCHILY.xattr.trusted.overlay.overlay.opaque": "y"}
-        self.refuse(member("f", pax=pax), because="trusted.overlay.overlay.opaque")
+        self.refuse(member("f", pax=pax), because="trusted.overlay.overlay.opaque", words=("--overlay-marks",))
+        pax = {f"SCHILY.xattr.user.{number:0200}": "" for number in range(320)}
+        self.refuse(member("f", pax=pax), because="the names of its attributes have over 65536 bytes")
 
     def test_types(self) -> None:
         self.refuse(member("f", kind=b"V"), because="an entry of type")
-        self.refuse(member("f", kind=tarfile.GNUTYPE_SPARSE), because="a sparse file")
         self.refuse(member("l", kind=tarfile.SYMTYPE), because="its target isn't")
 
     def test_numbers(self) -> None:
@@ -148,7 +150,7 @@ class Broken(HostileTest):
 
     def test_bytes_that_are_no_archive(self) -> None:
         for data, because in (
-            (b"", "ends too early"), (b"x" * 512, "isn't octal"), (b"0" * 1024, "checksum"), (b"BZh9", "bzip2"),
+            (b"x" * 512, "isn't octal"), (b"0" * 1024, "checksum"), (b"BZh9", "bzip2"),
         ):
             write_layout(self.path("image"), [data])
             self.require_refused(because)
@@ -166,7 +168,7 @@ class Broken(HostileTest):
     def test_a_header_of_10_gigabytes(self) -> None:
         for kind in (b"x", b"g", b"L", b"K"):
             info, _ = member("x", kind=kind)
-            info.size = BOMB_BYTES
+            info.size = 10 * GIGABYTE
             write_layout(self.path("image"), [info.tobuf(tarfile.GNU_FORMAT) + bytes(1024)])
             self.require_refused("a header of 10737418240 bytes")
             self.empty()
@@ -216,11 +218,25 @@ class Broken(HostileTest):
 
 
 class Bomb(HostileTest):
-    """10 GB of zeros in 10 MB, by a process with little memory; they take no place on the disk."""
+    """What is small and unpacks to much, by a process with little memory and time."""
 
-    def test_ten_gigabytes_of_zeros(self) -> None:
+    def bounded(self, *words: object) -> "subprocess.CompletedProcess[str]":
+        """Unpacks the image within the bounds."""
+        return run("unpack", self.path("image"), "--out", self.path("out"), *words, preexec_fn=_limit)
+
+    def require_bounded(self, *parts: str) -> None:
+        """The image is refused with these words within the bounds, and nothing is left."""
+        result = self.bounded()
+        self.assertEqual(result.returncode, 3, result.stderr[-2_000:])
+        for part in parts:
+            self.assertIn(part, result.stderr)
+        self.assertEqual(len(result.stderr.splitlines()), 1, result.stderr[-2_000:])
+        self.require_nothing_left("image")
+
+    def test_gigabytes_of_zeros(self) -> None:
+        """They take no place on the disk."""
         write_layout(self.path("image"), [self._bomb()])
-        result = run("unpack", self.path("image"), "--out", self.path("out"), preexec_fn=_limit_memory)
+        result = self.bounded()
         self.assertEqual(result.returncode, 0, result.stderr)
         (blob,) = os.listdir(self.path("out", "blobs"))
         status = os.stat(self.path("out", "blobs", blob))
@@ -243,8 +259,9 @@ def _packed_zeros(count: int) -> bytes:
     return b"".join(packer.compress(bytes(1 << 20)) for _ in range(count >> 20)) + packer.flush()
 
 
-def _limit_memory() -> None:
+def _limit() -> None:
     resource.setrlimit(resource.RLIMIT_AS, (MEMORY * 1024, MEMORY * 1024))
+    resource.setrlimit(resource.RLIMIT_CPU, (SECONDS, SECONDS))
 
 
 if __name__ == "__main__":

@@ -3,6 +3,7 @@
 import hashlib
 import io
 import os
+import random
 import shutil
 import subprocess
 import tarfile
@@ -41,7 +42,7 @@ class ImageTest(FolderTest):
         """The layers of an image as short words, the topmost first."""
         result = call("unpack", self.path("image"), "--out", self.path("out"), *words)
         self.require_done(result)
-        names = sorted(name for name in os.listdir(self.path("out")) if name != "blobs")
+        names = sorted(name for name in os.listdir(self.path("out")) if name not in ("blobs", "config.json"))
         self.assertEqual(names, [f"l{number}.json" for number in range(len(names))])
         found = [list(map(short, read_manifest(self.path("out", name)))) for name in names]
         shutil.rmtree(self.path("out"))
@@ -75,12 +76,12 @@ class Entries(ImageTest):
         self.assertEqual(
             self.one(
                 member(".wh.gone"), folder("o"), member("o/.wh..wh..opq"), member("o/k", b"a"),
-                member("n/.wh..wh..opq"), member(".wh.again"), member("again/f", b"a"), member("file", b"a"),
+                member("n/.wh..wh..opq"), member("n/f"), member(".wh.again"), member("again/f", b"a"), member("file", b"a"),
                 member(".wh.file"),
             ),
             [
                 "dir 755 /", f"dir 755 /again {opaque}", f"file 644 /again/f {A[:4]}", f"file 644 /file {A[:4]}",
-                "char 0 /gone 0:0", f"dir 755 /n {opaque}", f"dir 755 /o {opaque}", f"file 644 /o/k {A[:4]}",
+                "char 0 /gone 0:0", f"dir 755 /n {opaque}", "file 644 /n/f", f"dir 755 /o {opaque}", f"file 644 /o/k {A[:4]}",
             ],
         )
 
@@ -168,9 +169,24 @@ class Forms(ImageTest):
             result = call("unpack", self.path("image"), "--out", self.path("out"))
         self.require_fault(result, 3, "packed by zstd", "install zstd")
         shutil.rmtree(self.path("image"))
-        write_layout(self.path("image"), [data[:-20]], None)
-        self.require_fault(call("unpack", self.path("image"), "--out", self.path("out")), 3, "cannot read")
-        self.require_nothing_left("image")
+        large = archive([member("large", random.Random(1).randbytes(3_000_000))])
+        squeezed = subprocess.run(["zstd", "-q", "-c"], input=large, capture_output=True, check=True).stdout
+        for broken in (data[:-20], data[:-4] + b"sum?", squeezed[:2_000_000]):
+            write_layout(self.path("image"), [broken], None)
+            result = call("unpack", self.path("image"), "--out", self.path("out"))
+            self.require_fault(result, 3, "its zstd stream is broken: ")
+            self.assertRegex(result[2], r"is broken: [A-Z][a-z]+ .*\n\Z")
+            self.require_nothing_left("image")
+            shutil.rmtree(self.path("image"))
+
+    def test_digests_only(self) -> None:
+        write_layout(self.path("image"), [archive([*PLAIN, member("d/g", bytes(700_000)), member("d/h")])])
+        words = ("unpack", self.path("image"), "--out")
+        self.require_done(call(*words, self.path("whole")))
+        self.require_done(call(*words, self.path("digests"), "--digests-only"))
+        self.assertEqual(sorted(os.listdir(self.path("digests"))), ["config.json", "l0.json"])
+        manifests = [read_manifest(self.path(name, "l0.json")) for name in ("whole", "digests")]
+        self.assertEqual(*manifests)
 
     def test_layers_are_in_order_and_equal_ones_stay_two(self) -> None:
         one, two = archive([member("one", b"a")]), archive([member("two", b"a")])

@@ -14,7 +14,7 @@ HELP = ROOT / "examples" / "help.txt"
 VERSION_TEXT = ROOT / "examples" / "version.txt"
 _OPTION = re.compile(r"(?<![\w-])--[a-z][a-z-]*")
 _HELP_COMMAND = re.compile(r"^ {2,4}([a-z]+)  ", re.MULTILINE)
-_COMMANDS = ("scan", "build", "unpack", "pack", "mounted")
+_COMMANDS = ("scan", "store", "build", "unpack", "pack", "flatten", "mounted")
 INSTALLED = ["bin/layers", "bin/ovl_layers", "share/man/man1/layers.1", "share/man/man1/ovl_layers.1"]
 
 
@@ -42,6 +42,10 @@ class Pages(unittest.TestCase):
         text = page("layers.1")
         self.assertEqual(set(_OPTION.findall(section(text, "OPTIONS"))), options)
         self.assertEqual(set(_OPTION.findall(section(text, "SYNOPSIS"))), options)
+        synopsis = section(text, "SYNOPSIS")
+        for command, told in zip(_COMMANDS, helps[1:]):
+            own = synopsis.split(f".B layers {command}\n", 1)[1].split("\n.br\n", 1)[0]
+            self.assertEqual(set(_OPTION.findall(own)), set(_OPTION.findall(told.split("\n\n", 1)[0])), command)
         commands = helps[0].split("commands:", 1)[1].split("examples:", 1)[0]
         self.assertEqual(set(_HELP_COMMAND.findall(commands)), set(_COMMANDS))
         self.assertEqual(page_commands(text), set(_COMMANDS))

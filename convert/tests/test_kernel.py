@@ -7,7 +7,7 @@ import sys
 import unittest
 from pathlib import Path
 
-from support import PROGRAM, FolderTest, why_no_trusted
+from support import FolderTest, program_words, why_no_trusted
 
 STACKS = 50
 STACKS_OVER_DATA = 30
@@ -49,7 +49,7 @@ class Kernel(FolderTest):
         reason = why_no_overlay(self.folder, lower)
         if reason:
             self.skipTest(reason)
-        program = os.environ.get("LAYERS_TEST_PROGRAM", str(PROGRAM) if PROGRAM.exists() else "").split()
+        program = program_words()
         if not program:
             print("\nnot compared with ovl_layers, which isn't built", file=sys.stderr)
         result = subprocess.run(

@@ -69,7 +69,7 @@ class Unpacked(FolderTest):
             write_layer(layer, name, self.path("in"))
         words = ("pack", *names, "--blobs", self.path("in"), "--out")
         self.require_done(call(*words, self.path(image)))
-        self.require_done(call("unpack", self.path(image), "--out", self.path("out")))
+        self.require_done(call("unpack", self.path(image), "--out", self.path("out"), "--overlay-marks"))
         for number, layer in enumerate(layers):
             self.assertEqual(read(self.path("out", f"l{number}.json")), layer.manifest())
         for digest in {digest for layer in layers for digest in layer.contents}:

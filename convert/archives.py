@@ -1,0 +1,258 @@
+"""A layer's archive on its way into a tree, and the contents of its files into blobs."""
+
+import contextlib
+import copy
+import hashlib
+import os
+from collections.abc import Mapping
+from dataclasses import dataclass, replace
+
+from . import rules
+from . import tar_headers as tar
+from .archive_names import AUFS_LINKS, OPAQUE_NAME, WHITEOUT_PREFIX, Paths, is_of_aufs
+from .blobs import Digester, Writer
+from .contents import PIECE, write_all
+from .entries import (
+    BLOCK, CHAR, DIRECTORY, FIFO, FILE, METACOPY, OVERLAY, SYMLINK, WHITEOUT, Entry, is_whiteout,
+)
+from .faults import cannot_read, cannot_write, writing
+from .images import ImageLayer
+from .layer_tree import Below, Blocked, Gap, Held, LayerTree, TooMuch, Unfit, whiteout
+from .losses import Loss, Losses
+from .progress import Progress, note
+from .streams import Digesting, Source, buffered, unpacked
+from .tar_headers import HARD_LINK, REGULAR_TYPES, Header
+from .tar_reader import TarReader
+
+_LINK_MODE = 0o777
+_ZEROS = bytes(PIECE)
+_KINDS = {
+    tar.SYMLINK: SYMLINK, tar.CHAR: CHAR, tar.BLOCK: BLOCK, tar.DIRECTORY: DIRECTORY, tar.FIFO: FIFO,
+    HARD_LINK: FILE, **{bytes([kind]): FILE for kind in REGULAR_TYPES},
+}
+_GAPS = {Gap.UNKNOWN: Loss.UNKNOWN, Gap.OVER_OTHER: Loss.OVER_OTHER, Gap.WHITEOUT: Loss.WHITEOUT}
+
+
+@dataclass(frozen=True)
+class Taking:
+    """What is taken of an image's layers, and where they go."""
+
+    out: str
+    skip_unsupported: bool
+    overlay_marks: bool
+    writer: Writer
+    held: Held
+    below: Below
+
+
+class LayerArchive:
+    """One layer's archive."""
+
+    def __init__(self, layer: ImageLayer, taking: Taking) -> None:
+        self._layer = layer
+        self._taking = taking
+        self._tree = LayerTree(taking.held)
+        self._paths = Paths()
+        self._losses = Losses()
+        self._aufs_links: dict[str, Entry] = {}
+
+    def tree(self) -> LayerTree:
+        """The layer, where its bytes are those that the image names."""
+        layer = self._layer
+        progress = Progress(f"unpacking {layer.name[-20:]}")
+        try:
+            with layer.opened() as part, unpacked(part, layer.path) as stream:
+                self._read_checked(stream, progress)
+            self._tree.settle(self._taking.below.root, lambda gap, path: self._losses.add(_GAPS[gap], path))
+        except TooMuch as problem:
+            raise cannot_read(layer.path, str(problem)) from None
+        finally:
+            progress.end()
+        self._losses.tell(layer.name)
+        return self._tree
+
+    def _read_checked(self, stream: Source, progress: Progress) -> None:
+        if self._layer.unpacked_digest is None:
+            self._read(stream, progress)
+            return
+        algorithm, wanted = self._layer.unpacked_digest
+        source = Digesting(stream, algorithm)
+        self._read(source, progress)
+        if source.digest.hexdigest() != wanted:
+            raise cannot_read(self._layer.path, f"its unpacked bytes aren't those of {algorithm}:{wanted}")
+
+    def _read(self, stream: Source, progress: Progress) -> None:
+        archive = TarReader(buffered(stream))
+        for header in archive:
+            try:
+                self._take(header, archive)
+            except Unfit as problem:
+                self._refuse_or_note(header, str(problem))
+            progress.step()
+
+    def _take(self, header: Header, archive: TarReader) -> None:
+        names = self._paths.names(header.name)
+        if names and (names[-1].startswith(WHITEOUT_PREFIX) or is_of_aufs(names)):
+            self._take_special(header, names, archive)
+            return
+        entry = self._entry(header, names)
+        self._tree.folder(names[:-1])
+        if header.type == HARD_LINK:
+            entry = self._linked(header, names)
+        elif entry.kind == FILE:
+            self._fill(entry, header, archive)
+        elif is_whiteout(entry):
+            self._losses.add(Loss.DEVICE, _path(names))
+        self._tree.put(names, entry)
+
+    def _take_special(self, header: Header, names: list[str], archive: TarReader) -> None:
+        """What is no entry of the layer: a whiteout, an opaque mark, or what aufs keeps for itself."""
+        if is_of_aufs(names):
+            self._losses.add(Loss.AUFS, _path(names))
+            if names[0] == AUFS_LINKS and header.type in REGULAR_TYPES:
+                entry = self._entry(header, names)
+                self._taking.held.grow()
+                self._fill(entry, header, archive)
+                self._aufs_links[_path(names)] = entry
+            return
+        try:
+            self._take_whiteout(header, names)
+        except Blocked:
+            self._losses.add(Loss.WHITEOUT, _path(names))
+
+    def _take_whiteout(self, header: Header, names: list[str]) -> None:
+        *folder, last = names
+        if last == OPAQUE_NAME:
+            _check_place(folder)
+            self._tree.put_opaque(folder)
+            return
+        hidden = last[len(WHITEOUT_PREFIX):]
+        problem = rules.name_problem(hidden)
+        if problem:
+            raise Unfit(f"a whiteout of nothing: {problem}")
+        entry = self._entry(replace(header, type=b"0", size=0, name=hidden.encode()), [*folder, hidden])
+        if WHITEOUT not in entry.attributes:
+            attributes = entry.attributes
+            entry = whiteout(entry.uid, entry.gid, entry.mtime)
+            entry.attributes = attributes
+        self._tree.put_whiteout([*folder, hidden], entry)
+
+    def _entry(self, header: Header, names: list[str]) -> Entry:
+        """The entry of a header but for a file's contents."""
+        _check_place(names)
+        kind = _KINDS.get(header.type)
+        if header.type in (b"\0", b"0") and header.name.endswith(b"/"):
+            kind = DIRECTORY
+        if kind is None:
+            raise Unfit(f"an entry of type {header.type!r}, which can't be stated")
+        entry = Entry("", kind, header.mode, header.uid, header.gid, header.mtime)
+        if kind == SYMLINK:
+            entry.mode = _LINK_MODE
+            entry.target = header.target.decode("utf-8", "surrogateescape")
+        elif kind in (CHAR, BLOCK):
+            entry.major, entry.minor = header.major, header.minor
+        _check_values(entry)
+        if header.attributes:
+            entry.attributes = self._attributes(header, names)
+        if header.cut_time:
+            self._losses.add(Loss.CUT_TIME, _path(names))
+        if header.has_acl:
+            self._losses.add(Loss.ACCESS_LIST, _path(names))
+        return entry
+
+    def _attributes(self, header: Header, names: list[str]) -> Mapping[str, bytes]:
+        attributes = {name.decode("utf-8", "surrogateescape"): value for name, value in header.attributes.items()}
+        if not self._taking.overlay_marks:
+            marks = [name for name in attributes if name.startswith(OVERLAY)]
+            for name in marks:
+                del attributes[name]
+            if marks:
+                self._losses.add(Loss.MARK, _path(names), len(marks))
+        problem = next(filter(None, map(rules.attribute_problem, attributes)), None)
+        problem = problem or rules.attributes_problem(attributes)
+        if problem:
+            raise Unfit(problem)
+        return self._taking.held.attributes(attributes)
+
+    def _linked(self, header: Header, names: list[str]) -> Entry:
+        """A hard link as a file of its own, with all that the file it names has, here or below."""
+        linked = Paths().names(header.target, "the file that it links to")
+        aufs = self._aufs_links.get(_path(linked))
+        here = aufs or (self._tree.file_at(linked, None) if linked else None)
+        found = here or (self._tree.file_at(linked, self._taking.below.root) if linked else None)
+        if found is None:
+            raise Unfit(f"it links to {os.fsdecode(header.target)}, which is no file of this layer so far or of those below")
+        if METACOPY in found.attributes:
+            raise Unfit(f"it links to {os.fsdecode(header.target)}, a file without its contents")
+        self._losses.add(Loss.HARD_LINK if here else Loss.LOWER_LINK, _path(names))
+        return copy.copy(found)
+
+    def _fill(self, entry: Entry, header: Header, archive: TarReader) -> None:
+        digest, entry.size = self._store(archive, header)
+        entry.blob = digest if entry.names_contents() else None
+
+    def _store(self, archive: TarReader, header: Header) -> tuple[str, int]:
+        """Writes an entry's data as a blob, zeros as holes."""
+        writer = self._taking.writer
+        if header.size == 0:
+            return "", 0
+        if isinstance(writer, Digester):
+            return writer.take(archive.data())
+        digest, size, scratch = hashlib.sha256(), 0, writer.scratch()
+        self._require_space(header)
+        for piece in archive.data():
+            digest.update(piece)
+            size += len(piece)
+            with self._writing():
+                if piece == _ZEROS[:len(piece)]:
+                    os.lseek(scratch, len(piece), os.SEEK_CUR)
+                else:
+                    write_all(scratch, piece)
+        with self._writing():
+            os.ftruncate(scratch, size)
+            writer.keep(digest.hexdigest(), size)
+        return digest.hexdigest(), size
+
+    def _writing(self) -> contextlib.AbstractContextManager[None]:
+        return writing(self._taking.out)
+
+    def _require_space(self, header: Header) -> None:
+        if header.size > PIECE:
+            with self._writing():
+                system = os.statvfs(self._taking.out)
+            if header.size > system.f_bavail * system.f_frsize:
+                raise cannot_write(
+                    self._taking.out,
+                    f"{self._layer.name} has a file of {header.size:,} bytes, more than are free",
+                )
+
+    def _refuse_or_note(self, header: Header, problem: str) -> None:
+        name = os.fsdecode(header.name)
+        if not self._taking.skip_unsupported:
+            raise cannot_read(self._layer.path, f"{name}: {problem}")
+        note(f"{self._layer.path}: {name}: left out: {problem}")
+
+
+def _path(names: list[str]) -> str:
+    return "/" + "/".join(names)
+
+
+def _check_place(names: list[str]) -> None:
+    problem = rules.path_problem(_path(names), len(names))
+    if problem:
+        raise Unfit(problem)
+
+
+def _check_values(entry: Entry) -> None:
+    """Refuses what the members of a manifest's entry have no place for."""
+    problem = (
+        rules.number_problem("owner", entry.uid, 0, rules.MAX_NUMBER)
+        or rules.number_problem("group", entry.gid, 0, rules.MAX_NUMBER)
+        or rules.number_problem("time", entry.mtime, rules.MIN_TIME, rules.MAX_TIME)
+        or rules.number_problem("major number", entry.major, 0, rules.MAX_NUMBER)
+        or rules.number_problem("minor number", entry.minor, 0, rules.MAX_NUMBER)
+    )
+    if problem is None and entry.kind == SYMLINK:
+        problem = rules.target_problem(entry.target)
+    if problem:
+        raise Unfit(problem)

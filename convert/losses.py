@@ -1,0 +1,50 @@
+"""What a layer of an image has that its manifest doesn't: one note for each kind."""
+
+from enum import Enum
+
+from .progress import counted, note
+
+
+class Loss(Enum):
+    """A kind of thing that is lost or put right: one of them, and several."""
+
+    CUT_TIME = ("time cut to whole seconds", "times cut to whole seconds")
+    HARD_LINK = ("hard link, now a file with the same contents", "hard links, now files with the same contents")
+    LOWER_LINK = ("hard link to a file of the layers below, now a copy", "hard links to files of the layers below, now copies")
+    MARK = (
+        "attribute trusted.overlay.* left out (--overlay-marks takes it)",
+        "attributes trusted.overlay.* left out (--overlay-marks takes them)",
+    )
+    ACCESS_LIST = ("entry with an access list (SCHILY.acl.*), left out", "entries with access lists (SCHILY.acl.*), left out")
+    AUFS = ("entry of aufs' own (.wh..wh.*) left out", "entries of aufs' own (.wh..wh.*) left out")
+    WHITEOUT = (
+        "whiteout left out that hides nothing, as there is no directory for it",
+        "whiteouts left out that hide nothing, as there is no directory for them",
+    )
+    DEVICE = ("char device 0:0, which an overlay takes as a whiteout", "char devices 0:0, which an overlay takes as whiteouts")
+    UNKNOWN = (
+        "directory that no layer states, now of mode 0755, owner 0 and time 0",
+        "directories that no layer states, now of mode 0755, owner 0 and time 0",
+    )
+    OVER_OTHER = (
+        "directory left out by the layer hides a file or a link of those below",
+        "directories left out by the layer hide files or links of those below",
+    )
+
+
+class Losses:
+    """Counts what is met, by kinds."""
+
+    def __init__(self) -> None:
+        self._counts: dict[Loss, int] = {}
+        self._first: dict[Loss, str] = {}
+
+    def add(self, loss: Loss, path: str, count: int = 1) -> None:
+        """Something of this kind more, at a path."""
+        self._counts[loss] = self._counts.get(loss, 0) + count
+        self._first.setdefault(loss, path)
+
+    def tell(self, layer: str) -> None:
+        """One note for each kind that was met, with the first path."""
+        for loss, count in self._counts.items():
+            note(f"{layer}: {counted(count, *loss.value)}: {self._first[loss]}{', ..' if count > 1 else ''}")

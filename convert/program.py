@@ -1,0 +1,98 @@
+"""The proved program, run on manifests."""
+
+import os
+import shutil
+import subprocess
+import sys
+from collections.abc import Sequence
+from pathlib import Path
+
+from .faults import OTHER, Fault, ReadFault, reading, writing
+
+NAME = "ovl_layers"
+_HERE = Path(__file__).resolve().parents[1]
+_BUILT = _HERE / "crates" / NAME / "out" / NAME  # in the repository
+_INSTALLED = _HERE.parents[1] / "bin" / NAME  # of PREFIX/lib/ovl_layers, where `install` puts this converter
+# What each command is told that reads contents.
+_WORDS_ON_CONTENTS: tuple[str, ...] = ()
+_FAULTY = 1
+_LAST_BYTES = 4_096
+
+
+class Refused(Fault):
+    """The program ended with this status, and has said why."""
+
+    def __init__(self, text: str, status: int) -> None:
+        super().__init__(text)
+        self.status = status
+
+
+def find_program() -> str | None:
+    """The built program: beside this converter, or on the PATH."""
+    places = [_BUILT] + ([_INSTALLED] if _HERE.parts[-2:] == ("lib", NAME) else [])
+    for place in places:
+        if place.is_file() and os.access(place, os.X_OK):
+            return str(place)
+    return shutil.which(NAME)
+
+
+def require_program() -> str:
+    """The same, or a fault that says how to get it."""
+    program = find_program()
+    if program is None:
+        raise ReadFault(
+            f"the program {NAME} is neither beside this one nor on the PATH; build it by "
+            "`./ovl_layers show examples/root.json` in its repository, or install it"
+        )
+    return program
+
+
+def makes_layers(what: str) -> bool:
+    """Whether a command writes new layers into a folder."""
+    return what not in ("show", "fsck")
+
+
+def words_of(what: str, layers: Sequence[str], blobs: str, out: str) -> list[str]:
+    """A command of the program with its words: the folders are given to those that take them."""
+    words = [what]
+    if what != "show":
+        words += [*_WORDS_ON_CONTENTS, "--blobs", blobs]
+    if makes_layers(what):
+        words += ["--out", out]
+    return [*words, *layers]
+
+
+def run_program(program: str, words: Sequence[str], report: str) -> str:
+    """Runs it, with its report into a file. Gives the report's last line, which sums it up.
+
+    What it refuses is told as it is: its own words, or the report where that tells faults.
+    """
+    with writing(report), open(report, "xb") as file:
+        try:
+            result = subprocess.run(
+                [program, *words], stdin=subprocess.DEVNULL, stdout=file, stderr=subprocess.PIPE, check=False
+            )
+        except OSError as error:
+            raise ReadFault(f"cannot run {program}: {error.strerror}") from error
+    told = result.stderr.decode("utf-8", "replace")
+    print(told, end="", file=sys.stderr)
+    if result.returncode == _FAULTY:
+        _print(report)
+    if result.returncode < 0:
+        raise Refused(f"{NAME} {words[0]} was ended by signal {-result.returncode}; nothing is written", OTHER)
+    if result.returncode > 0:
+        ending = f"{NAME} {words[0]} ended with status {result.returncode}; nothing is written"
+        raise Refused(ending, result.returncode)
+    return _last_line(report)
+
+
+def _print(report: str) -> None:
+    with reading(report), open(report, encoding="ascii", errors="backslashreplace", newline="") as file:
+        shutil.copyfileobj(file, sys.stdout)
+    sys.stdout.flush()
+
+
+def _last_line(report: str) -> str:
+    with reading(report), open(report, "rb") as file:
+        file.seek(max(0, os.path.getsize(report) - _LAST_BYTES))
+        return file.read().decode("ascii", "backslashreplace").rstrip("\n").rpartition("\n")[2]

@@ -1,0 +1,497 @@
+"""`flatten`: its steps with a stand-in for the program, and its images with the program itself."""
+
+import contextlib
+import hashlib
+import json
+import os
+import shutil
+import signal
+import subprocess
+import sys
+import time
+import unittest
+from collections.abc import Iterator
+from unittest import mock
+
+from images import archive, folder, member, put_index, put_manifest, write_layout
+from support import ROOT, FolderTest, call, program_words, why_no_trusted
+
+LAYERS = [
+    [folder("./"), folder("d"), member("d/f", b"lowest"), member("d/g", b"g")],
+    [member("d/.wh.g"), member("d/h", b"h"), member("d/h", b"second")],
+    [folder("d"), member("d/f", b"topmost")],
+]
+
+# Takes the lower layer for what a merge makes, and the topmost for what the others make.
+_STAND_IN = """#!/bin/sh
+here={folder}
+echo "$*" >> "$here/calls"
+what=$1
+shift
+while [ "${{1#--}}" != "$1" ]; do
+    [ "$1" = --out ] && out=$2
+    shift 2
+done
+. "$here/manner"
+case $what in
+    show) echo 'entries 1' ;;
+    fsck) echo 'faults 0 notes 0' ;;
+    merge) cp "$1" "$out/layer-0.json" && cp "$2" "$out/layer-1.json" && echo 'entries 2' ;;
+    *) cp "$1" "$out/layer-0.json" && echo "done $what" ;;
+esac
+"""
+
+
+class FlattenTest(FolderTest):
+    """A test with a folder `in` for what is given, and `all`, where images are written."""
+
+    def setUp(self) -> None:
+        super().setUp()
+        self.hands = self.path("in")
+        self.image = self.path("all", "image")
+        os.mkdir(self.hands)
+        os.mkdir(self.path("all"))
+        write_layout(self.image, [archive(layer) for layer in LAYERS])
+
+    def use(self, program: str) -> None:
+        """Has the command find this program."""
+        for name in ("convert.flatten.find_program", "convert.program.find_program"):
+            patch = mock.patch(name, return_value=program)
+            patch.start()
+            self.addCleanup(patch.stop)
+
+    def flatten(self, *words: object, image: str | None = None, out: str = "flat") -> tuple[int, str, str]:
+        """Calls the command."""
+        return call("flatten", image or self.image, "--out", self.path("all", out), *words)
+
+    def left(self, *wanted: str) -> None:
+        """The folder of images has these alone."""
+        self.assertEqual(sorted(os.listdir(self.path("all"))), sorted(("image", *wanted)))
+
+
+class Steps(FlattenTest):
+    """The order of the steps, and what is left where one fails."""
+
+    def setUp(self) -> None:
+        super().setUp()
+        self.program = self.path("in", "ovl_layers")
+        with open(self.program, "w", encoding="utf-8") as file:
+            file.write(_STAND_IN.format(folder=self.hands))
+        os.chmod(self.program, 0o755)
+        self.manner("")
+        self.use(self.program)
+
+    def manner(self, text: str) -> None:
+        """What the stand-in does otherwise, and no calls so far."""
+        for name, lines in (("manner", text), ("calls", "")):
+            with open(self.path("in", name), "w", encoding="utf-8") as file:
+                file.write(lines)
+
+    def calls(self) -> list[str]:
+        """What the program was called with, without folders but for the last ones of layers."""
+        with open(self.path("in", "calls"), encoding="utf-8") as file:
+            return [" ".join(self._short(line.split())) for line in file]
+
+    def _short(self, words: list[str]) -> Iterator[str]:
+        yield words[0]
+        yield from ("/".join(word.split("/")[-2:]) for word in words[1:] if word.endswith(".json"))
+
+    def layers_of(self, image: str) -> int:
+        """How many layers an image has."""
+        shutil.rmtree(self.path("in", "stack"), ignore_errors=True)
+        self.require_done(call("unpack", image, "--out", self.path("in", "stack")))
+        return len(os.listdir(self.path("in", "stack"))) - 2
+
+    def test_merges_down_to_so_many_layers(self) -> None:
+        whole = "stack/l0.json stack/l1.json stack/l2.json"
+        begin = [f"show {whole}", f"fsck {whole}", f"vacuum {whole}"]
+        one = "merge vacuum/layer-0.json stack/l1.json stack/l2.json"
+        two = "merge-1/layer-1.json stack/l2.json"
+        for wanted, calls, left in (
+            (1, [one, f"merge {two}", "show merge-2/layer-1.json"], 1),
+            (2, [one, f"vacuum {two}", "show vacuum-merged/layer-0.json stack/l2.json"], 2),
+            (3, ["show vacuum/layer-0.json stack/l1.json stack/l2.json"], 3),
+            (128, ["show vacuum/layer-0.json stack/l1.json stack/l2.json"], 3),
+        ):
+            self.manner("")
+            result = self.flatten("--layers", wanted)
+            self.require_done(result)
+            self.assertIn(f"{self.path('all', 'flat')}: {left} layer{'s'[:left > 1]} in place of 3, ", result[2])
+            again = " ".join(f"again/l{number}.json" for number in range(left))
+            self.assertEqual(self.calls(), [*begin, *calls, f"show {again}"])
+            self.assertEqual(self.layers_of(self.path("all", "flat")), left)
+            self.left("flat")
+            shutil.rmtree(self.path("all", "flat"))
+
+    def test_an_image_of_one_layer(self) -> None:
+        write_layout(self.path("in", "one"), [archive(LAYERS[0])])
+        self.require_done(self.flatten(image=self.path("in", "one"), out="flat.tar"))
+        self.assertEqual([words.split()[0] for words in self.calls()], ["show", "fsck", "vacuum", "show", "show"])
+        self.left("flat.tar")
+
+    def test_each_step_is_told_with_its_time(self) -> None:
+        told = self.flatten()[2].splitlines()
+        for line, begin in zip(told, (
+            "unpack: 3 layers, ", "show: entries 1, ", "fsck: faults 0 notes 0, ", "vacuum: done vacuum, ",
+            "merge 1 of 2: entries 2, ", "merge 2 of 2: entries 2, ", "show of the new layers: entries 1, ",
+            "pack: 1 layer, ", "the new image, read again: entries 1, ", f"{self.path('all', 'flat')}: 1 layer in place of 3, ",
+        ), strict=True):
+            self.assertRegex(line, rf"^layers: {begin}\d+\.\d\d s")
+
+    def test_blobs_that_no_manifest_names_are_not_read(self) -> None:
+        self.require_done(self.flatten("--keep", self.path("in", "kept")))
+        wanted = sorted(hashlib.sha256(data).hexdigest() for data in (b"lowest", b"g", b"second", b"topmost"))
+        self.assertEqual(sorted(os.listdir(self.path("in", "kept", "stack", "blobs"))), wanted)
+
+    def test_layers_with_redirects_are_unfolded_first(self) -> None:
+        moved = folder("new", pax={"SCHILY.xattr.trusted.overlay.redirect": "/d"})
+        meta = member("d/f", pax={"SCHILY.xattr.trusted.overlay.metacopy": ""})
+        write_layout(self.path("in", "marked"), [archive(layer) for layer in ([folder("d")], [meta], [moved], [moved])])
+        # Once a layer is unfolded it has none.
+        self.manner("""[ "$what" = deref ] && sed 's/"trusted[^,}]*"//' "$1" > "$out/layer-0.json" && exit 0""")
+        self.require_done(self.flatten("--layers", 4, "--overlay-marks", image=self.path("in", "marked")))
+        self.assertEqual([words for words in self.calls() if words.startswith("deref")], [
+            "deref stack/l2.json stack/l3.json", "deref stack/l1.json deref-2/layer-0.json stack/l3.json",
+            "deref vacuum/layer-0.json deref-1/layer-0.json deref-2/layer-0.json stack/l3.json",
+        ])
+
+    def test_a_refusal_is_told_as_it_is(self) -> None:
+        for what, status in (("show", 3), ("fsck", 1), ("vacuum", 4), ("merge", 5)):
+            for words in ((), ("--keep", self.path("in", "kept"))):
+                self.manner(f"[ $what = {what} ] && {{ echo report; echo 'ovl_layers: because' >&2; exit {status}; }}")
+                result = self.flatten(*words, out="flat.tar")
+                self.assertEqual(result[:2], (status, "report\n" if status == 1 else ""), what)
+                self.assertTrue(result[2].endswith(
+                    f"\novl_layers: because\nlayers: ovl_layers {what} ended with status {status}; nothing is written\n"
+                ), result[2])
+                self.left()
+            self.assertTrue(os.path.exists(self.path("in", "kept", "stack", "l2.json")))
+            shutil.rmtree(self.path("in", "kept"))
+
+    def test_a_program_that_is_ended(self) -> None:
+        self.manner("[ $what = merge ] && kill -9 $$")
+        self.require_fault_at_end(self.flatten(), 5, "ovl_layers merge was ended by signal 9; nothing is written")
+        self.left()
+
+    def require_fault_at_end(self, result: tuple[int, str, str], status: int, text: str) -> None:
+        """The last line is this fault."""
+        self.assertEqual(result[0], status, result[2])
+        self.assertTrue(result[2].endswith(f"layers: {text}\n"), result[2])
+
+    def test_something_else_is_shown(self) -> None:
+        for number in (2, 3):
+            for out in ("flat", "flat.tar"):
+                self.manner(f'[ $what = show ] && [ $(grep -c ^show "$here/calls") = {number} ] && {{ echo other; exit; }}')
+                self.require_fault_at_end(
+                    self.flatten(out=out), 5,
+                    "the new layers show something else, so nothing is written; --keep DIR keeps both reports",
+                )
+                self.left()
+
+    def test_what_is_there_is_refused_at_once(self) -> None:
+        os.mkdir(self.path("all", "full"))
+        os.mkdir(self.path("all", "full", "x"))
+        os.mkfifo(self.path("all", "fifo.tar"))
+        for out, words, status, reason in (
+            ("full", (), 4, "it isn't empty"), ("fifo.tar", (), 4, "it is no regular file"),
+            ("absent/flat", (), 4, "No such file"), ("flat", ("--keep", self.path("all", "full")), 4, "it isn't empty"),
+            ("flat", ("--keep", self.path("all", "flat", ".")), 2, "--keep and --out must be two places"),
+        ):
+            self.require_fault(self.flatten(*words, out=out), status, reason)
+            self.assertEqual(self.calls(), [])
+        self.left("full", "fifo.tar")
+
+    def test_what_may_be_there(self) -> None:
+        os.mkdir(self.path("all", "empty"))
+        for name in ("old.tar", "linked"):
+            with open(self.path("in", name), "wb"):
+                pass
+        os.rename(self.path("in", "old.tar"), self.path("all", "old.tar"))
+        os.symlink(self.path("in", "linked"), self.path("all", "link.tar"))
+        for out in ("empty", "old.tar", "link.tar"):
+            self.require_done(self.flatten(out=out))
+            self.assertEqual(self.layers_of(self.path("all", out)), 1)
+        self.left("empty", "old.tar", "link.tar")
+        self.assertTrue(os.path.islink(self.path("all", "link.tar")))
+        self.assertEqual(sorted(os.listdir(self.hands)), ["calls", "linked", "manner", "ovl_layers", "stack"])
+
+    def test_stages_of_runs_that_were_cut_off(self) -> None:
+        new, old = (self.path("all", f".layers-{name}") for name in ("new", "old"))
+        for stage in (new, old):
+            os.mkdir(stage)
+        os.utime(old, (0, 0))
+        result = self.flatten()
+        self.require_done(result)
+        self.assertIn(f"layers: took away {old}, which a run that was cut off left over a day ago\n", result[2])
+        self.assertIn(f"layers: there is {new}, the stage of a run that was cut off\n", result[2])
+        self.left(".layers-new", "flat")
+
+    def test_names(self) -> None:
+        described = [put_manifest(self.image, [archive(layer)], None, "linux/amd64") for layer in LAYERS[:2]]
+        put_index(self.image, [
+            {**one, "annotations": {"org.opencontainers.image.ref.name": name}} for one, name in zip(described, "ab")
+        ])
+        self.require_done(self.flatten("--tag", "b"))
+        self.require_done(self.flatten("--tag", "b", image=self.path("all", "flat"), out="again"))
+        self.require_done(self.flatten(image=self.path("all", "flat"), out="more"))
+        for name in ("flat", "again", "more"):
+            with open(self.path("all", name, "index.json"), encoding="utf-8") as file:
+                (listed,) = json.load(file)["manifests"]
+            self.assertEqual(listed["annotations"], {"org.opencontainers.image.ref.name": "b"})
+        self.require_done(self.flatten(image=f"oci:{self.image}:a", out="named"))
+        with open(self.path("all", "named", "index.json"), encoding="utf-8") as file:
+            self.assertIn('"a"', file.read())
+
+    def test_packed_layers(self) -> None:
+        for kind, begin in (("gzip", b"\x1f\x8b"), ("none", b"./")):
+            self.require_done(self.flatten("--compress", kind, out=kind))
+            with open(self.path("all", kind, "index.json"), encoding="utf-8") as file:
+                document = json.load(file)["manifests"][0]
+            for name in ("layers", None):
+                path = self.path("all", kind, "blobs", "sha256", document["digest"].split(":")[1])
+                with open(path, "rb") as file:
+                    data = file.read()
+                document = json.loads(data)[name][0] if name else document
+            self.assertTrue(data.startswith(begin), data[:4])
+
+    def test_dry_run(self) -> None:
+        given = self.path("in", "an image's $x")
+        shutil.copytree(self.image, given)
+        os.environ["TMPDIR"] = self.hands
+        self.addCleanup(os.environ.pop, "TMPDIR")
+        kept = ("--keep", self.path("in", "kept \"here\""))
+        for words, keep in (((), ()), (("--layers", 2, "--platform", "linux/amd64", "--compress", "gzip"), kept)):
+            self.manner("")
+            status, script, told = self.flatten(*words, *keep, "--dry-run", image=given)
+            self.assertEqual((status, told, self.calls()), (0, "", []))
+            self.left()
+            self.require_done(self.flatten(*words, image=given, out="wanted"))
+            calls = self.calls()
+            self.manner("")
+            result = subprocess.run(["sh"], input=script, capture_output=True, text=True, check=False)
+            self.assertEqual(result.returncode, 0, result.stderr)
+            self.assertEqual(self.calls(), calls)
+            self.assertEqual(*(sorted(os.listdir(self.path("all", name, "blobs", "sha256"))) for name in ("flat", "wanted")))
+            for name in ("flat", "wanted"):
+                shutil.rmtree(self.path("all", name))
+        self.assertTrue(os.path.exists(self.path("in", "kept \"here\"", "before.show")))
+        words = (*kept, "--overlay-marks", "--skip-unsupported", "--dry-run")
+        self.assertIn("\n# here `ovl_layers deref` of each layer", self.flatten(*words)[1])
+
+    def test_usage(self) -> None:
+        for words in ((), ("x",), ("x", "--out", "y", "--layers", "0"), ("x", "--out", "y", "--layers", "129")):
+            self.assertEqual(call("flatten", *words)[:2], (2, ""), words)
+
+
+class Processes(FlattenTest):
+    """A copy of the converter, which finds the program by itself."""
+
+    def setUp(self) -> None:
+        super().setUp()
+        ignored = shutil.ignore_patterns("tests", "__pycache__")
+        shutil.copytree(ROOT / "convert", self.path("in", "lib", "ovl_layers", "convert"), ignore=ignored)
+        shutil.copy(ROOT / "layers.py", self.path("in", "lib", "ovl_layers", "layers.py"))
+
+    def place(self, *names: str, says: str = "entries 1") -> None:
+        """Puts a program somewhere."""
+        path = self.path("in", *names)
+        os.makedirs(os.path.dirname(path), exist_ok=True)
+        with open(path, "w", encoding="utf-8") as file:
+            file.write(f"#!/bin/sh\n{says}\n")
+        os.chmod(path, 0o755)
+
+    def words(self, *more: str) -> list[str]:
+        """The words that run the command."""
+        tool = self.path("in", "lib", "ovl_layers", "layers.py")
+        return [sys.executable, "-B", tool, "flatten", self.image, "--out", self.path("all", "flat"), *more]
+
+    def test_where_the_program_is_found(self) -> None:
+        (path,) = {os.path.dirname(sys.executable)}
+        environment = {**os.environ, "PATH": f"{self.path('in', 'path')}:{path}:/usr/bin:/bin"}
+
+        def printed() -> str:
+            result = subprocess.run(
+                self.words("--dry-run"), capture_output=True, text=True, check=True, env=environment
+            )
+            (line,) = [line for line in result.stdout.splitlines() if " fsck " in line]
+            return line.split()[0]
+
+        self.assertEqual(printed(), "ovl_layers")
+        result = subprocess.run(self.words(), capture_output=True, text=True, check=False, env=environment)
+        self.assertEqual(result.returncode, 3)
+        self.assertIn("layers: the program ovl_layers is neither beside this one nor on the PATH; ", result.stderr)
+        self.left()
+        for names in (
+            ("path", "ovl_layers"), ("bin", "ovl_layers"),
+            ("lib", "ovl_layers", "crates", "ovl_layers", "out", "ovl_layers"),
+        ):
+            self.place(*names)
+            self.assertEqual(printed(), self.path("in", *names))
+
+    def test_interrupted(self) -> None:
+        for number in (signal.SIGTERM, signal.SIGINT, signal.SIGHUP):
+            for keep in ((), ("--keep", self.path("in", "kept"))):
+                self.place("bin", "ovl_layers", says=f"echo $$ > {self.path('in', 'started')}; exec sleep 60")
+                with subprocess.Popen(self.words(*keep), stderr=subprocess.DEVNULL) as process:
+                    while process.poll() is None and not os.path.exists(self.path("in", "started")):
+                        time.sleep(0.01)
+                    time.sleep(0.02)
+                    process.send_signal(number)
+                self.assertEqual(process.returncode, 128 + number)
+                self.left()
+                with open(self.path("in", "started"), encoding="utf-8") as file:
+                    self.assertFalse(os.path.exists(f"/proc/{int(file.read())}"))
+                os.unlink(self.path("in", "started"))
+            self.assertEqual(sorted(os.listdir(self.path("in", "kept"))), ["before.show", "stack"])
+            shutil.rmtree(self.path("in", "kept"))
+
+
+class ImageTest(FlattenTest):
+    """A test with the program itself."""
+
+    def setUp(self) -> None:
+        super().setUp()
+        words = program_words()
+        if not words:
+            self.skipTest("the program isn't built")
+        self.program = self.path("in", "ovl_layers")
+        with open(self.program, "w", encoding="utf-8") as file:
+            file.write(f"#!/bin/sh\nexec {' '.join(words)} \"$@\"\n")
+        os.chmod(self.program, 0o755)
+        self.use(self.program)
+
+    def shown(self, image: str, *words: str) -> str:
+        """What the layers of an image show."""
+        stack = self.path("in", "stack")
+        self.require_done(call("unpack", image, "--out", stack, *words))
+        layers = [f"{stack}/l{number}.json" for number in range(len(os.listdir(stack)) - 2)]
+        result = subprocess.run([self.program, "show", *layers], capture_output=True, text=True, check=True)
+        checked = subprocess.run([self.program, "fsck", "--blobs", f"{stack}/blobs", *layers], capture_output=True, check=False)
+        self.assertEqual(checked.returncode, 0, checked.stdout)
+        shutil.rmtree(stack)
+        return result.stdout
+
+
+class Images(ImageTest):
+    """Images that the program flattens."""
+
+    def test_a_small_image(self) -> None:
+        made = self.path("in", "small")
+        subprocess.run([sys.executable, "-B", str(ROOT / "examples" / "make_image.py"), made], check=True)
+        for image in (self.image, made):
+            wanted = self.shown(image)
+            for layers in (1, 2):
+                self.require_done(self.flatten("--layers", layers, image=image, out=f"flat{layers}.tar"))
+                self.assertEqual(self.shown(self.path("all", f"flat{layers}.tar")), wanted)
+
+    def test_faults_of_an_image(self) -> None:
+        moved = folder("new", pax={"SCHILY.xattr.trusted.overlay.redirect": "/lost"})
+        write_layout(self.path("in", "faulty"), [archive([folder("d")]), archive([moved])])
+        result = self.flatten("--overlay-marks", image=self.path("in", "faulty"))
+        self.assertEqual(result[:2], (
+            1, "fault redirect-lost 0 /new\nfault redirect-open 0 /new\nfaults 2 notes 0\n"
+        ), result[2])
+        self.left()
+
+    def test_marks_of_an_overlay_in_an_image(self) -> None:
+        moved = folder("new", pax={"SCHILY.xattr.trusted.overlay.redirect": "/d"})
+        meta = member("d/f", b"topmost", pax={"SCHILY.xattr.trusted.overlay.metacopy": ""})
+        for redirected in ([moved, member(".wh.d")], [folder("d"), meta]):
+            layers = [*LAYERS, redirected, [member("more", b"more")]]
+            write_layout(self.path("in", "marked"), [archive(layer) for layer in layers])
+            for marks in ((), ("--overlay-marks",)):
+                wanted = self.shown(self.path("in", "marked"), *marks)
+                for number in (1, 5):
+                    self.require_done(self.flatten("--layers", number, *marks, image=self.path("in", "marked")))
+                    self.assertEqual(self.shown(self.path("all", "flat")), wanted)
+                    shutil.rmtree(self.path("all", "flat"))
+            shutil.rmtree(self.path("in", "marked"))
+
+
+class Umoci(ImageTest):
+    """An image that umoci makes; the new one is the same to umoci and skopeo."""
+
+    def setUp(self) -> None:
+        super().setUp()
+        for tool in ("umoci", "skopeo"):
+            if shutil.which(tool) is None:
+                self.skipTest(f"needs {tool}")
+        reason = why_no_trusted(self.folder)
+        if reason:
+            self.skipTest(reason)
+
+    def run_in(self, *words: str) -> str:
+        """What a tool prints, run in the folder of what is given."""
+        return subprocess.run(words, check=True, capture_output=True, text=True, cwd=self.hands).stdout
+
+    @contextlib.contextmanager
+    def layer(self) -> Iterator[str]:
+        """The root of a bundle; what is changed in it becomes a layer."""
+        root = self.path("in", "bundle", "rootfs")
+        yield root
+        for path in (root, f"{root}/etc"):
+            os.utime(path, (1_700_000_000, 1_700_000_000))
+        self.run_in("umoci", "repack", "--refresh-bundle", "--image", "made:small", "bundle")
+
+    def make(self) -> None:
+        """An image of three layers, with a configuration."""
+        self.run_in("umoci", "init", "--layout", "made")
+        self.run_in("umoci", "new", "--image", "made:small")
+        self.run_in("umoci", "unpack", "--image", "made:small", "bundle")
+        with self.layer() as root:
+            for name in ("etc/app", "srv/data", "usr/bin"):
+                os.makedirs(f"{root}/{name}")
+            for name in ("etc/shadow", "etc/app/a", "etc/app/b", "srv/data/x", "usr/bin/tool"):
+                self.write(f"{root}/{name}")
+            os.chmod(f"{root}/usr/bin/tool", 0o4755)
+            os.chmod(f"{root}/srv", 0o700)
+            os.chown(f"{root}/srv", 33, 33)
+            os.symlink("../usr/bin/tool", f"{root}/etc/tool")
+            os.mknod(f"{root}/etc/null", 0o20666, os.makedev(1, 3))
+        with self.layer() as root:
+            os.unlink(f"{root}/etc/app/a")
+            os.chmod(f"{root}/etc/shadow", 0o640)
+            shutil.rmtree(f"{root}/srv/data")
+            os.symlink("../etc", f"{root}/srv/data")
+            os.setxattr(f"{root}/usr/bin/tool", "user.note", b"2")
+        with self.layer() as root:
+            shutil.rmtree(f"{root}/etc/app")
+            os.mkdir(f"{root}/etc/app", 0o711)
+            self.write(f"{root}/etc/app/c")
+            self.write(f"{root}/usr/bin/new")
+        self.run_in(
+            "umoci", "config", "--image", "made:small", "--config.cmd", "/usr/bin/tool", "--config.user", "33:33",
+            "--config.env", "A=b", "--config.workingdir", "/srv", "--config.label", "org.example=1", "--config.volume",
+            "/srv", "--config.exposedports", "80/tcp", "--author", "A. Uthor", "--architecture", "arm64",
+        )
+
+    def write(self, path: str) -> None:
+        """Writes a file that holds its own name."""
+        with open(path, "w", encoding="utf-8") as file:
+            file.write(os.path.basename(path))
+
+    def tree(self, image: str, bundle: str) -> str:
+        """The tree that umoci makes of an image."""
+        self.run_in("umoci", "unpack", "--image", f"{image}:small", bundle)
+        status, printed, told = call("mounted", self.path("in", bundle, "rootfs"))
+        self.assertEqual(status, 0, told)
+        return printed
+
+    def configuration(self, image: str) -> dict[str, object]:
+        """The configuration that skopeo tells of an image, but for its layers."""
+        told = json.loads(self.run_in("skopeo", "inspect", "--config", f"oci:{image}:small"))
+        return {name: value for name, value in told.items() if name not in ("rootfs", "history")}
+
+    def test_trees_and_configurations(self) -> None:
+        self.make()
+        tree, configuration = self.tree("made", "bundle-of-made"), self.configuration("made")
+        self.assertEqual(configuration["config"]["Cmd"], ["/usr/bin/tool"])  # type: ignore[index]
+        for layers in (1, 2):
+            flat = self.path("all", f"flat{layers}")
+            self.require_done(self.flatten("--layers", layers, image=self.path("in", "made"), out=f"flat{layers}"))
+            self.assertEqual(self.tree(flat, f"bundle-{layers}"), tree)
+            self.assertEqual(self.configuration(flat), configuration)
+
+
+if __name__ == "__main__":
+    unittest.main()
