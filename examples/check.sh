@@ -1,7 +1,7 @@
 #!/usr/bin/env bash
 # Compares PROGRAM's report of each layer here with the `.show` file beside it, its reports of the stacks here, by
 # several numbers of workers, with what is expected of them, and its help and version with `help.txt` and `version.txt`,
-# byte for byte. Without PROGRAM it is the launcher's.
+# byte for byte; and what it tells of the manifests of `refused`. Without PROGRAM it is the launcher's.
 set -uo pipefail
 
 here=$(dirname -- "$(readlink -f -- "${BASH_SOURCE[0]}")")
@@ -36,4 +36,5 @@ for word in help version; do
 done
 echo "$same same, $other other"
 "$here/../bench/compare.sh" "$program" "$here/moved" "$here/faulty" "$here/copied" "$here/renamed" || other=$((other + 1))
+"$here/refused/check.sh" "$program" || other=$((other + 1))
 ((other == 0 && same > 2))
