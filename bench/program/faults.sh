@@ -213,6 +213,18 @@ chain() {
 }
 chain 62 | layer > deep.json
 chain 63 | layer > deeper.json
+# A redirect of 100,000 names; and a chain of as many directories as a path may have names, the last of which goes on at the
+# chain of deeper.json.
+at dir /m "\"xattrs\":{\"trusted.overlay.redirect\":\"$(printf '2f61%.0s' {1..100000})\"}" | layer > far.json
+{
+    path=
+    for ((i = 0; i < 63; i++)); do
+        path+=/a
+        at dir "$path" "$plain"
+    done
+    at dir "$path/a" '"xattrs":{"trusted.overlay.redirect":"2f78"}'
+    at char /x "$plain"',"major":0,"minor":0'
+} | layer > moved_deeper.json
 
 # Done.
 prints 0 'dir 0755 0 0 0 - - /\nentries 1\n'
@@ -390,7 +402,15 @@ if ends 0 told deref --blobs none --out new/ moved.json deep.json; then
     printf 'whiteout /x\nentries 66\n' | cmp -s - last && same=$((same + 1)) || differs 'another end' deref moved.json deep.json
 fi
 
+prints 1 'fault redirect-lost 0 /m\nfault redirect-open 0 /m\nfaults 2 notes 0\n' fsck --blobs none far.json root.json
+prints 0 'faults 0 notes 0\n' fsck --blobs none moved_deeper.json deeper.json
+if ends 0 told show moved_deeper.json deeper.json; then
+    tail -n 1 printed > last
+    says last $'entries 128\n' show moved_deeper.json deeper.json
+fi
+
 rm -f new/layer-0.json
+refuses 5 'result over the limits' merge --blobs none --out new moved_deeper.json deeper.json
 refuses 3 'no lower layer' merge --blobs blobs --out missing k.json
 refuses 3 'layer 0: wrong shape' merge --blobs blobs --out missing shape.json
 prints 1 'fault blob-missing 1 /k\nfaults 1 notes 0\n' merge --blobs none --out new meta.json k.json
