@@ -215,7 +215,7 @@ def ran(program, *words):
     """Status and standard output of a run, which must tell no fault on standard error."""
     done = subprocess.run([program, *words], stdin=subprocess.DEVNULL, capture_output=True, check=False)
     if done.returncode not in (0, 1) or done.stderr:
-        raise Differs(f"{' '.join(words)} ended with status {done.returncode}: {done.stderr.decode(errors='replace')[:200]}")
+        raise Differs(f"{words[0]} ended with status {done.returncode}: {done.stderr.decode(errors='replace').strip()[:200]}")
     return done.returncode, done.stdout
 
 

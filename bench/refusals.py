@@ -151,7 +151,8 @@ def swept(program, library, sweep):
 
 def build(library):
     """Builds the library by the compiler that rt brings along."""
-    tools = Path(shutil.which("rt")).resolve().parent.parent / "toolchain/bin"
+    page = subprocess.run(["rt", "doc"], stdin=subprocess.DEVNULL, capture_output=True, text=True, check=True).stdout
+    tools = Path(page.strip()).parent / "toolchain/bin"
     with tempfile.TemporaryDirectory(prefix="ovl-refuse-") as folder:
         made = Path(folder) / "refuse.o"
         subprocess.run([tools / "clang", "-O2", "-fPIC", "-ffreestanding", "-c", "-o", made, SOURCE], check=True)

@@ -169,7 +169,7 @@ done
 printf '{"entries":[%s%s],"overlay-layer":1}\n' "$root" "$pipes" > pipes.json
 printf '[]' > shape.json
 : > empty.json
-python3 "$bench/refusals.py" --library refuse.so || exit 1
+python3 -B "$bench/refusals.py" --library refuse.so || exit 1
 mkdir blobs wrong none bad.utf8 large flood closed folder.json
 printf abc > "blobs/$abc"
 printf note > blobs/note
