@@ -29,8 +29,8 @@ OPAQUE, WHITEOUT = "trusted.overlay.opaque", "trusted.overlay.whiteout"
 CONTENTS = ("", "a", "b", "abc")
 NAMES, DEEPEST = ("a", "b", "c", "d"), 5
 REWRITES = ("vacuum", "deref", "merge")
-# How many stacks that are not as they should be are told.
-TOLD = 10
+# How many stacks that are not as they should be are told, and the seconds after which a command counts as one without end.
+TOLD, LONGEST = 10, 60
 
 
 # ---- the tree that a stack shows: what is at each path but the root, a tuple of names
@@ -213,7 +213,7 @@ class Differs(Exception):
 
 def ran(program, *words):
     """Status and standard output of a run, which must tell no fault on standard error."""
-    done = subprocess.run([program, *words], stdin=subprocess.DEVNULL, capture_output=True, check=False)
+    done = subprocess.run([program, *words], stdin=subprocess.DEVNULL, capture_output=True, check=False, timeout=LONGEST)
     if done.returncode not in (0, 1) or done.stderr:
         raise Differs(f"{words[0]} ended with status {done.returncode}: {done.stderr.decode(errors='replace').strip()[:200]}")
     return done.returncode, done.stdout
