@@ -27,8 +27,9 @@ from growth import REDIRECT, entry, write
 SOURCE = Path(__file__).resolve().parent / "refuse.c"
 COMMANDS = ("show", "fsck", "vacuum", "deref", "merge")
 # What is refused, and how refuse.c is told so.
+THREAD = "the start of a thread"
 WAYS = {"a request": {"REFUSE": "memory"}, "a request and all after it": {"REFUSE": "memory", "REFUSE_ON": ""},
-        "the start of a thread": {"REFUSE": "thread"}}
+        THREAD: {"REFUSE": "thread"}}
 # No run meets so many requests. A sweep ends with so many wrong endings; of a command so many are told.
 MOST, ENOUGH, TOLD = 50_000, 40, 5
 OLD = b"what was there before\n"
@@ -144,6 +145,8 @@ def swept(program, library, sweep):
             ending, refused = run(words, room, env)
             if ending not in ((full, REFUSED) if refused else (full,)):
                 wrong.append(f"{how}, refused {sweep.refused}, number {number}: {ending}")
+            if number == 1 and not refused and sweep.refused != THREAD:
+                wrong.append(f"{how}: no request was met")
             if not refused or len(wrong) >= ENOUGH:
                 return number, wrong
         return MOST, [*wrong, f"{how}: no run without a refusal"]
