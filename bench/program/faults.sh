@@ -1,7 +1,8 @@
 #!/usr/bin/env bash
 # Runs PROGRAM on files and folders that can't be read or written, on words that don't fit and on what its command
 # refuses, and compares status, standard output and standard error with what docs/FORMATS.md says. The program may take
-# 3 GB of memory, fewer than the blobs of one of the folders have.
+# 3 GB of memory, fewer than the blobs of one of the folders have. Calls of the system that fail are made so by
+# ../refuse.c, which stands before the C library and which the compiler of `rt` builds.
 set -uo pipefail
 ulimit -v 3000000
 
@@ -10,6 +11,7 @@ if (($# != 1)); then
     exit 2
 fi
 program=$(readlink -f -- "$1")
+bench=$(dirname -- "$(dirname -- "$(readlink -f -- "${BASH_SOURCE[0]}")")")
 folder=$(mktemp -d)
 trap 'rm -rf -- "$folder"' EXIT
 cd -- "$folder" || exit 1
@@ -90,20 +92,69 @@ gives() {
     fi
 }
 
-# Ways to run the words: standard output is a device without room, or closed, or `disk` is one of 4,096 bytes, or
-# standard input is a pipe that gives spaces and a layer.
+# Ways to run the words: standard output is a device without room, or closed, or a pipe that nobody reads; standard error
+# is closed; `disk` is one of 4,096 bytes, or one that is only read; standard input is closed, or a folder, or gives zeros
+# without end, or is a pipe that gives spaces and a layer.
 without_room() {
     "$@" > /dev/full
 }
 without_output() {
     "$@" >&-
 }
+without_errors() {
+    "$@" 2>&-
+}
 on_a_small_disk() {
     unshare -m sh -c 'mount -t tmpfs -o size=4096 none disk && exec "$@"' sh "$@"
 }
 
+without_input() {
+    "$@" <&-
+}
+from_a_folder() {
+    "$@" < none
+}
+from_zeros() {
+    "$@" < /dev/zero
+}
+on_a_disk_for_reading() {
+    unshare -m sh -c 'mount -t tmpfs -o ro none disk && exec "$@"' sh "$@"
+}
+into_a_broken_pipe() {
+    python3 -c '
+import os, signal, sys
+signal.signal(signal.SIGPIPE, signal.SIG_DFL)
+reader, writer = os.pipe()
+os.dup2(writer, 1)
+os.close(reader)
+os.execv(sys.argv[1], sys.argv[1:])' "$@"
+}
 from_a_pipe() {
     head -c 300000 /dev/zero | tr '\0' ' ' | cat - root.json | "$@"
+}
+
+# Runs the words after CALL, PATH, AT and ERROR; the call AT of the file whose path ends so fails with this error's number,
+# or for 0 moves no byte. Reads and writes move at most `most` bytes, where that is set. `met` gets how many there were.
+most=
+failing() {
+    local words=("REFUSE=$1" "REFUSE_PATH=$2" "REFUSE_AT=$3" "REFUSE_ERROR=$4" "REFUSE_MOST=$most" REFUSE_TOLD=met)
+    shift 4
+    env LD_PRELOAD="$folder/refuse.so" "${words[@]}" "$@"
+}
+
+# Lets each CALL of the file whose path ends in PATH fail in turn with each of the ERRORS, and tries what the words after
+# these say: refuses, prints or gives, and their words.
+each() {
+    local call=$1 path=$2 errors=$3 count error at
+    shift 3
+    failing "$call" "$path" 0 0 "$program" "${@:4}" < input > printed 2> told
+    read -r count _ < met
+    ((count > 0)) || differs "no $call of $path" "$@"
+    for error in $errors; do
+        for ((at = 1; at <= count; at++)); do
+            over="failing $call $path $at $error" "$@"
+        done
+    done
 }
 
 root='{"gid":0,"kind":"dir","mode":493,"mtime":0,"path":"/","uid":0,"xattrs":{}}'
@@ -118,6 +169,7 @@ done
 printf '{"entries":[%s%s],"overlay-layer":1}\n' "$root" "$pipes" > pipes.json
 printf '[]' > shape.json
 : > empty.json
+python3 -B "$bench/refusals.py" --library refuse.so || exit 1
 mkdir blobs wrong none bad.utf8 large flood closed folder.json
 printf abc > "blobs/$abc"
 printf note > blobs/note
@@ -161,6 +213,18 @@ chain() {
 }
 chain 62 | layer > deep.json
 chain 63 | layer > deeper.json
+# A redirect of 100,000 names; and a chain of as many directories as a path may have names, the last of which goes on at the
+# chain of deeper.json.
+at dir /m "\"xattrs\":{\"trusted.overlay.redirect\":\"$(printf '2f61%.0s' {1..100000})\"}" | layer > far.json
+{
+    path=
+    for ((i = 0; i < 63; i++)); do
+        path+=/a
+        at dir "$path" "$plain"
+    done
+    at dir "$path/a" '"xattrs":{"trusted.overlay.redirect":"2f78"}'
+    at char /x "$plain"',"major":0,"minor":0'
+} | layer > moved_deeper.json
 
 # Done.
 prints 0 'dir 0755 0 0 0 - - /\nentries 1\n'
@@ -191,6 +255,70 @@ if ((EUID != 0)); then
     refuses 3 'cannot read closed' fsck --blobs closed root.json
     chmod 700 closed
 fi
+
+# Links, devices, pipes, sockets and names in place of files and folders.
+socket_at() {
+    python3 -c 'import socket, sys; socket.socket(socket.AF_UNIX).bind(sys.argv[1])' "$1"
+}
+ln -s root.json link.json
+ln -s link.json chained.json
+ln -s lost.json dangling.json
+ln -s round.json round.json
+ln -s blobs linked
+mkfifo pipe.json
+socket_at socket.json
+alone='dir 0755 0 0 0 - - /\nentries 1\n'
+prints 0 "$alone" show chained.json
+prints 0 "$alone" show ././//link.json
+printf -v long_name '%0256d' 0
+for path in dangling.json round.json socket.json linked root.json/ root.json/x . '' "$long_name" "$(printf './%.0s' {1..2048})" /dev/zero; do
+    refuses 3 "cannot read $path" show root.json "$path"
+done
+refuses 3 'layer 1: not JSON' show root.json /dev/null
+for words in pipe.json 'root.json pipe.json'; do
+    timeout 60 sh -c 'cat root.json > pipe.json' &
+    # shellcheck disable=SC2086
+    prints 0 "$alone" show $words
+    wait
+done
+prints 0 'faults 0 notes 0\n' fsck --blobs linked k.json
+for path in dangling.json round.json socket.json pipe.json /dev/null '' "$long_name"; do
+    refuses 3 "cannot read $path" fsck --blobs "$path" k.json
+done
+for kind in 'mkfifo' 'socket_at' 'mkdir' 'ln -s ../root.json' 'ln -s lost' 'ln -s /dev/zero'; do
+    mkdir odd
+    # shellcheck disable=SC2086
+    (cd odd && $kind "$abc")
+    prints 1 'fault blob-missing 0 /k\nfaults 1 notes 0\n' fsck --blobs odd k.json
+    rm -r odd
+done
+for way in without_input from_a_folder from_zeros; do
+    over=$way refuses 3 'cannot read standard input'
+done
+
+# Opens, looks, listings and reads that fail, by EIO (5), ENOMEM (12), EACCES (13) and EMFILE (24). By EINTR (4) they are
+# interrupted, and opens and reads are tried again.
+clean='faults 0 notes 0\n'
+each open k.json '5 12 13 24' refuses 3 'cannot read k.json' fsck --blobs blobs root.json k.json
+each open "/$abc" '5 12 13 24' refuses 3 "cannot read blobs/$abc" fsck --blobs blobs k.json
+each open blobs/ '5 12 13 24' refuses 3 'cannot read blobs' fsck --blobs blobs k.json
+each list blobs/ '4 5 12' refuses 3 'cannot read blobs' fsck --blobs blobs k.json
+for error in 4 5 12; do
+    # (First what the name in the folder is, then the length of the open file, which it goes without.)
+    over="failing stat /$abc 1 $error" refuses 3 'cannot read blobs' fsck --blobs blobs k.json
+    over="failing stat /$abc 2 $error" prints 0 "$clean" fsck --blobs blobs k.json
+done
+each stat k.json '4 5 12' prints 0 "$clean" fsck --blobs blobs root.json k.json
+most=100
+each read k.json '5 12' refuses 3 'cannot read k.json' fsck --blobs blobs root.json k.json
+each read "/$abc" '5 12' refuses 3 "cannot read blobs/$abc" fsck --blobs blobs k.json
+each read /dev/stdin '5 12' refuses 3 'cannot read standard input'
+each read k.json 4 prints 0 "$clean" fsck --blobs blobs root.json k.json
+each read "/$abc" 4 prints 0 "$clean" fsck --blobs blobs k.json
+each read /dev/stdin 4 prints 0 "$alone"
+most=
+each open k.json 4 prints 0 "$clean" fsck --blobs blobs root.json k.json
+each open "/$abc" 4 prints 0 "$clean" fsck --blobs blobs k.json
 
 # The command.
 refuses 3 'layer 1: not JSON' show root.json empty.json
@@ -274,7 +402,15 @@ if ends 0 told deref --blobs none --out new/ moved.json deep.json; then
     printf 'whiteout /x\nentries 66\n' | cmp -s - last && same=$((same + 1)) || differs 'another end' deref moved.json deep.json
 fi
 
+prints 1 'fault redirect-lost 0 /m\nfault redirect-open 0 /m\nfaults 2 notes 0\n' fsck --blobs none far.json root.json
+prints 0 'faults 0 notes 0\n' fsck --blobs none moved_deeper.json deeper.json
+if ends 0 told show moved_deeper.json deeper.json; then
+    tail -n 1 printed > last
+    says last $'entries 128\n' show moved_deeper.json deeper.json
+fi
+
 rm -f new/layer-0.json
+refuses 5 'result over the limits' merge --blobs none --out new moved_deeper.json deeper.json
 refuses 3 'no lower layer' merge --blobs blobs --out missing k.json
 refuses 3 'layer 0: wrong shape' merge --blobs blobs --out missing shape.json
 prints 1 'fault blob-missing 1 /k\nfaults 1 notes 0\n' merge --blobs none --out new meta.json k.json
@@ -288,10 +424,72 @@ gives new root.json
 mv new/layer-1.json new/layer-0.json
 gives new k.json
 
-# The output.
-for way in without_output without_room; do
+# Links, devices, pipes and sockets in place of the folder for new layers, and of these.
+rm -f new/layer-*.json
+whole='removed 0 kept 2\n'
+ln -s new into
+prints 0 "$whole" vacuum --blobs blobs --out into k.json root.json
+gives new k.json
+rm -f new/layer-0.json
+for path in dangling.json round.json socket.json pipe.json /dev/null "$long_name"; do
+    refuses 4 "cannot write $path/layer-0.json" vacuum --blobs blobs --out "$path" k.json root.json
+done
+for target in ../root.json ../made.json ../none/made.json; do
+    cp root.json kept.json
+    mkdir places && ln -s "$target" places/layer-0.json
+    prints 0 "$whole" vacuum --blobs blobs --out places k.json root.json
+    gives places k.json
+    cp kept.json root.json
+    rm -r places
+done
+rm none/made.json
+for kind in 'socket_at' 'ln -s layer-0.json' 'ln -s lost/file'; do
+    mkdir places
+    # shellcheck disable=SC2086
+    (cd places && $kind layer-0.json)
+    refuses 4 'cannot write places/layer-0.json' vacuum --blobs blobs --out places k.json root.json
+    rm -r places
+done
+mkdir places && mkfifo places/layer-0.json
+timeout 60 sh -c 'cat places/layer-0.json > got.json' &
+prints 0 "$whole" vacuum --blobs blobs --out places k.json root.json
+wait
+says got.json "$(cat k.json)"$'\n' vacuum --out places
+rm -r places
+mkdir places && ln -s /dev/null places/layer-0.json
+prints 0 "$whole" vacuum --blobs blobs --out places k.json root.json
+rm -r places
+if on_a_disk_for_reading true 2> told; then
+    over=on_a_disk_for_reading refuses 4 'cannot write disk/layer-0.json' vacuum --blobs blobs --out disk k.json root.json
+fi
+
+# New layers and reports that can't be made or written: by EIO (5), ENOMEM (12), EMFILE (24), EFBIG (27), ENOSPC (28), EROFS
+# (30) and EDQUOT (122), or because a write takes nothing. What is interrupted is tried again.
+merge=(merge --blobs blobs --out new meta.json k.json)
+for made in layer-0.json layer-1.json; do
+    each open "new/$made" '5 12 24 28 30 122' refuses 4 "cannot write new/$made" "${merge[@]}"
+    each open "new/$made" 4 prints 0 'leaf /k\nentries 2\n' "${merge[@]}"
+    most=50
+    each write "new/$made" '0 5 27 28 122' refuses 4 "cannot write new/$made" "${merge[@]}"
+    each write "new/$made" 4 prints 0 'leaf /k\nentries 2\n' "${merge[@]}"
+    most=
+done
+each write /dev/stdout '0 5 28 32' refuses 4 'cannot write standard output' "${merge[@]}"
+each write /dev/stdout 4 prints 0 'leaf /k\nentries 2\n' "${merge[@]}"
+
+# Reads and writes of one byte each.
+most=1
+over='failing read no-file 0 0' prints 0 'leaf /k\nentries 2\n' "${merge[@]}"
+most=
+gives new root.json
+mv new/layer-1.json new/layer-0.json
+gives new k.json
+
+# The output, and what is told.
+for way in without_output without_room into_a_broken_pipe; do
     over=$way refuses 4 'cannot write standard output' show root.json
 done
+over=without_errors ends 3 told show missing.json && same=$((same + 1))
 
 # Help and the version go to standard output.
 for words in --help -h --version 'show --help' 'fsck --help' 'vacuum --help' 'deref --help' 'merge --help'; do

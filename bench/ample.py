@@ -1,0 +1,292 @@
+#!/usr/bin/env python3
+"""Makes many small stacks, full of redirects, and looks whether every command does with them what it must.
+
+Python 3.11, standard library. Each layer is made as a mounted overlay leaves it behind: files and directories of the
+tree so far are moved, also into each other, replaced, removed, changed and made, and the layer has what that takes:
+redirects to a path or to a name beside, opaque directories, whiteouts of both forms, metacopy files over files and
+over other metacopy files, and copies of what lies below. So it is known what each stack shows, and that it is sound.
+In a third of the stacks something is then changed that no mounted overlay would have changed.
+
+Where `fsck` finds no fault, `vacuum`, `deref` and `merge` must give new layers with which the stack shows the same
+bytes; `vacuum` once more must remove nothing, and `fsck` must find no fault after `vacuum` and `deref`. Where it finds
+one, all three must answer with its report. There is memory enough, so no command may end with `out of memory`.
+
+    python3 bench/ample.py --program crates/ovl_layers/out/ovl_layers
+"""
+import argparse
+import concurrent.futures
+import hashlib
+import os
+import random
+import subprocess
+import sys
+import tempfile
+from dataclasses import dataclass, replace
+
+from growth import METACOPY, REDIRECT, entry, write
+
+OPAQUE, WHITEOUT = "trusted.overlay.opaque", "trusted.overlay.whiteout"
+CONTENTS = ("", "a", "b", "abc")
+NAMES, DEEPEST = ("a", "b", "c", "d"), 5
+REWRITES = ("vacuum", "deref", "merge")
+# How many stacks that are not as they should be are told, and the seconds after which a command counts as one without end.
+TOLD, LONGEST = 10, 60
+
+
+# ---- the tree that a stack shows: what is at each path but the root, a tuple of names
+
+@dataclass(frozen=True)
+class Thing:
+    """A directory, or a file of these contents; and where the layers below the one in work have it, if they do."""
+
+    contents: str | None
+    mode: int
+    origin: tuple | None = None
+    changed: bool = False
+
+    def is_directory(self):
+        return self.contents is None
+
+
+def below(tree, path):
+    return [it for it in tree if it[:len(path)] == path]
+
+
+def some_place(rng, tree):
+    """A path in a directory of the tree, at which mostly there is nothing."""
+    directories = [()] + [path for path, thing in tree.items() if thing.is_directory() and len(path) < DEEPEST]
+    places = [rng.choice(directories) + (rng.choice(NAMES),) for _ in range(4)]
+    return next((it for it in places if it not in tree), places[0])
+
+
+def remove(_, tree, path):
+    for it in below(tree, path):
+        del tree[it]
+
+
+def make(rng, tree, _):
+    place = some_place(rng, tree)
+    remove(rng, tree, place)
+    tree[place] = Thing(rng.choice((None, None, None, *CONTENTS)), rng.choice((0o644, 0o755)))
+
+
+def move(rng, tree, path):
+    place = some_place(rng, tree)
+    within = below(tree, path)
+    longest = max(map(len, within)) - len(path) + len(place)
+    if place[:len(path)] != path and path[:len(place)] != place and longest <= DEEPEST:
+        remove(rng, tree, place)
+        tree |= {place + it[len(path):]: tree.pop(it) for it in within}
+
+
+def change(rng, tree, path):
+    tree[path] = replace(tree[path], mode=rng.choice((0o600, 0o700)), changed=True)
+
+
+WORK = (make, make, make, move, move, move, move, change, change, remove)
+
+
+def work(rng, tree):
+    """The tree after some work in it."""
+    tree = {path: replace(it, origin=path, changed=False) for path, it in tree.items()}
+    for _ in range(rng.randint(8, 16)):
+        what = rng.choice(WORK) if tree else make
+        what(rng, tree, rng.choice(sorted(tree)) if tree else None)
+    return tree
+
+
+# ---- the layer that makes a tree of another
+
+def text(path):
+    return "/" + "/".join(path)
+
+
+def whiteout(rng, path):
+    if rng.random() < 0.5:
+        return entry(text(path), "char", major=0, minor=0)
+    return entry(text(path), "file", {WHITEOUT: ""}, size=0)
+
+
+def redirect(rng, origin, place):
+    """The redirect to an origin from where the directory's own lower place is this one, if any."""
+    beside = place is not None and origin[:-1] == place and rng.random() < 0.6
+    return {REDIRECT: origin[-1] if beside else text(origin)}
+
+
+def file(rng, path, thing, place):
+    attrs, within = {}, {"size": len(thing.contents)}
+    if thing.origin is not None and rng.random() < 0.7:
+        natural = place is not None and thing.origin == place + path[-1:]
+        attrs = {METACOPY: ""} | ({} if natural and rng.random() < 0.5 else redirect(rng, thing.origin, place))
+    elif thing.contents:
+        within["blob"] = hashlib.sha256(thing.contents.encode()).hexdigest()
+    return entry(text(path), "file", attrs, **within) | {"mode": thing.mode}
+
+
+def directory(rng, path, thing, place, lower):
+    """The directory's entry, and its own lower place."""
+    natural = None if place is None else place + path[-1:]
+    hides = natural in lower and lower[natural].is_directory()
+    if thing.origin is None:
+        attrs, own = ({OPAQUE: "y"} if hides or rng.random() < 0.2 else {}), None
+    elif thing.origin == natural:
+        attrs, own = {}, natural
+    else:
+        attrs, own = redirect(rng, thing.origin, place), thing.origin
+    return entry(text(path), attrs=attrs) | {"mode": thing.mode}, own
+
+
+def entries(rng, tree, lower, path=(), place=()):
+    """The entries in a directory of the layer by which `lower` becomes the tree."""
+    shown = {it[-1] for it in tree if it[:-1] == path} | {it[-1] for it in lower if it[:-1] == place}
+    made = []
+    for name in sorted(shown):
+        here, natural = path + (name,), None if place is None else place + (name,)
+        thing = tree.get(here)
+        kept = thing is not None and natural is not None and thing.origin == natural and not thing.changed
+        if thing is None:
+            made.append(whiteout(rng, here))
+        elif thing.is_directory():
+            its, own = directory(rng, here, thing, place, lower)
+            within = entries(rng, tree, lower, here, own)
+            made += [its, *within] if within or not kept or rng.random() < 0.1 else []
+        elif not kept or rng.random() < 0.2:
+            made.append(file(rng, here, thing, place))
+    return made
+
+
+def spoil(rng, layers):
+    """Changes one entry of a layer, or drops it with all below."""
+    layer = rng.choice([it for it in layers if it] or [[]])
+    if not layer:
+        return
+    spoilt = rng.choice(layer)
+    attrs, way = spoilt["xattrs"], rng.randrange(5)
+    if way == 0:
+        layer[:] = [it for it in layer if not (it["path"] + "/").startswith(spoilt["path"] + "/")]
+    elif way == 1 and spoilt["kind"] == "dir":
+        attrs[OPAQUE] = b"y".hex()
+    elif way == 2 and (spoilt["kind"] == "dir" or METACOPY in attrs):
+        attrs[REDIRECT] = rng.choice(("/a", "/b/c", "d", "/d/a/b", "/", "a/b")).encode().hex()
+    elif way == 3 and "blob" in spoilt:
+        del spoilt["blob"]
+        attrs[METACOPY] = ""
+    else:
+        attrs.pop(REDIRECT, None)
+
+
+@dataclass(frozen=True)
+class Stack:
+    """Layers, the topmost first, and what they show, where that is known."""
+
+    layers: list
+    tree: dict | None
+
+
+def stack_of(rng):
+    tree, layers = {}, []
+    for _ in range(rng.choice((2, 3, 3, 4, 5))):
+        lower, tree = tree, work(rng, tree)
+        layers.insert(0, entries(rng, tree, lower))
+    if rng.random() < 1 / 3:
+        for _ in range(rng.randint(1, 3)):
+            spoil(rng, layers)
+        return Stack(layers, None)
+    return Stack(layers, tree)
+
+
+def report(tree):
+    """What `show` prints of a tree."""
+    lines = ["dir 0755 0 0 0 - - /"]
+    for path, thing in sorted(tree.items()):
+        name = hashlib.sha256(thing.contents.encode()).hexdigest() if thing.contents else "-"
+        what = "dir {:04o} 0 0 0 - -" if thing.is_directory() else f"file {{:04o}} 0 0 0 {len(thing.contents)} {name}"
+        lines.append(what.format(thing.mode) + " " + text(path))
+    return "\n".join([*lines, f"entries {len(lines)}", ""]).encode()
+
+
+# ---- runs
+
+class Differs(Exception):
+    """What isn't as it should be."""
+
+
+def ran(program, *words):
+    """Status and standard output of a run, which must tell no fault on standard error."""
+    done = subprocess.run([program, *words], stdin=subprocess.DEVNULL, capture_output=True, check=False, timeout=LONGEST)
+    if done.returncode not in (0, 1) or done.stderr:
+        raise Differs(f"{words[0]} ended with status {done.returncode}: {done.stderr.decode(errors='replace').strip()[:200]}")
+    return done.returncode, done.stdout
+
+
+def same(what, one, other):
+    if one != other:
+        raise Differs(f"{what}: {one} and not {other}")
+
+
+def rewritten(program, blobs, layers, command, folder):
+    """The layers with the new ones of a command, and what it printed."""
+    out = os.path.join(folder, command)
+    os.makedirs(out, exist_ok=True)
+    status, printed = ran(program, command, "--blobs", blobs, "--out", out, "--workers", "3", *layers)
+    if status != 0:
+        return None, (status, printed)
+    new = [os.path.join(out, it) for it in sorted(os.listdir(out))]
+    return new + layers[len(new):], (status, printed)
+
+
+def judge(program, blobs, stack, folder):
+    """Whether the stack is sound."""
+    layers = write(folder, stack.layers)
+    shown, found = ran(program, "show", *layers), ran(program, "fsck", "--blobs", blobs, *layers)
+    if stack.tree is not None:
+        same("show", shown, (0, report(stack.tree)))
+        same("the status of fsck", found[0], 0)
+    after = {it: rewritten(program, blobs, layers, it, folder) for it in REWRITES}
+    for command, (new, answered) in after.items():
+        if found[0] == 1:
+            same(command, answered, found)
+            continue
+        same(f"the status of {command}", answered[0], 0)
+        same(f"show after {command}", ran(program, "show", *new), shown)
+        if command != "merge":
+            same(f"the status of fsck after {command}", ran(program, "fsck", "--blobs", blobs, *new)[0], 0)
+    if found[0] == 0:
+        _, (_, again) = rewritten(program, blobs, after["vacuum"][0], "vacuum", os.path.join(folder, "again"))
+        same("vacuum again", again.startswith(b"removed 0 kept "), True)
+    return found[0] == 0
+
+
+def case(program, blobs, seed, number):
+    """Whether the stack of this number is sound, or what isn't as it should be."""
+    with tempfile.TemporaryDirectory(prefix="ovl-ample-") as folder:
+        try:
+            return judge(program, blobs, stack_of(random.Random(f"{seed} {number}")), folder)
+        except Differs as fault:
+            return f"stack {number}: {fault}"
+
+
+def main():
+    words = argparse.ArgumentParser(description="Makes many small stacks, and runs every command on them.")
+    words.add_argument("--program", required=True, help="path of the program")
+    words.add_argument("--count", type=int, default=2_000, help="how many stacks (default 2,000)")
+    words.add_argument("--seed", default="1", help="other stacks; one depends on the seed and its number alone (default 1)")
+    words.add_argument("--keep", type=int, metavar="N", help="only print the layers of the stack of this number")
+    given = words.parse_args()
+    if given.keep is not None:
+        sys.exit(print(*write(tempfile.mkdtemp(), stack_of(random.Random(f"{given.seed} {given.keep}")).layers), sep="\n"))
+    program, numbers = os.path.abspath(given.program), range(given.count)
+    with tempfile.TemporaryDirectory(prefix="ovl-ample-") as blobs, concurrent.futures.ProcessPoolExecutor() as pool:
+        for contents in map(str.encode, CONTENTS):
+            with open(os.path.join(blobs, hashlib.sha256(contents).hexdigest()), "wb") as out:
+                out.write(contents)
+        all_of = ([it] * given.count for it in (program, blobs, given.seed))
+        answers = list(pool.map(case, *all_of, numbers, chunksize=20))
+    differ = [it for it in answers if isinstance(it, str)]
+    print(*differ[:TOLD], sep="\n", end="\n" if differ else "")
+    print(f"{given.count:,} stacks of seed {given.seed}, {answers.count(True):,} of them sound, {len(differ)} not as they should be")
+    sys.exit(1 if differ else 0)
+
+
+if __name__ == "__main__":
+    main()

@@ -1,0 +1,197 @@
+#!/usr/bin/env python3
+"""Refuses the program memory, one request after the other, and looks at how it ends.
+
+Python 3.11, standard library, and `rt`, whose compiler builds refuse.c. Each command is run on small stacks by 1 and by
+2 workers, and on one of 40 directories by 7, again and again: the first, the second, the third and each later request
+for memory is refused, then all from the first on, from the second on, and so forth, each time until a run meets no
+refusal; and so is each start of a thread. A run must end with its full answer, or with status 5 and `out of memory`,
+nothing on standard output, no new layer, and the one that was there as it was.
+
+    python3 bench/refusals.py --program crates/ovl_layers/out/ovl_layers
+    python3 bench/refusals.py --library refuse.so    # builds the library alone
+"""
+import argparse
+import collections
+import concurrent.futures
+import hashlib
+import os
+import shutil
+import subprocess
+import sys
+import tempfile
+from dataclasses import dataclass
+from pathlib import Path
+
+from growth import REDIRECT, entry, write
+
+SOURCE = Path(__file__).resolve().parent / "refuse.c"
+COMMANDS = ("show", "fsck", "vacuum", "deref", "merge")
+# What is refused, and how refuse.c is told so.
+THREAD = "the start of a thread"
+WAYS = {"a request": {"REFUSE": "memory"}, "a request and all after it": {"REFUSE": "memory", "REFUSE_ON": ""},
+        THREAD: {"REFUSE": "thread"}}
+# No run meets so many requests. A sweep ends with so many wrong endings; of a command so many are told.
+MOST, ENOUGH, TOLD = 50_000, 40, 5
+OLD = b"what was there before\n"
+
+
+# ---- the stacks
+
+def digest(contents):
+    return hashlib.sha256(contents).hexdigest()
+
+
+def file(path, contents, stated=None):
+    """A file of these contents; of another size than theirs where that is stated."""
+    return entry(path, "file", size=len(contents) if stated is None else stated, blob=digest(contents))
+
+
+def whiteout(path):
+    return entry(path, "char", major=0, minor=0)
+
+
+def moved(path, target):
+    return entry(path, attrs={REDIRECT: target})
+
+
+def opaque(path):
+    return entry(path, attrs={"trusted.overlay.opaque": "y"})
+
+
+@dataclass(frozen=True)
+class Stack:
+    """Layers, the topmost first, each below its root; the contents of the blobs by their names; and how many workers."""
+
+    layers: tuple
+    blobs: dict
+    workers: tuple = (1, 2)
+
+
+A = {digest(b"a"): b"a"}
+DIRECTORY = [entry("/d"), file("/d/k", b"a")]
+FORTY = [it for n in range(40) for it in (entry(f"/d{n:02d}"), file(f"/d{n:02d}/k", b"a"))]
+STACKS = {
+    "root_alone": Stack(([],), {}),
+    "moved_under_opaque": Stack(([opaque("/n"), moved("/n/d", "/x"), whiteout("/x")],
+                                 [entry("/n"), file("/n/z", b"a"), entry("/x"), file("/x/k", b"a")]), A),
+    "the_same_twice": Stack((DIRECTORY, DIRECTORY), A),
+    "moved_over_another": Stack(([whiteout("/a"), moved("/b", "/a")], [entry("/a"), file("/a/k", b"a")],
+                                 [entry("/b"), file("/b/z", b"a")]), A),
+    "wrong_contents": Stack(([entry("/e", "file", size=0), file("/k", b"abc"), file("/m", b"a"), file("/s", b"ab", 3)],),
+                            {digest(b"abc"): b"abd", digest(b"ab"): b"ab"}),
+    "forty_directories": Stack((FORTY, FORTY), A, (7,)),
+}
+
+
+# ---- runs
+
+@dataclass(frozen=True)
+class Ending:
+    """How a run ends: its status, what it printed and told, and the new layers by their names."""
+
+    status: int
+    printed: bytes
+    told: bytes
+    layers: dict
+
+
+REFUSED = Ending(5, b"", b"ovl_layers: out of memory\n", {"layer-0.json": OLD})
+
+
+def run(words, room, env):
+    """A run's ending, and whether something was refused. One that is killed counts as refused."""
+    new, told = room / "new", room / "told"
+    shutil.rmtree(new, ignore_errors=True)
+    new.mkdir()
+    (new / "layer-0.json").write_bytes(OLD)
+    told.unlink(missing_ok=True)
+    ran = subprocess.run(words, env={**env, "REFUSE_TOLD": str(told)}, stdin=subprocess.DEVNULL, capture_output=True, check=False)
+    layers = {it.name: it.read_bytes() for it in new.iterdir()}
+    refused = int(told.read_text().split()[1]) if told.exists() else 1
+    return Ending(ran.returncode, ran.stdout, ran.stderr, layers), refused > 0
+
+
+@dataclass(frozen=True)
+class Sweep:
+    """A command on a stack by so many workers, and what it is refused."""
+
+    command: str
+    stack: str
+    workers: int
+    refused: str
+
+    def words(self, program, room):
+        stack, blobs, folder = STACKS[self.stack], room / "blobs", room / "layers"
+        for it in (blobs, folder):
+            it.mkdir()
+        for name, contents in stack.blobs.items():
+            (blobs / name).write_bytes(contents)
+        words = [program, self.command, "--workers", str(self.workers)]
+        words += ["--blobs", str(blobs)] if self.command != "show" else []
+        words += ["--out", str(room / "new")] if self.command not in ("show", "fsck") else []
+        return words + write(str(folder), stack.layers)
+
+
+def swept(program, library, sweep):
+    """How many runs there were, and what is told of those that ended wrongly."""
+    with tempfile.TemporaryDirectory(prefix="ovl-refusals-") as folder:
+        room = Path(folder)
+        words = sweep.words(program, room)
+        full, _ = run(words, room, {})
+        how = f"{sweep.command} of {sweep.stack} by {sweep.workers}"
+        wrong = [] if full.status in (0, 1, 3) else [f"{how}, nothing refused: {full}"]
+        for number in range(1, MOST):
+            env = {"LD_PRELOAD": library, "REFUSE_AT": str(number), **WAYS[sweep.refused]}
+            ending, refused = run(words, room, env)
+            if ending not in ((full, REFUSED) if refused else (full,)):
+                wrong.append(f"{how}, refused {sweep.refused}, number {number}: {ending}")
+            if number == 1 and not refused and sweep.refused != THREAD:
+                wrong.append(f"{how}: no request was met")
+            if not refused or len(wrong) >= ENOUGH:
+                return number, wrong
+        return MOST, [*wrong, f"{how}: no run without a refusal"]
+
+
+def build(library):
+    """Builds the library by the compiler that rt brings along."""
+    page = subprocess.run(["rt", "doc"], stdin=subprocess.DEVNULL, capture_output=True, text=True, check=True).stdout
+    tools = Path(page.strip()).parent / "toolchain/bin"
+    with tempfile.TemporaryDirectory(prefix="ovl-refuse-") as folder:
+        made = Path(folder) / "refuse.o"
+        subprocess.run([tools / "clang", "-O2", "-fPIC", "-ffreestanding", "-c", "-o", made, SOURCE], check=True)
+        subprocess.run([tools / "ld.lld", "-shared", "-o", library, made], check=True)
+
+
+def sweeps():
+    """All, those of the longest runs first."""
+    for name, stack in reversed(STACKS.items()):
+        for refused in WAYS:
+            yield from (Sweep(command, name, workers, refused) for workers in stack.workers for command in COMMANDS)
+
+
+def main():
+    words = argparse.ArgumentParser(description="Refuses the program memory, one request after the other.")
+    what = words.add_mutually_exclusive_group(required=True)
+    what.add_argument("--program", help="path of the program")
+    what.add_argument("--library", metavar="FILE", help="build the library that refuses into this file, and nothing else")
+    given = words.parse_args()
+    if given.library:
+        sys.exit(build(given.library))
+    program, runs, wrong = os.path.abspath(given.program), collections.Counter(), collections.defaultdict(list)
+    with tempfile.TemporaryDirectory(prefix="ovl-refuse-") as folder, concurrent.futures.ProcessPoolExecutor() as pool:
+        library = os.path.join(folder, "refuse.so")
+        build(library)
+        for sweep, done in [(it, pool.submit(swept, program, library, it)) for it in sweeps()]:
+            count, told = done.result()
+            runs[sweep.command] += count
+            wrong[sweep.command] += told
+    for command in COMMANDS:
+        print(*wrong[command][:TOLD], sep="\n", end="\n" if wrong[command] else "")
+        print(f"{command}: {runs[command]:,} runs, {len(wrong[command])} ended wrongly", flush=True)
+    total = sum(map(len, wrong.values()))
+    print(f"{runs.total():,} runs, {total} ended wrongly")
+    sys.exit(1 if total else 0)
+
+
+if __name__ == "__main__":
+    main()
