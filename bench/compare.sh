@@ -3,7 +3,8 @@
 # workers with the files there, byte for byte: `show` with expected.show, and where there is a folder of blobs, `fsck`
 # with expected.fsck, or with a report that finds nothing where there is no such file. Where there is expected.vacuum,
 # expected.deref or expected.merge, the report of that command is compared with it, the new layers with
-# expected.vacuum.layer-0.json and so on, and what the stack with the new layers shows with expected.show.
+# expected.vacuum.layer-0.json and so on, and what the stack with the new layers shows with expected.show. A file
+# data-layers has the number of the lowest layers that are data-only, where there are some.
 set -uo pipefail
 
 if (($# < 2)); then
@@ -36,23 +37,25 @@ for folder in "$@"; do
     while [[ -f $folder/l${#layers[@]}.json ]]; do
         layers+=("$folder/l${#layers[@]}.json")
     done
+    data=()
+    [[ -f $folder/data-layers ]] && data=(--data-layers "$(< "$folder/data-layers")")
     found=$clean
     [[ -f $folder/expected.fsck ]] && found=$folder/expected.fsck
     for workers in 1 2 7 64; do
-        compare "$folder/expected.show" show --workers "$workers" "${layers[@]}"
+        compare "$folder/expected.show" show --workers "$workers" "${data[@]}" "${layers[@]}"
         if [[ -d $folder/blobs ]]; then
-            compare "$found" fsck --blobs "$folder/blobs" --workers "$workers" "${layers[@]}"
+            compare "$found" fsck --blobs "$folder/blobs" --workers "$workers" "${data[@]}" "${layers[@]}"
         fi
         for command in vacuum deref merge; do
             [[ -f $folder/expected.$command ]] || continue
-            words=(--blobs "$folder/blobs" --out "$new" --workers "$workers")
+            words=(--blobs "$folder/blobs" --out "$new" --workers "$workers" "${data[@]}")
             compare "$folder/expected.$command" "$command" "${words[@]}" "${layers[@]}"
             made=()
             while [[ -f $folder/expected.$command.layer-${#made[@]}.json ]]; do
                 cmp -- "$new/layer-${#made[@]}.json" "$folder/expected.$command.layer-${#made[@]}.json" || other=$((other + 1))
                 made+=("$new/layer-${#made[@]}.json")
             done
-            compare "$folder/expected.show" show "${made[@]}" "${layers[@]:${#made[@]}}"
+            compare "$folder/expected.show" show "${data[@]}" "${made[@]}" "${layers[@]:${#made[@]}}"
         done
     done
     echo "$folder: ${#layers[@]} layers compared"

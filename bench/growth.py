@@ -98,10 +98,26 @@ def under_a_chain(size):
     return [chain("d", size) + files("/d" * size, 20_000)]
 
 
+def bare_files(redirected=False):
+    """Metacopy files, which may have an absolute redirect to their own path, the only way into a data-only layer."""
+    paths = [f"/f{n:07d}" for n in range(3_000)]
+    return [entry(path, "file", {METACOPY: "", **({REDIRECT: path} if redirected else {})}, size=len(CONTENTS)) for path in paths]
+
+
+def full_files():
+    return [entry(f"/f{n:07d}", "file", size=len(CONTENTS), blob=BLOB) for n in range(3_000)]
+
+
 def metacopy_files(size):
-    bare = lambda: [entry(f"/f{n:07d}", "file", {METACOPY: ""}, size=len(CONTENTS)) for n in range(3_000)]
-    full = lambda: [entry(f"/f{n:07d}", "file", size=len(CONTENTS), blob=BLOB) for n in range(3_000)]
-    return [*[bare] * (size - 1), full]
+    return [*[bare_files] * (size - 1), full_files]
+
+
+def data_only_layers(size):
+    return [lambda: bare_files(True), *[bare_files] * (size - 1), full_files]
+
+
+def chains_into_data(size):
+    return [*[lambda: bare_files(True)] * size, full_files]
 
 
 def full_layer(size):
@@ -120,7 +136,8 @@ def one_directory(size):
 
 @dataclass(frozen=True)
 class Case:
-    """A command on layers of several sizes, how often the instructions for a byte may grow at a doubling, and its status."""
+    """A command on layers of several sizes, how often the instructions for a byte may grow at a doubling, its status, and
+    how many of the layers are data-only."""
 
     name: str
     command: str
@@ -128,6 +145,8 @@ class Case:
     sizes: tuple
     allowed: float = ALLOWED
     status: int = 0
+    # How many layers are data-only, at a size.
+    data_only: Callable = lambda size: 0
 
 
 CHAINS = Case("N layers of 64 directories in each other, the deepest redirected to the first", "show", chained_redirects,
@@ -141,6 +160,10 @@ CASES = [
     Case("20,000 files under N directories in each other", "show", under_a_chain, (0, 15, 30, 60)),
     # Each file's data is sought in the layers below: at most layers times files.
     Case("3,000 metacopy files through N layers", "fsck", metacopy_files, (16, 32, 64), 2.2),
+    Case("3,000 metacopy files whose data lie in the last of N data-only layers", "fsck", data_only_layers, (1, 8, 64),
+         data_only=lambda size: size),
+    Case("3,000 metacopy files with redirects through N layers into a data-only one", "fsck", chains_into_data, (1, 8, 64), 2.2,
+         data_only=lambda size: 1),
     Case("a layer of N entries", "show", full_layer, (131_072, 1_048_576)),
     Case("a directory of N files", "show", one_directory, (50_000, 100_000, 200_000)),
     Case("a directory with a redirect of N names, and N directories in it", "show", redirected_directories, (250, 500, 1_000, 2_000)),
@@ -165,7 +188,8 @@ def cost(program, case, size, longest, unsorted=False):
         with open(os.path.join(blobs, BLOB), "wb") as out:
             out.write(CONTENTS)
         layers, report = write(folder, case.make(size), unsorted), os.path.join(folder, "report")
-        command = [program, case.command, *(["--blobs", blobs] if case.command == "fsck" else []), "--workers", "1", *layers]
+        command = [program, case.command, *(["--blobs", blobs] if case.command == "fsck" else []), "--workers", "1", "--data-layers",
+                   str(case.data_only(size)), *layers]
         seconds, peak, status = run.one_run(command, os.devnull, report)
         if status != case.status:
             sys.exit(f"growth.py: {case.name}: status {status} at {size}")

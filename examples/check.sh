@@ -35,5 +35,6 @@ for word in help version; do
     compare "$word.txt"
 done
 echo "$same same, $other other"
-"$here/../bench/compare.sh" "$program" "$here/moved" "$here/faulty" "$here/copied" "$here/renamed" || other=$((other + 1))
+stacks=("$here"/{moved,faulty,copied,renamed,composed})
+"$here/../bench/compare.sh" "$program" "${stacks[@]}" || other=$((other + 1))
 ((other == 0 && same > 2))

@@ -89,7 +89,7 @@ module _ (stack : StackView) (each : All IsLayer stack.layers) where
 
     -- the report of the merged tree: all its lines, and their number
     pub whole_report : (lines report : List ℕ) (entries : ℕ) → lines ≡ flat_map show_line (merged_tree stack) → entries ≡ length (merged_tree stack)
-        → report ≡ lines ++ codes "entries " ++ decimal entries ++ codes "\n" → IsShowReport stack.layers report
+        → report ≡ lines ++ codes "entries " ++ decimal entries ++ codes "\n" → IsShowReport stack report
     whole_report lines report entries all count told = record {
       looks = merged_tree stack;
       merged = tree_merged stack each some;

@@ -1,8 +1,9 @@
 -- New layers in place of the topmost keep the merged tree, where nothing is found to be at fault.
-use Rattle.std.proofs.Common.{◌≡◌, ℕ, zero, suc, ◌<◌, Bool, true, false, cond, Result, Ok, Err, List, [], ◌∷◌, ◌++◌, length, drop, map, refl, sym, ap, ◌∙◌, subst, arith}
+use Rattle.std.proofs.Common.{◌≡◌, ℕ, zero, suc, ◌-◌, ◌<◌, ◌≤◌, Bool, true, false, cond, Some, None, Result, Ok, Err, List, [], ◌∷◌, ◌++◌, length, take, drop, map, refl, sym, ap, ◌∙◌, subst, append_assoc, arith, length-append, length-drop}
 use Rattle.std.specs.Prelude.{◌||◌, ◌==◌, not}
 use Rattle.std.specs.List.{All, list_any, list_all}
-use Rattle.std.proofs.lemmas.List.{length-map}
+use Rattle.std.proofs.Math.Seq.{take-append_seam, drop-append_seam}
+use Rattle.std.proofs.lemmas.List.{length-map, length-take, take-append-drop, drop-append-le}
 use Rattle.std.proofs.lemmas.List.Elements.{All-head, All-tail}
 use Rattle.std.proofs.lemmas.List.Folds.{sum_by-zero}
 use Rattle.ovl_names.specs.Paths.{PathNames}
@@ -10,7 +11,7 @@ use Rattle.ovl_names.proofs.Ascending.{both}
 use Rattle.ovl_manifest.specs.Layers.{Entries, IsLayer}
 use Rattle.ovl_manifest.specs.Manifest.{read_layer}
 use Rattle.ovl_manifest.specs.declared.faults.LayerFault.{LayerFault}
-use Rattle.ovl_lookup.specs.Stacks.{StackView}
+use Rattle.ovl_lookup.specs.Stacks.{StackView, stack_with}
 use Rattle.ovl_lookup.specs.Merged.{look}
 use Rattle.ovl_lookup.specs.Sound.{IsSoundStack}
 use Rattle.ovl_lookup.specs.Words.{top_layer, lower_layers}
@@ -30,8 +31,9 @@ use Rattle.ovl_engine.specs.declared.faults.EngineFault.TheVariants.{Layer}
 use Rattle.ovl_engine.specs.declared.requests.Answer.{Answer}
 use Rattle.ovl_engine.specs.FsckReports.{is_clean}
 use Rattle.ovl_engine.specs.Refusals.{layers_from, under_layer, stated_layers, first_unread}
+use Rattle.ovl_engine.specs.Requests.{Request}
 use Rattle.ovl_engine.specs.Outcomes.{stack_of, new_manifests, left_by_vacuum}
-use Rattle.ovl_engine.specs.Kept.{KeepsTreeOf, KeepsSoundness, manifests_after}
+use Rattle.ovl_engine.specs.Kept.{KeepsTreeOf, KeepsSoundness, IsRequestOf, manifests_after, after}
 
 -- ---- a stack without faults is sound
 
@@ -105,68 +107,152 @@ of_new k (text ∷ texts) (layer ∷ new) others rest reads below =
     let more : map read_layer texts ≡ map stated_as new = cc in
     in_front k text (texts ++ others) layer (new ++ rest) one (of_new (suc k) texts new others rest more below)
 
--- the new layers over those that are left, and what the stack of these is told to keep
-abbrev after : List Entries → List Entries → List Entries
-after new layers = new ++ drop (length new) layers
+-- layers over data-only ones, and a stack with new layers in place of as many of the topmost
+abbrev under : List Entries → List Entries → StackView
+under data_only layers = record { layers = layers; data_only = data_only }
 
-module _ (answer : Answer) (new layers : List Entries) (reads : map read_layer (new_manifests answer) ≡ map stated_as new) (manifests : List (List ℕ)) (old : layers_from 0 manifests ≡ Ok layers) where
-  count : length (new_manifests answer) ≡ length new
+abbrev renewed : List Entries → StackView → StackView
+renewed new stack = record stack { layers = new ++ drop (length new) stack.layers }
+
+-- a list of which the last ones are data-only
+split_here : (layers data_only : List Entries) (bottom : ℕ) → length (layers ++ data_only) - bottom ≡ length layers → stack_with (layers ++ data_only) bottom ≡ under data_only layers
+split_here layers data_only bottom count =
+    ap (λ (n : ℕ). under (drop n (layers ++ data_only)) (take n (layers ++ data_only))) count
+    ∙ (λ j. under (drop-append_seam layers data_only j) (take-append_seam layers data_only j))
+
+-- new layers in front of such a list leave the data-only ones what they are
+module _ (new layers : List Entries) (bottom : ℕ) (few : length new ≤ length layers - bottom) where
+  abbrev ordinary : List Entries
+  ordinary = take (length layers - bottom) layers
+
+  abbrev data_only : List Entries
+  data_only = drop (length layers - bottom) layers
+
+  abbrev front : List Entries
+  front = new ++ drop (length new) ordinary
+
+  number : length ordinary ≡ length layers - bottom
+  number = omega (arith, length-take (length layers - bottom) layers)
+
+  parts : new ++ drop (length new) layers ≡ front ++ data_only
+  parts =
+      ap (λ (ls : List Entries). new ++ drop (length new) ls) (sym (take-append-drop (length layers - bottom) layers))
+      ∙ (ap (λ (ls : List Entries). new ++ ls) (drop-append-le (length new) ordinary data_only (omega (arith, few, number)))
+      ∙ sym (append_assoc new (drop (length new) ordinary) data_only))
+
+  count : length (front ++ data_only) - bottom ≡ length front
   count =
+      omega (
+        arith,
+        few,
+        number,
+        length-append front data_only,
+        length-append new (drop (length new) ordinary),
+        length-drop (length new) ordinary,
+        length-drop (length layers - bottom) layers,
+      )
+
+  with_new : stack_with (new ++ drop (length new) layers) bottom ≡ renewed new (stack_with layers bottom)
+  with_new = ap (λ (ls : List Entries). stack_with ls bottom) parts ∙ split_here front data_only bottom count
+
+-- manifests that are read have layers
+all_stated : (manifests : List (List ℕ)) → first_unread manifests ≡ None → layers_from 0 manifests ≡ Ok (stated_layers manifests)
+all_stated manifests read = by (layers_from 0 manifests) refl
+  where
+    by : (r : Result (List Entries) EngineFault) → layers_from 0 manifests ≡ r → layers_from 0 manifests ≡ Ok (stated_layers manifests)
+    by (Ok layers) e = e ∙ ap Ok (sym (rw (e, stated_layers) refl))
+    by (Err fault) e = let bad : Some fault ≡ None = rw (e, first_unread) at read in cc
+
+module _ (answer : Answer) (new : List Entries) (stack : StackView) (reads : map read_layer (new_manifests answer) ≡ map stated_as new) (few : length new ≤ length stack.layers) (request : Request) (of : IsRequestOf stack request) where
+  abbrev layers : List Entries
+  layers = stated_layers request.manifests
+
+  new_number : length (new_manifests answer) ≡ length new
+  new_number =
       sym (length-map (new_manifests answer) read_layer)
       ∙ (ap length reads ∙ length-map new stated_as)
 
-  after_read : layers_from 0 (manifests_after manifests answer) ≡ Ok (after new layers)
+  after_read : layers_from 0 (manifests_after request.manifests answer) ≡ Ok (new ++ drop (length new) layers)
   after_read =
-      of_new 0 (new_manifests answer) new (drop (length (new_manifests answer)) manifests) (drop (length new) layers) reads
-      (λ j. of_last j (length (new_manifests answer)) 0 manifests layers old ∙ ap (λ (n : ℕ). Ok (drop n layers)) count)
+      of_new 0 (new_manifests answer) new (drop (length (new_manifests answer)) request.manifests) (drop (length new) layers) reads
+      (λ j. of_last j (length (new_manifests answer)) 0 request.manifests layers (all_stated request.manifests of.read) ∙ ap (λ (n : ℕ). Ok (drop n layers)) new_number)
 
-  after_stated : stated_layers (manifests_after manifests answer) ≡ after new layers
+  after_stated : stated_layers (manifests_after request.manifests answer) ≡ new ++ drop (length new) layers
   after_stated = rw (after_read, stated_layers) refl
 
-  before_stated : stated_layers manifests ≡ layers
-  before_stated = rw (old, stated_layers) refl
+  few_stated : length new ≤ length layers - request.bottom
+  few_stated = omega (arith, few, ap (λ (s : StackView). length s.layers) of.same, length-take (length layers - request.bottom) layers)
 
-pub keeps_tree : (answer : Answer) (new layers : List Entries) → map read_layer (new_manifests answer) ≡ map stated_as new
-    → ((path : PathNames) → look (stack_of (after new layers)) path ≡ look (stack_of layers) path) → KeepsTreeOf layers answer
-keeps_tree answer new layers reads same manifests old = record {
-  read = rw (after_read answer new layers reads manifests old, first_unread) refl;
+  stack_after : stack_of (after request answer) ≡ renewed new stack
+  stack_after =
+      ap (λ (ls : List Entries). stack_with ls request.bottom) after_stated
+      ∙ (with_new new layers request.bottom few_stated
+      ∙ ap (renewed new) (sym of.same))
+
+pub keeps_tree : (answer : Answer) (new : List Entries) (stack : StackView) → map read_layer (new_manifests answer) ≡ map stated_as new → length new ≤ length stack.layers
+    → ((path : PathNames) → look (renewed new stack) path ≡ look stack path) → KeepsTreeOf stack answer
+keeps_tree answer new stack reads few same request of = record {
+  read = rw (after_read answer new stack reads few request of, first_unread) refl;
   same = λ path.
-      ap (λ (ls : List Entries). look (stack_of ls) path) (after_stated answer new layers reads manifests old)
-      ∙ (same path ∙ ap (λ (ls : List Entries). look (stack_of ls) path) (sym (before_stated answer new layers reads manifests old)));
+      ap (λ (s : StackView). look s path) (stack_after answer new stack reads few request of)
+      ∙ (same path ∙ ap (λ (s : StackView). look s path) of.same);
 }
 
-pub keeps_soundness : (answer : Answer) (new layers : List Entries) → map read_layer (new_manifests answer) ≡ map stated_as new
-    → IsSoundStack (stack_of (after new layers)) → KeepsSoundness layers answer
-keeps_soundness answer new layers reads sound manifests old =
-    subst (λ (ls : List Entries). IsSoundStack (stack_of ls)) (sym (after_stated answer new layers reads manifests old)) sound
+pub keeps_soundness : (answer : Answer) (new : List Entries) (stack : StackView) → map read_layer (new_manifests answer) ≡ map stated_as new → length new ≤ length stack.layers
+    → IsSoundStack (renewed new stack) → KeepsSoundness stack answer
+keeps_soundness answer new stack reads few sound request of =
+    subst IsSoundStack (sym (stack_after answer new stack reads few request of)) sound
 
--- ---- the laws of vacuum, deref and merge, of a stack's list of layers
+-- ---- the laws of vacuum, deref and merge, of a stack's lists of layers
 
-pub vacuum_same : VacuumKeepsTree → (layers : List Entries) → 0 < length layers → All IsLayer layers → (path : PathNames) → look (stack_of (left_by_vacuum layers ∷ drop 1 layers)) path ≡ look (stack_of layers) path
-vacuum_same law [] some each path = absurd (omega (arith, some))
-vacuum_same law (top ∷ rest) some each path = law top (stack_of rest) (All-head IsLayer top rest each) (All-tail IsLayer top rest each) path
+module _ (data_only : List Entries) where
+  vacuum_same_of : VacuumKeepsTree → (layers : List Entries) → 0 < length layers → All IsLayer layers → (path : PathNames)
+      → look (under data_only (left_by_vacuum (under data_only layers) ∷ drop 1 layers)) path ≡ look (under data_only layers) path
+  vacuum_same_of law [] some each path = absurd (omega (arith, some))
+  vacuum_same_of law (top ∷ rest) some each path = law top (under data_only rest) (All-head IsLayer top rest each) (All-tail IsLayer top rest each) path
 
-pub vacuum_sound : VacuumKeepsSoundness → (layers : List Entries) → 0 < length layers → All IsLayer layers → IsSoundStack (stack_of layers) → IsSoundStack (stack_of (left_by_vacuum layers ∷ drop 1 layers))
-vacuum_sound law [] some each sound = absurd (omega (arith, some))
-vacuum_sound law (top ∷ rest) some each sound = law top (stack_of rest) (All-head IsLayer top rest each) (All-tail IsLayer top rest each) sound
+  vacuum_sound_of : VacuumKeepsSoundness → (layers : List Entries) → 0 < length layers → All IsLayer layers → IsSoundStack (under data_only layers)
+      → IsSoundStack (under data_only (left_by_vacuum (under data_only layers) ∷ drop 1 layers))
+  vacuum_sound_of law [] some each sound = absurd (omega (arith, some))
+  vacuum_sound_of law (top ∷ rest) some each sound = law top (under data_only rest) (All-head IsLayer top rest each) (All-tail IsLayer top rest each) sound
 
-abbrev IsNew : List Entries → Entries → Type 0
-IsNew layers new = IsDereferenced new (top_layer (stack_of layers)) (lower_layers (stack_of layers))
+  abbrev IsNew : List Entries → Entries → Type 0
+  IsNew layers new = IsDereferenced new (top_layer (under data_only layers)) (lower_layers (under data_only layers))
 
-pub deref_same : DerefKeepsTree → (layers : List Entries) → 0 < length layers → All IsLayer layers → IsSoundStack (stack_of layers) → (new : Entries) → IsLayer new → IsNew layers new
-    → (path : PathNames) → look (stack_of (new ∷ drop 1 layers)) path ≡ look (stack_of layers) path
-deref_same law [] some each sound new is_layer is path = absurd (omega (arith, some))
-deref_same law (top ∷ rest) some each sound new is_layer is path =
-    law top (stack_of rest) (All-head IsLayer top rest each) (All-tail IsLayer top rest each) sound new is_layer is path
+  deref_same_of : DerefKeepsTree → (layers : List Entries) → 0 < length layers → All IsLayer layers → IsSoundStack (under data_only layers) → (new : Entries) → IsLayer new → IsNew layers new
+      → (path : PathNames) → look (under data_only (new ∷ drop 1 layers)) path ≡ look (under data_only layers) path
+  deref_same_of law [] some each sound new is_layer is path = absurd (omega (arith, some))
+  deref_same_of law (top ∷ rest) some each sound new is_layer is path =
+      law top (under data_only rest) (All-head IsLayer top rest each) (All-tail IsLayer top rest each) sound new is_layer is path
 
-pub deref_sound : DerefKeepsSoundness → (layers : List Entries) → 0 < length layers → All IsLayer layers → IsSoundStack (stack_of layers) → (new : Entries) → IsLayer new → IsNew layers new → IsSoundStack (stack_of (new ∷ drop 1 layers))
-deref_sound law [] some each sound new is_layer is = absurd (omega (arith, some))
-deref_sound law (top ∷ rest) some each sound new is_layer is =
-    law top (stack_of rest) (All-head IsLayer top rest each) (All-tail IsLayer top rest each) sound new is_layer is
+  deref_sound_of : DerefKeepsSoundness → (layers : List Entries) → 0 < length layers → All IsLayer layers → IsSoundStack (under data_only layers) → (new : Entries) → IsLayer new → IsNew layers new
+      → IsSoundStack (under data_only (new ∷ drop 1 layers))
+  deref_sound_of law [] some each sound new is_layer is = absurd (omega (arith, some))
+  deref_sound_of law (top ∷ rest) some each sound new is_layer is =
+      law top (under data_only rest) (All-head IsLayer top rest each) (All-tail IsLayer top rest each) sound new is_layer is
 
-pub merge_same : MergeKeepsTree → (layers : List Entries) → 1 < length layers → All IsLayer layers → IsSoundStack (stack_of layers) → (lower : Entries) → IsLayer lower → IsMergedDown (merge_of (stack_of layers)) lower
-    → (path : PathNames) → look (stack_of (merged_top (merge_of (stack_of layers)) ∷ lower ∷ drop 2 layers)) path ≡ look (stack_of layers) path
-merge_same law [] several each sound lower is_layer is path = absurd (omega (arith, several))
-merge_same law (top ∷ []) several each sound lower is_layer is path = absurd (omega (arith, several))
-merge_same law (top ∷ next ∷ rest) several each sound lower is_layer is path =
-    law (merge_of (stack_of (top ∷ next ∷ rest))) lower each sound is_layer is path
+  merge_same_of : MergeKeepsTree → (layers : List Entries) → 1 < length layers → All IsLayer layers → IsSoundStack (under data_only layers) → (lower : Entries) → IsLayer lower
+      → IsMergedDown (merge_of (under data_only layers)) lower
+      → (path : PathNames) → look (under data_only (merged_top (merge_of (under data_only layers)) ∷ lower ∷ drop 2 layers)) path ≡ look (under data_only layers) path
+  merge_same_of law [] several each sound lower is_layer is path = absurd (omega (arith, several))
+  merge_same_of law (top ∷ []) several each sound lower is_layer is path = absurd (omega (arith, several))
+  merge_same_of law (top ∷ next ∷ rest) several each sound lower is_layer is path =
+      law (merge_of (under data_only (top ∷ next ∷ rest))) lower each sound is_layer is path
+
+module _ (stack : StackView) (each : All IsLayer stack.layers) where
+  pub vacuum_same : VacuumKeepsTree → 0 < length stack.layers → (path : PathNames) → look (renewed (left_by_vacuum stack ∷ []) stack) path ≡ look stack path
+  vacuum_same law some path = vacuum_same_of stack.data_only law stack.layers some each path
+
+  pub vacuum_sound : VacuumKeepsSoundness → 0 < length stack.layers → IsSoundStack stack → IsSoundStack (renewed (left_by_vacuum stack ∷ []) stack)
+  vacuum_sound law some sound = vacuum_sound_of stack.data_only law stack.layers some each sound
+
+  module _ (new : Entries) (is_layer : IsLayer new) (is : IsDereferenced new (top_layer stack) (lower_layers stack)) where
+    pub deref_same : DerefKeepsTree → 0 < length stack.layers → IsSoundStack stack → (path : PathNames) → look (renewed (new ∷ []) stack) path ≡ look stack path
+    deref_same law some sound path = deref_same_of stack.data_only law stack.layers some each sound new is_layer is path
+
+    pub deref_sound : DerefKeepsSoundness → 0 < length stack.layers → IsSoundStack stack → IsSoundStack (renewed (new ∷ []) stack)
+    deref_sound law some sound = deref_sound_of stack.data_only law stack.layers some each sound new is_layer is
+
+  pub merge_same : MergeKeepsTree → 1 < length stack.layers → IsSoundStack stack → (lower : Entries) → IsLayer lower → IsMergedDown (merge_of stack) lower
+      → (path : PathNames) → look (renewed (merged_top (merge_of stack) ∷ lower ∷ []) stack) path ≡ look stack path
+  merge_same law several sound lower is_layer is path = merge_same_of stack.data_only law stack.layers several each sound lower is_layer is path

@@ -8,7 +8,7 @@ use Rattle.ovl_manifest.specs.Manifest.{read_layer, IsFaultOf}
 use Rattle.ovl_manifest.specs.declared.faults.LayerFault.{LayerFault}
 use Rattle.ovl_manifest.specs.declared.faults.LayerFault.TheVariants.{NotJson, Shape, Version, Count, Entry, Order, NoParent, Root, Escaped, Memory as UnreadMemory}
 use Rattle.ovl_engine.specs.declared.faults.EngineFault.{EngineFault}
-use Rattle.ovl_engine.specs.declared.faults.EngineFault.TheVariants.{Workers, Layers, Layer, BlobOrder, BlobSize, NoLower, Faulty, LimitOut, Run, Memory}
+use Rattle.ovl_engine.specs.declared.faults.EngineFault.TheVariants.{Workers, Layers, Layer, BlobOrder, BlobSize, NoLower, Faulty, LimitOut, Run, Memory, DataLayers}
 use Rattle.ovl_engine.specs.Refusals.{layers_from, under_layer, unread_layer, IsUnread}
 use Rattle.ovl_engine.proofs.ShareLemmas.{share_here}
 
@@ -129,6 +129,7 @@ told_of_all read all fails Layers is = absurd is
 told_of_all read all fails BlobOrder is = absurd is
 told_of_all read all fails BlobSize is = absurd is
 told_of_all read all fails NoLower is = absurd is
+told_of_all read all fails DataLayers is = absurd is
 told_of_all read all fails (Faulty report) is = absurd is
 told_of_all read all fails LimitOut is = absurd is
 told_of_all read all fails (Run fault) is = absurd is

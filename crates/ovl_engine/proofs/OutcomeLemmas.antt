@@ -1,6 +1,6 @@
 -- What a run that fails is told as, and numbers within their limits.
-use Rattle.std.proofs.Common.{◌≡◌, ◌≢◌, ◌⊎◌, inl, inr, ℕ, ◌<◌, ◌≤◌, true, false, Result, Ok, Err, List, [], refl, sym, ap, subst, arith}
-use Rattle.ovl_manifest.specs.Layers.{Entries}
+use Rattle.std.proofs.Common.{◌≡◌, ◌≢◌, ◌⊎◌, inl, inr, ℕ, ◌<◌, ◌≤◌, true, false, Result, Ok, Err, List, [], refl, sym, subst, arith}
+use Rattle.ovl_lookup.specs.Stacks.{StackView}
 use Rattle.ovl_board.specs.declared.pieces.Piece.{Piece}
 use Rattle.ovl_board.specs.declared.assembly.BoardFault.{BoardFault}
 use Rattle.ovl_board.specs.declared.assembly.BoardFault.TheVariants.{Double, Stranger, Missing, Memory as BoardMemory}
@@ -10,23 +10,25 @@ use Rattle.ovl_pool.specs.Runs.{IsBoardMemory}
 use Rattle.ovl_engine.specs.declared.requests.Command.{Command}
 use Rattle.ovl_engine.specs.declared.requests.Command.TheVariants.{Show, Fsck, Vacuum, Deref, Merge}
 use Rattle.ovl_engine.specs.declared.faults.EngineFault.{EngineFault}
-use Rattle.ovl_engine.specs.declared.faults.EngineFault.TheVariants.{Workers as NoWorkers, Layers, Layer, BlobOrder, BlobSize, NoLower, Faulty, LimitOut, Run, Memory as WantsMemory}
+use Rattle.ovl_engine.specs.declared.faults.EngineFault.TheVariants.{Workers as NoWorkers, Layers, Layer, BlobOrder, BlobSize, NoLower, Faulty, LimitOut, Run, Memory as WantsMemory, DataLayers}
 use Rattle.ovl_engine.specs.declared.requests.Answer.{Answer}
-use Rattle.ovl_engine.specs.Refusals.{failed_run, layers_from, stated_layers}
+use Rattle.ovl_engine.specs.Requests.{Request}
+use Rattle.ovl_engine.specs.Refusals.{failed_run}
 use Rattle.ovl_check.specs.Blobs.{BlobView}
 use Rattle.ovl_engine.specs.Commands.{checks, makes_layers}
-use Rattle.ovl_engine.specs.Outcomes.{MayRefuse, IsFailure, IsAccepted, IsRefusal, IsRun, IsOutcome}
+use Rattle.ovl_engine.specs.Outcomes.{stack_of, MayRefuse, IsFailure, IsAccepted, IsRefusal, IsRun, IsOutcome}
+use Rattle.ovl_engine.specs.Kept.{IsRequestOf}
 
-module _ (command : Command) (layers : List Entries) (blobs : List BlobView) (may_refuse : Piece → Type 0) where
-  board_failed : (fault : BoardFault) → fault ≡ BoardMemory → IsFailure command layers blobs may_refuse (failed_run (Board fault))
+module _ (command : Command) (stack : StackView) (blobs : List BlobView) (may_refuse : Piece → Type 0) where
+  board_failed : (fault : BoardFault) → fault ≡ BoardMemory → IsFailure command stack blobs may_refuse (failed_run (Board fault))
   board_failed (Double p) memory = let bad : Double p ≡ BoardMemory = memory in cc
   board_failed (Stranger p) memory = let bad : Stranger p ≡ BoardMemory = memory in cc
   board_failed (Missing p) memory = let bad : Missing p ≡ BoardMemory = memory in cc
   board_failed BoardMemory memory = tt
 
   -- a run that fails for another cause than its workers' number
-  pub failed : (fault : RunFault) → fault ≢ Workers → (fault ≡ Gate → MayRefuse command layers blobs may_refuse) → IsBoardMemory fault
-      → IsFailure command layers blobs may_refuse (failed_run fault)
+  pub failed : (fault : RunFault) → fault ≢ Workers → (fault ≡ Gate → MayRefuse command stack blobs may_refuse) → IsBoardMemory fault
+      → IsFailure command stack blobs may_refuse (failed_run fault)
   failed Workers workers gate board = absurd (workers refl)
   failed Gate workers gate board = gate refl
   failed (Board fault) workers gate board = board_failed fault board
@@ -41,12 +43,12 @@ checks_first Deref makes = refl
 checks_first Merge makes = refl
 
 -- what keeps the check from being done keeps each command that checks from its work
-module _ (command : Command) (checking : checks command ≡ true) (layers : List Entries) (blobs : List BlobView) (may_refuse : Piece → Type 0) where
-  refused : MayRefuse Fsck layers blobs may_refuse → MayRefuse command layers blobs may_refuse
+module _ (command : Command) (checking : checks command ≡ true) (stack : StackView) (blobs : List BlobView) (may_refuse : Piece → Type 0) where
+  refused : MayRefuse Fsck stack blobs may_refuse → MayRefuse command stack blobs may_refuse
   refused (inl is) = inl (checking, is.1)
   refused (inr none) = absurd none
 
-  pub unchecked : (fault : EngineFault) → IsFailure Fsck layers blobs may_refuse fault → IsFailure command layers blobs may_refuse fault
+  pub unchecked : (fault : EngineFault) → IsFailure Fsck stack blobs may_refuse fault → IsFailure command stack blobs may_refuse fault
   unchecked (Run Workers) is = is
   unchecked (Run Gate) is = refused is
   unchecked (Run (Board fault)) is = is
@@ -58,6 +60,7 @@ module _ (command : Command) (checking : checks command ≡ true) (layers : List
   unchecked BlobOrder is = is
   unchecked BlobSize is = is
   unchecked NoLower is = is
+  unchecked DataLayers is = is
   unchecked (Faulty report) is = let bad : false ≡ true = is.0 in cc
   unchecked LimitOut is = absurd is.1
 
@@ -71,27 +74,25 @@ pub not_refused : (limit n m : ℕ) → n ≡ m → 0 < m → m ≤ limit → (n
 not_refused limit n m same some few (inl none) = omega arith
 not_refused limit n m same some few (inr many) = omega arith
 
--- what a command is refused for comes of it
-pub refusal-outcome : (command : Command) (manifests : List (List ℕ)) (blobs : List BlobView) (workers : ℕ) (may_refuse : Piece → Type 0) (fault : EngineFault) → IsRefusal command manifests blobs workers fault → IsOutcome command manifests blobs workers may_refuse (Err fault)
-refusal-outcome command manifests blobs workers may_refuse WantsMemory is = tt
-refusal-outcome command manifests blobs workers may_refuse (Faulty report) is = absurd is
-refusal-outcome command manifests blobs workers may_refuse LimitOut is = absurd is
-refusal-outcome command manifests blobs workers may_refuse (Run fault) is = absurd is
-refusal-outcome command manifests blobs workers may_refuse NoWorkers is = is
-refusal-outcome command manifests blobs workers may_refuse Layers is = is
-refusal-outcome command manifests blobs workers may_refuse (Layer index fault) is = is
-refusal-outcome command manifests blobs workers may_refuse BlobOrder is = is
-refusal-outcome command manifests blobs workers may_refuse BlobSize is = is
-refusal-outcome command manifests blobs workers may_refuse NoLower is = is
+-- what a request is refused for comes of it
+pub refusal-outcome : (request : Request) (may_refuse : Piece → Type 0) (fault : EngineFault) → IsRefusal request fault → IsOutcome request may_refuse (Err fault)
+refusal-outcome request may_refuse WantsMemory is = tt
+refusal-outcome request may_refuse (Faulty report) is = absurd is
+refusal-outcome request may_refuse LimitOut is = absurd is
+refusal-outcome request may_refuse (Run fault) is = absurd is
+refusal-outcome request may_refuse NoWorkers is = is
+refusal-outcome request may_refuse Layers is = is
+refusal-outcome request may_refuse (Layer index fault) is = is
+refusal-outcome request may_refuse BlobOrder is = is
+refusal-outcome request may_refuse BlobSize is = is
+refusal-outcome request may_refuse NoLower is = is
+refusal-outcome request may_refuse DataLayers is = is
 
--- what comes of a stack that a command isn't refused for comes of the command
-pub run-outcome : (command : Command) (manifests : List (List ℕ)) (layers : List Entries) (blobs : List BlobView) (workers : ℕ) (may_refuse : Piece → Type 0) (result : Result Answer EngineFault) → IsAccepted command manifests blobs workers → layers_from 0 manifests ≡ Ok layers → IsRun command layers blobs may_refuse result → IsOutcome command manifests blobs workers may_refuse result
-run-outcome command manifests layers blobs workers may_refuse result accepted read is = by result (subst (λ (ls : List Entries). IsRun command ls blobs may_refuse result) (sym stated) is)
+-- what comes of the stack of a request that nothing refuses comes of the request
+pub run-outcome : (request : Request) (stack : StackView) (may_refuse : Piece → Type 0) (result : Result Answer EngineFault) → IsAccepted request → IsRequestOf stack request → IsRun request.what stack request.blobs may_refuse result → IsOutcome request may_refuse result
+run-outcome request stack may_refuse result accepted of is = by result (subst (λ (s : StackView). IsRun request.what s request.blobs may_refuse result) of.same is)
   where
-    stated : stated_layers manifests ≡ layers
-    stated = ap (λ (r : Result (List Entries) EngineFault). elim r as (λ _. List Entries) [ Ok layers ↦ layers | Err fault ↦ [] ]) read
-
-    by : (result : Result Answer EngineFault) → IsRun command (stated_layers manifests) blobs may_refuse result → IsOutcome command manifests blobs workers may_refuse result
+    by : (result : Result Answer EngineFault) → IsRun request.what (stack_of request) request.blobs may_refuse result → IsOutcome request may_refuse result
     by (Ok answer) is = (accepted, is)
     by (Err (Faulty report)) is = (accepted, is)
     by (Err LimitOut) is = (accepted, is)
@@ -103,3 +104,4 @@ run-outcome command manifests layers blobs workers may_refuse result accepted re
     by (Err BlobOrder) is = absurd is
     by (Err BlobSize) is = absurd is
     by (Err NoLower) is = absurd is
+    by (Err DataLayers) is = absurd is

@@ -8,5 +8,6 @@ pub mod NamedBlobs
 pub mod Outcomes
 pub mod Refusals
 pub mod Reports
+pub mod Requests
 pub mod Shares
 pub mod VacuumReports

@@ -4,7 +4,7 @@ use Rattle.ovl_names.specs.Paths.{PathNames}
 use Rattle.ovl_manifest.specs.Layers.{Entries, IsLayer}
 use Rattle.ovl_manifest.specs.Text.{manifest_text}
 use Rattle.ovl_lookup.specs.declared.looks.Look.{Look}
-use Rattle.ovl_lookup.specs.Stacks.{StackView}
+use Rattle.ovl_lookup.specs.Stacks.{StackView, all_layers, stack_with}
 use Rattle.ovl_lookup.specs.Merged.{IsMerged}
 use Rattle.ovl_lookup.specs.Words.{top_layer, lower_layers}
 use Rattle.ovl_board.specs.declared.pieces.Piece.{Piece}
@@ -32,26 +32,27 @@ use Rattle.ovl_engine.specs.declared.requests.Command.{Command}
 use Rattle.ovl_engine.specs.declared.requests.Command.TheVariants.{Show, Fsck, Vacuum, Deref, Merge}
 use Rattle.ovl_engine.specs.declared.requests.Answer.{Answer}
 use Rattle.ovl_engine.specs.declared.faults.EngineFault.{EngineFault}
-use Rattle.ovl_engine.specs.declared.faults.EngineFault.TheVariants.{Workers, Layers, Layer, BlobOrder, BlobSize, NoLower, Faulty, LimitOut, Run, Memory}
+use Rattle.ovl_engine.specs.declared.faults.EngineFault.TheVariants.{Workers, Layers, Layer, BlobOrder, BlobSize, NoLower, Faulty, LimitOut, Run, Memory, DataLayers}
 use Rattle.ovl_engine.specs.Commands.{checks, makes_layers}
+use Rattle.ovl_engine.specs.Requests.{Request}
 use Rattle.ovl_engine.specs.Refusals.{stated_layers, first_refusal}
 
--- the stack of these layers
-abbrev pub stack_of : List Entries → StackView
-stack_of layers = record { layers = layers }
+-- the stack of the layers that a request's manifests state
+abbrev pub stack_of : Request → StackView
+stack_of request = stack_with (stated_layers request.manifests) request.bottom
 
--- the report of `show` over these layers is that of their merged tree
-pub record IsShowReport (layers : List Entries) (report : List ℕ) : Type 0 where
+-- the report of `show` over this stack is that of its merged tree
+pub record IsShowReport (stack : StackView) (report : List ℕ) : Type 0 where
   pub looks : List (PathNames × Look)
-  pub merged : IsMerged (stack_of layers) looks
+  pub merged : IsMerged stack looks
   pub printed : report ≡ show_report looks
 
--- the topmost of these layers without what changes nothing, and the paths of that
-abbrev pub left_by_vacuum : List Entries → Entries
-left_by_vacuum layers = vacuumed_layer (top_layer (stack_of layers)) (lower_layers (stack_of layers))
+-- the topmost layer without what changes nothing, and the paths of that
+abbrev pub left_by_vacuum : StackView → Entries
+left_by_vacuum stack = vacuumed_layer (top_layer stack) (lower_layers stack)
 
-abbrev pub removed_by_vacuum : List Entries → List PathNames
-removed_by_vacuum layers = removed_paths (top_layer (stack_of layers)) (lower_layers (stack_of layers))
+abbrev pub removed_by_vacuum : StackView → List PathNames
+removed_by_vacuum stack = removed_paths (top_layer stack) (lower_layers stack)
 
 -- the manifests of an answer's new layers
 abbrev pub new_manifests : Answer → List (List ℕ)
@@ -63,145 +64,147 @@ pub record IsRewritten (report : List ℕ) (layers : List Entries) (answer : Ans
   pub written : new_manifests answer ≡ map manifest_text layers
   pub clean : answer.clean ≡ true
 
--- the answer of vacuum tells what goes of the topmost of these layers and how much is left, which is the new layer
-abbrev pub IsVacuumed : List Entries → Answer → Type 0
-IsVacuumed layers answer =
-    IsRewritten (vacuum_report (removed_by_vacuum layers) (length (left_by_vacuum layers))) (left_by_vacuum layers ∷ []) answer
+-- the answer of vacuum tells what goes of the topmost layer of this stack and how much is left, which is the new layer
+abbrev pub IsVacuumed : StackView → Answer → Type 0
+IsVacuumed stack answer =
+    IsRewritten (vacuum_report (removed_by_vacuum stack) (length (left_by_vacuum stack))) (left_by_vacuum stack ∷ []) answer
 
--- the answer of deref has and tells what the topmost of these layers is without redirects and metacopy files
-pub record IsUnfolded (layers : List Entries) (answer : Answer) : Type 0 where
+-- the answer of deref has and tells what the topmost layer of this stack is without redirects and metacopy files
+pub record IsUnfolded (stack : StackView) (answer : Answer) : Type 0 where
   pub new : Entries
   pub is_layer : IsLayer new
-  pub dereferenced : IsDereferenced new (top_layer (stack_of layers)) (lower_layers (stack_of layers))
-  pub within : PassesLimit (stack_of layers) → ⊥
+  pub dereferenced : IsDereferenced new (top_layer stack) (lower_layers stack)
+  pub within : PassesLimit stack → ⊥
   pub rewritten : IsRewritten (layer_report new) (new ∷ []) answer
 
--- the answer of merge has and tells what the two topmost of these layers are as one, under the root of the first
-pub record IsMergedInto (layers : List Entries) (answer : Answer) : Type 0 where
+-- the answer of merge has and tells what the two topmost layers of this stack are as one, under the root of the first
+pub record IsMergedInto (stack : StackView) (answer : Answer) : Type 0 where
   pub lower : Entries
   pub is_layer : IsLayer lower
-  pub merged : IsMergedDown (merge_of (stack_of layers)) lower
-  pub within : PassesLimitMerged (merge_of (stack_of layers)) → ⊥
-  pub rewritten : IsRewritten (layer_report lower) (merged_top (merge_of (stack_of layers)) ∷ lower ∷ []) answer
+  pub merged : IsMergedDown (merge_of stack) lower
+  pub within : PassesLimitMerged (merge_of stack) → ⊥
+  pub rewritten : IsRewritten (layer_report lower) (merged_top (merge_of stack) ∷ lower ∷ []) answer
 
--- the answer of a command over these layers and blobs
-abbrev pub IsAnswer : Command → List Entries → List BlobView → Answer → Type 0
-IsAnswer Show layers blobs answer = IsShowReport layers answer.report.items × (answer.layers.items ≡ []) × (answer.clean ≡ true)
-IsAnswer Fsck layers blobs answer =
-    (answer.report.items ≡ fsck_report (findings blobs (stack_of layers)))
+-- the answer of a command over this stack and blobs
+abbrev pub IsAnswer : Command → StackView → List BlobView → Answer → Type 0
+IsAnswer Show stack blobs answer = IsShowReport stack answer.report.items × (answer.layers.items ≡ []) × (answer.clean ≡ true)
+IsAnswer Fsck stack blobs answer =
+    (answer.report.items ≡ fsck_report (findings blobs stack))
     × (answer.layers.items ≡ [])
-    × (answer.clean ≡ is_clean (findings blobs (stack_of layers)))
-IsAnswer Vacuum layers blobs answer = (is_clean (findings blobs (stack_of layers)) ≡ true) × IsVacuumed layers answer
-IsAnswer Deref layers blobs answer = (is_clean (findings blobs (stack_of layers)) ≡ true) × IsUnfolded layers answer
-IsAnswer Merge layers blobs answer = (is_clean (findings blobs (stack_of layers)) ≡ true) × IsMergedInto layers answer
+    × (answer.clean ≡ is_clean (findings blobs stack))
+IsAnswer Vacuum stack blobs answer = (is_clean (findings blobs stack) ≡ true) × IsVacuumed stack answer
+IsAnswer Deref stack blobs answer = (is_clean (findings blobs stack) ≡ true) × IsUnfolded stack answer
+IsAnswer Merge stack blobs answer = (is_clean (findings blobs stack) ≡ true) × IsMergedInto stack answer
 
--- what is checked: the stack of these layers, with these blobs
-abbrev pub check_of : List Entries → List BlobView → CheckView
-check_of layers blobs = record { stack = stack_of layers; blobs = blobs }
+-- what is checked: this stack, with these blobs
+abbrev pub check_of : StackView → List BlobView → CheckView
+check_of stack blobs = record { stack = stack; blobs = blobs }
 
 -- the gate may refuse a piece of the blobs, or a directory of a layer
 abbrev pub MayRefuseBlobs : List BlobView → (Piece → Type 0) → Type 0
 MayRefuseBlobs blobs may_refuse = MayBeRefused (blob_kids blobs) may_refuse blob_root
 
-abbrev pub MayRefuseLayer : List Entries → List BlobView → (Piece → Type 0) → ℕ → Type 0
-MayRefuseLayer layers blobs may_refuse i =
-    (i < length layers) × MayBeRefused (check_kids (check_of layers blobs)) may_refuse (directory_piece i [])
+abbrev pub MayRefuseLayer : StackView → List BlobView → (Piece → Type 0) → ℕ → Type 0
+MayRefuseLayer stack blobs may_refuse i =
+    (i < length (all_layers stack)) × MayBeRefused (check_kids (check_of stack blobs)) may_refuse (directory_piece i [])
 
 -- the same of what is checked, and of the directories that a command's own work visits
-abbrev pub MayRefuseCheck : List Entries → List BlobView → (Piece → Type 0) → Type 0
-MayRefuseCheck layers blobs may_refuse = MayRefuseBlobs blobs may_refuse ⊎ ((i : ℕ) × MayRefuseLayer layers blobs may_refuse i)
+abbrev pub MayRefuseCheck : StackView → List BlobView → (Piece → Type 0) → Type 0
+MayRefuseCheck stack blobs may_refuse = MayRefuseBlobs blobs may_refuse ⊎ ((i : ℕ) × MayRefuseLayer stack blobs may_refuse i)
 
-abbrev pub MayRefuseOwn : Command → List Entries → (Piece → Type 0) → Type 0
-MayRefuseOwn Show layers may_refuse = MayBeRefused (show_kids (stack_of layers)) may_refuse show_root
-MayRefuseOwn Fsck layers may_refuse = ⊥
-MayRefuseOwn Vacuum layers may_refuse = MayBeRefused (vacuum_kids (stack_of layers)) may_refuse vacuum_root
-MayRefuseOwn Deref layers may_refuse = MayBeRefused (deref_kids (stack_of layers)) may_refuse deref_root
-MayRefuseOwn Merge layers may_refuse = MayBeRefused (merge_kids (stack_of layers)) may_refuse merge_root
+abbrev pub MayRefuseOwn : Command → StackView → (Piece → Type 0) → Type 0
+MayRefuseOwn Show stack may_refuse = MayBeRefused (show_kids stack) may_refuse show_root
+MayRefuseOwn Fsck stack may_refuse = ⊥
+MayRefuseOwn Vacuum stack may_refuse = MayBeRefused (vacuum_kids stack) may_refuse vacuum_root
+MayRefuseOwn Deref stack may_refuse = MayBeRefused (deref_kids stack) may_refuse deref_root
+MayRefuseOwn Merge stack may_refuse = MayBeRefused (merge_kids stack) may_refuse merge_root
 
--- the gate may refuse a piece that is reached where the command is run over these layers and blobs
-abbrev pub MayRefuse : Command → List Entries → List BlobView → (Piece → Type 0) → Type 0
-MayRefuse command layers blobs may_refuse =
-    ((checks command ≡ true) × MayRefuseCheck layers blobs may_refuse) ⊎ MayRefuseOwn command layers may_refuse
+-- the gate may refuse a piece that is reached where the command is run over this stack and blobs
+abbrev pub MayRefuse : Command → StackView → List BlobView → (Piece → Type 0) → Type 0
+MayRefuse command stack blobs may_refuse =
+    ((checks command ≡ true) × MayRefuseCheck stack blobs may_refuse) ⊎ MayRefuseOwn command stack may_refuse
 
--- a run over these layers and blobs fails by its gate alone; want of memory is told apart
-abbrev pub IsFailedRun : Command → List Entries → List BlobView → (Piece → Type 0) → RunFault → Type 0
-IsFailedRun command layers blobs may_refuse RunWorkers = ⊥
-IsFailedRun command layers blobs may_refuse Gate = MayRefuse command layers blobs may_refuse
-IsFailedRun command layers blobs may_refuse (Board fault) = ⊥
-IsFailedRun command layers blobs may_refuse RunMemory = ⊥
+-- a run over this stack and blobs fails by its gate alone; want of memory is told apart
+abbrev pub IsFailedRun : Command → StackView → List BlobView → (Piece → Type 0) → RunFault → Type 0
+IsFailedRun command stack blobs may_refuse RunWorkers = ⊥
+IsFailedRun command stack blobs may_refuse Gate = MayRefuse command stack blobs may_refuse
+IsFailedRun command stack blobs may_refuse (Board fault) = ⊥
+IsFailedRun command stack blobs may_refuse RunMemory = ⊥
 
--- a command that makes layers is refused for a fault of these layers and blobs, and this is the report that tells it
-abbrev pub IsFoundFaulty : Command → List Entries → List BlobView → List ℕ → Type 0
-IsFoundFaulty command layers blobs report =
+-- a command that makes layers is refused for a fault of this stack and blobs, and this is the report that tells it
+abbrev pub IsFoundFaulty : Command → StackView → List BlobView → List ℕ → Type 0
+IsFoundFaulty command stack blobs report =
     (makes_layers command ≡ true)
-    × (is_clean (findings blobs (stack_of layers)) ≡ false)
-    × (report ≡ fsck_report (findings blobs (stack_of layers)))
+    × (is_clean (findings blobs stack) ≡ false)
+    × (report ≡ fsck_report (findings blobs stack))
 
 -- the stack has no fault with these blobs, and a new layer passes a limit of manifests
-abbrev pub PassesNewLimit : Command → List Entries → Type 0
-PassesNewLimit Show layers = ⊥
-PassesNewLimit Fsck layers = ⊥
-PassesNewLimit Vacuum layers = ⊥
-PassesNewLimit Deref layers = PassesLimit (stack_of layers)
-PassesNewLimit Merge layers = PassesLimitMerged (merge_of (stack_of layers))
+abbrev pub PassesNewLimit : Command → StackView → Type 0
+PassesNewLimit Show stack = ⊥
+PassesNewLimit Fsck stack = ⊥
+PassesNewLimit Vacuum stack = ⊥
+PassesNewLimit Deref stack = PassesLimit stack
+PassesNewLimit Merge stack = PassesLimitMerged (merge_of stack)
 
-abbrev pub IsLimitedOut : Command → List Entries → List BlobView → Type 0
-IsLimitedOut command layers blobs = (is_clean (findings blobs (stack_of layers)) ≡ true) × PassesNewLimit command layers
+abbrev pub IsLimitedOut : Command → StackView → List BlobView → Type 0
+IsLimitedOut command stack blobs = (is_clean (findings blobs stack) ≡ true) × PassesNewLimit command stack
 
--- why work over these layers and blobs isn't done; want of memory may come at any time
-abbrev pub IsFailure : Command → List Entries → List BlobView → (Piece → Type 0) → EngineFault → Type 0
-IsFailure command layers blobs may_refuse (Faulty report) = IsFoundFaulty command layers blobs report.items
-IsFailure command layers blobs may_refuse LimitOut = IsLimitedOut command layers blobs
-IsFailure command layers blobs may_refuse (Run fault) = IsFailedRun command layers blobs may_refuse fault
-IsFailure command layers blobs may_refuse Memory = ⊤
-IsFailure command layers blobs may_refuse Workers = ⊥
-IsFailure command layers blobs may_refuse Layers = ⊥
-IsFailure command layers blobs may_refuse (Layer index fault) = ⊥
-IsFailure command layers blobs may_refuse BlobOrder = ⊥
-IsFailure command layers blobs may_refuse BlobSize = ⊥
-IsFailure command layers blobs may_refuse NoLower = ⊥
+-- why work over this stack and blobs isn't done; want of memory may come at any time
+abbrev pub IsFailure : Command → StackView → List BlobView → (Piece → Type 0) → EngineFault → Type 0
+IsFailure command stack blobs may_refuse (Faulty report) = IsFoundFaulty command stack blobs report.items
+IsFailure command stack blobs may_refuse LimitOut = IsLimitedOut command stack blobs
+IsFailure command stack blobs may_refuse (Run fault) = IsFailedRun command stack blobs may_refuse fault
+IsFailure command stack blobs may_refuse Memory = ⊤
+IsFailure command stack blobs may_refuse Workers = ⊥
+IsFailure command stack blobs may_refuse Layers = ⊥
+IsFailure command stack blobs may_refuse (Layer index fault) = ⊥
+IsFailure command stack blobs may_refuse BlobOrder = ⊥
+IsFailure command stack blobs may_refuse BlobSize = ⊥
+IsFailure command stack blobs may_refuse NoLower = ⊥
+IsFailure command stack blobs may_refuse DataLayers = ⊥
 
--- what comes of a command over layers and blobs
-abbrev pub IsRun : Command → List Entries → List BlobView → (Piece → Type 0) → Result Answer EngineFault → Type 0
-IsRun command layers blobs may_refuse (Ok answer) = IsAnswer command layers blobs answer
-IsRun command layers blobs may_refuse (Err fault) = IsFailure command layers blobs may_refuse fault
+-- what comes of a command over a stack and blobs
+abbrev pub IsRun : Command → StackView → List BlobView → (Piece → Type 0) → Result Answer EngineFault → Type 0
+IsRun command stack blobs may_refuse (Ok answer) = IsAnswer command stack blobs answer
+IsRun command stack blobs may_refuse (Err fault) = IsFailure command stack blobs may_refuse fault
 
--- nothing refuses the command
-abbrev pub IsAccepted : Command → List (List ℕ) → List BlobView → ℕ → Type 0
-IsAccepted command manifests blobs workers = first_refusal command manifests blobs workers ≡ None
+-- nothing refuses the request
+abbrev pub IsAccepted : Request → Type 0
+IsAccepted request = first_refusal request ≡ None
 
--- the command is refused for this fault
-abbrev pub IsRefused : Command → List (List ℕ) → List BlobView → ℕ → EngineFault → Type 0
-IsRefused command manifests blobs workers fault = first_refusal command manifests blobs workers ≡ Some fault
+-- the request is refused for this fault
+abbrev pub IsRefused : Request → EngineFault → Type 0
+IsRefused request fault = first_refusal request ≡ Some fault
 
--- why a command does no work; want of memory may come at any time
-abbrev pub IsRefusal : Command → List (List ℕ) → List BlobView → ℕ → EngineFault → Type 0
-IsRefusal command manifests blobs workers Memory = ⊤
-IsRefusal command manifests blobs workers (Faulty report) = ⊥
-IsRefusal command manifests blobs workers LimitOut = ⊥
-IsRefusal command manifests blobs workers (Run fault) = ⊥
-IsRefusal command manifests blobs workers Workers = IsRefused command manifests blobs workers Workers
-IsRefusal command manifests blobs workers Layers = IsRefused command manifests blobs workers Layers
-IsRefusal command manifests blobs workers (Layer index fault) = IsRefused command manifests blobs workers (Layer index fault)
-IsRefusal command manifests blobs workers BlobOrder = IsRefused command manifests blobs workers BlobOrder
-IsRefusal command manifests blobs workers BlobSize = IsRefused command manifests blobs workers BlobSize
-IsRefusal command manifests blobs workers NoLower = IsRefused command manifests blobs workers NoLower
+-- why no work is done for a request; want of memory may come at any time
+abbrev pub IsRefusal : Request → EngineFault → Type 0
+IsRefusal request Memory = ⊤
+IsRefusal request (Faulty report) = ⊥
+IsRefusal request LimitOut = ⊥
+IsRefusal request (Run fault) = ⊥
+IsRefusal request Workers = IsRefused request Workers
+IsRefusal request Layers = IsRefused request Layers
+IsRefusal request (Layer index fault) = IsRefused request (Layer index fault)
+IsRefusal request BlobOrder = IsRefused request BlobOrder
+IsRefusal request BlobSize = IsRefused request BlobSize
+IsRefusal request NoLower = IsRefused request NoLower
+IsRefusal request DataLayers = IsRefused request DataLayers
 
--- what comes of a command, by these manifests and blobs, this number of workers and a gate that may refuse these
--- pieces; want of memory may come at any time
-abbrev pub IsOutcome : Command → List (List ℕ) → List BlobView → ℕ → (Piece → Type 0) → Result Answer EngineFault → Type 0
-IsOutcome command manifests blobs workers may_refuse (Ok answer) =
-    IsAccepted command manifests blobs workers × IsAnswer command (stated_layers manifests) blobs answer
-IsOutcome command manifests blobs workers may_refuse (Err (Faulty report)) =
-    IsAccepted command manifests blobs workers × IsFoundFaulty command (stated_layers manifests) blobs report.items
-IsOutcome command manifests blobs workers may_refuse (Err LimitOut) =
-    IsAccepted command manifests blobs workers × IsLimitedOut command (stated_layers manifests) blobs
-IsOutcome command manifests blobs workers may_refuse (Err (Run fault)) =
-    IsAccepted command manifests blobs workers × IsFailedRun command (stated_layers manifests) blobs may_refuse fault
-IsOutcome command manifests blobs workers may_refuse (Err Memory) = ⊤
-IsOutcome command manifests blobs workers may_refuse (Err Workers) = IsRefused command manifests blobs workers Workers
-IsOutcome command manifests blobs workers may_refuse (Err Layers) = IsRefused command manifests blobs workers Layers
-IsOutcome command manifests blobs workers may_refuse (Err (Layer index fault)) = IsRefused command manifests blobs workers (Layer index fault)
-IsOutcome command manifests blobs workers may_refuse (Err BlobOrder) = IsRefused command manifests blobs workers BlobOrder
-IsOutcome command manifests blobs workers may_refuse (Err BlobSize) = IsRefused command manifests blobs workers BlobSize
-IsOutcome command manifests blobs workers may_refuse (Err NoLower) = IsRefused command manifests blobs workers NoLower
+-- what comes of a request, by a gate that may refuse these pieces; want of memory may come at any time
+abbrev pub IsOutcome : Request → (Piece → Type 0) → Result Answer EngineFault → Type 0
+IsOutcome request may_refuse (Ok answer) =
+    IsAccepted request × IsAnswer request.what (stack_of request) request.blobs answer
+IsOutcome request may_refuse (Err (Faulty report)) =
+    IsAccepted request × IsFoundFaulty request.what (stack_of request) request.blobs report.items
+IsOutcome request may_refuse (Err LimitOut) =
+    IsAccepted request × IsLimitedOut request.what (stack_of request) request.blobs
+IsOutcome request may_refuse (Err (Run fault)) =
+    IsAccepted request × IsFailedRun request.what (stack_of request) request.blobs may_refuse fault
+IsOutcome request may_refuse (Err Memory) = ⊤
+IsOutcome request may_refuse (Err Workers) = IsRefused request Workers
+IsOutcome request may_refuse (Err Layers) = IsRefused request Layers
+IsOutcome request may_refuse (Err (Layer index fault)) = IsRefused request (Layer index fault)
+IsOutcome request may_refuse (Err BlobOrder) = IsRefused request BlobOrder
+IsOutcome request may_refuse (Err BlobSize) = IsRefused request BlobSize
+IsOutcome request may_refuse (Err NoLower) = IsRefused request NoLower
+IsOutcome request may_refuse (Err DataLayers) = IsRefused request DataLayers

@@ -1,5 +1,5 @@
 -- Why a command is refused before any work is done.
-use Rattle.std.specs.Prelude.{◌≡◌, ⊤, ℕ, suc, Bool, ◌||◌, ◌&&◌, ◌==◌, not, Option, Some, None, Result, Ok, Err, List, [], ◌∷◌, if◌then◌else◌, length, nat_lt}
+use Rattle.std.specs.Prelude.{◌≡◌, ⊤, ℕ, suc, ◌-◌, Bool, ◌||◌, ◌&&◌, ◌==◌, not, Option, Some, None, Result, Ok, Err, List, [], ◌∷◌, if◌then◌else◌, length, nat_lt, nat_le}
 use Rattle.std.specs.List.{sum_by}
 use Rattle.ovl_manifest.specs.Layers.{Entries}
 use Rattle.ovl_manifest.specs.Manifest.{read_layer}
@@ -16,9 +16,9 @@ use Rattle.ovl_rewrite.specs.declared.faults.RewriteFault.TheVariants.{LimitOut 
 use Rattle.ovl_merge.specs.declared.faults.MergeFault.{MergeFault}
 use Rattle.ovl_merge.specs.declared.faults.MergeFault.TheVariants.{NoLower as MergeLower, LimitOut as MergeLimit, Memory as MergeMemory}
 use Rattle.ovl_engine.specs.declared.faults.EngineFault.{EngineFault}
-use Rattle.ovl_engine.specs.declared.faults.EngineFault.TheVariants.{Workers, Layers, Layer, BlobOrder, BlobSize, NoLower, Faulty, LimitOut, Run, Memory}
-use Rattle.ovl_engine.specs.declared.requests.Command.{Command}
+use Rattle.ovl_engine.specs.declared.faults.EngineFault.TheVariants.{Workers, Layers, Layer, BlobOrder, BlobSize, NoLower, Faulty, LimitOut, Run, Memory, DataLayers}
 use Rattle.ovl_engine.specs.Commands.{wants_lower}
+use Rattle.ovl_engine.specs.Requests.{Request}
 
 -- a number is none, or over a limit
 abbrev pub is_outside : ℕ → ℕ → Bool
@@ -60,19 +60,24 @@ blob_refusal blobs =
     else None
 
 -- what manifests and blobs are refused for
-abbrev pub input_refusal : List (List ℕ) → List BlobView → Option EngineFault
-input_refusal manifests blobs = elim (first_unread manifests) [ Some fault ↦ Some fault | None ↦ blob_refusal blobs ]
+abbrev pub input_refusal : Request → Option EngineFault
+input_refusal request = elim (first_unread request.manifests) [ Some fault ↦ Some fault | None ↦ blob_refusal request.blobs ]
 
--- the fault of one manifest, where a command wants a layer under the topmost
-abbrev pub lower_refusal : Command → List (List ℕ) → Option EngineFault
-lower_refusal command manifests = if wants_lower command && length manifests == 1 then Some NoLower else None
+-- how many layers aren't data-only
+abbrev pub ordinary_layers : Request → ℕ
+ordinary_layers request = length request.manifests - request.bottom
 
--- what a command is refused for, by these manifests, blobs and number of workers: the first of six that holds
-abbrev pub first_refusal : Command → List (List ℕ) → List BlobView → ℕ → Option EngineFault
-first_refusal command manifests blobs workers =
-    if is_outside worker_limit workers then Some Workers
-    else if is_outside layer_limit (length manifests) then Some Layers
-    else elim (input_refusal manifests blobs) [ Some fault ↦ Some fault | None ↦ lower_refusal command manifests ]
+-- the fault of fewer than two such layers, where a command wants one under the topmost
+abbrev pub lower_refusal : Request → Option EngineFault
+lower_refusal request = if wants_lower request.what && nat_lt (ordinary_layers request) 2 then Some NoLower else None
+
+-- what a request is refused for: the first of seven that holds
+abbrev pub first_refusal : Request → Option EngineFault
+first_refusal request =
+    if is_outside worker_limit request.workers then Some Workers
+    else if is_outside layer_limit (length request.manifests) then Some Layers
+    else if nat_le (length request.manifests) request.bottom then Some DataLayers
+    else elim (input_refusal request) [ Some fault ↦ Some fault | None ↦ lower_refusal request ]
 
 -- the fault where the manifest of this index isn't read: want of memory is told as such
 abbrev pub unread_layer : ℕ → LayerFault → EngineFault
@@ -108,3 +113,4 @@ IsUnread read NoLower = ⊥
 IsUnread read (Faulty report) = ⊥
 IsUnread read LimitOut = ⊥
 IsUnread read (Run fault) = ⊥
+IsUnread read DataLayers = ⊥

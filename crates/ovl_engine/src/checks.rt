@@ -1,5 +1,5 @@
-ghost use Rattle.std.specs.Prelude.{◌≡◌, ◌<◌, ◌≤◌, true, List, MatchResult, length, map};
-ghost use Rattle.ovl_manifest.specs.Layers.{Entries};
+ghost use Rattle.std.specs.Prelude.{◌≡◌, ◌<◌, ◌≤◌, true, MatchResult, length, map};
+ghost use Rattle.ovl_lookup.specs.Stacks.{StackView, all_layers};
 ghost use Rattle.ovl_board.specs.Machine.{worker_limit};
 ghost use Rattle.ovl_board.specs.Parcels.{parcel_views};
 ghost use Rattle.ovl_check.specs.Blobs.{blob_views, are_in_order, wrong_names};
@@ -37,7 +37,7 @@ pub(crate) fn findings_of<G: Gate + Sync, R: Threads + Wait + Sync>(
     requires ascend { are_in_order (blob_views blobs.now) ≡ true }
     ensures { MatchResult result
         (λ found. found.items ≡ findings (blob_views blobs.now) stack.now)
-        (λ fault. IsFailure Fsck stack.now.layers (blob_views blobs.now) (G.may_refuse gate.now) fault) }
+        (λ fault. IsFailure Fsck stack.now (blob_views blobs.now) (G.may_refuse gate.now) fault) }
 {
     let wrong = wrong_blobs(rt, alloc, blobs, workers, gate)?;
     let work = CheckWork::new(stack, blobs, &wrong);
@@ -57,7 +57,7 @@ fn wrong_blobs<G: Gate + Sync, R: Threads + Wait + Sync>(
     requires ascend { are_in_order (blob_views blobs.now) ≡ true }
     ensures { MatchResult result
         (λ wrong. wrong.items ≡ wrong_names (blob_views blobs.now))
-        (λ fault. (layers : List Entries) → IsFailure Fsck layers (blob_views blobs.now) (G.may_refuse gate.now) fault) }
+        (λ fault. (stack : StackView) → IsFailure Fsck stack (blob_views blobs.now) (G.may_refuse gate.now) fault) }
 {
     let work = BlobWork::new(blobs);
     let root = Piece {
@@ -68,7 +68,7 @@ fn wrong_blobs<G: Gate + Sync, R: Threads + Wait + Sync>(
     Ok(finish_blobs(alloc, &work, parcels)?)
 }
 
-// The plain walks of the layers of a stack, in order.
+// The plain walks of the layers of a stack, the data-only ones too, in order.
 fn layer_walks<'a, G: Gate + Sync, R: Threads + Wait + Sync>(
     rt: &R,
     alloc: Global,
@@ -80,9 +80,9 @@ fn layer_walks<'a, G: Gate + Sync, R: Threads + Wait + Sync>(
     requires number { (0 < workers) × (workers ≤ worker_limit) }
     requires same { (check_view work.now).stack ≡ stack.now }
     ensures { MatchResult result
-        (λ walks. (length walks.items ≡ length stack.now.layers)
+        (λ walks. (length walks.items ≡ length (all_layers stack.now))
         × AreLayerWalks (check_view work.now) 0 (map (λ parcels. parcel_views check_seen parcels.items) walks.items))
-        (λ fault. IsFailure Fsck stack.now.layers (check_view work.now).blobs (G.may_refuse gate.now) fault) }
+        (λ fault. IsFailure Fsck stack.now (check_view work.now).blobs (G.may_refuse gate.now) fault) }
 {
     let mut walks = Vec::new(alloc);
     for i in 0..stack.layers() {

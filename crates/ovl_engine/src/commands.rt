@@ -1,13 +1,14 @@
-ghost use Rattle.std.specs.Prelude.{◌≡◌, ◌↔◌, ◌<◌, ◌≤◌, true, false, Ok, Err, IfOk, IfErr, OnOk, [], length, map, nat_lt};
+ghost use Rattle.std.specs.Prelude.{◌≡◌, ◌↔◌, ◌<◌, ◌≤◌, true, false, Err, IfOk, IfErr, OnOk, [], length, nat_lt, nat_le};
 ghost use Rattle.ovl_lookup.specs.Stacks.{layer_limit};
 ghost use Rattle.ovl_board.specs.Machine.{worker_limit};
 ghost use Rattle.ovl_check.specs.Blobs.{blob_views, are_in_order};
 ghost use Rattle.ovl_engine.specs.declared.requests.Command.TheVariants.{Show, Fsck};
-ghost use Rattle.ovl_engine.specs.declared.faults.EngineFault.TheVariants.{Workers, Layers};
-ghost use Rattle.ovl_engine.specs.Refusals.{is_outside as outside_test, layers_from, blob_limit, blob_bytes};
+ghost use Rattle.ovl_engine.specs.declared.faults.EngineFault.TheVariants.{Workers, Layers, DataLayers};
+ghost use Rattle.ovl_engine.specs.Requests.{request_of};
+ghost use Rattle.ovl_engine.specs.Refusals.{is_outside as outside_test, blob_limit, blob_bytes};
 ghost use Rattle.ovl_engine.specs.Outcomes.{IsAccepted, IsRefusal, IsOutcome, IsRun};
 ghost use Rattle.ovl_engine.specs.Commands.{makes_layers, stays_sound, wants_lower as lower_test};
-ghost use Rattle.ovl_engine.specs.Kept.{KeepsTree, KeepsTreeOf, KeepsSoundness, IsSoundAfter, manifests_after};
+ghost use Rattle.ovl_engine.specs.Kept.{KeepsTree, KeepsTreeOf, KeepsSoundness, HasSoundStack, IsRequestOf, after};
 
 use crate::checks::findings_of;
 use crate::derefs::deref;
@@ -28,39 +29,44 @@ use std::alloc::Global;
 use std::sync::Wait;
 use std::thread::Threads;
 
-/// What a command gives of the layers that the manifests state, the topmost first, and of the blobs, by 1 to
-/// [`WORKER_LIMIT`] workers. The answer is the same for every number of workers and every order of their visits.
+/// What a command gives of the layers that the manifests state, the topmost first and the last `bottom` of them data-only,
+/// and of the blobs, by 1 to [`WORKER_LIMIT`] workers. The answer is the same for every number of workers and every order
+/// of their visits.
 ///
 /// Refused before any worker starts where the workers are outside 1 to [`WORKER_LIMIT`], else where the manifests are
-/// outside 1 to [`LAYER_LIMIT`], else where one states no layer, the first of them, with its fault, else where the names
-/// of the blobs don't ascend strictly, else where the blobs have more than [`BLOB_LIMIT`] bytes in all, else where one
-/// layer is to be merged. A command that makes new layers first checks as [`Command::Fsck`] does, and is refused with that
-/// report where it tells a fault, else with `LimitOut` where a new layer passes a limit of manifests. Else the manifests
-/// with the new ones in place of the topmost show the same merged tree, and after vacuum and deref have no fault of a
-/// layer. `Run` comes where the gate refuses a piece that the
-/// command reaches, or the board has a fault, which some parcels of the command's own runs have; `Memory` can come at any
-/// time but before the first two refusals. It waits for its workers, and returns only where each question to the gate
-/// does. The merged tree, what is checked and the new layers are those of `docs/PROFILE.md`, the reports those of
-/// `docs/FORMATS.md`.
+/// outside 1 to [`LAYER_LIMIT`], else where all layers would be data-only, else where a manifest states no layer, the first
+/// of them, with its fault, else where the names of the blobs don't ascend strictly, else where the blobs have more than
+/// [`BLOB_LIMIT`] bytes in all, else where a merge has fewer than two layers that aren't data-only. A command that makes new
+/// layers first checks as [`Command::Fsck`] does, and is refused with that report where it tells a fault, else with
+/// `LimitOut` where a new layer passes a limit of manifests. Else the manifests with the new ones in place of the topmost,
+/// as many of them data-only as before, show the same merged tree, and after vacuum and deref have no fault of a layer.
+/// `Run` comes where the gate refuses a piece that the command reaches, or the board has a fault, which some parcels of the
+/// command's own runs have; `Memory` can come at any time but before the first three refusals. It waits for its workers, and
+/// returns only where each question to the gate does. The merged tree, what is checked and the new layers are those of
+/// `docs/PROFILE.md`, the reports those of `docs/FORMATS.md`. overlayfs.rst: "Data-only lower layers".
 pub fn command<G: Gate + Sync, R: Threads + Wait + Sync>(
     rt: &R,
     alloc: Global,
     what: Command,
     manifests: &[Vec<u8>],
+    bottom: u16,
     blobs: &[Blob],
     workers: usize,
     gate: &G,
 ) -> Result<Answer, EngineFault>
-    ensures outcome { IsOutcome what (map (λ manifest. manifest.items) manifests.now) (blob_views blobs.now) workers (G.may_refuse gate.now) result }
+    ensures outcome { IsOutcome (request_of what manifests.now bottom blobs.now workers) (G.may_refuse gate.now) result }
     ensures keeps { IfOk result (λ answer. makes_layers what ≡ true
-        → KeepsTree (map (λ manifest. manifest.items) manifests.now) (manifests_after (map (λ manifest. manifest.items) manifests.now) answer)) }
+        → let request = request_of what manifests.now bottom blobs.now workers in KeepsTree request (after request answer)) }
     ensures sound { IfOk result (λ answer. stays_sound what ≡ true
-        → IsSoundAfter (manifests_after (map (λ manifest. manifest.items) manifests.now) answer)) }
+        → HasSoundStack (after (request_of what manifests.now bottom blobs.now workers) answer)) }
     ensures workers { (result ≡ Err Workers) ↔ (outside_test worker_limit workers ≡ true) }
     ensures layers { (result ≡ Err Layers)
         ↔ ((outside_test worker_limit workers ≡ false) × (outside_test layer_limit (length manifests.now) ≡ true)) }
+    ensures data_layers { (result ≡ Err DataLayers)
+        ↔ ((outside_test worker_limit workers ≡ false) × (outside_test layer_limit (length manifests.now) ≡ false)
+        × (nat_le (length manifests.now) bottom ≡ true)) }
 {
-    let stack = stack_for(rt, alloc, what, manifests, blobs, workers)?;
+    let stack = stack_for(rt, alloc, what, manifests, bottom, blobs, workers)?;
     answer(rt, alloc, what, stack, blobs, workers, gate)
 }
 
@@ -71,20 +77,24 @@ pub fn command_of<G: Gate + Sync, R: Threads + Wait + Sync>(
     alloc: Global,
     what: Command,
     manifests: Vec<Vec<u8>>,
+    bottom: u16,
     blobs: &[Blob],
     workers: usize,
     gate: &G,
 ) -> Result<Answer, EngineFault>
-    ensures outcome { IsOutcome what (map (λ manifest. manifest.items) manifests.items) (blob_views blobs.now) workers (G.may_refuse gate.now) result }
+    ensures outcome { IsOutcome (request_of what manifests.items bottom blobs.now workers) (G.may_refuse gate.now) result }
     ensures keeps { IfOk result (λ answer. makes_layers what ≡ true
-        → KeepsTree (map (λ manifest. manifest.items) manifests.items) (manifests_after (map (λ manifest. manifest.items) manifests.items) answer)) }
+        → let request = request_of what manifests.items bottom blobs.now workers in KeepsTree request (after request answer)) }
     ensures sound { IfOk result (λ answer. stays_sound what ≡ true
-        → IsSoundAfter (manifests_after (map (λ manifest. manifest.items) manifests.items) answer)) }
+        → HasSoundStack (after (request_of what manifests.items bottom blobs.now workers) answer)) }
     ensures workers { (result ≡ Err Workers) ↔ (outside_test worker_limit workers ≡ true) }
     ensures layers { (result ≡ Err Layers)
         ↔ ((outside_test worker_limit workers ≡ false) × (outside_test layer_limit (length manifests.items) ≡ true)) }
+    ensures data_layers { (result ≡ Err DataLayers)
+        ↔ ((outside_test worker_limit workers ≡ false) × (outside_test layer_limit (length manifests.items) ≡ false)
+        × (nat_le (length manifests.items) bottom ≡ true)) }
 {
-    let stack = stack_for(rt, alloc, what, &manifests, blobs, workers)?;
+    let stack = stack_for(rt, alloc, what, &manifests, bottom, blobs, workers)?;
     drop(manifests);
     answer(rt, alloc, what, stack, blobs, workers, gate)
 }
@@ -95,18 +105,22 @@ fn stack_for<R: Threads + Sync>(
     alloc: Global,
     what: Command,
     manifests: &[Vec<u8>],
+    bottom: u16,
     blobs: &[Blob],
     workers: usize,
 ) -> Result<Stack, EngineFault>
-    ensures accepted { OnOk result (IsAccepted what (map (λ manifest. manifest.items) manifests.now) (blob_views blobs.now) workers) }
-    ensures read { IfOk result (λ stack. layers_from 0 (map (λ manifest. manifest.items) manifests.now) ≡ Ok stack.layers) }
+    ensures accepted { OnOk result (IsAccepted (request_of what manifests.now bottom blobs.now workers)) }
+    ensures read { IfOk result (λ stack. IsRequestOf stack (request_of what manifests.now bottom blobs.now workers)) }
     ensures number { OnOk result ((0 < workers) × (workers ≤ worker_limit)) }
     ensures ascend { OnOk result (are_in_order (blob_views blobs.now) ≡ true) }
     ensures several { IfOk result (λ stack. lower_test what ≡ true → 1 < length stack.layers) }
-    ensures refused { IfErr result (λ fault. IsRefusal what (map (λ manifest. manifest.items) manifests.now) (blob_views blobs.now) workers fault) }
+    ensures refused { IfErr result (IsRefusal (request_of what manifests.now bottom blobs.now workers)) }
     ensures workers { (result ≡ Err Workers) ↔ (outside_test worker_limit workers ≡ true) }
     ensures layers { (result ≡ Err Layers)
         ↔ ((outside_test worker_limit workers ≡ false) × (outside_test layer_limit (length manifests.now) ≡ true)) }
+    ensures data_layers { (result ≡ Err DataLayers)
+        ↔ ((outside_test worker_limit workers ≡ false) × (outside_test layer_limit (length manifests.now) ≡ false)
+        × (nat_le (length manifests.now) bottom ≡ true)) }
 {
     if is_outside(WORKER_LIMIT, workers) {
         return Err(EngineFault::Workers);
@@ -114,14 +128,18 @@ fn stack_for<R: Threads + Sync>(
     if is_outside(LAYER_LIMIT, manifests.len()) {
         return Err(EngineFault::Layers);
     }
-    let stack = read_stack(rt, alloc, manifests, workers)?;
+    let bottom = usize::from(bottom);
+    if bottom >= manifests.len() {
+        return Err(EngineFault::DataLayers);
+    }
+    let stack = read_stack(rt, alloc, manifests, bottom, workers)?;
     if !blobs_in_order(blobs) {
         return Err(EngineFault::BlobOrder);
     }
     if are_over_limit(blobs) {
         return Err(EngineFault::BlobSize);
     }
-    if wants_lower(what) && manifests.len() == 1 {
+    if wants_lower(what) && stack.ordinary() < 2 {
         return Err(EngineFault::NoLower);
     }
     Ok(stack)
@@ -140,9 +158,9 @@ fn answer<G: Gate + Sync, R: Threads + Wait + Sync>(
     requires number { (0 < workers) × (workers ≤ worker_limit) }
     requires ascend { are_in_order (blob_views blobs.now) ≡ true }
     requires several { lower_test what ≡ true → 1 < length stack.layers }
-    ensures outcome { IsRun what stack.layers (blob_views blobs.now) (G.may_refuse gate.now) result }
-    ensures keeps { IfOk result (λ answer. makes_layers what ≡ true → KeepsTreeOf stack.layers answer) }
-    ensures sound { IfOk result (λ answer. stays_sound what ≡ true → KeepsSoundness stack.layers answer) }
+    ensures outcome { IsRun what stack (blob_views blobs.now) (G.may_refuse gate.now) result }
+    ensures keeps { IfOk result (λ answer. makes_layers what ≡ true → KeepsTreeOf stack answer) }
+    ensures sound { IfOk result (λ answer. stays_sound what ≡ true → KeepsSoundness stack answer) }
 {
     match what {
         Command::Show => show(rt, alloc, stack, workers, gate),
@@ -196,7 +214,7 @@ fn show<G: Gate + Sync, R: Threads + Wait + Sync>(
     gate: &G,
 ) -> Result<Answer, EngineFault>
     requires { (0 < workers) × (workers ≤ worker_limit) }
-    ensures { IsRun Show stack.layers [] (G.may_refuse gate.now) result }
+    ensures { IsRun Show stack [] (G.may_refuse gate.now) result }
 {
     let work = ShowWork::new(&stack);
     let root = Piece {
@@ -224,7 +242,7 @@ fn fsck<G: Gate + Sync, R: Threads + Wait + Sync>(
 ) -> Result<Answer, EngineFault>
     requires number { (0 < workers) × (workers ≤ worker_limit) }
     requires ascend { are_in_order (blob_views blobs.now) ≡ true }
-    ensures { IsRun Fsck stack.layers (blob_views blobs.now) (G.may_refuse gate.now) result }
+    ensures { IsRun Fsck stack (blob_views blobs.now) (G.may_refuse gate.now) result }
 {
     let found = findings_of(rt, alloc, &stack, blobs, workers, gate)?;
     let_go(rt, alloc, stack, workers);

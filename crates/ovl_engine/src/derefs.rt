@@ -42,11 +42,11 @@ pub(crate) fn deref<G: Gate + Sync, R: Threads + Wait + Sync>(
 ) -> Result<Answer, EngineFault>
     requires number { (0 < workers) × (workers ≤ worker_limit) }
     requires ascend { are_in_order (blob_views blobs.now) ≡ true }
-    ensures outcome { IsRun Deref stack.layers (blob_views blobs.now) (G.may_refuse gate.now) result }
-    ensures tree { IfOk result (KeepsTreeOf stack.layers) }
-    ensures sound { IfOk result (KeepsSoundness stack.layers) }
+    ensures outcome { IsRun Deref stack (blob_views blobs.now) (G.may_refuse gate.now) result }
+    ensures tree { IfOk result (KeepsTreeOf stack) }
+    ensures sound { IfOk result (KeepsSoundness stack) }
 {
-    let _layers = stack.layers();
+    let _layers = stack.ordinary();
     deref_keeps_the_tree();
     deref_keeps_soundness();
     expect_clean(rt, alloc, &stack, blobs, workers, gate)?;
@@ -72,7 +72,7 @@ fn dereferenced<G: Gate + Sync, R: Threads + Wait + Sync>(
     ensures layer { IfOk result (λ layer. IsDereferenced layer (top_layer stack.now) (lower_layers stack.now)) }
     ensures within { IfOk result (λ _. PassesLimit stack.now → ⊥) }
     ensures fault { IfErr result (λ fault. (blobs : List BlobView) → is_clean (findings blobs stack.now) ≡ true
-        → IsFailure Deref stack.now.layers blobs (G.may_refuse gate.now) fault) }
+        → IsFailure Deref stack.now blobs (G.may_refuse gate.now) fault) }
 {
     let work = DerefWork::new(stack);
     let root = Piece {

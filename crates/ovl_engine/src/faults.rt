@@ -12,9 +12,9 @@ use ovl_rewrite::RewriteFault;
 use std::alloc::{AllocError, AllocFailed};
 use thiserror::Error;
 
-/// Why a command gives no answer. The first of `Workers`, `Layers`, `Layer`, `BlobOrder`, `BlobSize` and `NoLower` that
-/// holds is given before any work is done; `Faulty` comes where a command is refused for what [`Command::Fsck`](crate::Command::Fsck)
-/// tells, and `LimitOut` after that check. Layers are counted from 0, the topmost first.
+/// Why a command gives no answer. The first of `Workers`, `Layers`, `DataLayers`, `Layer`, `BlobOrder`, `BlobSize` and
+/// `NoLower` that holds is given before any work is done; `Faulty` comes where a command is refused for what
+/// [`Command::Fsck`](crate::Command::Fsck) tells, and `LimitOut` after that check. Layers are counted from 0, the topmost first.
 #[derive(Debug, PartialEq, Eq, Drop, Error)]
 pub enum EngineFault {
     /// There is no worker, or there are more than [`WORKER_LIMIT`].
@@ -32,7 +32,7 @@ pub enum EngineFault {
     /// The blobs have more than [`BLOB_LIMIT`] bytes in all.
     #[error("blobs over {max} bytes", max = BLOB_LIMIT)]
     BlobSize,
-    /// A command that wants a layer under the topmost one has none.
+    /// A command that wants a layer under the topmost one has none that isn't data-only.
     #[error("no lower layer")]
     NoLower,
     /// The layers or the blobs have faults, which this report of `fsck` tells.
@@ -47,6 +47,9 @@ pub enum EngineFault {
     /// Memory is wanted.
     #[error("out of memory")]
     Memory,
+    /// All layers would be data-only.
+    #[error("data layers must leave a layer")]
+    DataLayers,
 }
 
 // What is told of a run that gave no walk.

@@ -28,7 +28,7 @@ pub fn report_of_walk(
     parcels: &[Parcel<Vec<(Name, Look)>>],
 ) -> Result<Vec<u8>, AllocError>
     requires { IsShowWalk work.now (parcel_views (λ looks. looks.items) parcels.now) }
-    ensures { IfOk result (λ report. IsShowReport work.now.layers report.items) }
+    ensures { IfOk result (λ report. IsShowReport work.now report.items) }
 {
     let root = work.root_look(alloc)?;
     let report = report_of_tree(alloc, &root, parcels)?;
@@ -42,7 +42,7 @@ fn report_of_tree(
     parcels: &[Parcel<Vec<(Name, Look)>>],
 ) -> Result<Vec<u8>, AllocError>
     ensures { IfOk result (λ report. (stack : StackView) → IsTreeOf stack root.now (parcel_views (λ looks. looks.items) parcels.now)
-        → IsShowReport stack.layers report.items) }
+        → IsShowReport stack report.items) }
 {
     let entries = entries_of(parcels)?;
     let mut report = lines_from(alloc, root, parcels, 0, entries)?;
@@ -61,7 +61,7 @@ pub(crate) fn report_by<R: Threads + Sync>(
 ) -> Result<Vec<u8>, AllocError>
     requires { 0 < workers }
     ensures { IfOk result (λ report. (stack : StackView) → IsTreeOf stack root.now (parcel_views (λ looks. looks.items) parcels.now)
-        → IsShowReport stack.layers report.items) }
+        → IsShowReport stack report.items) }
 {
     let entries = entries_of(parcels)?;
     let share = share_of(entries, workers);

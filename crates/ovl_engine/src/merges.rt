@@ -42,10 +42,10 @@ pub(crate) fn merge<G: Gate + Sync, R: Threads + Wait + Sync>(
     requires number { (0 < workers) × (workers ≤ worker_limit) }
     requires ascend { are_in_order (blob_views blobs.now) ≡ true }
     requires several { 1 < length stack.layers }
-    ensures outcome { IsRun Merge stack.layers (blob_views blobs.now) (G.may_refuse gate.now) result }
-    ensures tree { IfOk result (KeepsTreeOf stack.layers) }
+    ensures outcome { IsRun Merge stack (blob_views blobs.now) (G.may_refuse gate.now) result }
+    ensures tree { IfOk result (KeepsTreeOf stack) }
 {
-    let _layers = stack.layers();
+    let _layers = stack.ordinary();
     merge_keeps_the_tree();
     expect_clean(rt, alloc, &stack, blobs, workers, gate)?;
     let done = merged(rt, alloc, &stack, workers, gate)?;
@@ -73,7 +73,7 @@ fn merged<G: Gate + Sync, R: Threads + Wait + Sync>(
     ensures lower { IfOk result (λ done. IsMergedDown (merge_of stack.now) done.lower) }
     ensures within { IfOk result (λ _. PassesLimit (merge_of stack.now) → ⊥) }
     ensures fault { IfErr result (λ fault. (blobs : List BlobView) → is_clean (findings blobs stack.now) ≡ true
-        → IsFailure Merge stack.now.layers blobs (G.may_refuse gate.now) fault) }
+        → IsFailure Merge stack.now blobs (G.may_refuse gate.now) fault) }
 {
     let work = MergeWork::new(stack)?;
     let root = Piece {

@@ -39,7 +39,7 @@ pub(crate) fn expect_clean<G: Gate + Sync, R: Threads + Wait + Sync>(
     ensures clean { IfOk result (λ _. clean_test (findings (blob_views blobs.now) stack.now) ≡ true) }
     ensures sound { IfOk result (λ _. IsSoundStack stack.now) }
     ensures refused { IfErr result (λ fault. (what : Command) → makes_layers what ≡ true
-        → IsFailure what stack.now.layers (blob_views blobs.now) (G.may_refuse gate.now) fault) }
+        → IsFailure what stack.now (blob_views blobs.now) (G.may_refuse gate.now) fault) }
 {
     // Where no fault is found, the stack is sound.
     findings_tell_soundness();

@@ -1,6 +1,6 @@
-ghost use Rattle.std.specs.Prelude.{◌≡◌, ◌+◌, ◌^◌, ◌<◌, ◌≤◌, Ok, IfOk, MatchResult, length, map};
-ghost use Rattle.ovl_lookup.specs.Stacks.{layer_limit};
-ghost use Rattle.ovl_engine.specs.Refusals.{layers_from, IsUnread};
+ghost use Rattle.std.specs.Prelude.{◌≡◌, ◌+◌, ◌-◌, ◌^◌, ◌<◌, ◌≤◌, None, Ok, IfOk, IfErr, MatchResult, length, map};
+ghost use Rattle.ovl_lookup.specs.Stacks.{layer_limit, stack_with};
+ghost use Rattle.ovl_engine.specs.Refusals.{layers_from, stated_layers, first_unread, IsUnread};
 
 use crate::faults::EngineFault;
 use ovl_lookup::Stack;
@@ -8,23 +8,26 @@ use ovl_manifest::{Sheet, read_sheet};
 use std::alloc::Global;
 use std::thread::{Threads, for_each_mut, map_chunks};
 
-/// The stack of the layers that 1 to [`LAYER_LIMIT`](ovl_lookup::LAYER_LIMIT) manifests state, the topmost first, read by
-/// at most as many threads as there are workers.
+/// The stack of the layers that 1 to [`LAYER_LIMIT`](ovl_lookup::LAYER_LIMIT) manifests state, the topmost first, of which
+/// the last `bottom`, fewer than all, are data-only. They are read by at most as many threads as there are workers.
 pub(crate) fn read_stack<R: Threads + Sync>(
     rt: &R,
     alloc: Global,
     manifests: &[Vec<u8>],
+    bottom: usize,
     workers: usize,
 ) -> Result<Stack, EngineFault>
     requires number { 0 < workers }
-    requires limit { (0 < length manifests.now) × (length manifests.now ≤ layer_limit) }
-    ensures read { MatchResult result
-        (λ stack. layers_from 0 (map (λ manifest. manifest.items) manifests.now) ≡ Ok stack.layers)
-        (λ fault. IsUnread (layers_from 0 (map (λ manifest. manifest.items) manifests.now)) fault) }
-    ensures count { IfOk result (λ stack. length stack.layers ≡ length manifests.now) }
+    requires limit { length manifests.now ≤ layer_limit }
+    requires some { bottom < length manifests.now }
+    ensures read { IfOk result (λ _. first_unread (map (λ manifest. manifest.items) manifests.now) ≡ None) }
+    ensures stack { IfOk result (λ stack. stack ≡ stack_with (stated_layers (map (λ manifest. manifest.items) manifests.now)) bottom) }
+    ensures count { IfOk result (λ stack. length stack.layers ≡ length manifests.now - bottom) }
+    ensures unread { IfErr result (λ fault. IsUnread (layers_from 0 (map (λ manifest. manifest.items) manifests.now)) fault) }
 {
-    let layers = read_layers(rt, alloc, manifests, workers)?;
-    match Stack::of_sheets(layers) {
+    let mut layers = read_layers(rt, alloc, manifests, workers)?;
+    let data_only = layers.split_off(layers.len() - bottom)?;
+    match Stack::of_sheets(layers, data_only) {
         Ok(stack) => Ok(stack),
         // There are as many layers as manifests.
         Err(_) => Err(EngineFault::Layers),
@@ -41,9 +44,10 @@ fn read_layers<R: Threads + Sync>(
 ) -> Result<Vec<Sheet>, EngineFault>
     requires number { 0 < workers }
     requires some { 0 < length manifests.now }
-    ensures { MatchResult result
+    ensures read { MatchResult result
         (λ layers. layers_from 0 (map (λ manifest. manifest.items) manifests.now) ≡ Ok layers.items)
         (λ fault. IsUnread (layers_from 0 (map (λ manifest. manifest.items) manifests.now)) fault) }
+    ensures count { IfOk result (λ layers. length layers.items ≡ length manifests.now) }
 {
     let share = manifests.len().div_ceil(workers);
     let read = |first: usize, manifests: &[Vec<u8>]| -> Result<Vec<Sheet>, EngineFault>
@@ -81,13 +85,14 @@ fn read_share(alloc: Global, first: usize, manifests: &[Vec<u8>]) -> Result<Vec<
 pub(crate) fn let_go<R: Threads + Sync>(rt: &R, alloc: Global, stack: Stack, workers: usize)
     requires { 0 < workers }
 {
-    let Ok(mut layers): Result<Vec<Option<Sheet>>, _> = stack
-        .into_sheets()
+    let (layers, data_only) = stack.into_sheets();
+    let Ok(mut sheets): Result<Vec<Option<Sheet>>, _> = layers
         .into_iter()
+        .chain(data_only)
         .map(Some)
         .collect(alloc)
     else {
         return;
     };
-    for_each_mut(rt, &mut layers, workers, &|_, layer| drop(layer.take()));
+    for_each_mut(rt, &mut sheets, workers, &|_, sheet| drop(sheet.take()));
 }

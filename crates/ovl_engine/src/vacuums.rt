@@ -35,11 +35,11 @@ pub(crate) fn vacuum<G: Gate + Sync, R: Threads + Wait + Sync>(
 ) -> Result<Answer, EngineFault>
     requires number { (0 < workers) × (workers ≤ worker_limit) }
     requires ascend { are_in_order (blob_views blobs.now) ≡ true }
-    ensures outcome { IsRun Vacuum stack.layers (blob_views blobs.now) (G.may_refuse gate.now) result }
-    ensures tree { IfOk result (KeepsTreeOf stack.layers) }
-    ensures sound { IfOk result (KeepsSoundness stack.layers) }
+    ensures outcome { IsRun Vacuum stack (blob_views blobs.now) (G.may_refuse gate.now) result }
+    ensures tree { IfOk result (KeepsTreeOf stack) }
+    ensures sound { IfOk result (KeepsSoundness stack) }
 {
-    let _layers = stack.layers();
+    let _layers = stack.ordinary();
     vacuum_keeps_the_tree();
     vacuum_keeps_soundness();
     expect_clean(rt, alloc, &stack, blobs, workers, gate)?;
@@ -63,8 +63,8 @@ fn vacuumed<G: Gate + Sync, R: Threads + Wait + Sync>(
 ) -> Result<VacuumDone, EngineFault>
     requires { (0 < workers) × (workers ≤ worker_limit) }
     ensures { MatchResult result
-        (λ done. (done.layer ≡ left_by_vacuum stack.now.layers) × (done.removed.items ≡ removed_by_vacuum stack.now.layers))
-        (λ fault. (blobs : List BlobView) → IsFailure Vacuum stack.now.layers blobs (G.may_refuse gate.now) fault) }
+        (λ done. (done.layer ≡ left_by_vacuum stack.now) × (done.removed.items ≡ removed_by_vacuum stack.now))
+        (λ fault. (blobs : List BlobView) → IsFailure Vacuum stack.now blobs (G.may_refuse gate.now) fault) }
 {
     let work = VacuumWork::new(stack);
     let root = Piece {

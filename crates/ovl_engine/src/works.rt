@@ -36,7 +36,7 @@ impl<'a> ShowWork<'a> {
         ensures value { result ≡ stack.now }
         ensures names { HasAllNames stack.now }
     {
-        let _layers = stack.layers();
+        let _layers = stack.ordinary();
         ShowWork { stack }
     }
 
@@ -46,7 +46,7 @@ impl<'a> ShowWork<'a> {
         ensures some { 0 < length self.now.layers }
         ensures each { All IsLayer self.now.layers }
     {
-        let _layers = self.stack.layers();
+        let _layers = self.stack.ordinary();
         self.stack.look(alloc, 0, &Path::root(alloc))
     }
 }
@@ -80,7 +80,7 @@ impl<'a> Work for ShowWork<'a> {
     }
 
     fn deepest(&self) -> u32 {
-        (DEPTH_LIMIT * self.stack.layers()) as u32
+        (DEPTH_LIMIT * self.stack.ordinary()) as u32
     }
 }
 
@@ -88,7 +88,7 @@ impl<'a> Work for ShowWork<'a> {
 fn looks_at(alloc: Global, stack: &Stack, dir: &Path) -> Result<Vec<(Name, Look)>, AllocError>
     ensures { IfOk result (λ looks. looks.items ≡ looks_in stack.now dir.now) }
 {
-    let _layers = stack.layers();
+    let _layers = stack.ordinary();
     let Some(view) = DirView::of(alloc, stack, 0, dir)? else {
         return Ok(Vec::new(alloc));
     };

@@ -15,6 +15,7 @@ fn kind_of(word: &str) -> Result<(&'static str, &'static str, &'static str), Fai
         "dir-0700" => Ok(("", "\"kind\":\"dir\",\"mode\":448", "")),
         "file" => Ok((BLOB_A, FILE, ",\"size\":1")),
         "file-0645" => Ok((BLOB_A, "\"kind\":\"file\",\"mode\":421", ",\"size\":1")),
+        "file-b" => Ok((BLOB_B, FILE, ",\"size\":1")),
         "file-ab" => Ok((BLOB_AB, FILE, ",\"size\":3")),
         "file-abc" => Ok((BLOB_ABC, FILE, ",\"size\":3")),
         "empty" => Ok(("", FILE, ",\"size\":0")),
@@ -43,6 +44,9 @@ const FILE: &str = "\"kind\":\"file\",\"mode\":420";
 
 const BLOB_A: &str =
     "\"blob\":\"ca978112ca1bbdcafac231b39a23dc4da786eff8147c4e72b9807785afee48bb\",";
+
+const BLOB_B: &str =
+    "\"blob\":\"3e23e8160039594a33894f6564e1b1348bbd7a0088d42c4acb73eeaed59c009d\",";
 
 const BLOB_AB: &str =
     "\"blob\":\"fb8e20fc2e4c3f248c60c39bd652f3c1347298bb977b8b4d5903b85055620603\",";
@@ -123,13 +127,14 @@ pub(crate) fn contents_of(alloc: Global, texts: &[&str]) -> Result<Vec<Vec<u8>>,
     Ok(contents)
 }
 
-// What `show` reports of these layers, the topmost first, alike by one worker and by four.
+// What `show` reports of these layers, the topmost first and the last `bottom` data-only, alike by one worker and by four.
 pub(crate) fn shown<R: Threads + Wait + Sync>(
     rt: &R,
     alloc: Global,
     layers: &[&str],
+    bottom: u16,
 ) -> Result<String, Fail> {
-    reported(rt, alloc, &manifests_of(alloc, layers)?)
+    reported(rt, alloc, &manifests_of(alloc, layers)?, bottom)
 }
 
 pub(crate) fn manifests_of(alloc: Global, layers: &[&str]) -> Result<Vec<Vec<u8>>, Fail> {
@@ -145,21 +150,23 @@ pub(crate) fn reported<R: Threads + Wait + Sync>(
     rt: &R,
     alloc: Global,
     manifests: &[Vec<u8>],
+    bottom: u16,
 ) -> Result<String, Fail> {
-    let answer = answered(rt, alloc, Command::Show, manifests, &[])?;
+    let answer = answered(rt, alloc, Command::Show, manifests, bottom, &[])?;
     Ok(String::from_utf8(answer.report)?)
 }
 
-// What `fsck` reports of these layers, the topmost first, with these blobs, alike by one worker and by four. It is
-// clean where it has no fault.
+// What `fsck` reports of these layers, the topmost first and the last `bottom` data-only, with these blobs, alike by one
+// worker and by four. It is clean where it has no fault.
 pub(crate) fn checked<R: Threads + Wait + Sync>(
     rt: &R,
     alloc: Global,
     layers: &[&str],
+    bottom: u16,
     blobs: &[Blob],
 ) -> Result<String, Fail> {
     let manifests = manifests_of(alloc, layers)?;
-    let answer = answered(rt, alloc, Command::Fsck, &manifests, blobs)?;
+    let answer = answered(rt, alloc, Command::Fsck, &manifests, bottom, blobs)?;
     let report = String::from_utf8(answer.report)?;
     if answer.clean != report.as_str().contains("faults 0 notes ") {
         return Err(Fail::new("it isn't told whether there is a fault"));
@@ -174,11 +181,12 @@ fn answered<R: Threads + Wait + Sync>(
     alloc: Global,
     what: Command,
     manifests: &[Vec<u8>],
+    bottom: u16,
     blobs: &[Blob],
 ) -> Result<Answer, Fail> {
-    let alone = command(rt, alloc, what, manifests, blobs, 1, &OpenGate)?;
+    let alone = command(rt, alloc, what, manifests, bottom, blobs, 1, &OpenGate)?;
     let copies = copies_of(alloc, manifests)?;
-    let together = command_of(rt, alloc, what, copies, blobs, 4, &OpenGate)?;
+    let together = command_of(rt, alloc, what, copies, bottom, blobs, 4, &OpenGate)?;
     if alone != together {
         return Err(Fail::new("four workers answer otherwise than one"));
     }
@@ -201,22 +209,23 @@ fn copies_of(alloc: Global, manifests: &[Vec<u8>]) -> Result<Vec<Vec<u8>>, Alloc
     Ok(copies)
 }
 
-// What a command that makes new layers reports, and behind it their manifests, alike by one worker and by four. With
-// them in place of the topmost ones the stack shows the same.
+// What a command that makes new layers reports of layers of which the last `bottom` are data-only, and behind it their
+// manifests, alike by one worker and by four. With them in place of the topmost ones the stack shows the same.
 pub(crate) fn rewritten<R: Threads + Wait + Sync>(
     rt: &R,
     alloc: Global,
     what: Command,
     layers: &[&str],
+    bottom: u16,
     blobs: &[Blob],
 ) -> Result<String, Fail> {
     let manifests = manifests_of(alloc, layers)?;
-    let before = reported(rt, alloc, &manifests)?;
+    let before = reported(rt, alloc, &manifests, bottom)?;
     let Answer {
         report,
         layers: mut after,
         clean,
-    } = answered(rt, alloc, what, &manifests, blobs)?;
+    } = answered(rt, alloc, what, &manifests, bottom, blobs)?;
     if !clean {
         return Err(Fail::new("there are faults"));
     }
@@ -225,7 +234,7 @@ pub(crate) fn rewritten<R: Threads + Wait + Sync>(
     for manifest in manifests.into_iter().skip(new_layers) {
         after.push(manifest)?;
     }
-    if reported(rt, alloc, &after)? != before {
+    if reported(rt, alloc, &after, bottom)? != before {
         return Err(Fail::new("the stack with the new layers shows something else"));
     }
     Ok(told)

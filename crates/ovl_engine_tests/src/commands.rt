@@ -30,6 +30,7 @@ fn answer_of<R: Threads + Wait + Sync>(
         alloc,
         Command::Show,
         &manifests,
+        0,
         &[],
         workers,
         &OpenGate,
@@ -87,7 +88,7 @@ fn the_first_layer_that_is_not_read_is_told(rt: HostRuntime) -> Result<(), Fail>
     let newer = String::from_str(alloc, "{\"overlay-layer\":2,\"entries\":[]}")?;
     let list = String::from_str(alloc, "[]")?;
     let manifests = [root, newer.into_bytes(), list.into_bytes()];
-    let answer = command(&rt, alloc, Command::Show, &manifests, &[], 4, &OpenGate);
+    let answer = command(&rt, alloc, Command::Show, &manifests, 0, &[], 4, &OpenGate);
     assert_eq!(rt;
         answer.err(),
         Some(EngineFault::Layer(1, LayerFault::Version))
@@ -100,6 +101,7 @@ fn a_fault_has_its_text(rt: HostRuntime) -> Result<(), Fail> {
     for (fault, text) in [
         (EngineFault::Workers, "workers must be 1 to 64"),
         (EngineFault::Layers, "layers must be 1 to 128"),
+        (EngineFault::DataLayers, "data layers must leave a layer"),
         (
             EngineFault::Layer(2, LayerFault::Order(7)),
             "layer 2: entry 7: out of order",
@@ -213,7 +215,7 @@ fn is_met<R: Threads + Wait + Sync>(
     let mut faults = Vec::new(alloc);
     for workers in [2, 1] {
         let gate = gate_at(rt, alloc, space, pieces)?;
-        faults.push(command(rt, alloc, what, &manifests, &blobs, workers, &gate).err())?;
+        faults.push(command(rt, alloc, what, &manifests, 0, &blobs, workers, &gate).err())?;
     }
     Ok(faults.as_slice() == [None, Some(EngineFault::Run(RunFault::Gate))].as_slice())
 }

@@ -68,7 +68,7 @@ fn nothing_is_found_in_sound_stacks(rt: HostRuntime) -> Result<(), Fail> {
             ["bare /f metacopy=", "bare /f metacopy=", "file /f"].as_slice(),
         ),
     ] {
-        let found = checked(&rt, alloc, layers, &blobs)?;
+        let found = checked(&rt, alloc, layers, 0, &blobs)?;
         assert_eq!(rt; found.as_str(), "faults 0 notes 0\n", "where {what}");
     }
     Ok(())
@@ -99,7 +99,7 @@ fn marks_that_say_nothing_are_noted(rt: HostRuntime) -> Result<(), Fail> {
             "note mark-ignored 0 /d\nfaults 0 notes 1\n",
         ),
     ] {
-        let found = checked(&rt, alloc, layers, &blobs)?;
+        let found = checked(&rt, alloc, layers, 0, &blobs)?;
         assert_eq!(rt; found.as_str(), report, "where {what}");
     }
     Ok(())
@@ -137,7 +137,7 @@ fn faults_of_redirects_are_found(rt: HostRuntime) -> Result<(), Fail> {
             "fault redirect-kind 0 /a\nfaults 1 notes 0\n",
         ),
     ] {
-        let found = checked(&rt, alloc, layers, &blobs)?;
+        let found = checked(&rt, alloc, layers, 0, &blobs)?;
         assert_eq!(rt; found.as_str(), report, "where {what}");
     }
     Ok(())
@@ -160,7 +160,7 @@ fn faults_of_data_are_found(rt: HostRuntime) -> Result<(), Fail> {
             "fault data-size 0 /f\nfaults 1 notes 0\n",
         ),
     ] {
-        let found = checked(&rt, alloc, layers, &blobs)?;
+        let found = checked(&rt, alloc, layers, 0, &blobs)?;
         assert_eq!(rt; found.as_str(), report, "where {what}");
     }
     Ok(())
@@ -174,7 +174,7 @@ fn files_without_right_blobs_are_found(rt: HostRuntime) -> Result<(), Fail> {
     let alloc = rt.alloc();
     let blobs = [blob(alloc, OF_ABC, "abd")?, blob(alloc, OF_AB, "ab")?];
     assert_eq!(rt;
-        checked(&rt, alloc, &[WITH_THREE_FILES], &blobs)?.as_str(),
+        checked(&rt, alloc, &[WITH_THREE_FILES], 0, &blobs)?.as_str(),
         "fault blob-digest 0 /k\nfault blob-missing 0 /m\nfault blob-size 0 /s\nfaults 3 notes 0\n"
     );
     Ok(())
@@ -201,7 +201,7 @@ fn one_wrong_blob_is_found_among_many(rt: HostRuntime) -> Result<(), Fail> {
     let blobs = many_blobs(alloc)?;
     assert_eq!(rt; blobs.len(), 1500);
     assert_eq!(rt;
-        checked(&rt, alloc, &["file /m"], &blobs)?.as_str(),
+        checked(&rt, alloc, &["file /m"], 0, &blobs)?.as_str(),
         "fault blob-digest 0 /m\nfaults 1 notes 0\n"
     );
     Ok(())
@@ -220,9 +220,9 @@ fn blobs_must_ascend_whatever_the_command(rt: HostRuntime) -> Result<(), Fail> {
         Command::Deref,
         Command::Merge,
     ] {
-        let answer = command(&rt, alloc, what, &manifests, &falling, 4, &OpenGate);
+        let answer = command(&rt, alloc, what, &manifests, 0, &falling, 4, &OpenGate);
         assert_eq!(rt; answer.err(), Some(EngineFault::BlobOrder), "at {what:?}");
-        let answer = command(&rt, alloc, what, &manifests, &twice, 4, &OpenGate);
+        let answer = command(&rt, alloc, what, &manifests, 0, &twice, 4, &OpenGate);
         assert_eq!(rt; answer.err(), Some(EngineFault::BlobOrder), "at {what:?}");
     }
     Ok(())
@@ -239,13 +239,23 @@ fn blobs_have_a_limit_in_all(rt: HostRuntime) -> Result<(), Fail> {
         bytes,
     };
     let blobs = [most, blob(alloc, OF_AB, "a")?];
-    let answer = command(&rt, alloc, Command::Show, &manifests, &blobs, 4, &OpenGate);
+    let answer = command(
+        &rt,
+        alloc,
+        Command::Show,
+        &manifests,
+        0,
+        &blobs,
+        4,
+        &OpenGate,
+    );
     assert_eq!(rt; answer.err(), Some(EngineFault::BlobSize));
     let answer = command(
         &rt,
         alloc,
         Command::Show,
         &manifests,
+        0,
         &blobs[..1],
         4,
         &OpenGate,
@@ -263,6 +273,7 @@ fn a_layer_that_is_not_read_is_told_before_its_blobs(rt: HostRuntime) -> Result<
         alloc,
         Command::Fsck,
         &[Vec::new(alloc)],
+        0,
         &blobs,
         4,
         &OpenGate,

@@ -11,6 +11,8 @@ mod command_samples;
 #[cfg(test)]
 mod commands;
 #[cfg(test)]
+mod data_layers;
+#[cfg(test)]
 mod fsck;
 #[cfg(test)]
 mod new_layers;

@@ -109,7 +109,7 @@ fn commands_report_and_give_new_layers(rt: HostRuntime) -> Result<(), Fail> {
             ["file /f"].as_slice(),
         ),
     ] {
-        let told = rewritten(&rt, alloc, what, layers, &blobs)?;
+        let told = rewritten(&rt, alloc, what, layers, 0, &blobs)?;
         let wanted = told_of(alloc, report, &manifests_of(alloc, new)?)?;
         assert_eq!(rt; told, wanted, "{what:?} of {layers:?}");
     }
@@ -176,7 +176,7 @@ fn merge_gives_a_root_over_both_layers_as_one(rt: HostRuntime) -> Result<(), Fai
             "dir /b redirect=x, whiteout /x",
         ),
     ] {
-        let told = rewritten(&rt, alloc, Command::Merge, layers, &blobs)?;
+        let told = rewritten(&rt, alloc, Command::Merge, layers, 0, &blobs)?;
         let wanted = told_of(alloc, report, &manifests_of(alloc, &["", lower])?)?;
         assert_eq!(rt; told, wanted, "{layers:?}");
     }
@@ -187,11 +187,11 @@ fn merge_gives_a_root_over_both_layers_as_one(rt: HostRuntime) -> Result<(), Fai
 fn merge_wants_a_lower_layer(rt: HostRuntime) -> Result<(), Fail> {
     let alloc = rt.alloc();
     let mut manifests = manifests_of(alloc, &[""])?;
-    let answer = command(&rt, alloc, Command::Merge, &manifests, &[], 4, &OpenGate);
+    let answer = command(&rt, alloc, Command::Merge, &manifests, 0, &[], 4, &OpenGate);
     assert_eq!(rt; answer.err(), Some(EngineFault::NoLower));
     // What can't be read is told before.
     manifests[0].clear();
-    let answer = command(&rt, alloc, Command::Merge, &manifests, &[], 4, &OpenGate);
+    let answer = command(&rt, alloc, Command::Merge, &manifests, 0, &[], 4, &OpenGate);
     assert_eq!(rt;
         answer.err(),
         Some(EngineFault::Layer(0, LayerFault::NotJson))
@@ -208,7 +208,7 @@ fn a_stack_with_faults_gives_their_report_and_no_layer(rt: HostRuntime) -> Resul
     let manifests = manifests_of(alloc, &[upper, ""])?;
     for what in [Command::Vacuum, Command::Deref, Command::Merge] {
         for workers in [1, 4] {
-            let answer = command(&rt, alloc, what, &manifests, &[], workers, &OpenGate);
+            let answer = command(&rt, alloc, what, &manifests, 0, &[], workers, &OpenGate);
             let Err(EngineFault::Faulty(told)) = answer else {
                 return Err(Fail::new("the faults aren't told"));
             };
@@ -240,6 +240,7 @@ fn any_number_of_workers_gives_the_same_new_layer(rt: HostRuntime) -> Result<(),
         alloc,
         Command::Vacuum,
         &manifests,
+        0,
         &blobs,
         1,
         &OpenGate,
@@ -255,6 +256,7 @@ fn any_number_of_workers_gives_the_same_new_layer(rt: HostRuntime) -> Result<(),
             alloc,
             Command::Vacuum,
             &manifests,
+            0,
             &blobs,
             workers,
             &OpenGate,
@@ -267,6 +269,7 @@ fn any_number_of_workers_gives_the_same_new_layer(rt: HostRuntime) -> Result<(),
             alloc,
             Command::Vacuum,
             &manifests,
+            0,
             &blobs,
             workers,
             &OpenGate,
@@ -297,11 +300,11 @@ fn a_new_layer_is_within_the_limits(rt: HostRuntime) -> Result<(), Fail> {
     // In `/p/q` the shorter chain ends 64 names deep, the longer one 65.
     let chained = chain(alloc, 62)?;
     let layers = [FROM_THE_CHAIN, chained.as_str()];
-    let told = rewritten(&rt, alloc, Command::Deref, &layers, &[])?;
+    let told = rewritten(&rt, alloc, Command::Deref, &layers, 0, &[])?;
     assert!(rt; told.as_str().contains("\nwhiteout /x\nentries 66\n"));
     let deeper = chain(alloc, 63)?;
     let manifests = manifests_of(alloc, &[FROM_THE_CHAIN, deeper.as_str()])?;
-    let answer = command(&rt, alloc, Command::Deref, &manifests, &[], 4, &OpenGate);
+    let answer = command(&rt, alloc, Command::Deref, &manifests, 0, &[], 4, &OpenGate);
     assert_eq!(rt; answer.err(), Some(EngineFault::LimitOut));
     Ok(())
 }

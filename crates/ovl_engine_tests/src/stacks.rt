@@ -38,7 +38,7 @@ fn whiteouts_and_opaque_directories_hide(rt: HostRuntime) -> Result<(), Fail> {
             "dir 0755 0 0 0 - - /\ndir 0755 0 0 0 - - /d\nfile 0644 0 0 0 1 [a] /d/k\nentries 3\n",
         ),
     ] {
-        let shown = shown(&rt, alloc, layers)?;
+        let shown = shown(&rt, alloc, layers, 0)?;
         assert_eq!(rt; shown, in_full(alloc, report)?, "where {what}");
     }
     Ok(())
@@ -90,7 +90,7 @@ fn moved_directories_show_what_they_came_from(rt: HostRuntime) -> Result<(), Fai
             file 0644 0 0 0 1 [a] /x/k\nentries 4\n",
         ),
     ] {
-        let shown = shown(&rt, alloc, layers)?;
+        let shown = shown(&rt, alloc, layers, 0)?;
         assert_eq!(rt; shown, in_full(alloc, report)?, "where {what}");
     }
     Ok(())
@@ -111,7 +111,7 @@ fn metacopy_files_show_the_data_below(rt: HostRuntime) -> Result<(), Fail> {
             "dir 0755 0 0 0 - - /\nfile 0644 0 0 0 1 missing /f\nentries 2\n",
         ),
     ] {
-        let shown = shown(&rt, alloc, layers)?;
+        let shown = shown(&rt, alloc, layers, 0)?;
         assert_eq!(rt; shown, in_full(alloc, report)?, "where {what}");
     }
     Ok(())

@@ -1,5 +1,5 @@
 -- Words that nothing refuses name a command, and give it its options.
-use Rattle.std.proofs.Common.{◌≡◌, ◌∙◌, ◌<◌, ◌||◌, Bool, true, false, not, cond, refl, sym, ap, subst, arith, inl, inr, List, [], ◌∷◌, ◌++◌, codes, fold, find, length, Option, Some, None, is_some}
+use Rattle.std.proofs.Common.{◌≡◌, ◌∙◌, ◌<◌, ◌||◌, ℕ, Bool, true, false, not, cond, refl, sym, ap, subst, arith, inl, inr, List, [], ◌∷◌, ◌++◌, codes, fold, find, length, Option, Some, None, is_some}
 use Rattle.std.specs.Prelude.{option_and_then, option_map, slice_get}
 use Rattle.std.specs.List.{list_any}
 use Rattle.std.specs.Option.{option_map_or}
@@ -18,8 +18,8 @@ use Rattle.clap.specs.declared.builder.value_parser.Reading.{Reading}
 use Rattle.clap.specs.declared.builder.value_parser.Reading.TheVariants.{AsWritten}
 use Rattle.clap.specs.declared.builder.value_parser.ValueParser.TheVariants.{Unsigned}
 use Rattle.clap.proofs.ValueTestLemmas.{accepts-Accepts}
-use Rattle.ovl_layers.specs.Grammar.{blobs_rule, fsck_shape, out_rule, show_shape, rewriting_shape, tool_app, workers_rule}
-use Rattle.ovl_layers.specs.Lines.{IsGiven, name_of}
+use Rattle.ovl_layers.specs.Grammar.{blobs_rule, data_layers_rule, fsck_shape, out_rule, show_shape, rewriting_shape, tool_app, workers_rule}
+use Rattle.ovl_layers.specs.Lines.{HasNumber, IsGiven, name_of}
 use Rattle.ovl_engine.specs.declared.requests.Command.{Command}
 use Rattle.ovl_engine.specs.Commands.{checks, makes_layers}
 use Rattle.ovl_engine.specs.declared.requests.Command.TheVariants.{Show, Fsck, Vacuum, Deref, Merge}
@@ -180,12 +180,23 @@ files_given c id a rows fit rule given =
 first_text : (r : Row) (v : Text) (vs : List Text) → r.values ≡ v ∷ vs → r.reading ≡ AsWritten → row_text r ≡ Some v
 first_text r v vs values reading = rw (values, reading) refl
 
+-- an option of which there is a row has one value, which spells a number that its parser takes
+number_given : (c : List Rule) (id : Text) (a : Rule) (low high : ℕ) (rows : List Row) → AllFit c rows → arg_by_id c id ≡ Some a → reading_by a ≡ AsWritten
+    → ((v : Text) → value_passes a v ≡ true → IsUnsignedIn low high v) → has_row id rows ≡ true → HasNumber id low high rows
+number_given c id a low high rows fit rule written spells there =
+    let found = any_found (λ r. bytes_eq r.id id) rows there in
+    let first = row_of_rule c id a rows found.0 fit found.1 rule in
+    (first.0, ap (option_and_then row_text) found.1 ∙ first_text found.0 first.0 first.1 first.2 (first.4 ∙ written), spells first.0 first.3)
+
 workers_given : (c : List Rule) (rows : List Row) → AllFit c rows → arg_by_id c (codes "workers") ≡ Some (filled workers_rule) → has_row (codes "workers") rows ≡ true
-    → (text : Text) × (one_of (codes "workers") rows ≡ Some text) × IsUnsignedIn 1 64 text
+    → HasNumber (codes "workers") 1 64 rows
 workers_given c rows fit rule there =
-    let found = any_found (λ r. bytes_eq r.id (codes "workers")) rows there in
-    let first = row_of_rule c (codes "workers") (filled workers_rule) rows found.0 fit found.1 rule in
-    (first.0, ap (option_and_then row_text) found.1 ∙ first_text found.0 first.0 first.1 first.2 first.4, accepts-Accepts false (Unsigned 1 64) first.0 first.3)
+    number_given c (codes "workers") (filled workers_rule) 1 64 rows fit rule refl (λ v passes. accepts-Accepts false (Unsigned 1 64) v passes) there
+
+data_layers_given : (c : List Rule) (rows : List Row) → AllFit c rows → arg_by_id c (codes "data-layers") ≡ Some (filled data_layers_rule) → has_row (codes "data-layers") rows ≡ true
+    → HasNumber (codes "data-layers") 0 127 rows
+data_layers_given c rows fit rule there =
+    number_given c (codes "data-layers") (filled data_layers_rule) 0 127 rows fit rule refl (λ v passes. accepts-Accepts false (Unsigned 0 127) v passes) there
 
 -- ---- the commands
 
@@ -198,17 +209,17 @@ rest_of [] = []
 rest_of (a ∷ rest) = rest
 
 own_show : Each (IsOwn (leaf show_shape).rules) (leaf show_shape).rules
-own_show = ((refl, inl (inl refl, refl), (refl, tt)), ((refl, inl (inr refl, refl), tt), ((refl, inr refl, tt), tt)))
+own_show = ((refl, inl (inl refl, refl), (refl, tt)), ((refl, inl (inl refl, refl), (refl, tt)), ((refl, inl (inr refl, refl), tt), ((refl, inr refl, tt), tt))))
 
 own_fsck : Each (IsOwn (leaf fsck_shape).rules) (leaf fsck_shape).rules
-own_fsck = ((refl, inl (inl refl, refl), tt), ((refl, inl (inl refl, refl), (refl, tt)), ((refl, inl (inr refl, refl), tt), ((refl, inr refl, tt), tt))))
+own_fsck = ((refl, inl (inl refl, refl), tt), ((refl, inl (inl refl, refl), (refl, tt)), ((refl, inl (inl refl, refl), (refl, tt)), ((refl, inl (inr refl, refl), tt), ((refl, inr refl, tt), tt)))))
 
 one_wanted : (a : Bool) → check_kinds false false (not a || false) ≡ [] → a ≡ true
 one_wanted true e = refl
 one_wanted false e = cc
 
 own_rewriting : (name : Text) → Each (IsOwn (leaf (rewriting_shape name)).rules) (leaf (rewriting_shape name)).rules
-own_rewriting name = ((refl, inl (inl refl, refl), tt), ((refl, inl (inl refl, refl), tt), ((refl, inl (inl refl, refl), (refl, tt)), ((refl, inl (inr refl, refl), tt), ((refl, inr refl, tt), tt)))))
+own_rewriting name = ((refl, inl (inl refl, refl), tt), ((refl, inl (inl refl, refl), tt), ((refl, inl (inl refl, refl), (refl, tt)), ((refl, inl (inl refl, refl), (refl, tt)), ((refl, inl (inr refl, refl), tt), ((refl, inr refl, tt), tt))))))
 
 two_wanted : (a b : Bool) → check_kinds false false (not a || (not b || false)) ≡ [] → (a ≡ true) × (b ≡ true)
 two_wanted true true e = (refl, refl)
@@ -228,10 +239,14 @@ show_given words e =
     let check = (level_parts (leaf show_shape) [] words false [] e).3 in
     let rows = rows_after rules [] words in
     let before = (settled rules (walk rules [] nothing_held words).held).rows in
+    let after = with_default before (filled workers_rule) in
     let there : has_row (codes "workers") rows ≡ true =
-    defaults_stay (codes "workers") (rest_of rules) (with_default before (filled workers_rule)) (default_made (filled workers_rule) (codes "4") [] before refl) in
+    defaults_stay (codes "workers") (rest_of rules) after (default_made (filled workers_rule) (codes "4") [] before refl) in
+    let there_too : has_row (codes "data-layers") rows ≡ true =
+    defaults_stay (codes "data-layers") (rest_of (rest_of rules)) (with_default after (filled data_layers_rule)) (default_made (filled data_layers_rule) (codes "0") [] after refl) in
     record {
       workers = workers_given rules rows fit refl there;
+      data_layers = data_layers_given rules rows fit refl there_too;
       blobs = ap is_some (absent rules (codes "blobs") rows fit refl);
       out = ap is_some (absent rules (codes "out") rows fit refl);
       layers = files_given rules (codes "layers") _ rows fit refl (one_wanted _ check);
@@ -244,11 +259,15 @@ fsck_given words e =
     let check = (level_parts (leaf fsck_shape) [] words false [] e).3 in
     let rows = rows_after rules [] words in
     let before = with_default (settled rules (walk rules [] nothing_held words).held).rows (filled blobs_rule) in
+    let after = with_default before (filled workers_rule) in
     let there : has_row (codes "workers") rows ≡ true =
-    defaults_stay (codes "workers") (rest_of (rest_of rules)) (with_default before (filled workers_rule)) (default_made (filled workers_rule) (codes "4") [] before refl) in
+    defaults_stay (codes "workers") (rest_of (rest_of rules)) after (default_made (filled workers_rule) (codes "4") [] before refl) in
+    let there_too : has_row (codes "data-layers") rows ≡ true =
+    defaults_stay (codes "data-layers") (rest_of (rest_of (rest_of rules))) (with_default after (filled data_layers_rule)) (default_made (filled data_layers_rule) (codes "0") [] after refl) in
     let wanted = two_wanted _ _ check in
     record {
       workers = workers_given rules rows fit refl there;
+      data_layers = data_layers_given rules rows fit refl there_too;
       blobs = first_given rules (codes "blobs") (filled blobs_rule) rows fit refl wanted.0;
       out = ap is_some (absent rules (codes "out") rows fit refl);
       layers = files_given rules (codes "layers") _ rows fit refl wanted.1;
@@ -263,11 +282,15 @@ rewriting_given what checking making name words e =
     let check = (level_parts (leaf (rewriting_shape name)) [] words false [] e).3 in
     let rows = rows_after rules [] words in
     let before = with_default (with_default (settled rules (walk rules [] nothing_held words).held).rows (filled blobs_rule)) (filled out_rule) in
+    let after = with_default before (filled workers_rule) in
     let there : has_row (codes "workers") rows ≡ true =
-    defaults_stay (codes "workers") (rest_of (rest_of (rest_of rules))) (with_default before (filled workers_rule)) (default_made (filled workers_rule) (codes "4") [] before refl) in
+    defaults_stay (codes "workers") (rest_of (rest_of (rest_of rules))) after (default_made (filled workers_rule) (codes "4") [] before refl) in
+    let there_too : has_row (codes "data-layers") rows ≡ true =
+    defaults_stay (codes "data-layers") (rest_of (rest_of (rest_of (rest_of rules)))) (with_default after (filled data_layers_rule)) (default_made (filled data_layers_rule) (codes "0") [] after refl) in
     let wanted = three_wanted _ _ _ check in
     record {
       workers = workers_given rules rows fit refl there;
+      data_layers = data_layers_given rules rows fit refl there_too;
       blobs = first_given rules (codes "blobs") (filled blobs_rule) rows fit refl wanted.0 ∙ sym checking;
       out = first_given rules (codes "out") (filled out_rule) rows fit refl wanted.1 ∙ sym making;
       layers = files_given rules (codes "layers") _ rows fit refl wanted.2;

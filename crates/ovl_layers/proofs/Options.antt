@@ -1,25 +1,24 @@
 -- What the getters of the matches read of the options of a command.
-use Rattle.std.proofs.Common.{rules, ◌≡◌, ◌∙◌, ◌<◌, ◌≤◌, ℕ, refl, sym, ap, arith, List, length, map, Option, Some, None, is_some, codes}
+use Rattle.std.proofs.Common.{rules, ◌≡◌, ◌∙◌, ◌<◌, ◌≤◌, ℕ, refl, sym, ap, arith, List, length, map, Option, Some, None, is_some}
 use Rattle.std.specs.Prelude.{IsSome, Result, option_map}
 use Rattle.std.specs.Str.Parse.{ParsesUnsigned}
 use Rattle.std.proofs.lemmas.List.{length-map}
 use Rattle.clap.specs.Words.{ReadsOne, one_text}
-use Rattle.clap.specs.Walk.{one_of, rows_of}
+use Rattle.clap.specs.Walk.{Text, one_of, rows_of}
 use Rattle.clap.specs.declared.parser.matches.Found.{Found}
 use Rattle.clap.proofs.WalkLemmas.{one_text-rows}
-use Rattle.ovl_layers.specs.Lines.{IsGiven, number_in}
-use Rattle.ovl_engine.specs.declared.requests.Command.{Command}
+use Rattle.ovl_layers.specs.Lines.{HasNumber, number_in}
 use Rattle.ovl_layers.proofs.Numbers.{number_read}
 
--- the number of workers is read
-pub workers_read : (E : Type 0) (gives : List ℕ → Result ℕ E → Type 0) (f : Found) (what : Command) (read : Option ℕ) → IsGiven what (rows_of f)
-    → ((text : List ℕ) → one_text f (codes "workers") ≡ Some text → ReadsOne gives text read)
+-- the number that an option has is read
+pub option_read : (id : Text) (low high : ℕ) (E : Type 0) (gives : List ℕ → Result ℕ E → Type 0) (f : Found) (read : Option ℕ) → HasNumber id low high (rows_of f)
+    → ((text : List ℕ) → one_text f id ≡ Some text → ReadsOne gives text read)
     → ((t : List ℕ) (r : Result ℕ E) → gives t r → ParsesUnsigned 64 10 t r)
-    → (n : ℕ) × (read ≡ Some n) × (option_map number_in (one_of (codes "workers") (rows_of f)) ≡ Some n) × (1 ≤ n) × (n ≤ 64)
-workers_read E gives f what read given reads parses =
-    let text = given.workers.0 in
-    let number = number_read E gives 1 64 text read (reads text (one_text-rows f (codes "workers") ∙ given.workers.1)) parses given.workers.2 in
-    (number.0, number.1, ap (option_map number_in) given.workers.1 ∙ ap Some (sym number.2), number.3, number.4)
+    → (n : ℕ) × (read ≡ Some n) × (option_map number_in (one_of id (rows_of f)) ≡ Some n) × (low ≤ n) × (n ≤ high)
+option_read id low high E gives f read given reads parses =
+    let text = given.0 in
+    let number = number_read E gives low high text read (reads text (one_text-rows f id ∙ given.1)) parses given.2 in
+    (number.0, number.1, ap (option_map number_in) given.1 ∙ ap Some (sym number.2), number.3, number.4)
 
 pub is_some-map : {X Y : Type 0} (f : X → Y) (o : Option X) → is_some o ≡ is_some (option_map f o)
 is_some-map f None = refl

@@ -1,11 +1,10 @@
 -- What comes of a line, by what comes of its parts.
 use Rattle.std.proofs.Common.{◌≡◌, ◌<◌, ℕ, refl, Option, None, Some, Result, Ok, Err, List, IfErr, MatchResult, inr, length, take, sym, subst, String, Global, string_bytes}
 use Rattle.std.specs.Io.KnownBytes.{Appends, Keeps}
-use Rattle.ovl_check.specs.Blobs.{BlobView}
-use Rattle.ovl_engine.specs.declared.requests.Command.{Command}
+use Rattle.ovl_engine.specs.Requests.{Request}
 use Rattle.ovl_engine.specs.declared.requests.Answer.{Answer}
 use Rattle.ovl_engine.specs.declared.faults.EngineFault.{EngineFault}
-use Rattle.ovl_engine.specs.declared.faults.EngineFault.TheVariants.{Memory, Workers, Layers, Layer, BlobOrder, BlobSize, NoLower, Faulty, LimitOut, Run}
+use Rattle.ovl_engine.specs.declared.faults.EngineFault.TheVariants.{Memory, Workers, Layers, Layer, BlobOrder, BlobSize, NoLower, Faulty, LimitOut, Run, DataLayers}
 use Rattle.ovl_layers.specs.declared.lines.Line.{Line}
 use Rattle.ovl_layers.specs.declared.endings.Ending.{Ending}
 use Rattle.ovl_layers.specs.declared.faults.ProgramFault.{ProgramFault}
@@ -13,21 +12,21 @@ use Rattle.ovl_layers.specs.declared.faults.ProgramFault.TheVariants.{Usage, Wor
 use Rattle.ovl_layers.specs.Faults.{IsUnread, IsUnwritten, IsMemory}
 use Rattle.ovl_layers.specs.Folders.{IsInFolder}
 use Rattle.ovl_layers.specs.Outputs.{IsLayerFile, IsOutFile}
-use Rattle.ovl_layers.specs.Programs.{IsOfBlobs, IsReadFor, IsPerformed}
+use Rattle.ovl_layers.specs.Programs.{IsOfBlobs, IsRequestFor, IsPerformed}
 use Rattle.ovl_layers.specs.Reported.{IsReported, IsTold, IsAnswered}
 use Rattle.ovl_layers.proofs.Unread.{unread_of_more}
 
 -- a report of what was read
-pub performed : (line : Line) (before after : Option (List ℕ)) (result : Result Ending ProgramFault) (manifests : List (List ℕ)) (blobs : List BlobView)
-    → IsReadFor line manifests blobs → IsReported line.what line.out manifests blobs line.workers before after result → IsPerformed line before after result
-performed line before after (Ok ending) manifests blobs read reported = (manifests, blobs, (read, reported))
-performed line before after (Err Output) manifests blobs read reported = (manifests, blobs, (read, reported))
-performed line before after (Err (Unwritten path)) manifests blobs read reported = (manifests, blobs, (read, reported))
-performed line before after (Err (Engine fault)) manifests blobs read reported = (inr (manifests, blobs, (read, reported)), reported.1)
-performed line before after (Err (Unread path)) manifests blobs read reported = elim reported [ ]
-performed line before after (Err (Usage text)) manifests blobs read reported = elim reported [ ]
-performed line before after (Err Words) manifests blobs read reported = elim reported [ ]
-performed line before after (Err Input) manifests blobs read reported = elim reported [ ]
+pub performed : (line : Line) (before after : Option (List ℕ)) (result : Result Ending ProgramFault) (request : Request)
+    → IsRequestFor line request → IsReported request line.out before after result → IsPerformed line before after result
+performed line before after (Ok ending) request of reported = (request, (of, reported))
+performed line before after (Err Output) request of reported = (request, (of, reported))
+performed line before after (Err (Unwritten path)) request of reported = (request, (of, reported))
+performed line before after (Err (Engine fault)) request of reported = (inr (request, (of, reported)), reported.1)
+performed line before after (Err (Unread path)) request of reported = elim reported [ ]
+performed line before after (Err (Usage text)) request of reported = elim reported [ ]
+performed line before after (Err Words) request of reported = elim reported [ ]
+performed line before after (Err Input) request of reported = elim reported [ ]
 
 module _ (line : Line) (folder : String Global) (asked : line.blobs ≡ Some folder) (text : List ℕ) (same : text ≡ string_bytes folder) where
   -- what isn't read of a line's folder is of its blobs
@@ -52,17 +51,17 @@ module _ (out : Option (String Global)) (folder : String Global) (asked : out �
   unwritten_out (Ok written) is = tt
   unwritten_out (Err fault) is = unwritten_in fault is
 
-module _ (what : Command) (out : Option (String Global)) (manifests : List (List ℕ)) (blobs : List BlobView) (workers : ℕ) (before after : Option (List ℕ)) where
+module _ (request : Request) (out : Option (String Global)) (before after : Option (List ℕ)) where
   -- a report that goes to a writer
-  pub told : (report : List ℕ) (ending : Ending) (result : Result Ending ProgramFault) → IsTold what manifests blobs workers report ending
+  pub told : (report : List ℕ) (ending : Ending) (result : Result Ending ProgramFault) → IsTold request report ending
       → MatchResult result (λ ended. (ended ≡ ending) × Appends before after report) (λ fault. (fault ≡ Output) × ((count : ℕ) × ((count < length report) × Appends before after (take count report))))
-      → IsReported what out manifests blobs workers before after result
-  told report ending (Ok ended) is written = (report, (subst (λ (e : Ending). IsTold what manifests blobs workers report e) (sym written.0) is, written.1))
+      → IsReported request out before after result
+  told report ending (Ok ended) is written = (report, (subst (λ (e : Ending). IsTold request report e) (sym written.0) is, written.1))
   told report ending (Err fault) is written =
-      subst (λ (f : ProgramFault). IsReported what out manifests blobs workers before after (Err f)) (sym written.0)
+      subst (λ (f : ProgramFault). IsReported request out before after (Err f)) (sym written.0)
       (report, ending, written.1.0, (is, written.1.1))
 
-  of_memory : (fault : EngineFault) → IsMemory fault → Keeps before after → IsReported what out manifests blobs workers before after (Err (Engine fault))
+  of_memory : (fault : EngineFault) → IsMemory fault → Keeps before after → IsReported request out before after (Err (Engine fault))
   of_memory Memory is kept = ((tt, refl), kept)
   of_memory Workers is kept = elim is [ ]
   of_memory Layers is kept = elim is [ ]
@@ -70,13 +69,14 @@ module _ (what : Command) (out : Option (String Global)) (manifests : List (List
   of_memory BlobOrder is kept = elim is [ ]
   of_memory BlobSize is kept = elim is [ ]
   of_memory NoLower is kept = elim is [ ]
+  of_memory DataLayers is kept = elim is [ ]
   of_memory (Faulty report) is kept = elim is [ ]
   of_memory LimitOut is kept = elim is [ ]
   of_memory (Run fault) is kept = elim is [ ]
 
   -- a new layer of an answer that isn't written
-  pub not_written : (answer : Answer) → IsAnswered what manifests blobs workers answer → (fault : ProgramFault) → IsUnwritten (IsOutFile out) fault → Keeps before after
-      → IsReported what out manifests blobs workers before after (Err fault)
+  pub not_written : (answer : Answer) → IsAnswered request answer → (fault : ProgramFault) → IsUnwritten (IsOutFile out) fault → Keeps before after
+      → IsReported request out before after (Err fault)
   not_written answer answered (Unwritten path) is kept = ((answer, (answered, is)), kept)
   not_written answer answered (Engine fault) is kept = of_memory fault is kept
   not_written answer answered (Usage told) is kept = elim is [ ]

@@ -1,7 +1,7 @@
 -- The faults of the program, and the exit status of each.
 use Rattle.std.specs.Prelude.{⊤, ℕ, List, string_bytes}
 use Rattle.ovl_engine.specs.declared.faults.EngineFault.{EngineFault}
-use Rattle.ovl_engine.specs.declared.faults.EngineFault.TheVariants.{Workers, Layers, Layer, BlobOrder, BlobSize, NoLower, Faulty, LimitOut, Run, Memory}
+use Rattle.ovl_engine.specs.declared.faults.EngineFault.TheVariants.{Workers, Layers, Layer, BlobOrder, BlobSize, NoLower, Faulty, LimitOut, Run, Memory, DataLayers}
 use Rattle.ovl_layers.specs.declared.inputs.InputFault.{InputFault}
 use Rattle.ovl_layers.specs.declared.inputs.InputFault.TheVariants.{Device, TooLong, Memory as InputMemory}
 use Rattle.ovl_layers.specs.declared.faults.ProgramFault.{ProgramFault}
@@ -25,6 +25,7 @@ IsMemory NoLower = ⊥
 IsMemory (Faulty report) = ⊥
 IsMemory LimitOut = ⊥
 IsMemory (Run fault) = ⊥
+IsMemory DataLayers = ⊥
 
 -- a file or folder isn't read, of which this holds of the path; want of memory may come at any time
 abbrev pub IsUnread : (List ℕ → Type 0) → ProgramFault → Type 0
@@ -50,6 +51,7 @@ IsUnwritten P Output = ⊥
 abbrev pub engine_status : EngineFault → ℕ
 engine_status (Faulty report) = 1
 engine_status Layers = 3
+engine_status DataLayers = 3
 engine_status (Layer index fault) = 3
 engine_status BlobOrder = 3
 engine_status BlobSize = 3

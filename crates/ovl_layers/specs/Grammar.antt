@@ -1,10 +1,11 @@
 -- The words that the command line takes: each command, with its options and what they take.
-use Rattle.std.specs.Prelude.{ℕ, true, false, List, [], ◌∷◌, Some, codes}
+use Rattle.std.specs.Prelude.{ℕ, ◌-◌, true, false, List, [], ◌∷◌, Some, codes}
 use Rattle.clap.specs.Lexer.{usize_max}
 use Rattle.clap.specs.Words.{App, Rule, Shape, new_rule}
 use Rattle.clap.specs.Simple.{new_shape}
 use Rattle.clap.specs.declared.builder.action.ArgAction.TheVariants.{Append}
 use Rattle.clap.specs.declared.builder.value_parser.ValueParser.TheVariants.{Unsigned}
+use Rattle.ovl_lookup.specs.Stacks.{layer_limit}
 use Rattle.ovl_board.specs.Machine.{worker_limit}
 
 -- the number of workers where no other is asked for, and the word that spells it
@@ -21,6 +22,15 @@ workers_rule = record (new_rule (codes "workers")) {
   value_names = 1;
   parser = Some (Unsigned 1 worker_limit);
   defaults = default_word ∷ [];
+}
+
+-- `--data-layers K`, a whole number that leaves one of the most layers, and none where it is left out
+abbrev pub data_layers_rule : Rule
+data_layers_rule = record (new_rule (codes "data-layers")) {
+  long = Some (codes "data-layers");
+  value_names = 1;
+  parser = Some (Unsigned 0 (layer_limit - 1));
+  defaults = codes "0" ∷ [];
 }
 
 -- `--blobs DIR`, which must be there
@@ -49,17 +59,17 @@ layers_rule = record (new_rule (codes "layers")) {
 }
 
 abbrev pub show_shape : Shape
-show_shape = record (new_shape (codes "show")) { rules = workers_rule ∷ layers_rule ∷ [] }
+show_shape = record (new_shape (codes "show")) { rules = workers_rule ∷ data_layers_rule ∷ layers_rule ∷ [] }
 
 abbrev pub fsck_shape : Shape
-fsck_shape = record (new_shape (codes "fsck")) { rules = blobs_rule ∷ workers_rule ∷ layers_rule ∷ [] }
+fsck_shape = record (new_shape (codes "fsck")) { rules = blobs_rule ∷ workers_rule ∷ data_layers_rule ∷ layers_rule ∷ [] }
 
 -- a command that makes new layers, with the options for its folders, and with all
 abbrev pub folders_shape : List ℕ → Shape
 folders_shape name = record (new_shape name) { rules = blobs_rule ∷ out_rule ∷ [] }
 
 abbrev pub rewriting_shape : List ℕ → Shape
-rewriting_shape name = record (new_shape name) { rules = blobs_rule ∷ out_rule ∷ workers_rule ∷ layers_rule ∷ [] }
+rewriting_shape name = record (new_shape name) { rules = blobs_rule ∷ out_rule ∷ workers_rule ∷ data_layers_rule ∷ layers_rule ∷ [] }
 
 -- the program's own level, without its commands
 abbrev pub bare_app : App

@@ -1,5 +1,5 @@
 -- What the words of a command line ask for.
-use Rattle.std.specs.Prelude.{◌≡◌, ◌≢◌, ◌⊎◌, ◌<◌, ◌≤◌, ⊤, ℕ, Bool, true, false, List, [], map, Some, Result, Ok, Err, codes, is_some, length, option_map, string_bytes}
+use Rattle.std.specs.Prelude.{◌≡◌, ◌≢◌, ◌⊎◌, ◌-◌, ◌<◌, ◌≤◌, ⊤, ℕ, Bool, true, false, List, [], map, Some, Result, Ok, Err, codes, is_some, length, option_map, string_bytes}
 use Rattle.std.specs.Str.Parse.{digits_value, without_leading_plus}
 use Rattle.clap.specs.Walk.{Row, Text, all_of, first_of, one_of}
 use Rattle.clap.specs.Simple.{subcommand_of}
@@ -8,6 +8,7 @@ use Rattle.clap.specs.Kinds.{IsAmong, Kinds}
 use Rattle.clap.specs.Faults.{fault_of}
 use Rattle.clap.specs.declared.error.kind.ErrorKind.{ErrorKind}
 use Rattle.clap.specs.declared.error.kind.ErrorKind.TheVariants.{DisplayHelp, DisplayVersion, OutOfMemory}
+use Rattle.ovl_lookup.specs.Stacks.{layer_limit}
 use Rattle.ovl_board.specs.Machine.{worker_limit}
 use Rattle.ovl_layers.specs.Grammar.{tool_app}
 use Rattle.ovl_engine.specs.declared.requests.Command.{Command}
@@ -29,10 +30,12 @@ name_of Merge = codes "merge"
 abbrev pub NamesCommand : Text → Type 0
 NamesCommand name = (what : Command) × (name ≡ name_of what)
 
--- what every line keeps to: the contents of files are read for what is checked, and new layers need a folder
+-- what every line keeps to: a stack has a layer that isn't data-only, the contents of files are read for what is checked,
+-- and new layers need a folder
 pub record IsSound (line : Line) : Type 0 where
   pub some_worker : 1 ≤ line.workers
   pub few_workers : line.workers ≤ worker_limit
+  pub few_data_layers : line.data_layers < layer_limit
   pub some_layer : 0 < length line.layers.items
   pub blobs : is_some line.blobs ≡ checks line.what
   pub out : is_some line.out ≡ makes_layers line.what
@@ -41,9 +44,14 @@ pub record IsSound (line : Line) : Type 0 where
 abbrev pub number_in : Text → ℕ
 number_in text = digits_value 10 (without_leading_plus text)
 
+-- an option has one value, which spells a number within these bounds
+abbrev pub HasNumber : Text → ℕ → ℕ → List Row → Type 0
+HasNumber id low high rows = (text : Text) × (one_of id rows ≡ Some text) × IsUnsignedIn low high text
+
 -- the values of the options make a line of the command
 pub record IsGiven (what : Command) (rows : List Row) : Type 0 where
-  pub workers : (text : Text) × (one_of (codes "workers") rows ≡ Some text) × IsUnsignedIn 1 worker_limit text
+  pub workers : HasNumber (codes "workers") 1 worker_limit rows
+  pub data_layers : HasNumber (codes "data-layers") 0 (layer_limit - 1) rows
   pub blobs : is_some (first_of (codes "blobs") rows) ≡ checks what
   pub out : is_some (first_of (codes "out") rows) ≡ makes_layers what
   pub layers : (files : List Text) × (all_of (codes "layers") rows ≡ Some files) × (0 < length files)
@@ -51,6 +59,7 @@ pub record IsGiven (what : Command) (rows : List Row) : Type 0 where
 -- the line is a command with the values that its options have
 pub record HasValues (line : Line) (rows : List Row) : Type 0 where
   pub workers : option_map number_in (one_of (codes "workers") rows) ≡ Some line.workers
+  pub data_layers : option_map number_in (one_of (codes "data-layers") rows) ≡ Some line.data_layers
   pub blobs : option_map string_bytes line.blobs ≡ first_of (codes "blobs") rows
   pub out : option_map string_bytes line.out ≡ first_of (codes "out") rows
   pub layers : all_of (codes "layers") rows ≡ Some (map string_bytes line.layers.items)

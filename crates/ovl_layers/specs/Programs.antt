@@ -2,7 +2,8 @@
 use Rattle.std.specs.Prelude.{◌≡◌, ◌⊎◌, ℕ, true, Option, Some, Result, Ok, Err, List, [], length, map, string_bytes, Contains, IfNone, String}
 use Rattle.std.specs.Global.{Global}
 use Rattle.std.specs.Io.KnownBytes.{Keeps}
-use Rattle.ovl_check.specs.Blobs.{BlobView, are_in_order}
+use Rattle.ovl_check.specs.Blobs.{are_in_order}
+use Rattle.ovl_engine.specs.Requests.{Request}
 use Rattle.ovl_layers.specs.declared.lines.Line.{Line}
 use Rattle.ovl_layers.specs.declared.endings.Ending.{Ending}
 use Rattle.ovl_layers.specs.declared.faults.ProgramFault.{ProgramFault}
@@ -19,17 +20,20 @@ IsOfBlobs line path = (folder : String Global) × ((line.blobs ≡ Some folder) 
 abbrev pub IsOfLine : Line → List ℕ → Type 0
 IsOfLine line path = Contains (map string_bytes line.layers.items) path ⊎ IsOfBlobs line path
 
--- what can be read for a line: a manifest for each layer, and blobs in order, none where the line has no folder of them
-pub record IsReadFor (line : Line) (manifests : List (List ℕ)) (blobs : List BlobView) : Type 0 where
-  pub each : length manifests ≡ length line.layers.items
-  pub in_order : are_in_order blobs ≡ true
-  pub none : IfNone line.blobs (blobs ≡ [])
+-- a request that can be read for a line: its command by its workers, a manifest for each layer, as many of them data-only
+-- as it says, and blobs in order, none where the line has no folder of them
+pub record IsRequestFor (line : Line) (request : Request) : Type 0 where
+  pub what : request.what ≡ line.what
+  pub workers : request.workers ≡ line.workers
+  pub each : length request.manifests ≡ length line.layers.items
+  pub bottom : request.bottom ≡ line.data_layers
+  pub in_order : are_in_order request.blobs ≡ true
+  pub none : IfNone line.blobs (request.blobs ≡ [])
 
--- what can be read for a line is reported so, by its command and its workers
+-- a request that can be read for a line is reported
 abbrev pub IsDone : Line → Option (List ℕ) → Option (List ℕ) → Result Ending ProgramFault → Type 0
 IsDone line before after result =
-    (manifests : List (List ℕ)) × (blobs : List BlobView)
-    × (IsReadFor line manifests blobs × IsReported line.what line.out manifests blobs line.workers before after result)
+    (request : Request) × (IsRequestFor line request × IsReported request line.out before after result)
 
 -- what comes of a line: it is done; or a file or a folder of it isn't read, or memory is wanting, and nothing is written
 abbrev pub IsPerformed : Line → Option (List ℕ) → Option (List ℕ) → Result Ending ProgramFault → Type 0

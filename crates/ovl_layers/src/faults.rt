@@ -70,6 +70,7 @@ fn engine_status(fault: &EngineFault) -> u8
     match fault {
         EngineFault::Faulty(_) => 1,
         EngineFault::Layers
+        | EngineFault::DataLayers
         | EngineFault::Layer(..)
         | EngineFault::BlobOrder
         | EngineFault::BlobSize

@@ -2,18 +2,21 @@
 ghost use Rattle.std.specs.Prelude.{◌≡◌, IfOk, false};
 ghost use Rattle.clap.specs.Words.{app_of, rule_of};
 ghost use Rattle.clap.specs.declared.builder.command.Command.TheViews.{out-Command as fields_of};
-ghost use Rattle.ovl_layers.specs.Grammar.{bare_app, blobs_rule, default_word, default_workers, folders_shape, fsck_shape, layers_rule, out_rule, rewriting_shape, show_shape, tool_app, workers_rule};
+ghost use Rattle.ovl_layers.specs.Grammar.{bare_app, blobs_rule, data_layers_rule, default_word, default_workers, folders_shape, fsck_shape, layers_rule, out_rule, rewriting_shape, show_shape, tool_app, workers_rule};
 ghost use Rattle.ovl_layers.specs.Lines.{number_in};
 ghost use Rattle.clap.specs.Simple.{shape_of};
 
 use clap::{Arg, ArgAction, Command, value_parser};
 use ovl_board::WORKER_LIMIT;
+use ovl_lookup::LAYER_LIMIT;
 use std::alloc::{AllocError, Global};
 
 /// The number of workers where no other is asked for, and the word for it.
 pub const DEFAULT_WORKERS: usize = 4;
 
 const DEFAULT_WORKERS_WORD: &str = "4";
+
+const DEFAULT_DATA_LAYERS_WORD: &str = "0";
 
 const NAME: &str = "ovl_layers";
 
@@ -40,6 +43,8 @@ const MERGE: &str = "Puts the topmost layer into the one below it; the overlay s
 
 const WORKERS: &str = "How many workers share the directories, 1 to 64";
 
+const DATA_LAYERS: &str = "How many of the layers, the lowest ones, are data-only, 0 to 127";
+
 const BLOBS: &str =
     "Folder with the contents of the layers' files, each file named by its SHA-256 digest";
 
@@ -49,10 +54,14 @@ const LAYERS: &str = "Manifest of a layer, the topmost layer first";
 
 const MORE: &str = "\
 What the commands take:
-  <LAYER>...     Manifest of a layer, the topmost layer first
-  --workers <N>  How many workers share the directories, 1 to 64 [default: 4]
-  --blobs <DIR>  For all but show: folder with the contents of the layers' files, each file named by its SHA-256 digest
-  --out <DIR>    For vacuum, deref and merge: folder for the new layers, written there as layer-0.json and so on
+  <LAYER>...         Manifest of a layer, the topmost layer first
+  --workers <N>      How many workers share the directories, 1 to 64 [default: 4]
+  --data-layers <K>  How many of the layers, the lowest ones, are data-only, 0 to 127 [default: 0]
+  --blobs <DIR>      For all but show: folder with the contents of the layers' files, each file named by its SHA-256 digest
+  --out <DIR>        For vacuum, deref and merge: folder for the new layers, written there as layer-0.json and so on
+
+A data-only layer shows no path of its own. It has contents for metacopy files of the layers over it that name it by an
+absolute redirect, as in the mount option lowerdir=a:b::c, where c is one.
 
 fsck is for a stack that is to be mounted or shipped: it tells faults, as directories moved from a place that is lost or
 not hidden, and files whose contents are missing or wrong, and it notes marks that do nothing. It ends with status 1
@@ -133,6 +142,7 @@ fn show<'a>(alloc: Global) -> Result<Command<'a>, AllocError>
         .about(SHOW)
         .after_help(SHOW_EXAMPLE)
         .arg(workers(alloc))?
+        .arg(data_layers(alloc))?
         .arg(layers(alloc))
 }
 
@@ -144,6 +154,7 @@ fn fsck<'a>(alloc: Global) -> Result<Command<'a>, AllocError>
         .after_help(FSCK_EXAMPLE)
         .arg(blobs(alloc))?
         .arg(workers(alloc))?
+        .arg(data_layers(alloc))?
         .arg(layers(alloc))
 }
 
@@ -158,6 +169,7 @@ fn rewriting<'a>(
 {
     with_folders(alloc, name, about, example)?
         .arg(workers(alloc))?
+        .arg(data_layers(alloc))?
         .arg(layers(alloc))
 }
 
@@ -187,6 +199,17 @@ fn workers<'a>(alloc: Global) -> Arg<'a>
         .value_parser(value_parser!(usize).range(1..=WORKER_LIMIT as i64))
         .default_value(DEFAULT_WORKERS_WORD)
         .help(WORKERS)
+}
+
+fn data_layers<'a>(alloc: Global) -> Arg<'a>
+    ensures { (rule_of result ≡ data_layers_rule) × (result.global ≡ false) }
+{
+    Arg::new(alloc, "data-layers")
+        .long("data-layers")
+        .value_name("K")
+        .value_parser(value_parser!(usize).range(0..LAYER_LIMIT as i64))
+        .default_value(DEFAULT_DATA_LAYERS_WORD)
+        .help(DATA_LAYERS)
 }
 
 fn blobs<'a>(alloc: Global) -> Arg<'a>

@@ -8,35 +8,43 @@ fn words_make_a_line(rt: HostRuntime) -> Result<(), Fail> {
     for (words, told) in [
         (
             ["show", "a.json"].as_slice(),
-            "Line { what: Show, workers: 4, blobs: None, out: None, layers: [\"a.json\"] }",
+            "Line { what: Show, workers: 4, data_layers: 0, blobs: None, out: None, layers: [\"a.json\"] }",
         ),
         (
             ["fsck", "--blobs", "b", "--workers", "7", "a", "c"].as_slice(),
-            "Line { what: Fsck, workers: 7, blobs: Some(\"b\"), out: None, layers: [\"a\", \"c\"] }",
+            "Line { what: Fsck, workers: 7, data_layers: 0, blobs: Some(\"b\"), out: None, layers: [\"a\", \"c\"] }",
         ),
         (
             ["show", "c", "a", "--workers=64"].as_slice(),
-            "Line { what: Show, workers: 64, blobs: None, out: None, layers: [\"c\", \"a\"] }",
+            "Line { what: Show, workers: 64, data_layers: 0, blobs: None, out: None, layers: [\"c\", \"a\"] }",
         ),
         (
             ["fsck", "a", "--workers", "1", "--blobs=", "a"].as_slice(),
-            "Line { what: Fsck, workers: 1, blobs: Some(\"\"), out: None, layers: [\"a\", \"a\"] }",
+            "Line { what: Fsck, workers: 1, data_layers: 0, blobs: Some(\"\"), out: None, layers: [\"a\", \"a\"] }",
         ),
         (
             ["vacuum", "--out", "o", "--blobs", "b", "a", "c"].as_slice(),
-            "Line { what: Vacuum, workers: 4, blobs: Some(\"b\"), out: Some(\"o\"), layers: [\"a\", \"c\"] }",
+            "Line { what: Vacuum, workers: 4, data_layers: 0, blobs: Some(\"b\"), out: Some(\"o\"), layers: [\"a\", \"c\"] }",
         ),
         (
             ["deref", "a", "--blobs", "b", "--workers=2", "--out=o"].as_slice(),
-            "Line { what: Deref, workers: 2, blobs: Some(\"b\"), out: Some(\"o\"), layers: [\"a\"] }",
+            "Line { what: Deref, workers: 2, data_layers: 0, blobs: Some(\"b\"), out: Some(\"o\"), layers: [\"a\"] }",
         ),
         (
             ["merge", "--blobs=b", "--out=o", "a", "c"].as_slice(),
-            "Line { what: Merge, workers: 4, blobs: Some(\"b\"), out: Some(\"o\"), layers: [\"a\", \"c\"] }",
+            "Line { what: Merge, workers: 4, data_layers: 0, blobs: Some(\"b\"), out: Some(\"o\"), layers: [\"a\", \"c\"] }",
+        ),
+        (
+            ["show", "a", "c", "d", "--data-layers", "2"].as_slice(),
+            "Line { what: Show, workers: 4, data_layers: 2, blobs: None, out: None, layers: [\"a\", \"c\", \"d\"] }",
+        ),
+        (
+            ["merge", "--data-layers=127", "--blobs=b", "--out=o", "a"].as_slice(),
+            "Line { what: Merge, workers: 4, data_layers: 127, blobs: Some(\"b\"), out: Some(\"o\"), layers: [\"a\"] }",
         ),
         (
             ["show", "--", "--workers", "-"].as_slice(),
-            "Line { what: Show, workers: 4, blobs: None, out: None, layers: [\"--workers\", \"-\"] }",
+            "Line { what: Show, workers: 4, data_layers: 0, blobs: None, out: None, layers: [\"--workers\", \"-\"] }",
         ),
     ] {
         let read = line(alloc, words)?;
@@ -63,6 +71,16 @@ fn words_that_no_command_takes_are_a_usage_fault(rt: HostRuntime) -> Result<(), 
             ["show", "--workers", "x", "a.json"].as_slice(),
             "invalid value 'x' for '--workers <N>': invalid digit found in string",
             "",
+        ),
+        (
+            ["show", "--data-layers", "128", "a.json"].as_slice(),
+            "invalid value '128' for '--data-layers <K>': 128 is not in 0..=127",
+            "",
+        ),
+        (
+            ["show", "--data-layers", "-1", "a.json"].as_slice(),
+            "unexpected argument '-1' found\n\n  tip: to pass '-1' as a value, use '-- -1'",
+            "Usage: ovl_layers show [OPTIONS] <LAYER>...\n\n",
         ),
         (
             ["show", "a.json", "--workers"].as_slice(),
@@ -146,10 +164,14 @@ Options:
   -V, --version  Print version
 
 What the commands take:
-  <LAYER>...     Manifest of a layer, the topmost layer first
-  --workers <N>  How many workers share the directories, 1 to 64 [default: 4]
-  --blobs <DIR>  For all but show: folder with the contents of the layers' files, each file named by its SHA-256 digest
-  --out <DIR>    For vacuum, deref and merge: folder for the new layers, written there as layer-0.json and so on
+  <LAYER>...         Manifest of a layer, the topmost layer first
+  --workers <N>      How many workers share the directories, 1 to 64 [default: 4]
+  --data-layers <K>  How many of the layers, the lowest ones, are data-only, 0 to 127 [default: 0]
+  --blobs <DIR>      For all but show: folder with the contents of the layers' files, each file named by its SHA-256 digest
+  --out <DIR>        For vacuum, deref and merge: folder for the new layers, written there as layer-0.json and so on
+
+A data-only layer shows no path of its own. It has contents for metacopy files of the layers over it that name it by an
+absolute redirect, as in the mount option lowerdir=a:b::c, where c is one.
 
 fsck is for a stack that is to be mounted or shipped: it tells faults, as directories moved from a place that is lost or
 not hidden, and files whose contents are missing or wrong, and it notes marks that do nothing. It ends with status 1
@@ -185,8 +207,9 @@ Arguments:
   <LAYER>...  Manifest of a layer, the topmost layer first
 
 Options:
-      --workers <N>  How many workers share the directories, 1 to 64 [default: 4]
-  -h, --help         Print help
+      --workers <N>      How many workers share the directories, 1 to 64 [default: 4]
+      --data-layers <K>  How many of the layers, the lowest ones, are data-only, 0 to 127 [default: 0]
+  -h, --help             Print help
 
 Example:
   ovl_layers show --workers 8 upper.json lower.json
@@ -201,9 +224,10 @@ Arguments:
   <LAYER>...  Manifest of a layer, the topmost layer first
 
 Options:
-      --blobs <DIR>  Folder with the contents of the layers' files, each file named by its SHA-256 digest
-      --workers <N>  How many workers share the directories, 1 to 64 [default: 4]
-  -h, --help         Print help
+      --blobs <DIR>      Folder with the contents of the layers' files, each file named by its SHA-256 digest
+      --workers <N>      How many workers share the directories, 1 to 64 [default: 4]
+      --data-layers <K>  How many of the layers, the lowest ones, are data-only, 0 to 127 [default: 0]
+  -h, --help             Print help
 
 Example:
   ovl_layers fsck --blobs contents --workers 8 upper.json lower.json
@@ -218,10 +242,11 @@ Arguments:
   <LAYER>...  Manifest of a layer, the topmost layer first
 
 Options:
-      --blobs <DIR>  Folder with the contents of the layers' files, each file named by its SHA-256 digest
-      --out <DIR>    Folder for the new layers, written there as layer-0.json and so on
-      --workers <N>  How many workers share the directories, 1 to 64 [default: 4]
-  -h, --help         Print help
+      --blobs <DIR>      Folder with the contents of the layers' files, each file named by its SHA-256 digest
+      --out <DIR>        Folder for the new layers, written there as layer-0.json and so on
+      --workers <N>      How many workers share the directories, 1 to 64 [default: 4]
+      --data-layers <K>  How many of the layers, the lowest ones, are data-only, 0 to 127 [default: 0]
+  -h, --help             Print help
 
 Example:
   ovl_layers vacuum --blobs contents --out new upper.json lower.json
@@ -236,10 +261,11 @@ Arguments:
   <LAYER>...  Manifest of a layer, the topmost layer first
 
 Options:
-      --blobs <DIR>  Folder with the contents of the layers' files, each file named by its SHA-256 digest
-      --out <DIR>    Folder for the new layers, written there as layer-0.json and so on
-      --workers <N>  How many workers share the directories, 1 to 64 [default: 4]
-  -h, --help         Print help
+      --blobs <DIR>      Folder with the contents of the layers' files, each file named by its SHA-256 digest
+      --out <DIR>        Folder for the new layers, written there as layer-0.json and so on
+      --workers <N>      How many workers share the directories, 1 to 64 [default: 4]
+      --data-layers <K>  How many of the layers, the lowest ones, are data-only, 0 to 127 [default: 0]
+  -h, --help             Print help
 
 Example:
   ovl_layers deref --blobs contents --out new upper.json lower.json
@@ -254,10 +280,11 @@ Arguments:
   <LAYER>...  Manifest of a layer, the topmost layer first
 
 Options:
-      --blobs <DIR>  Folder with the contents of the layers' files, each file named by its SHA-256 digest
-      --out <DIR>    Folder for the new layers, written there as layer-0.json and so on
-      --workers <N>  How many workers share the directories, 1 to 64 [default: 4]
-  -h, --help         Print help
+      --blobs <DIR>      Folder with the contents of the layers' files, each file named by its SHA-256 digest
+      --out <DIR>        Folder for the new layers, written there as layer-0.json and so on
+      --workers <N>      How many workers share the directories, 1 to 64 [default: 4]
+      --data-layers <K>  How many of the layers, the lowest ones, are data-only, 0 to 127 [default: 0]
+  -h, --help             Print help
 
 Example:
   ovl_layers merge --blobs contents --out new upper.json lower.json

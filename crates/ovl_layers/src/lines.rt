@@ -13,6 +13,8 @@ pub struct Line {
     pub what: Command,
     /// The number of workers, 1 to [`WORKER_LIMIT`](ovl_board::WORKER_LIMIT).
     pub workers: usize,
+    /// How many of the layers, the lowest, are data-only; fewer than [`LAYER_LIMIT`](ovl_lookup::LAYER_LIMIT).
+    pub data_layers: u16,
     /// The folder of the files' contents, for each command but `show`.
     pub blobs: Option<String>,
     /// The folder for new layers, for the commands that make some.

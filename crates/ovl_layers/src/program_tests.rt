@@ -72,6 +72,7 @@ fn line(alloc: Global, blobs: Option<&str>, layers: &[&str]) -> Result<Line, All
     Ok(Line {
         what,
         workers: 2,
+        data_layers: 0,
         blobs,
         out: None,
         layers: paths,

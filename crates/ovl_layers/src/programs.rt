@@ -30,6 +30,7 @@ pub fn perform<
         rt,
         line.what,
         manifests,
+        line.data_layers,
         &blobs,
         line.workers,
         &line.out,

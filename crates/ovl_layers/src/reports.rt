@@ -1,6 +1,6 @@
-ghost use Rattle.std.specs.Prelude.{◌≡◌, ◌<◌, ℕ, IfErr, MatchResult, length, map, take};
+ghost use Rattle.std.specs.Prelude.{◌≡◌, ◌<◌, ℕ, IfErr, MatchResult, length, take};
 ghost use Rattle.std.specs.Io.KnownBytes.{Appends};
-ghost use Rattle.ovl_check.specs.Blobs.{blob_views};
+ghost use Rattle.ovl_engine.specs.Requests.{request_of};
 ghost use Rattle.ovl_layers.specs.declared.faults.ProgramFault.TheVariants.{Output};
 ghost use Rattle.ovl_layers.specs.Faults.{IsUnwritten};
 ghost use Rattle.ovl_layers.specs.Outputs.{IsOutFile};
@@ -17,22 +17,33 @@ use std::rt::Files;
 use std::sync::Wait;
 use std::thread::Threads;
 
-/// Writes what a command gives of these manifests, the topmost layer's first, and these blobs: first its new layers
-/// into the folder `out`, if there is one, and then its report. The manifests are let go once they are read. Where the command is refused for faults, their report is
-/// written and no layer. Nothing is written to the writer where the command gives no answer, or a layer can't be written.
+/// Writes what a command gives of these manifests, the topmost layer's first and the last `bottom` of data-only ones, and
+/// these blobs: first its new layers into the folder `out`, if there is one, and then its report. The manifests are let go
+/// once they are read. Where the command is refused for faults, their report is written and no layer. Nothing is written
+/// to the writer where the command gives no answer, or a layer can't be written.
 pub fn write_report<H: Threads + Wait + Sync + Files + AllocGlobal, W: Write>(
     rt: &H,
     what: Command,
     manifests: Vec<Vec<u8>>,
+    bottom: u16,
     blobs: &[Blob],
     workers: usize,
     out: &Option<String>,
     writer: &mut W,
 ) -> Result<Ending, ProgramFault>
-    ensures { IsReported what out.now (map (λ manifest. manifest.items) manifests.items) (blob_views blobs.now) workers
+    ensures { IsReported (request_of what manifests.items bottom blobs.now workers) out.now
         (W.contents writer.old) (W.contents writer.new) result }
 {
-    match command_of(rt, rt.alloc(), what, manifests, blobs, workers, &OpenGate) {
+    match command_of(
+        rt,
+        rt.alloc(),
+        what,
+        manifests,
+        bottom,
+        blobs,
+        workers,
+        &OpenGate,
+    ) {
         Ok(answer) => {
             write_new(rt, out, &answer.layers)?;
             write(writer, &answer.report, Ending::of(answer.clean))

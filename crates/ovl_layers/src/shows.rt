@@ -1,10 +1,8 @@
-ghost use Rattle.std.specs.Prelude.{◌≡◌, ◌≢◌, ◌⊎◌, ◌∷◌, [], None, Err, IfErr, IfSome};
+ghost use Rattle.std.specs.Prelude.{◌≡◌, ◌≢◌, ◌⊎◌, None, Err, IfErr, IfSome};
 ghost use Rattle.std.specs.Io.KnownBytes.{Keeps};
-ghost use Rattle.ovl_engine.specs.declared.requests.Command.TheVariants.{Show};
 ghost use Rattle.ovl_engine.specs.declared.faults.EngineFault.TheVariants.{Memory};
 ghost use Rattle.ovl_layers.specs.declared.faults.ProgramFault.TheVariants.{Input, Output, Engine};
-ghost use Rattle.ovl_layers.specs.Grammar.{default_workers};
-ghost use Rattle.ovl_layers.specs.Reported.{IsReported};
+ghost use Rattle.ovl_layers.specs.Reported.{IsReported, input_request};
 
 use crate::endings::Ending;
 use crate::faults::ProgramFault;
@@ -25,7 +23,7 @@ pub fn show_input<H: Threads + Wait + Sync + Files + AllocGlobal, R: Read, W: Wr
     writer: &mut W,
 ) -> Result<Ending, ProgramFault>
     ensures shown { IfSome (R.remaining reader.old) (λ manifest. (result ≡ Err Input) ⊎ ((result ≡ Err (Engine Memory))
-        ⊎ IsReported Show None (manifest ∷ []) [] default_workers (W.contents writer.old) (W.contents writer.new) result)) }
+        ⊎ IsReported (input_request manifest) None (W.contents writer.old) (W.contents writer.new) result)) }
     ensures silent { IfErr result (λ fault. fault ≢ Output → Keeps (W.contents writer.old) (W.contents writer.new)) }
 {
     let manifest = read_limited(rt.alloc(), reader, INPUT_LIMIT, 0)?;
@@ -35,6 +33,7 @@ pub fn show_input<H: Threads + Wait + Sync + Files + AllocGlobal, R: Read, W: Wr
         rt,
         Command::Show,
         manifests,
+        0,
         &[],
         DEFAULT_WORKERS,
         &None,

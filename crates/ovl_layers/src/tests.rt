@@ -20,6 +20,7 @@ fn a_fault_of_the_engine_has_its_text_and_its_status(rt: HostRuntime) -> Result<
     for (fault, text, status) in [
         (EngineFault::Workers, "workers must be 1 to 64", 5),
         (EngineFault::Layers, "layers must be 1 to 128", 3),
+        (EngineFault::DataLayers, "data layers must leave a layer", 3),
         (EngineFault::BlobOrder, "blobs out of order", 3),
         (EngineFault::BlobSize, "blobs over 268435456 bytes", 3),
         (

@@ -12,7 +12,7 @@ use std::alloc::{AllocError, Global};
 
 /// The line that the words after the program's name ask for. Which words those are, and the texts of
 /// help and of usage faults, the module `grammar` says. Words that no command takes are a usage
-/// fault, as a number of workers outside 1 to 64 or no layer at all. Where they ask for help or the
+/// fault, as a number of workers outside 1 to 64, of data-only layers over 127, or no layer at all. Where they ask for help or the
 /// version, that is the fault. `Memory` may come at any words.
 pub fn line(alloc: Global, words: &[&str]) -> Result<Line, LineFault>
     ensures sound { IfOk result IsSound }
@@ -46,9 +46,11 @@ fn read(alloc: Global, what: Command, given: &ArgMatches<'_>) -> Result<Line, Al
     ensures sound { IfOk result IsSound }
     ensures values { IfOk result (λ line. (line.what ≡ what) × HasValues line (rows_of (found_of given.now))) }
 {
+    let data_layers: usize = given.get_one("data-layers").unwrap();
     Ok(Line {
         what,
         workers: given.get_one("workers").unwrap(),
+        data_layers: data_layers as u16,
         blobs: copy(alloc, given.get_str("blobs"))?,
         out: copy(alloc, given.get_str("out"))?,
         layers: copies(alloc, given.get_strs("layers").unwrap())?,

@@ -4,4 +4,4 @@ use Rattle.ovl_engine.proofs.checks.findings_of.Goals as goal
 pub returns-in_err-wrong : goal.returns-in_err-wrong
 returns-in_err-wrong g c =
     let out = err_from_is_err_and c.from_residual.result c.from_residual.ensures.1 in
-    rw (out.1, out.2) (c.in_err-wrong.ensures c.args.stack.now.layers)
+    rw (out.1, out.2) (c.in_err-wrong.ensures c.args.stack.now)

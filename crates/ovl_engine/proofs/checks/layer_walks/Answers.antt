@@ -1,6 +1,6 @@
 use Rattle.std.proofs.Common.{◌<◌, Err, [], ◌∷◌, inl, inr, refl, ap, subst, length, arith, length-append}
 use Rattle.std.proofs.lemmas.Result.{err_from_is_err_and}
-use Rattle.ovl_lookup.specs.Stacks.{StackView}
+use Rattle.ovl_lookup.specs.Stacks.{StackView, all_layers}
 use Rattle.ovl_board.specs.Parcels.{parcel_views}
 use Rattle.ovl_pool.specs.Runs.{MayBeRefused}
 use Rattle.ovl_check.specs.Checks.{check_seen, check_kids, directory_piece}
@@ -15,8 +15,8 @@ pub returns-in_err-parcels : goal.returns-in_err-parcels
 returns-in_err-parcels g c =
     let out = err_from_is_err_and c.from_residual.result c.from_residual.ensures.1 in
     let view = check_view c.args.work.now in
-    let inside : c.loop-i.i < length c.args.stack.now.layers = omega (arith, c.loop-i-test.true, c.layers-i-end.ensures.value) in
-    rw (out.1, out.2) (failed Fsck c.args.stack.now.layers view.blobs (g.G.Gate.may_refuse c.args.gate.now) c.in_err-parcels.field-0.0
+    let inside : c.loop-i.i < length (all_layers c.args.stack.now) = omega (arith, c.loop-i-test.true, c.layers-i-end.ensures.value) in
+    rw (out.1, out.2) (failed Fsck c.args.stack.now view.blobs (g.G.Gate.may_refuse c.args.gate.now) c.in_err-parcels.field-0.0
     (λ e. not_beyond worker_limit c.args.workers c.requires.number.0 c.requires.number.1 (c.in_err-parcels.ensures.workers.0 (ap Err e)))
     (λ e.
     let refused = rw (c.root.ensures) at (c.in_err-parcels.ensures.gate (ap Err e)) in

@@ -11,18 +11,16 @@ returns-in_err-expect_clean-clause-outcome g c =
 
 pub returns-clause-tree : goal.returns-clause-tree
 returns-clause-tree g c =
-    let layers = c.args.stack.layers in
-    let some = subst (λ (n : ℕ). 0 < n) c.layers-layers.ensures.value c.layers-layers.ensures.some in
-    keeps_tree c.in_ok-rewritten.field-0 (c.in_ok-layer.layer ∷ []) layers
-    c.in_ok-rewritten.ensures.back
-    (deref_same c.deref_keeps_the_tree.ensures layers some c.layers-layers.ensures.each c.in_ok-expect_clean.ensures.sound
-    c.in_ok-layer.layer c.in_ok-rewritten.ensures.report.1 c.in_ok-layer.ensures.layer)
+    let stack = c.args.stack in
+    let some = subst (λ (n : ℕ). 0 < n) c.ordinary-layers.ensures.value c.ordinary-layers.ensures.some in
+    keeps_tree c.in_ok-rewritten.field-0 (c.in_ok-layer.layer ∷ []) stack c.in_ok-rewritten.ensures.back some
+    (deref_same stack c.ordinary-layers.ensures.each c.in_ok-layer.layer c.in_ok-rewritten.ensures.report.1 c.in_ok-layer.ensures.layer
+    c.deref_keeps_the_tree.ensures some c.in_ok-expect_clean.ensures.sound)
 
 pub returns-clause-sound : goal.returns-clause-sound
 returns-clause-sound g c =
-    let layers = c.args.stack.layers in
-    let some = subst (λ (n : ℕ). 0 < n) c.layers-layers.ensures.value c.layers-layers.ensures.some in
-    keeps_soundness c.in_ok-rewritten.field-0 (c.in_ok-layer.layer ∷ []) layers
-    c.in_ok-rewritten.ensures.back
-    (deref_sound c.deref_keeps_soundness.ensures layers some c.layers-layers.ensures.each c.in_ok-expect_clean.ensures.sound
-    c.in_ok-layer.layer c.in_ok-rewritten.ensures.report.1 c.in_ok-layer.ensures.layer)
+    let stack = c.args.stack in
+    let some = subst (λ (n : ℕ). 0 < n) c.ordinary-layers.ensures.value c.ordinary-layers.ensures.some in
+    keeps_soundness c.in_ok-rewritten.field-0 (c.in_ok-layer.layer ∷ []) stack c.in_ok-rewritten.ensures.back some
+    (deref_sound stack c.ordinary-layers.ensures.each c.in_ok-layer.layer c.in_ok-rewritten.ensures.report.1 c.in_ok-layer.ensures.layer
+    c.deref_keeps_soundness.ensures some c.in_ok-expect_clean.ensures.sound)

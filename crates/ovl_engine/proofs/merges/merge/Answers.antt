@@ -1,8 +1,8 @@
-use Rattle.std.proofs.Common.{◌∙◌, [], ◌∷◌, refl, ap, drop}
+use Rattle.std.proofs.Common.{◌∙◌, [], ◌∷◌, Ok, refl, ap}
 use Rattle.std.proofs.lemmas.Result.{err_from_is_err_and}
 use Rattle.ovl_manifest.specs.Layers.{Entries}
-use Rattle.ovl_lookup.specs.Merged.{look}
-use Rattle.ovl_engine.specs.Outcomes.{stack_of}
+use Rattle.ovl_merge.specs.Places.{merge_of}
+use Rattle.ovl_merge.specs.MergeDown.{merged_top}
 use Rattle.ovl_engine.specs.declared.requests.Command.TheVariants.{Merge}
 use Rattle.ovl_engine.proofs.KeptLemmas.{keeps_tree, merge_same}
 use Rattle.ovl_engine.proofs.merges.merge.Goals as goal
@@ -14,10 +14,9 @@ returns-in_err-expect_clean-clause-outcome g c =
 
 pub returns-clause-tree : goal.returns-clause-tree
 returns-clause-tree g c =
-    let layers = c.args.stack.layers in
+    let stack = c.args.stack in
     let lower = c.in_ok-done.done.lower in
-    keeps_tree c.in_ok-rewritten.field-0 (c.in_ok-done.done.top ∷ lower ∷ []) layers
-    c.in_ok-rewritten.ensures.back
-    (λ path. ap (λ (top : Entries). look (stack_of (top ∷ lower ∷ drop 2 layers)) path) c.in_ok-done.ensures.top
-    ∙ merge_same c.merge_keeps_the_tree.ensures layers c.requires.several c.layers-layers.ensures.each c.in_ok-expect_clean.ensures.sound
-    lower c.in_ok-rewritten.ensures.report.1 c.in_ok-done.ensures.lower path)
+    keeps_tree c.in_ok-rewritten.field-0 (merged_top (merge_of stack) ∷ lower ∷ []) stack
+    (c.in_ok-rewritten.ensures.back ∙ ap (λ (top : Entries). Ok top ∷ Ok lower ∷ []) c.in_ok-done.ensures.top) c.requires.several
+    (merge_same stack c.ordinary-layers.ensures.each c.merge_keeps_the_tree.ensures c.requires.several c.in_ok-expect_clean.ensures.sound
+    lower c.in_ok-rewritten.ensures.report.1 c.in_ok-done.ensures.lower)

@@ -11,7 +11,7 @@ use Rattle.ovl_engine.proofs.rewrites.expect_clean.Goals as goal
 pub returns-in_err-found-clause-refused : goal.returns-in_err-found-clause-refused
 returns-in_err-found-clause-refused g c =
     let out = err_from_is_err_and c.from_residual.result c.from_residual.ensures.1 in
-    rw (out.1, out.2) (λ what makes. unchecked what (checks_first what makes) c.args.stack.now.layers (blob_views c.args.blobs.now) (g.G.Gate.may_refuse c.args.gate.now) c.in_err-found.field-0.0 c.in_err-found.ensures)
+    rw (out.1, out.2) (λ what makes. unchecked what (checks_first what makes) c.args.stack.now (blob_views c.args.blobs.now) (g.G.Gate.may_refuse c.args.gate.now) c.in_err-found.field-0.0 c.in_err-found.ensures)
 
 pub returns-then-is_clean-clause-sound : goal.returns-then-is_clean-clause-sound
 returns-then-is_clean-clause-sound g c =

@@ -2,14 +2,14 @@ use Rattle.std.proofs.Common.{◌≡◌, ◌∙◌, ◌≤◌, ◌*◌, ◌++◌
 use Rattle.std.proofs.lemmas.Grind.{div_ceil_times}
 use Rattle.std.proofs.lemmas.Iterator.Adapters.{YieldsList-from_vec}
 use Rattle.std.proofs.lemmas.Iterator.Consumers.{YieldsList-turn, YieldsList-end}
-use Rattle.std.proofs.lemmas.List.{take_all}
+use Rattle.std.proofs.lemmas.List.{take_all, length-map}
 use Rattle.std.proofs.lemmas.Result.{err_from_is_err_and}
 use Rattle.ovl_engine.specs.Refusals.{layers_from}
-use Rattle.ovl_engine.proofs.ManifestLemmas.{share_read, share_unread, some_share}
+use Rattle.ovl_engine.proofs.ManifestLemmas.{counted, share_read, share_unread, some_share}
 use Rattle.ovl_engine.proofs.stacks.read_layers.Goals as goal
 
-pub returns-in_err-read : goal.returns-in_err-read
-returns-in_err-read g c =
+pub returns-in_err-read-clause-read : goal.returns-in_err-read-clause-read
+returns-in_err-read-clause-read g c =
     let manifests = c.args.manifests.now in
     let size = c.div_ceil-share.result in
     let n = length c.loop-read.yielded in
@@ -35,8 +35,8 @@ loop-read-preserved g c =
     let longer : length (c.loop-read.yielded ++ c.in-Some.read ∷ []) ≡ suc n = omega (arith, length-append c.loop-read.yielded (c.in-Some.read ∷ [])) in
     ap (λ count. layers_from 0 (map (λ manifest. manifest.items) (take (count * size) manifests))) longer ∙ (more ∙ ap Ok (sym c.in_ok-append.ensures.items))
 
-pub returns : goal.returns
-returns g c =
+pub returns-clause-read : goal.returns-clause-read
+returns-clause-read g c =
     let manifests = c.args.manifests.now in
     let size = c.div_ceil-share.result in
     let reads = c.in_ok-read-items.read-items in
@@ -47,3 +47,8 @@ returns g c =
     let count = ends.1 ∙ (sym reads.ok.0 ∙ c.in_ok-read-items.ensures.len) in
     let all : length manifests ≤ length c.loop-read.yielded * size = subst (λ shares. length manifests ≤ shares * size) (sym count) (div_ceil_times (length manifests) size some).0 in
     ap (λ read. layers_from 0 (map (λ manifest. manifest.items) read)) (sym (take_all (length c.loop-read.yielded * size) manifests all)) ∙ c.loop-read.invariant
+
+pub returns-clause-count : goal.returns-clause-count
+returns-clause-count g c =
+    counted 0 (map (λ manifest. manifest.items) c.args.manifests.now) c.loop-read.layers.items (returns-clause-read g c)
+    ∙ length-map c.args.manifests.now (λ manifest. manifest.items)

@@ -19,16 +19,16 @@ returns-in_err-done-clause-outcome g c =
 
 pub returns-clause-tree : goal.returns-clause-tree
 returns-clause-tree g c =
-    let layers = c.args.stack.layers in
-    let some = subst (λ (n : ℕ). 0 < n) c.layers-layers.ensures.value c.layers-layers.ensures.some in
-    keeps_tree c.in_ok-rewritten.field-0 (left_by_vacuum layers ∷ []) layers
-    (c.in_ok-rewritten.ensures.back ∙ ap (λ (left : Entries). Ok left ∷ []) c.in_ok-done.ensures.0)
-    (vacuum_same c.vacuum_keeps_the_tree.ensures layers some c.layers-layers.ensures.each)
+    let stack = c.args.stack in
+    let some = subst (λ (n : ℕ). 0 < n) c.ordinary-layers.ensures.value c.ordinary-layers.ensures.some in
+    keeps_tree c.in_ok-rewritten.field-0 (left_by_vacuum stack ∷ []) stack
+    (c.in_ok-rewritten.ensures.back ∙ ap (λ (left : Entries). Ok left ∷ []) c.in_ok-done.ensures.0) some
+    (vacuum_same stack c.ordinary-layers.ensures.each c.vacuum_keeps_the_tree.ensures some)
 
 pub returns-clause-sound : goal.returns-clause-sound
 returns-clause-sound g c =
-    let layers = c.args.stack.layers in
-    let some = subst (λ (n : ℕ). 0 < n) c.layers-layers.ensures.value c.layers-layers.ensures.some in
-    keeps_soundness c.in_ok-rewritten.field-0 (left_by_vacuum layers ∷ []) layers
-    (c.in_ok-rewritten.ensures.back ∙ ap (λ (left : Entries). Ok left ∷ []) c.in_ok-done.ensures.0)
-    (vacuum_sound c.vacuum_keeps_soundness.ensures layers some c.layers-layers.ensures.each c.in_ok-expect_clean.ensures.sound)
+    let stack = c.args.stack in
+    let some = subst (λ (n : ℕ). 0 < n) c.ordinary-layers.ensures.value c.ordinary-layers.ensures.some in
+    keeps_soundness c.in_ok-rewritten.field-0 (left_by_vacuum stack ∷ []) stack
+    (c.in_ok-rewritten.ensures.back ∙ ap (λ (left : Entries). Ok left ∷ []) c.in_ok-done.ensures.0) some
+    (vacuum_sound stack c.ordinary-layers.ensures.each c.vacuum_keeps_soundness.ensures some c.in_ok-expect_clean.ensures.sound)

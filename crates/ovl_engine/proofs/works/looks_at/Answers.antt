@@ -19,7 +19,7 @@ returns-in_default c =
     let stack : StackView = c.args.stack.now in
     let dir : PathNames = c.args.dir.now in
     let none : shows_directory stack dir ≡ false = subst (IsFound stack dir) c.in_default.is c.in_ok-view.ensures in
-    c.new.ensures.items ∙ sym (ap (map (named_look stack dir)) (none_elsewhere stack c.layers-layers.ensures.each dir none))
+    c.new.ensures.items ∙ sym (ap (map (named_look stack dir)) (none_elsewhere stack c.ordinary-layers.ensures.each dir none))
 
 pub returns : goal.returns
 returns c =
@@ -29,4 +29,4 @@ returns c =
     let view : DirView = c.in-Some.view in
     let is : IsViewOf stack 0 dir view = subst (IsFound stack dir) c.in-Some.is c.in_ok-view.ensures in
     let placed : AreLooks (from_layer view.from stack) dir looks = subst (λ (path : PathNames). AreLooks (from_layer view.from stack) path looks) is.stands c.in_ok-looks.ensures in
-    looks_unique stack c.layers-layers.ensures.each dir looks (subst (λ (from : ℕ). AreLooks (from_layer from stack) dir looks) is.starts placed)
+    looks_unique stack c.ordinary-layers.ensures.each dir looks (subst (λ (from : ℕ). AreLooks (from_layer from stack) dir looks) is.starts placed)
