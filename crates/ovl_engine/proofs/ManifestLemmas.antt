@@ -1,5 +1,5 @@
 -- Layers that are read one after another.
-use Rattle.std.proofs.Common.{◌≡◌, ℕ, zero, suc, ◌+◌, ◌*◌, ◌<◌, ◌≤◌, List, [], ◌∷◌, ◌++◌, Result, Ok, Err, refl, sym, ap, ◌∙◌, length, take, drop, map, get_or, MatchResult, subst, arith, length-take-le}
+use Rattle.std.proofs.Common.{◌≡◌, ℕ, zero, suc, ◌+◌, ◌*◌, ◌<◌, ◌≤◌, List, [], ◌∷◌, ◌++◌, None, Result, Ok, Err, refl, sym, ap, ◌∙◌, length, take, drop, map, get_or, MatchResult, subst, arith, length-take-le}
 use native.Mathlib.Nat.{zero-mul}
 use Rattle.std.specs.Fork.{slice_chunk}
 use Rattle.std.proofs.lemmas.List.{take_more, take-append-drop, map-append, length-map}
@@ -9,7 +9,7 @@ use Rattle.ovl_manifest.specs.declared.faults.LayerFault.{LayerFault}
 use Rattle.ovl_manifest.specs.declared.faults.LayerFault.TheVariants.{NotJson, Shape, Version, Count, Entry, Order, NoParent, Root, Escaped, Memory as UnreadMemory}
 use Rattle.ovl_engine.specs.declared.faults.EngineFault.{EngineFault}
 use Rattle.ovl_engine.specs.declared.faults.EngineFault.TheVariants.{Workers, Layers, Layer, BlobOrder, BlobSize, NoLower, Faulty, LimitOut, Run, Memory, DataLayers}
-use Rattle.ovl_engine.specs.Refusals.{layers_from, under_layer, unread_layer, IsUnread}
+use Rattle.ovl_engine.specs.Refusals.{layers_from, under_layer, unread_layer, stated_layers, first_unread, IsUnread}
 use Rattle.ovl_engine.proofs.ShareLemmas.{share_here}
 
 -- layers on top of what others give
@@ -86,6 +86,13 @@ told index one all fails (NoParent n) is = fails (NoParent n) is
 told index one all fails Root is = fails Root is
 told index one all fails (Escaped n) is = fails (Escaped n) is
 told index one all fails UnreadMemory is = tt
+
+-- manifests that are read have no fault, and state what is read
+pub all_read : (manifests : List (List ℕ)) (layers : List Entries) → layers_from 0 manifests ≡ Ok layers → first_unread manifests ≡ None
+all_read manifests layers is = rw (is, first_unread) refl
+
+pub all_stated : (manifests : List (List ℕ)) (layers : List Entries) → layers_from 0 manifests ≡ Ok layers → stated_layers manifests ≡ layers
+all_stated manifests layers is = rw (is, stated_layers) refl
 
 pub counted : (k : ℕ) (manifests : List (List ℕ)) (layers : List Entries) → layers_from k manifests ≡ Ok layers → length layers ≡ length manifests
 counted k [] layers is = let none : [] ≡ layers = cc in ap length (sym none)

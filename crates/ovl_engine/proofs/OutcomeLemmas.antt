@@ -1,5 +1,5 @@
 -- What a run that fails is told as, and numbers within their limits.
-use Rattle.std.proofs.Common.{◌≡◌, ◌≢◌, ◌⊎◌, inl, inr, ℕ, ◌<◌, ◌≤◌, true, false, Result, Ok, Err, List, [], refl, sym, subst, arith}
+use Rattle.std.proofs.Common.{◌≡◌, ◌≢◌, ◌⊎◌, inl, inr, ℕ, ◌+◌, ◌-◌, ◌<◌, ◌≤◌, true, false, Result, Ok, Err, List, [], refl, sym, subst, arith}
 use Rattle.ovl_lookup.specs.Stacks.{StackView}
 use Rattle.ovl_board.specs.declared.pieces.Piece.{Piece}
 use Rattle.ovl_board.specs.declared.assembly.BoardFault.{BoardFault}
@@ -69,10 +69,10 @@ pub not_beyond : (limit n : ℕ) → 0 < n → n ≤ limit → (n < 1) ⊎ (limi
 not_beyond limit n some few (inl none) = omega arith
 not_beyond limit n some few (inr many) = omega arith
 
--- nor is one that equals it
-pub not_refused : (limit n m : ℕ) → n ≡ m → 0 < m → m ≤ limit → (n ≡ 0) ⊎ (limit < n) → ⊥
-not_refused limit n m same some few (inl none) = omega arith
-not_refused limit n m same some few (inr many) = omega arith
+-- nor are the two parts of one that leave something in front
+pub not_refused : (limit n all bottom front back : ℕ) → n ≡ all → front ≡ n - bottom → back ≡ all - (n - bottom) → bottom < all → all ≤ limit → (front ≡ 0) ⊎ (limit < front + back) → ⊥
+not_refused limit n all bottom front back same ahead behind some few (inl none) = omega arith
+not_refused limit n all bottom front back same ahead behind some few (inr many) = omega arith
 
 -- what a request is refused for comes of it
 pub refusal-outcome : (request : Request) (may_refuse : Piece → Type 0) (fault : EngineFault) → IsRefusal request fault → IsOutcome request may_refuse (Err fault)

@@ -64,6 +64,10 @@ show_shape = record (new_shape (codes "show")) { rules = workers_rule ∷ data_l
 abbrev pub fsck_shape : Shape
 fsck_shape = record (new_shape (codes "fsck")) { rules = blobs_rule ∷ workers_rule ∷ data_layers_rule ∷ layers_rule ∷ [] }
 
+-- a command that checks, with the option for its folder of blobs
+abbrev pub blobs_shape : List ℕ → Shape
+blobs_shape name = record (new_shape name) { rules = blobs_rule ∷ [] }
+
 -- a command that makes new layers, with the options for its folders, and with all
 abbrev pub folders_shape : List ℕ → Shape
 folders_shape name = record (new_shape name) { rules = blobs_rule ∷ out_rule ∷ [] }

@@ -2,7 +2,7 @@
 ghost use Rattle.std.specs.Prelude.{◌≡◌, IfOk, false};
 ghost use Rattle.clap.specs.Words.{app_of, rule_of};
 ghost use Rattle.clap.specs.declared.builder.command.Command.TheViews.{out-Command as fields_of};
-ghost use Rattle.ovl_layers.specs.Grammar.{bare_app, blobs_rule, data_layers_rule, default_word, default_workers, folders_shape, fsck_shape, layers_rule, out_rule, rewriting_shape, show_shape, tool_app, workers_rule};
+ghost use Rattle.ovl_layers.specs.Grammar.{bare_app, blobs_rule, blobs_shape, data_layers_rule, default_word, default_workers, folders_shape, fsck_shape, layers_rule, out_rule, rewriting_shape, show_shape, tool_app, workers_rule};
 ghost use Rattle.ovl_layers.specs.Lines.{number_in};
 ghost use Rattle.clap.specs.Simple.{shape_of};
 
@@ -149,10 +149,7 @@ fn show<'a>(alloc: Global) -> Result<Command<'a>, AllocError>
 fn fsck<'a>(alloc: Global) -> Result<Command<'a>, AllocError>
     ensures { IfOk result (λ command. (shape_of command ≡ fsck_shape) × ((fields_of command).has_globals ≡ false)) }
 {
-    Command::new(alloc, "fsck")
-        .about(FSCK)
-        .after_help(FSCK_EXAMPLE)
-        .arg(blobs(alloc))?
+    with_blobs(alloc, "fsck", FSCK, FSCK_EXAMPLE)?
         .arg(workers(alloc))?
         .arg(data_layers(alloc))?
         .arg(layers(alloc))
@@ -173,7 +170,22 @@ fn rewriting<'a>(
         .arg(layers(alloc))
 }
 
-// The same with the options for its folders alone.
+// A command that checks, with the option for its folder of blobs alone.
+fn with_blobs<'a>(
+    alloc: Global,
+    name: &'a str,
+    about: &'a str,
+    example: &'a str,
+) -> Result<Command<'a>, AllocError>
+    ensures { IfOk result (λ command. (shape_of command ≡ blobs_shape name.now) × ((fields_of command).has_globals ≡ false)) }
+{
+    Command::new(alloc, name)
+        .about(about)
+        .after_help(example)
+        .arg(blobs(alloc))
+}
+
+// The same with the options for both folders.
 fn with_folders<'a>(
     alloc: Global,
     name: &'a str,
@@ -182,11 +194,7 @@ fn with_folders<'a>(
 ) -> Result<Command<'a>, AllocError>
     ensures { IfOk result (λ command. (shape_of command ≡ folders_shape name.now) × ((fields_of command).has_globals ≡ false)) }
 {
-    Command::new(alloc, name)
-        .about(about)
-        .after_help(example)
-        .arg(blobs(alloc))?
-        .arg(out(alloc))
+    with_blobs(alloc, name, about, example)?.arg(out(alloc))
 }
 
 fn workers<'a>(alloc: Global) -> Arg<'a>

@@ -25,16 +25,16 @@ unwrap-requires-3 c =
 
 pub returns-clause-sound : goal.returns-clause-sound
 returns-clause-sound c =
-    let data = option_read (codes "data-layers") 0 127 _ parsed (found_of c.args.given.now) c.get_one.result c.requires.data_layers c.get_one.ensures.value (λ t r g. g.0) in
+    let bottom = option_read (codes "data-layers") 0 127 _ parsed (found_of c.args.given.now) c.get_one.result c.requires.data_layers c.get_one.ensures.value (λ t r g. g.0) in
     let workers = option_read (codes "workers") 1 64 _ parsed (found_of c.args.given.now) c.get_one-2.result c.requires.workers c.get_one-2.ensures.value (λ t r g. g.0) in
-    let data_is : data.0 ≡ c.unwrap.result = cc in
+    let bottom_is : bottom.0 ≡ c.unwrap.result = cc in
     let workers_is : workers.0 ≡ c.unwrap-2.result = cc in
     let texts = rw c.unwrap-3.ensures at c.get_strs.ensures in
     let files = c.requires.layers in
     record {
       some_worker = rw (← workers_is) workers.3;
       few_workers = rw (← workers_is) workers.4;
-      few_data_layers = omega (arith, data_is, data.4);
+      few_data_layers = omega (arith, bottom_is, bottom.4);
       some_layer = some_copied string_bytes _ c.in_ok-copies.field-0.items c.unwrap-3.result.now files.0 c.in_ok-copies.ensures (texts ∙ raw_values-rows (found_of c.args.given.now) (codes "layers") ∙ files.1) files.2;
       blobs = is_some-map string_bytes c.in_ok-copy.field-0 ∙ ap is_some (c.in_ok-copy.ensures ∙ c.get_str.ensures ∙ first_value-rows (found_of c.args.given.now) (codes "blobs")) ∙ c.requires.blobs;
       out = is_some-map string_bytes c.in_ok-copy-2.field-0 ∙ ap is_some (c.in_ok-copy-2.ensures ∙ c.get_str-2.ensures ∙ first_value-rows (found_of c.args.given.now) (codes "out")) ∙ c.requires.out;
@@ -42,15 +42,15 @@ returns-clause-sound c =
 
 pub returns-clause-values : goal.returns-clause-values
 returns-clause-values c =
-    let data = option_read (codes "data-layers") 0 127 _ parsed (found_of c.args.given.now) c.get_one.result c.requires.data_layers c.get_one.ensures.value (λ t r g. g.0) in
+    let bottom = option_read (codes "data-layers") 0 127 _ parsed (found_of c.args.given.now) c.get_one.result c.requires.data_layers c.get_one.ensures.value (λ t r g. g.0) in
     let workers = option_read (codes "workers") 1 64 _ parsed (found_of c.args.given.now) c.get_one-2.result c.requires.workers c.get_one-2.ensures.value (λ t r g. g.0) in
-    let data_is : data.0 ≡ c.unwrap.result = cc in
+    let bottom_is : bottom.0 ≡ c.unwrap.result = cc in
     let workers_is : workers.0 ≡ c.unwrap-2.result = cc in
     let texts = rw c.unwrap-3.ensures at c.get_strs.ensures in (
       refl,
       record {
         workers = workers.2 ∙ ap Some workers_is;
-        data_layers = data.2 ∙ ap Some data_is;
+        data_layers = bottom.2 ∙ ap Some bottom_is;
         blobs = c.in_ok-copy.ensures ∙ c.get_str.ensures ∙ first_value-rows (found_of c.args.given.now) (codes "blobs");
         out = c.in_ok-copy-2.ensures ∙ c.get_str-2.ensures ∙ first_value-rows (found_of c.args.given.now) (codes "out");
         layers = sym (raw_values-rows (found_of c.args.given.now) (codes "layers")) ∙ sym texts ∙ ap Some (sym c.in_ok-copies.ensures);
