@@ -16,7 +16,7 @@ from .entries import METACOPY, REDIRECT
 from .faults import Fault, UsageFault, cannot_write, writing
 from .images import Image, image_place, opened_image
 from .manifests import blobs_named_in, has_attribute
-from .outputs import kept_folder, passing_folder, require_empty
+from .outputs import kept_folder, new_folder, passing_folder
 from .pack import ARCHIVE_SUFFIX, PackOptions, pack
 from .program import NAME, find_program, makes_layers, require_program, run_program, words_of
 from .progress import counted, note, note_path
@@ -27,7 +27,8 @@ _STACK = "stack"
 _AGAIN = "again"
 _BEFORE = "before.show"
 _AFTER = "after.show"
-_IMAGE = "image.show"
+_IMAGE = "image"
+_SHOWN = f"{_IMAGE}.show"
 _REPORT = "report"
 _TOOL = Path(__file__).resolve().parents[1] / "layers.py"
 
@@ -55,11 +56,9 @@ def flatten(options: FlattenOptions) -> None:
     options = _with_place(options)
     _require_free(options)
     begun = time.monotonic()
-    place = os.path.realpath(options.out)
-    for stage in tidy(os.path.dirname(place)):
-        note(f"there is {told(stage)}")
-    with passing_folder(place) if options.keep is None else kept_folder(options.keep) as folder:
-        before, after = _carry_out(_Doing(options, folder), options.layers)
+    with _new_image(options.out) as image:
+        with passing_folder(image) if options.keep is None else kept_folder(options.keep) as folder:
+            before, after = _carry_out(_Doing(options, folder, image), options.layers)
     seconds = time.monotonic() - begun
     note_path(options.out, f"{counted(after, 'layer', 'layers')} in place of {before}, {seconds:.2f} s in all")
 
@@ -80,10 +79,31 @@ def _require_free(options: FlattenOptions) -> None:
     """Refuses at once what couldn't be written in the end."""
     if options.keep is not None and os.path.realpath(options.keep) == os.path.realpath(options.out):
         raise UsageFault("--keep and --out must be two places")
-    if not options.out.endswith(ARCHIVE_SUFFIX):
-        require_empty(options.out)
-    elif os.path.lexists(options.out) and not os.path.isfile(options.out):
+    is_archive = options.out.endswith(ARCHIVE_SUFFIX)
+    if is_archive and os.path.lexists(options.out) and not os.path.isfile(options.out):
         raise cannot_write(options.out, "it is no regular file")
+
+
+@contextlib.contextmanager
+def _new_image(out: str) -> Iterator[str]:
+    """Where the new image is to be made. It gets its name at the end, and only there."""
+    if not out.endswith(ARCHIVE_SUFFIX):
+        with new_folder(out) as stage:
+            image = f"{stage}/{_IMAGE}"
+            yield image
+            with writing(out):
+                for name in os.listdir(image):
+                    os.rename(f"{image}/{name}", f"{stage}/{name}")
+                os.rmdir(image)
+        return
+    place = os.path.realpath(out)
+    for found in tidy(os.path.dirname(place)):
+        note(f"there is {told(found)}")
+    with passing_folder(place) as stage:
+        image = f"{stage}/{_IMAGE}{ARCHIVE_SUFFIX}"
+        yield image
+        with writing(out):
+            os.rename(image, place)
 
 
 class _Steps(Protocol):
@@ -139,9 +159,10 @@ def _new_layer(folder: str, number: int = 0) -> str:
 class _Doing:
     """Does the steps, and tells each with its time."""
 
-    def __init__(self, options: FlattenOptions, folder: str) -> None:
+    def __init__(self, options: FlattenOptions, folder: str, image: str) -> None:
         self._options = options
         self._folder = folder
+        self._image = image
         self._program = require_program()
         self._name: str | None = None
 
@@ -189,28 +210,22 @@ class _Doing:
 
     def pack(self, layers: Sequence[str]) -> None:
         """See `_Steps`."""
-        place = os.path.realpath(self._options.out)
-        with passing_folder(place) as folder:
-            # As `pack` tells an archive from a folder, whatever a link leads to.
-            image = f"{folder}/image" + (ARCHIVE_SUFFIX if self._options.out.endswith(ARCHIVE_SUFFIX) else "")
-            with _timed("pack") as words:
-                pack(PackOptions(
-                    [self._path(layer) for layer in layers], self._path(f"{_STACK}/{stacks.BLOBS}"), image,
-                    tag=self._name, config=self._path(f"{_STACK}/{stacks.CONFIG}"), compress=self._options.compress,
-                ))
-                words.append(counted(len(layers), "layer", "layers"))
-            with _timed("the new image, read again") as words:
-                words.append(self._shown(image))
-                self.compare(_IMAGE)
-            with writing(self._options.out):
-                os.rename(image, place)
+        with _timed("pack") as words:
+            pack(PackOptions(
+                [self._path(layer) for layer in layers], self._path(f"{_STACK}/{stacks.BLOBS}"), self._image,
+                tag=self._name, config=self._path(f"{_STACK}/{stacks.CONFIG}"), compress=self._options.compress,
+            ))
+            words.append(counted(len(layers), "layer", "layers"))
+        with _timed("the new image, read again") as words:
+            words.append(self._shown(self._image))
+            self.compare(_SHOWN)
 
     def _shown(self, image: str) -> str:
         """Writes what an image shows."""
         with passing_folder(self._path(_AGAIN)) as folder:
             again = f"{folder}/{_AGAIN}"
             found = unpack(UnpackOptions(image, again, overlay_marks=self._options.overlay_marks, digests_only=True))
-            return self._run("show", stacks.layer_paths(again, len(found.layers)), self._path(_IMAGE))
+            return self._run("show", stacks.layer_paths(again, len(found.layers)), self._path(_SHOWN))
 
 
 def _unpacked(options: UnpackOptions) -> Image:
@@ -307,8 +322,8 @@ class _Telling:
         )
         self._add_tool("unpack", out, "--out", self._path(_AGAIN), "--digests-only", *self._marks)
         again = [self._path(layer) for layer in stacks.layer_paths(_AGAIN, len(layers))]
-        self._add(self._program, "show", *again, into=self._path(_IMAGE))
-        self.compare(_IMAGE)
+        self._add(self._program, "show", *again, into=self._path(_SHOWN))
+        self.compare(_SHOWN)
 
     def _path(self, name: str) -> _InWork:
         return _InWork(name)

@@ -220,11 +220,11 @@ class Steps(FlattenTest):
         for stage in (new, old):
             os.mkdir(stage)
         os.utime(old, (0, 0))
-        result = self.flatten()
+        result = self.flatten(out="flat.tar")
         self.require_done(result)
         self.assertIn(f"layers: took away {old}, which a run that was cut off left over a day ago\n", result[2])
         self.assertIn(f"layers: there is {new}, the stage of a run that was cut off\n", result[2])
-        self.left(".layers-new", "flat")
+        self.left(".layers-new", "flat.tar")
 
     def test_names(self) -> None:
         described = [put_manifest(self.image, [archive(layer)], None, "linux/amd64") for layer in LAYERS[:2]]
