@@ -130,17 +130,17 @@ fn a_fault_of_the_board_has_its_text(rt: HostRuntime) -> Result<(), Fail> {
     Ok(())
 }
 
-// Lets `/` pass, and another directory where each other one was asked for as often while it looked.
+// How often each of these pieces was asked for.
 #[derive(Drop)]
-struct Meeting<'a, R: Wait> {
+struct Asked<'a, R: Wait> {
     rt: &'a R,
-    asked: Mutex<Vec<(Piece, u64)>>,
+    times: Mutex<Vec<(Piece, u64)>>,
 }
 
-impl<R: Wait> Meeting<'_, R> {
-    // Notes that the piece was asked for, and tells how often by now.
+impl<R: Wait> Asked<'_, R> {
+    // Notes that the piece was asked for, and tells how often by now; 0 where it is none of these.
     fn note(&self, piece: &Piece) -> u64 {
-        let mut asked = self.asked.lock(self.rt);
+        let mut asked = self.times.lock(self.rt);
         for (known, times) in asked.iter_mut() {
             if *known == *piece {
                 *times = times.saturating_add(1);
@@ -151,10 +151,14 @@ impl<R: Wait> Meeting<'_, R> {
     }
 
     fn was_met(&self, times: u64) -> bool {
-        let asked = self.asked.lock(self.rt);
+        let asked = self.times.lock(self.rt);
         asked.iter().all(|(_, other)| *other >= times)
     }
 }
+
+// Lets `/` pass, and another directory where each other one was asked for as often while it looked.
+#[derive(Drop)]
+struct Meeting<'a, R: Wait>(Asked<'a, R>);
 
 impl<R: Wait> Gate for Meeting<'_, R> {
     ghost may_refuse = { λ _ p. ¬ (p.dir ≡ []) };
@@ -163,13 +167,28 @@ impl<R: Wait> Gate for Meeting<'_, R> {
         if piece.dir.is_empty() {
             return true;
         }
-        let times = self.note(piece);
+        let times = self.0.note(piece);
         for _ in 0..LOOKS_OF_A_GATE {
-            if self.was_met(times) {
+            if self.0.was_met(times) {
                 return true;
             }
         }
         false
+    }
+}
+
+// Lets a directory pass but where it is asked for that often.
+#[derive(Drop)]
+struct Refusing<'a, R: Wait> {
+    asked: Asked<'a, R>,
+    from: u64,
+}
+
+impl<R: Wait> Gate for Refusing<'_, R> {
+    ghost may_refuse = { λ _ p. ¬ (p.dir ≡ []) };
+
+    fn pass(&self, piece: &Piece) -> bool {
+        piece.dir.is_empty() || self.asked.note(piece) < self.from
     }
 }
 
@@ -179,24 +198,24 @@ const FOUR: &str = "dir /a, dir /b, dir /c, dir /d";
 
 const FOUR_PATHS: &[&str] = &["/a", "/b", "/c", "/d"];
 
-// Lets these pieces of a space pass where they meet; the space is a layer, or that of the blobs.
-fn gate_at<'a, R: Wait>(
+// None of these pieces of a space was asked for; the space is a layer, or that of the blobs.
+fn unasked<'a, R: Wait>(
     rt: &'a R,
     alloc: Global,
     space: u16,
     paths: &[&str],
-) -> Result<Meeting<'a, R>, Fail> {
-    let mut asked = Vec::new(alloc);
+) -> Result<Asked<'a, R>, Fail> {
+    let mut times = Vec::new(alloc);
     for path in paths {
         let piece = Piece {
             space,
             dir: Path::parse(alloc, path)?,
         };
-        asked.push((piece, 0))?;
+        times.push((piece, 0))?;
     }
-    Ok(Meeting {
+    Ok(Asked {
         rt,
-        asked: Mutex::new(asked),
+        times: Mutex::new(times),
     })
 }
 
@@ -214,7 +233,7 @@ fn is_met<R: Threads + Wait + Sync>(
     let blobs = named_blobs(alloc, &contents_of(alloc, &["ab", "abc"])?)?;
     let mut faults = Vec::new(alloc);
     for workers in [2, 1] {
-        let gate = gate_at(rt, alloc, space, pieces)?;
+        let gate = Meeting(unasked(rt, alloc, space, pieces)?);
         faults.push(command(rt, alloc, what, &manifests, 0, &blobs, workers, &gate).err())?;
     }
     Ok(faults.as_slice() == [None, Some(EngineFault::Run(RunFault::Gate))].as_slice())
@@ -233,9 +252,57 @@ fn two_workers_of_a_command_meet_and_one_is_refused(rt: HostRuntime) -> Result<(
         (Command::Vacuum, [TWO, ""].as_slice(), 0, two),
         (Command::Deref, [TWO, ""].as_slice(), 0, two),
         (Command::Merge, [TWO, ""].as_slice(), 0, two),
+        // Directories of the new layer alone, which no check visits.
+        (Command::Merge, ["", TWO].as_slice(), 0, two),
+        (
+            Command::Deref,
+            [
+                "dir /p redirect=/x, whiteout /x",
+                "dir /x, dir /x/a, dir /x/b",
+            ]
+            .as_slice(),
+            0,
+            ["/p/a", "/p/b"].as_slice(),
+        ),
     ] {
         let met = is_met(&rt, rt.alloc(), what, layers, space, pieces)?;
         assert!(rt; met, "at {what:?} in space {space}");
+    }
+    Ok(())
+}
+
+// The fault of a command over a layer of these entries and one of a root alone, by a gate that refuses `/a` and `/b` of the
+// topmost layer where one of them is asked for that often.
+fn fault_where_asked<R: Threads + Wait + Sync>(
+    rt: &R,
+    alloc: Global,
+    what: Command,
+    upper: &str,
+    from: u64,
+) -> Result<Option<EngineFault>, Fail> {
+    let manifests = manifests_of(alloc, &[upper, ""])?;
+    let gate = Refusing {
+        asked: unasked(rt, alloc, 0, &FOUR_PATHS[..2])?,
+        from,
+    };
+    Ok(command(rt, alloc, what, &manifests, 0, &[], 2, &gate).err())
+}
+
+#[test]
+fn a_new_layer_is_made_by_asked_visits_once_the_check_has_found_no_fault(
+    rt: HostRuntime,
+) -> Result<(), Fail> {
+    let alloc = rt.alloc();
+    for what in [Command::Vacuum, Command::Deref, Command::Merge] {
+        // By the check, and by the work of the command.
+        let twice = fault_where_asked(&rt, alloc, what, TWO, 3)?;
+        assert_eq!(rt; twice, None, "{what:?}");
+        let refused = fault_where_asked(&rt, alloc, what, TWO, 2)?;
+        assert_eq!(rt; refused, Some(EngineFault::Run(RunFault::Gate)), "{what:?}");
+        // By the check alone.
+        let faulty = fault_where_asked(&rt, alloc, what, "dir /a, dir /b, dir /c redirect=/", 2)?;
+        let is_told = matches!(&faulty, Some(EngineFault::Faulty(_)));
+        assert!(rt; is_told, "{what:?} of a stack with a fault: {faulty:?}");
     }
     Ok(())
 }
@@ -272,7 +339,7 @@ fn run_to<R: Threads + Wait + Sync>(
     workers: usize,
 ) -> Result<Result<RunCount, RunFault>, Fail> {
     let stack = stack_with(alloc, directories)?;
-    let gate = gate_at(rt, alloc, 0, paths)?;
+    let gate = Meeting(unasked(rt, alloc, 0, paths)?);
     let work = ShowWork::new(&stack);
     Ok(run(rt, alloc, &work, root_piece(alloc), workers, &gate).map(|(_, count)| count))
 }

@@ -67,6 +67,15 @@ fn nothing_is_found_in_sound_stacks(rt: HostRuntime) -> Result<(), Fail> {
             "metacopy files have their data",
             ["bare /f metacopy=", "bare /f metacopy=", "file /f"].as_slice(),
         ),
+        (
+            "a directory was renamed twice",
+            [
+                "whiteout /a, dir /b redirect=/a",
+                "dir /a redirect=/x, whiteout /x",
+                "dir /x, file /x/k",
+            ]
+            .as_slice(),
+        ),
     ] {
         let found = checked(&rt, alloc, layers, 0, &blobs)?;
         assert_eq!(rt; found.as_str(), "faults 0 notes 0\n", "where {what}");

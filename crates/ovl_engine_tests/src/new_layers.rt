@@ -142,6 +142,22 @@ fn merge_gives_a_root_over_both_layers_as_one(rt: HostRuntime) -> Result<(), Fai
             "meta /f\nentries 2\n",
             "bare /f metacopy=",
         ),
+        // One of which the contents lie elsewhere, by an absolute redirect; and two of which the lower layer has them.
+        (
+            [
+                "dir /d, bare /f metacopy= redirect=/d/g",
+                "",
+                "dir /d, file /d/g",
+            ]
+            .as_slice(),
+            "plain /d\nmeta /f /d/g\nentries 3\n",
+            "dir /d, bare /f metacopy= redirect=/d/g",
+        ),
+        (
+            ["bare /f metacopy=, bare /g metacopy=", "file /f, file /g"].as_slice(),
+            "leaf /f\nleaf /g\nentries 3\n",
+            "file /f, file /g",
+        ),
         // A directory whose old place was in the lower layer alone hides what the rest has at its new place, if that is a
         // directory; and a whiteout stays where the rest has something.
         (
@@ -279,12 +295,13 @@ fn any_number_of_workers_gives_the_same_new_layer(rt: HostRuntime) -> Result<(),
     Ok(())
 }
 
-// The entries of a directory `/x` and so many in each other below it.
-fn chain(alloc: Global, directories: u32) -> Result<String, Fail> {
+// The entries of a directory `/x` and so many of this name in each other below it.
+fn chain(alloc: Global, directories: u32, name: &str) -> Result<String, Fail> {
     let mut entries = String::from_str(alloc, "dir /x")?;
     let mut path = String::from_str(alloc, "/x")?;
     for _ in 0..directories {
-        path.push_str("/d")?;
+        path.push_str("/")?;
+        path.push_str(name)?;
         entries.push_str(", dir ")?;
         entries.push_str(path.as_str())?;
     }
@@ -298,12 +315,32 @@ const FROM_THE_CHAIN: &str = "dir /p, dir /p/q redirect=/x, whiteout /x";
 fn a_new_layer_is_within_the_limits(rt: HostRuntime) -> Result<(), Fail> {
     let alloc = rt.alloc();
     // In `/p/q` the shorter chain ends 64 names deep, the longer one 65.
-    let chained = chain(alloc, 62)?;
+    let chained = chain(alloc, 62, "d")?;
     let layers = [FROM_THE_CHAIN, chained.as_str()];
     let told = rewritten(&rt, alloc, Command::Deref, &layers, 0, &[])?;
     assert!(rt; told.as_str().contains("\nwhiteout /x\nentries 66\n"));
-    let deeper = chain(alloc, 63)?;
+    let deeper = chain(alloc, 63, "d")?;
     let manifests = manifests_of(alloc, &[FROM_THE_CHAIN, deeper.as_str()])?;
+    let answer = command(&rt, alloc, Command::Deref, &manifests, 0, &[], 4, &OpenGate);
+    assert_eq!(rt; answer.err(), Some(EngineFault::LimitOut));
+    Ok(())
+}
+
+#[test]
+fn a_path_of_a_new_layer_is_within_its_limit(rt: HostRuntime) -> Result<(), Fail> {
+    let alloc = rt.alloc();
+    let mut name = String::new(alloc);
+    for _ in 0..255 {
+        name.push_str("d")?;
+    }
+    let moved = format!(in alloc; "dir /{name} redirect=/x, whiteout /x")?;
+    // With its directory's name the shorter chain's last path has 3,840 bytes, the longer one's 4,096.
+    let chained = chain(alloc, 14, name.as_str())?;
+    let layers = [moved.as_str(), chained.as_str()];
+    let told = rewritten(&rt, alloc, Command::Deref, &layers, 0, &[])?;
+    assert!(rt; told.as_str().contains("\nwhiteout /x\nentries 17\n"));
+    let deeper = chain(alloc, 15, name.as_str())?;
+    let manifests = manifests_of(alloc, &[moved.as_str(), deeper.as_str()])?;
     let answer = command(&rt, alloc, Command::Deref, &manifests, 0, &[], 4, &OpenGate);
     assert_eq!(rt; answer.err(), Some(EngineFault::LimitOut));
     Ok(())

@@ -89,6 +89,26 @@ fn moved_directories_show_what_they_came_from(rt: HostRuntime) -> Result<(), Fai
             "dir 0755 0 0 0 - - /\ndir 0755 0 0 0 - - /d\ndir 0755 0 0 0 - - /x\n\
             file 0644 0 0 0 1 [a] /x/k\nentries 4\n",
         ),
+        (
+            "a directory was renamed over one of the same name below",
+            [
+                "whiteout /a, dir /b redirect=/a",
+                "dir /a, file /a/k",
+                "dir /b, file /b/z",
+            ]
+            .as_slice(),
+            "dir 0755 0 0 0 - - /\ndir 0755 0 0 0 - - /b\nfile 0644 0 0 0 1 [a] /b/k\nentries 3\n",
+        ),
+        (
+            "a directory was renamed twice",
+            [
+                "whiteout /a, dir /b redirect=/a",
+                "dir /a redirect=/x, whiteout /x",
+                "dir /x, file /x/k",
+            ]
+            .as_slice(),
+            "dir 0755 0 0 0 - - /\ndir 0755 0 0 0 - - /b\nfile 0644 0 0 0 1 [a] /b/k\nentries 3\n",
+        ),
     ] {
         let shown = shown(&rt, alloc, layers, 0)?;
         assert_eq!(rt; shown, in_full(alloc, report)?, "where {what}");
