@@ -5,7 +5,7 @@ ghost use Rattle.ovl_names.specs.Paths.{child_path};
 ghost use Rattle.ovl_manifest.specs.declared.faults.LayerFault.TheVariants.{Memory as NoMemory};
 ghost use Rattle.ovl_manifest.specs.Layers.{Entries, entry_cmp, IsLayer};
 ghost use Rattle.ovl_board.specs.Parcels.{parcel_views};
-ghost use Rattle.ovl_rewrite.specs.declared.faults.RewriteFault.TheVariants.{LimitOut};
+ghost use Rattle.ovl_rewrite.specs.declared.faults.RewriteFault.TheVariants.{LimitOut, Memory};
 ghost use Rattle.ovl_rewrite.specs.Directories.{inodes_seen};
 ghost use Rattle.ovl_rewrite.specs.Passes.{WalksUnder, StopsUnder};
 ghost use Rattle.ovl_rewrite.specs.NewLayers.{NewLayer, IsOf, IsToldBy};
@@ -56,7 +56,8 @@ pub fn layer_of(alloc: Global, entries: Vec<(Path, Inode)>) -> Result<Layer, Rew
 
 // What a fault of entries that are a layer, but for the limits, says.
 fn refusal(fault: LayerFault) -> RewriteFault
-    ensures { result ≡ LimitOut → fault ≡ NoMemory → ⊥ }
+    ensures limit { result ≡ LimitOut → fault ≡ NoMemory → ⊥ }
+    ensures memory { result ≡ Memory → fault ≡ NoMemory }
 {
     match fault {
         LayerFault::Memory => RewriteFault::Memory,

@@ -9,4 +9,4 @@ returns-in-Ok-clause-layer c = (sym (pairs-are c.args.entries.items c.in-Ok.laye
 pub returns-in-Err-clause-limit : goal.returns-in-Err-clause-limit
 returns-in-Err-clause-limit c out is =
     let told : c.refusal.result ≡ LimitOut = cc in
-    c.refusal.ensures told (layer-refused c.args.entries.items c.in-Err.fault is c.in-Err.ensures.value)
+    c.refusal.ensures.limit told (layer-refused c.args.entries.items c.in-Err.fault is c.in-Err.ensures.value)

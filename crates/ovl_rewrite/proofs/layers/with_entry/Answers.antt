@@ -6,4 +6,4 @@ use Rattle.ovl_rewrite.proofs.layers.with_entry.Goals as goal
 pub returns-in-Err-clause-limit : goal.returns-in-Err-clause-limit
 returns-in-Err-clause-limit c out more is =
     let told : c.refusal.result ≡ LimitOut = cc in
-    c.refusal.ensures told (next-refused c.args.builder (c.args.path, c.args.inode) more c.in-Err.fault is c.in-Err.ensures)
+    c.refusal.ensures.limit told (next-refused c.args.builder (c.args.path, c.args.inode) more c.in-Err.fault is c.in-Err.ensures)
