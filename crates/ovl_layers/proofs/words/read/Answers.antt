@@ -1,27 +1,26 @@
-use Rattle.std.proofs.Common.{rules, ◌≡◌, ◌∙◌, ℕ, ap, refl, sym, arith, List, Some, Result, codes, is_some, string_bytes}
+use Rattle.std.proofs.Common.{rules, ◌≡◌, ◌∙◌, ap, refl, sym, arith, Some, codes, is_some, string_bytes}
 use Rattle.std.specs.Str.Parse.{ExplainsUnsignedError, HasUnsignedDigitsIfOk, ParsesUnsigned}
 use Rattle.clap.proofs.WalkLemmas.{first_value-rows, raw_values-rows}
 use Rattle.clap.specs.Matches.{found_of}
 use Rattle.ovl_layers.proofs.Options.{is_some-map, option_read, some_copied, some_mapped}
 use Rattle.ovl_layers.proofs.words.read.Goals as goal
 
--- what is given of a number's parse
-abbrev parsed : {E : Type 0} → List ℕ → Result ℕ E → Type 0
-parsed bs r = ParsesUnsigned 64 10 bs r × ExplainsUnsignedError 10 bs r × HasUnsignedDigitsIfOk bs r
-
 pub unwrap-data_layers-requires : goal.unwrap-data_layers-requires
 unwrap-data_layers-requires c =
-    let read = option_read (codes "data-layers") 0 127 _ parsed (found_of c.args.given.now) c.get_one.result c.requires.data_layers c.get_one.ensures.value (λ t r g. g.0) in
+    let read = option_read (codes "data-layers") 0 127 _ (λ bs r. ParsesUnsigned 64 10 bs r × ExplainsUnsignedError 10 bs r × HasUnsignedDigitsIfOk bs r)
+    (found_of c.args.given.now) c.get_one.result c.requires.data_layers c.get_one.ensures.value (λ t r g. g.0) in
     search rules
 
 pub unwrap-requires : goal.unwrap-requires
 unwrap-requires c =
-    let read = option_read (codes "workers") 1 64 _ parsed (found_of c.args.given.now) c.get_one-2.result c.requires.workers c.get_one-2.ensures.value (λ t r g. g.0) in
+    let read = option_read (codes "workers") 1 64 _ (λ bs r. ParsesUnsigned 64 10 bs r × ExplainsUnsignedError 10 bs r × HasUnsignedDigitsIfOk bs r)
+    (found_of c.args.given.now) c.get_one-2.result c.requires.workers c.get_one-2.ensures.value (λ t r g. g.0) in
     search rules
 
 pub overflow_cast-result : goal.overflow_cast-result
 overflow_cast-result c =
-    let bottom = option_read (codes "data-layers") 0 127 _ parsed (found_of c.args.given.now) c.get_one.result c.requires.data_layers c.get_one.ensures.value (λ t r g. g.0) in
+    let bottom = option_read (codes "data-layers") 0 127 _ (λ bs r. ParsesUnsigned 64 10 bs r × ExplainsUnsignedError 10 bs r × HasUnsignedDigitsIfOk bs r)
+    (found_of c.args.given.now) c.get_one.result c.requires.data_layers c.get_one.ensures.value (λ t r g. g.0) in
     let is : bottom.0 ≡ c.unwrap-data_layers.result = cc in
     omega (arith, is, bottom.4)
 
@@ -31,8 +30,10 @@ unwrap-requires-2 c =
 
 pub returns-clause-sound : goal.returns-clause-sound
 returns-clause-sound c =
-    let bottom = option_read (codes "data-layers") 0 127 _ parsed (found_of c.args.given.now) c.get_one.result c.requires.data_layers c.get_one.ensures.value (λ t r g. g.0) in
-    let workers = option_read (codes "workers") 1 64 _ parsed (found_of c.args.given.now) c.get_one-2.result c.requires.workers c.get_one-2.ensures.value (λ t r g. g.0) in
+    let bottom = option_read (codes "data-layers") 0 127 _ (λ bs r. ParsesUnsigned 64 10 bs r × ExplainsUnsignedError 10 bs r × HasUnsignedDigitsIfOk bs r)
+    (found_of c.args.given.now) c.get_one.result c.requires.data_layers c.get_one.ensures.value (λ t r g. g.0) in
+    let workers = option_read (codes "workers") 1 64 _ (λ bs r. ParsesUnsigned 64 10 bs r × ExplainsUnsignedError 10 bs r × HasUnsignedDigitsIfOk bs r)
+    (found_of c.args.given.now) c.get_one-2.result c.requires.workers c.get_one-2.ensures.value (λ t r g. g.0) in
     let bottom_is : bottom.0 ≡ c.unwrap-data_layers.result = cc in
     let workers_is : workers.0 ≡ c.unwrap.result = cc in
     let texts = rw c.unwrap-2.ensures at c.get_strs.ensures in
@@ -48,8 +49,10 @@ returns-clause-sound c =
 
 pub returns-clause-values : goal.returns-clause-values
 returns-clause-values c =
-    let bottom = option_read (codes "data-layers") 0 127 _ parsed (found_of c.args.given.now) c.get_one.result c.requires.data_layers c.get_one.ensures.value (λ t r g. g.0) in
-    let workers = option_read (codes "workers") 1 64 _ parsed (found_of c.args.given.now) c.get_one-2.result c.requires.workers c.get_one-2.ensures.value (λ t r g. g.0) in
+    let bottom = option_read (codes "data-layers") 0 127 _ (λ bs r. ParsesUnsigned 64 10 bs r × ExplainsUnsignedError 10 bs r × HasUnsignedDigitsIfOk bs r)
+    (found_of c.args.given.now) c.get_one.result c.requires.data_layers c.get_one.ensures.value (λ t r g. g.0) in
+    let workers = option_read (codes "workers") 1 64 _ (λ bs r. ParsesUnsigned 64 10 bs r × ExplainsUnsignedError 10 bs r × HasUnsignedDigitsIfOk bs r)
+    (found_of c.args.given.now) c.get_one-2.result c.requires.workers c.get_one-2.ensures.value (λ t r g. g.0) in
     let bottom_is : bottom.0 ≡ c.unwrap-data_layers.result = cc in
     let workers_is : workers.0 ≡ c.unwrap.result = cc in
     let texts = rw c.unwrap-2.ensures at c.get_strs.ensures in (
