@@ -65,7 +65,7 @@ def scan(options: ScanOptions) -> None:
         _store_contents(options, root, entries)
     finally:
         os.close(root)
-    write_manifest(options.out, entries)
+    write_manifest(options.out, entries, options.folder)
     losses.tell()
 
 

@@ -41,7 +41,7 @@ def _unpack_layers(options: UnpackOptions, layers: list[ImageLayer], stage: str,
     try:
         for number, layer in zip(reversed(range(len(layers))), layers):
             tree = LayerArchive(layer, taking).tree()
-            write_manifest(f"{stage}/l{number}.json", tree.entries())
+            write_manifest(f"{stage}/l{number}.json", tree.entries(), layer.path)
             if number:
                 below.cover(tree)
     finally:
