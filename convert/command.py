@@ -162,7 +162,10 @@ def _add_build(parser: argparse.ArgumentParser) -> None:
 
 
 def _add_unpack(parser: argparse.ArgumentParser) -> None:
-    parser.add_argument("image", metavar="IMAGE", help="OCI image layout (folder or tar), or what docker save wrote; - is standard input")
+    parser.add_argument(
+        "image", metavar="IMAGE",
+        help="OCI image layout (folder or tar), or what docker save wrote; - is standard input",
+    )
     parser.add_argument("--out", metavar="DIR", required=True, help="folder to make, absent or empty")
     parser.add_argument("--platform", metavar="OS/ARCH", help="which of several images, such as linux/amd64")
     parser.add_argument("--tag", metavar="NAME", help="which of several images, by its name in the image's index")

@@ -20,7 +20,10 @@ LAYERS = [
         owned(folder("home/u", 0o750), 1000, 20), member("home/u/f", b"abc", mode=0o640), member("gone", b"x"),
         owned(folder("dir"), 0, 30), member("dir/x", b"x"), member("link", kind=tarfile.SYMTYPE, target="home"),
     ],
-    [member("root/new", b"y"), member("home/u/new", b"z"), member(".wh.gone"), member("home/u/h", kind=tarfile.LNKTYPE, target="home/u/f")],
+    [
+        member("root/new", b"y"), member("home/u/new", b"z"), member(".wh.gone"),
+        member("home/u/h", kind=tarfile.LNKTYPE, target="home/u/f"),
+    ],
     [
         member("dir", kind=tarfile.SYMTYPE, target="/etc"), member("dir/.wh.x"), member("a/../root/up", b"u"),
         member("no/.wh.x"), owned(folder("home"), 0, 40), member("home/u/.wh..wh..opq"), member("home/u/new", b"n"),
@@ -41,7 +44,8 @@ def tree(root: str) -> dict[str, tuple[Any, ...]]:
                     what = (int(status.st_mtime), hashlib.sha256(file.read()).hexdigest())
             elif stat.S_ISLNK(status.st_mode):
                 what = os.readlink(path)
-            attributes = {key: os.getxattr(path, key, follow_symlinks=False) for key in os.listxattr(path, follow_symlinks=False)}
+            names = os.listxattr(path, follow_symlinks=False)
+            attributes = {key: os.getxattr(path, key, follow_symlinks=False) for key in names}
             found[os.path.relpath(path, root)] = (status.st_mode, status.st_uid, status.st_gid, what, attributes)
     return found
 
@@ -148,7 +152,10 @@ class Forms(ToolTest):
 
     def test_copies_of_skopeo(self) -> None:
         self.need("skopeo")
-        for place in (f"dir:{self.path('dir')}", f"oci-archive:{self.path('oci.tar')}:t", f"docker-archive:{self.path('docker.tar')}:small:t"):
+        for place in (
+            f"dir:{self.path('dir')}", f"oci-archive:{self.path('oci.tar')}:t",
+            f"docker-archive:{self.path('docker.tar')}:small:t",
+        ):
             self.done("skopeo", "copy", "--insecure-policy", f"oci:{self.path('image')}:t", place)
             self.require_same(place)
             self.require_same(place.split(":")[1])
@@ -169,8 +176,9 @@ class Forms(ToolTest):
         os.mkdir(self.path("dir"))
         with open(self.path("dir", "manifest.json"), "w", encoding="utf-8") as file:
             json.dump({"manifests": []}, file)
-        self.require_fault(call("unpack", f"dir:{self.path('dir')}", "--out", self.path("out")), 3, "copy one image of it")
-        self.require_fault(call("unpack", "/dev/null", "--out", self.path("out")), 3, "neither a folder, nor a regular file")
+        out = self.path("out")
+        self.require_fault(call("unpack", f"dir:{self.path('dir')}", "--out", out), 3, "copy one image of it")
+        self.require_fault(call("unpack", "/dev/null", "--out", out), 3, "neither a folder, nor a regular file")
         write_saved(self.path("saved"), [archive([])] * 129)
         self.require_fault(call("unpack", self.path("saved"), "--out", self.path("out")), 3, "it has 129 layers")
         write_layout(self.path("many"), [archive([])] * 129)
