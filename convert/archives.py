@@ -183,14 +183,15 @@ class LayerArchive:
 
     def _linked(self, header: Header, names: list[str]) -> Entry:
         """A hard link as a file of its own, with all that the file it names has, here or below."""
+        told = os.fsdecode(header.target)
         linked = Paths().names(header.target, "the file that it links to")
         aufs = self._aufs_links.get(_path(linked))
         here = aufs or (self._tree.file_at(linked, None) if linked else None)
         found = here or (self._tree.file_at(linked, self._taking.below.root) if linked else None)
         if found is None:
-            raise Unfit(f"it links to {os.fsdecode(header.target)}, which is no file of this layer so far or of those below")
+            raise Unfit(f"it links to {told}, which is no file of this layer so far or of those below")
         if METACOPY in found.attributes:
-            raise Unfit(f"it links to {os.fsdecode(header.target)}, a file without its contents")
+            raise Unfit(f"it links to {told}, a file without its contents")
         self._losses.add(Loss.HARD_LINK if here else Loss.LOWER_LINK, _path(names))
         return copy.copy(found)
 

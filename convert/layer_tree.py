@@ -10,8 +10,6 @@ from .entries import CHAR, DIRECTORY, IS_OPAQUE, NO_ATTRIBUTES, OPAQUE, OVERLAY,
 
 _IMPLIED_MODE = 0o755
 _ATTRIBUTE_BYTES = 256  # that an attribute takes at most beside its name and value
-
-
 RawAttributes = tuple[tuple[bytes, bytes], ...]
 
 

@@ -430,7 +430,9 @@ class Stages(CommandTest):
         os.mkdir(self.path("in"))
         with open(self.path("in", "f"), "wb") as file:
             file.write(os.urandom(100_000))
-        self.words = ("scan", self.path("in"), "--out", self.path("l.json"), "--blobs", self.path("blobs"), "--userxattr")
+        self.words = (
+            "scan", self.path("in"), "--out", self.path("l.json"), "--blobs", self.path("blobs"), "--userxattr",
+        )
 
     def stage(self, folder: str, age: int) -> str:
         """A stage that no process has."""

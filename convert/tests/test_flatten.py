@@ -41,6 +41,9 @@ case $what in
 esac
 """
 
+# Tells its number in a file that is there only with it.
+_WAITS = "echo $$ > {0}.new; mv {0}.new {0}; exec sleep 60"
+
 
 class FlattenTest(FolderTest):
     """A test with a folder `in` for what is given, and `all`, where images are written."""
@@ -167,6 +170,12 @@ class Steps(FlattenTest):
                 self.left()
             self.assertTrue(os.path.exists(self.path("in", "kept", "stack", "l2.json")))
             shutil.rmtree(self.path("in", "kept"))
+
+    def test_a_program_that_can_not_be_run(self) -> None:
+        with open(self.program, "w", encoding="utf-8") as file:
+            file.write("#!/absent\n")
+        self.require_fault_at_end(self.flatten(), 3, f"cannot run {self.program}: No such file or directory")
+        self.left()
 
     def test_a_program_that_is_ended(self) -> None:
         self.manner("[ $what = merge ] && kill -9 $$")
@@ -331,11 +340,10 @@ class Processes(FlattenTest):
     def test_interrupted(self) -> None:
         for number in (signal.SIGTERM, signal.SIGINT, signal.SIGHUP):
             for keep in ((), ("--keep", self.path("in", "kept"))):
-                self.place("bin", "ovl_layers", says=f"echo $$ > {self.path('in', 'started')}; exec sleep 60")
+                self.place("bin", "ovl_layers", says=_WAITS.format(self.path("in", "started")))
                 with subprocess.Popen(self.words(*keep), stderr=subprocess.DEVNULL) as process:
                     while process.poll() is None and not os.path.exists(self.path("in", "started")):
                         time.sleep(0.01)
-                    time.sleep(0.02)
                     process.send_signal(number)
                 self.assertEqual(process.returncode, 128 + number)
                 self.left()

@@ -243,7 +243,8 @@ class Documents(HostileTest):
         descriptor, path = self._image()
         with open(path, encoding="utf-8") as file:
             manifest = json.load(file)
-        text = json.dumps(manifest).replace(f'"size": {manifest["layers"][0]["size"]}}}]', f'"size": {size}}}]').encode()
+        old = f'"size": {manifest["layers"][0]["size"]}}}]'
+        text = json.dumps(manifest).replace(old, f'"size": {size}}}]').encode()
         digest = hashlib.sha256(text).hexdigest()
         with open(self.path("image", "blobs", "sha256", digest), "wb") as out:
             out.write(text)
@@ -268,7 +269,8 @@ class Documents(HostileTest):
         put_index(self.path("image"), [{**descriptor, "annotations": name}, {**other, "annotations": name}])
         self.require_refused("a\\x0alayers: all is well\\x1b[2J\\xed\\xa0\\x80")
         self.empty()
-        write_saved(self.path("image"), [archive([member("a", kind=tarfile.LNKTYPE, target="b"), member("b")])], name="x\ny/layer.tar")
+        layer = archive([member("a", kind=tarfile.LNKTYPE, target="b"), member("b")])
+        write_saved(self.path("image"), [layer], name="x\ny/layer.tar")
         self.require_refused("x\\x0ay/layer.tar")
         self.empty()
         members = [folder("./"), member("x\ny", b"a"), member("z\n", kind=tarfile.LNKTYPE, target="x\ny")]
