@@ -178,7 +178,7 @@ class LayerArchive:
         problem = next(filter(None, map(rules.attribute_problem, kept)), None) or rules.attributes_problem(kept)
         if problem:
             raise Unfit(problem)
-        text_bytes = sum(len(name) + 2 * len(value) for name, value in kept.items())
+        text_bytes = sum(len('"":"",') + len(name) + 2 * len(value) for name, value in kept.items())
         return Attributes(kept or NO_ATTRIBUTES, len(attributes) - len(kept), text_bytes)
 
     def _linked(self, header: Header, names: list[str]) -> Entry:

@@ -380,7 +380,7 @@ class Bomb(HostileTest):
     def test_records_for_all_entries(self) -> None:
         """Many of them in a small stream, and a few that each of many entries would have."""
         one = _global_records({f"k{number}": "v" * 1_000 for number in range(1_000)})
-        write_layout(self.path("image"), [packed(one * 100 + archive([folder("./")]))])
+        write_layout(self.path("image"), [packed(one * 10 + archive([folder("./")]))])
         self.require_bounded("an entry with too long headers")
         self.empty()
         attributes = _global_records({f"SCHILY.xattr.user.{number}": "" for number in range(30_000)})
