@@ -95,6 +95,7 @@ def _running(words: Sequence[str], report: IO[bytes]) -> Iterator["subprocess.Po
                 yield process
             except BaseException:
                 process.kill()
+                process.wait()
                 raise
     finally:
         signal.pthread_sigmask(signal.SIG_SETMASK, mask)
