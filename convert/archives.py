@@ -13,11 +13,11 @@ from .archive_names import AUFS_LINKS, OPAQUE_NAME, WHITEOUT_PREFIX, Paths, is_o
 from .blobs import Digester, Writer
 from .contents import PIECE, write_all
 from .entries import (
-    BLOCK, CHAR, DIRECTORY, FIFO, FILE, METACOPY, OVERLAY, SYMLINK, WHITEOUT, Entry, is_whiteout,
+    BLOCK, CHAR, DIRECTORY, FIFO, FILE, METACOPY, NO_ATTRIBUTES, OVERLAY, SYMLINK, WHITEOUT, Entry, is_whiteout,
 )
 from .faults import cannot_read, cannot_write, writing
 from .images import ImageLayer
-from .layer_tree import Below, Blocked, Gap, Held, LayerTree, TooMuch, Unfit, whiteout
+from .layer_tree import Attributes, Below, Blocked, Gap, Held, LayerTree, TooMuch, Unfit, whiteout
 from .losses import Loss, Losses
 from .progress import Progress, note
 from .streams import Digesting, Source, buffered, unpacked
@@ -54,6 +54,7 @@ class LayerArchive:
         self._tree = LayerTree(taking.held)
         self._paths = Paths()
         self._losses = Losses()
+        self._attribute_text = 0
         self._aufs_links: dict[str, Entry] = {}
 
     def tree(self) -> LayerTree:
@@ -161,29 +162,36 @@ class LayerArchive:
         return entry
 
     def _attributes(self, header: Header, names: list[str]) -> Mapping[str, bytes]:
-        attributes = {name.decode("utf-8", "surrogateescape"): value for name, value in header.attributes.items()}
-        if not self._taking.overlay_marks:
-            marks = [name for name in attributes if name.startswith(OVERLAY)]
-            for name in marks:
-                del attributes[name]
-            if marks:
-                self._losses.add(Loss.MARK, _path(names), len(marks))
-        problem = next(filter(None, map(rules.attribute_problem, attributes)), None)
-        problem = problem or rules.attributes_problem(attributes)
+        raw = header.attributes
+        found = self._taking.held.attributes(tuple(raw.items()), lambda: self._decoded(raw))
+        if found.marks:
+            self._losses.add(Loss.MARK, _path(names), found.marks)
+        self._attribute_text += found.text_bytes
+        if self._attribute_text > rules.MAX_MANIFEST_BYTES:
+            raise TooMuch(f"its attributes alone take over {rules.MAX_MANIFEST_BYTES:,} bytes of a manifest")
+        return found.kept
+
+    def _decoded(self, raw: Mapping[bytes, bytes]) -> Attributes:
+        attributes = {name.decode("utf-8", "surrogateescape"): value for name, value in raw.items()}
+        takes_marks = self._taking.overlay_marks
+        kept = {name: value for name, value in attributes.items() if takes_marks or not name.startswith(OVERLAY)}
+        problem = next(filter(None, map(rules.attribute_problem, kept)), None) or rules.attributes_problem(kept)
         if problem:
             raise Unfit(problem)
-        return self._taking.held.attributes(attributes)
+        text_bytes = sum(len('"":"",') + len(name) + 2 * len(value) for name, value in kept.items())
+        return Attributes(kept or NO_ATTRIBUTES, len(attributes) - len(kept), text_bytes)
 
     def _linked(self, header: Header, names: list[str]) -> Entry:
         """A hard link as a file of its own, with all that the file it names has, here or below."""
+        told = os.fsdecode(header.target)
         linked = Paths().names(header.target, "the file that it links to")
         aufs = self._aufs_links.get(_path(linked))
         here = aufs or (self._tree.file_at(linked, None) if linked else None)
         found = here or (self._tree.file_at(linked, self._taking.below.root) if linked else None)
         if found is None:
-            raise Unfit(f"it links to {os.fsdecode(header.target)}, which is no file of this layer so far or of those below")
+            raise Unfit(f"it links to {told}, which is no file of this layer so far or of those below")
         if METACOPY in found.attributes:
-            raise Unfit(f"it links to {os.fsdecode(header.target)}, a file without its contents")
+            raise Unfit(f"it links to {told}, a file without its contents")
         self._losses.add(Loss.HARD_LINK if here else Loss.LOWER_LINK, _path(names))
         return copy.copy(found)
 

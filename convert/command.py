@@ -269,8 +269,12 @@ def _add_flatten(parser: argparse.ArgumentParser) -> None:
     parser.add_argument(
         "--layers", metavar="N", type=_layers, default=1, help="how many layers are left at most [default: 1]"
     )
-    parser.add_argument("--keep", metavar="DIR", help="folder to make, absent or empty, for all that is made on the way")
-    parser.add_argument("--dry-run", action="store_true", help="prints the commands, as a shell takes them, and runs none")
+    parser.add_argument(
+        "--keep", metavar="DIR", help="folder to make, absent or empty, for all that is made on the way"
+    )
+    parser.add_argument(
+        "--dry-run", action="store_true", help="prints the commands, as a shell takes them, and runs none"
+    )
 
 
 def _add_mounted(parser: argparse.ArgumentParser) -> None:

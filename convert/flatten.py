@@ -205,8 +205,9 @@ class _Doing:
     def compare(self, report: str) -> None:
         """See `_Steps`."""
         if not filecmp.cmp(self._path(_BEFORE), self._path(report), shallow=False):
-            where = f"{_BEFORE} and {report} in {self._folder}" if self._options.keep else "--keep DIR keeps both reports"
-            raise Fault(f"the new layers show something else, so nothing is written; {where}")
+            kept = f"see {_BEFORE} and {report} in {self._folder}"
+            hint = kept if self._options.keep else "--keep DIR keeps both reports"
+            raise Fault(f"the new layers show something else, so nothing is written; {hint}")
 
     def pack(self, layers: Sequence[str]) -> None:
         """See `_Steps`."""
@@ -305,7 +306,7 @@ class _Telling:
     def moved(self, layers: Sequence[str]) -> list[int]:
         """None: without marks of the image's own there are none, and with them nobody knows before it is unpacked."""
         if self._marks:
-            self.lines.append(f"# here `{NAME} deref` of each layer with redirects or metacopy files, the lowest first\n")
+            self.lines.append(f"# here `{NAME} deref` of each layer with redirects or metacopy files, lowest first\n")
         return []
 
     def compare(self, report: str) -> None:

@@ -17,7 +17,7 @@ from .members import Members, opened_members
 from .progress import Progress, note
 from .streams import Slice
 
-MAX_DOCUMENTS = 1 << 26  # bytes of an image's documents together, each as often as it is named
+MAX_DOCUMENTS = 1 << 24  # bytes of an image's documents together, each as often as it is named
 _DIGEST = re.compile(r"(sha256|sha384|sha512):([0-9a-f]{64,128})\Z")
 _MAX_DEPTH = 4
 _MOST_TOLD = 20
@@ -73,10 +73,16 @@ class _Choice:
     def matches(self, platform: str | None, tag: str | None) -> bool:
         """Whether it is meant by what a person asked for."""
         is_platform = platform is None or self.platform == platform or self.platform.startswith(platform + "/")
-        return is_platform and (tag is None or tag in self.names)
+        return is_platform and (tag is None or not _spellings(tag).isdisjoint(self.names))
 
     def __str__(self) -> str:
         return " ".join([self.platform, *self.names])
+
+
+def _spellings(tag: str) -> set[str]:
+    """A name, and what docker and skopeo make of it where a part is left out."""
+    whole = tag if ":" in tag.rpartition("/")[2] else f"{tag}:latest"
+    return {tag, whole, f"docker.io/{whole}", f"docker.io/library/{whole}"}
 
 
 def image_place(word: str, tag: str | None) -> tuple[str, str | None]:
@@ -241,10 +247,11 @@ class _Layout:
                 notes = descriptor.get("annotations") or {}
                 own = _texts([notes[key] for key in (_REF_NAME, _FULL_NAME) if key in notes]) or names
                 digest = _digest_parts(descriptor["digest"])
-                is_there = self._members.size(_blob_in_layout(digest)) is not None
-                if _ATTESTATION in notes or not is_there or (descriptor["digest"], own) in self._visited:
+                if _ATTESTATION in notes or (descriptor["digest"], own) in self._visited:
                     continue
                 self._visited.add((descriptor["digest"], own))
+                if self._members.size(_blob_in_layout(digest)) is None:
+                    continue
                 stated = platform_of(descriptor.get("platform") or {}) or platform
                 self._take(descriptor, digest, own, stated, depth)
 

@@ -10,6 +10,7 @@ from .entries import CHAR, DIRECTORY, IS_OPAQUE, NO_ATTRIBUTES, OPAQUE, OVERLAY,
 
 _IMPLIED_MODE = 0o755
 _ATTRIBUTE_BYTES = 256  # that an attribute takes at most beside its name and value
+RawAttributes = tuple[tuple[bytes, bytes], ...]
 
 
 class Unfit(Exception):
@@ -64,7 +65,7 @@ class Held:
     def __init__(self) -> None:
         self._entries = 0
         self._bytes = 0
-        self._sets: dict[tuple[tuple[str, bytes], ...], Mapping[str, bytes]] = {}
+        self._sets: dict[RawAttributes, Attributes] = {}
 
     def grow(self) -> None:
         """One entry more."""
@@ -78,16 +79,22 @@ class Held:
         if self._bytes > rules.MAX_IMAGE_TEXT:
             raise TooMuch(f"names, targets and attributes of the image take over {rules.MAX_IMAGE_TEXT:,} bytes")
 
-    def attributes(self, attributes: Mapping[str, bytes]) -> Mapping[str, bytes]:
-        """An equal set of attributes, which is held once."""
-        if not attributes:
-            return NO_ATTRIBUTES
-        key = tuple(sorted(attributes.items()))
+    def attributes(self, key: RawAttributes, make: Callable[[], "Attributes"]) -> "Attributes":
+        """The attributes of records that are the same as before, or new ones."""
         found = self._sets.get(key)
         if found is None:
-            self.weigh(sum(_ATTRIBUTE_BYTES + len(name) + len(value) for name, value in key))
-            found = self._sets[key] = attributes
+            self.weigh(sum(_ATTRIBUTE_BYTES + 2 * (len(name) + len(value)) for name, value in key))
+            found = self._sets[key] = make()
         return found
+
+
+@dataclass(frozen=True, slots=True)
+class Attributes:
+    """Attributes as an entry has them, how many marks were left out, and their bytes in a manifest."""
+
+    kept: Mapping[str, bytes]
+    marks: int
+    text_bytes: int
 
 
 class LayerTree:

@@ -10,18 +10,27 @@ class Loss(Enum):
 
     CUT_TIME = ("time cut to whole seconds", "times cut to whole seconds")
     HARD_LINK = ("hard link, now a file with the same contents", "hard links, now files with the same contents")
-    LOWER_LINK = ("hard link to a file of the layers below, now a copy", "hard links to files of the layers below, now copies")
+    LOWER_LINK = (
+        "hard link to a file of the layers below, now a copy",
+        "hard links to files of the layers below, now copies",
+    )
     MARK = (
         "attribute trusted.overlay.* left out (--overlay-marks takes it)",
         "attributes trusted.overlay.* left out (--overlay-marks takes them)",
     )
-    ACCESS_LIST = ("entry with an access list (SCHILY.acl.*), left out", "entries with access lists (SCHILY.acl.*), left out")
+    ACCESS_LIST = (
+        "entry with an access list (SCHILY.acl.*), left out",
+        "entries with access lists (SCHILY.acl.*), left out",
+    )
     AUFS = ("entry of aufs' own (.wh..wh.*) left out", "entries of aufs' own (.wh..wh.*) left out")
     WHITEOUT = (
         "whiteout left out that hides nothing, as there is no directory for it",
         "whiteouts left out that hide nothing, as there is no directory for them",
     )
-    DEVICE = ("char device 0:0, which an overlay takes as a whiteout", "char devices 0:0, which an overlay takes as whiteouts")
+    DEVICE = (
+        "char device 0:0, which an overlay takes as a whiteout",
+        "char devices 0:0, which an overlay takes as whiteouts",
+    )
     UNKNOWN = (
         "directory that no layer states, now of mode 0755, owner 0 and time 0",
         "directories that no layer states, now of mode 0755, owner 0 and time 0",

@@ -1,19 +1,19 @@
 """The layer manifest, version 1: reading it, and the one text that is written of a layer."""
 
 import contextlib
+import io
 import json
 import mmap
 import os
 import re
 from collections.abc import Iterable, Iterator
 from json.encoder import encode_basestring
-from typing import Any, NoReturn
+from typing import Any, BinaryIO, NoReturn, TextIO
 
 from . import rules
 from .entries import BLOCK, CHAR, DIRECTORY, FILE, NO_ATTRIBUTES, SYMLINK, Entry
-from .faults import cannot_read, reading, writing
+from .faults import cannot_read, reading
 from .outputs import write_text
-from .progress import note_path
 
 VERSION = 1
 _BASE = frozenset(["path", "kind", "mode", "uid", "gid", "mtime", "xattrs"])
@@ -26,6 +26,11 @@ _MORE: dict[str, frozenset[str]] = {
     "fifo": frozenset(),
     "socket": frozenset(),
 }
+_KINDS = {kind: kind for kind in _MORE}  # so that each text of a kind stands once
+_HEAD = '{"entries":['
+_TAIL = f'],"overlay-layer":{VERSION}}}'
+_DECODER = json.JSONDecoder()
+_PIECE = 1 << 18
 _HEXADECIMAL = re.compile(r"(?:[0-9a-f]{2})*\Z")
 
 
@@ -39,6 +44,10 @@ class _Refused(Exception):
 def read_manifest(path: str) -> list[Entry]:
     """The entries of a manifest's file, refused as the program refuses it."""
     with reading(path), open(path, "rb") as file:
+        entries = _compact_entries(file)
+        if entries is not None:
+            return entries
+        file.seek(0)
         data = file.read(rules.MAX_MANIFEST_BYTES + 1)
     if len(data) > rules.MAX_MANIFEST_BYTES:
         raise cannot_read(path, f"it has over {rules.MAX_MANIFEST_BYTES} bytes")
@@ -46,6 +55,45 @@ def read_manifest(path: str) -> list[Entry]:
         return list(parse(data))
     except _Refused as fault:
         raise cannot_read(path, str(fault)) from None
+
+
+def _compact_entries(file: BinaryIO) -> list[Entry] | None:
+    """The entries of a manifest as it is written here and by the program, taken piece by piece.
+
+    Nothing for any other text, sound or not: that is read as a whole, which takes more memory.
+    """
+    if os.fstat(file.fileno()).st_size > rules.MAX_MANIFEST_BYTES:
+        return None
+    text = io.TextIOWrapper(file, "utf-8", newline="")
+    try:
+        return list(_compact(text))
+    except (ValueError, RecursionError, _Refused):
+        return None
+    finally:
+        text.detach()
+
+
+def _compact(text: TextIO) -> Iterator[Entry]:
+    if text.read(len(_HEAD)) != _HEAD:
+        raise ValueError
+    sequence = _Sequence()
+    held, at, after = "", 0, ","
+    while after == ",":
+        try:
+            value, end = _DECODER.raw_decode(held, at)
+            after = held[end]
+        except (ValueError, IndexError):
+            more = text.read(max(_PIECE, len(held) - at))
+            if not more:
+                raise ValueError from None
+            held, at = held[at:] + more, 0
+            continue
+        if ":-0" in held[at:end]:
+            raise ValueError  # it may be the number -0, which isn't whole
+        yield sequence.entry(value)
+        at = end + 1
+    if after + held[at:] + text.read(len(_TAIL)) not in (_TAIL, _TAIL + "\n"):
+        raise ValueError
 
 
 def parse(data: bytes) -> Iterator[Entry]:
@@ -60,12 +108,7 @@ def parse(data: bytes) -> Iterator[Entry]:
         raise _Refused("unknown version")
     if not 1 <= len(stated) <= rules.MAX_ENTRIES:
         raise _Refused("entry count")
-    directories: set[str] = set()
-    before: tuple[bytes, ...] = ()
-    for number, value in enumerate(stated):
-        entry = _entry_of(value, number)
-        before = _check_place(entry, number, before, directories)
-        yield entry
+    yield from map(_Sequence().entry, stated)
 
 
 def _whole(text: str) -> int | float:
@@ -83,20 +126,32 @@ def _value_of(data: bytes) -> Any:
         raise _Refused("not JSON") from None
 
 
-def _check_place(
-    entry: Entry, number: int, before: tuple[bytes, ...], directories: set[str]
-) -> tuple[bytes, ...]:
-    key = rules.path_key(entry.path)
-    if number == 0:
-        if entry.path != "/" or entry.kind != DIRECTORY:
-            raise _Refused("no root directory first")
-    elif not before < key:
-        raise _Refused(f"entry {number}: out of order")
-    elif (entry.path.rpartition("/")[0] or "/") not in directories:
-        raise _Refused(f"entry {number}: no parent directory")
-    if entry.kind == DIRECTORY:
-        directories.add(entry.path)
-    return key
+class _Sequence:
+    """The entries of a layer one after the other, each in its place."""
+
+    def __init__(self) -> None:
+        self._count = 0
+        self._before: tuple[bytes, ...] = ()
+        self._directories: set[str] = set()
+
+    def entry(self, value: Any) -> Entry:
+        """The next entry, of a JSON value."""
+        number = self._count
+        if number == rules.MAX_ENTRIES:
+            raise _Refused("entry count")
+        entry = _entry_of(value, number)
+        key = rules.path_key(entry.path)
+        if number == 0:
+            if entry.path != "/" or entry.kind != DIRECTORY:
+                raise _Refused("no root directory first")
+        elif not self._before < key:
+            raise _Refused(f"entry {number}: out of order")
+        elif (entry.path.rpartition("/")[0] or "/") not in self._directories:
+            raise _Refused(f"entry {number}: no parent directory")
+        if entry.kind == DIRECTORY:
+            self._directories.add(entry.path)
+        self._count, self._before = number + 1, key
+        return entry
 
 
 def _entry_of(value: Any, number: int) -> Entry:
@@ -122,7 +177,7 @@ def _sound_entry(value: Any) -> Entry | None:
     if attributes is None or not _numbers_fit(value, kind):
         return None
     entry = Entry(
-        value["path"], kind, value["mode"], value["uid"], value["gid"], value["mtime"],
+        value["path"], _KINDS[kind], value["mode"], value["uid"], value["gid"], value["mtime"],
         attributes or NO_ATTRIBUTES,
         size=value.get("size", 0),
         blob=value.get("blob"),
@@ -189,13 +244,20 @@ def written(entries: Iterable[Entry]) -> Iterator[str]:
     yield f'],"overlay-layer":{VERSION}}}\n'
 
 
-def write_manifest(path: str, entries: Iterable[Entry]) -> None:
-    """Writes the manifest of a layer; says where it is longer than the program reads."""
-    write_text(path, written(entries))
-    with writing(path):
-        size = os.path.getsize(path)
-    if size > rules.MAX_MANIFEST_BYTES:
-        note_path(path, f"it has {size:,} bytes, and ovl_layers reads at most {rules.MAX_MANIFEST_BYTES:,}")
+def write_manifest(path: str, entries: Iterable[Entry], layer: str) -> None:
+    """Writes the manifest of a layer; refuses a layer whose manifest is longer than the program reads."""
+    write_text(path, _within_limit(written(entries), layer))
+
+
+def _within_limit(pieces: Iterable[str], layer: str) -> Iterator[str]:
+    size = 0
+    for piece in pieces:
+        size += len(piece) if piece.isascii() else len(piece.encode())
+        if size > rules.MAX_MANIFEST_BYTES:
+            raise cannot_read(
+                layer, f"its manifest has over {rules.MAX_MANIFEST_BYTES:,} bytes, and ovl_layers reads no more"
+            )
+        yield piece
 
 
 def _entry_text(entry: Entry) -> str:

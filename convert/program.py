@@ -1,11 +1,14 @@
 """The proved program, run on manifests."""
 
+import contextlib
 import os
 import shutil
+import signal
 import subprocess
 import sys
-from collections.abc import Sequence
+from collections.abc import Iterator, Sequence
 from pathlib import Path
+from typing import IO
 
 from .faults import OTHER, Fault, ReadFault, reading, writing
 
@@ -16,6 +19,7 @@ _INSTALLED = _HERE.parents[1] / "bin" / NAME  # of PREFIX/lib/ovl_layers, where 
 # What each command is told that reads contents.
 _WORDS_ON_CONTENTS: tuple[str, ...] = ()
 _FAULTY = 1
+_ENDING = (signal.SIGINT, signal.SIGTERM, signal.SIGHUP)
 _LAST_BYTES = 4_096
 
 
@@ -67,23 +71,44 @@ def run_program(program: str, words: Sequence[str], report: str) -> str:
 
     What it refuses is told as it is: its own words, or the report where that tells faults.
     """
-    with writing(report), open(report, "xb") as file:
-        try:
-            result = subprocess.run(
-                [program, *words], stdin=subprocess.DEVNULL, stdout=file, stderr=subprocess.PIPE, check=False
-            )
-        except OSError as error:
-            raise ReadFault(f"cannot run {program}: {error.strerror}") from error
-    told = result.stderr.decode("utf-8", "replace")
-    print(told, end="", file=sys.stderr)
-    if result.returncode == _FAULTY:
+    with writing(report), open(report, "xb") as file, _running([program, *words], file) as process:
+        told = process.communicate()[1]
+    print(told.decode("utf-8", "replace"), end="", file=sys.stderr)
+    status = process.returncode
+    if status == _FAULTY:
         _print(report)
-    if result.returncode < 0:
-        raise Refused(f"{NAME} {words[0]} was ended by signal {-result.returncode}; nothing is written", OTHER)
-    if result.returncode > 0:
-        ending = f"{NAME} {words[0]} ended with status {result.returncode}; nothing is written"
-        raise Refused(ending, result.returncode)
+    if status < 0:
+        raise Refused(f"{NAME} {words[0]} was ended by signal {-status}; nothing is written", OTHER)
+    if status > 0:
+        raise Refused(f"{NAME} {words[0]} ended with status {status}; nothing is written", status)
     return _last_line(report)
+
+
+@contextlib.contextmanager
+def _running(words: Sequence[str], report: IO[bytes]) -> Iterator["subprocess.Popen[bytes]"]:
+    """A process that ends with this one's work: signals wait while it is started, so that none leaves it alone."""
+    mask = signal.pthread_sigmask(signal.SIG_BLOCK, _ENDING)
+    try:
+        with _start(words, report, mask) as process:
+            try:
+                signal.pthread_sigmask(signal.SIG_SETMASK, mask)
+                yield process
+            except BaseException:
+                process.kill()
+                process.wait()
+                raise
+    finally:
+        signal.pthread_sigmask(signal.SIG_SETMASK, mask)
+
+
+def _start(words: Sequence[str], report: IO[bytes], mask: set[int]) -> "subprocess.Popen[bytes]":
+    try:
+        return subprocess.Popen(
+            words, stdin=subprocess.DEVNULL, stdout=report, stderr=subprocess.PIPE,
+            preexec_fn=lambda: signal.pthread_sigmask(signal.SIG_SETMASK, mask),
+        )
+    except OSError as error:
+        raise ReadFault(f"cannot run {words[0]}: {error.strerror}") from error
 
 
 def _print(report: str) -> None:

@@ -71,7 +71,7 @@ def scan_folder(options: ScanOptions, losses: Losses) -> None:
         _store_contents(options, root, entries)
     finally:
         os.close(root)
-    write_manifest(options.out, entries)
+    write_manifest(options.out, entries, options.folder)
 
 
 class Survey:

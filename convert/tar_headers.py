@@ -1,5 +1,6 @@
 """The headers of tar archives: ustar, GNU's long names and numbers, and PAX records."""
 
+import functools
 from dataclasses import dataclass, field
 
 BLOCK_BYTES = 512
@@ -53,8 +54,8 @@ def parse_header(block: bytes) -> Header | None:
     """The header in a block of 512 bytes; nothing for a block of zeros."""
     if not any(block):
         return None
-    total = 256 + sum(block[:148]) + sum(block[156:])
-    if number(block[148:156]) not in (total, total - _SIGNED * _high_bytes(block)):
+    stated, total = number(block[148:156]), 256 + sum(block[:148]) + sum(block[156:])
+    if stated != total and stated != total - _SIGNED * _high_bytes(block):
         raise TarFault("a header has a wrong checksum")
     kind = block[156:157]
     name = _text(block[0:100])
@@ -78,6 +79,7 @@ def _text(data: bytes) -> bytes:
     return data.split(b"\0", 1)[0]
 
 
+@functools.lru_cache(maxsize=4096)  # the same few stand in most headers
 def number(data: bytes) -> int:
     """A number of a header: octal digits, or GNU's two's complement in base 256 where the first bit is set."""
     if data[0] & 0x80:

@@ -7,8 +7,8 @@ from .contents import PIECE
 from .sparse import Places, old_places, record_places
 from .streams import Source
 from .tar_headers import (
-    BLOCK_BYTES, GNU_LONG_NAME, GNU_LONG_TARGET, GNU_SPARSE, PAX, PAX_GLOBAL, REGULAR_TYPES, Header, TarFault,
-    apply_records, parse_header, parse_records,
+    BLOCK_BYTES, GNU_LONG_NAME, GNU_LONG_TARGET, GNU_SPARSE, PAX, PAX_GLOBAL, REGULAR_TYPES, XATTR_RECORD, Header,
+    TarFault, apply_records, parse_header, parse_records,
 )
 
 MAX_RECORDS = 1 << 20  # bytes of the PAX records and long names of an entry; real ones have a few thousand
@@ -38,6 +38,8 @@ class TarReader:
         self._places: Places | None = None
         self._size = 0
         self._globals: dict[bytes, bytes] = {}
+        self._global_fields: dict[bytes, bytes] = {}
+        self._global_attributes: dict[bytes, bytes] = {}
         self._record_bytes = 0
         self._all_record_bytes = 0
         self._headers = 0
@@ -100,8 +102,10 @@ class TarReader:
                 break
         header.name = header.name if name is None else name
         header.target = header.target if target is None else target
-        if self._globals or records:
-            apply_records(header, self._globals | records)
+        if self._global_fields or records:
+            apply_records(header, self._global_fields | records)
+        if self._global_attributes:
+            header.attributes = self._global_attributes | header.attributes
         self._begin(header, block)
         return header
 
@@ -109,6 +113,12 @@ class TarReader:
         self._globals |= records
         if sum(len(key) + len(value) for key, value in self._globals.items()) > MAX_GLOBAL_RECORDS:
             raise TarFault(f"PAX records for all entries of over {MAX_GLOBAL_RECORDS:,} bytes")
+        self._global_fields, self._global_attributes = {}, {}
+        for key, value in self._globals.items():
+            if key.startswith(XATTR_RECORD):
+                self._global_attributes[key[len(XATTR_RECORD):]] = value
+            else:
+                self._global_fields[key] = value
 
     def _begin(self, header: Header, block: bytes) -> None:
         if header.size < 0:

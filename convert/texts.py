@@ -1,6 +1,5 @@
 """How bytes and paths are written for a person and in the show report."""
 
-import os
 import re
 
 _PLAIN = re.compile(rb"[\x21-\x5b\x5d-\x7e]*\Z")

@@ -44,7 +44,7 @@ def _unpack_layers(options: UnpackOptions, layers: list[ImageLayer], stage: str,
     try:
         for number, layer in zip(reversed(range(len(layers))), layers):
             tree = LayerArchive(layer, taking).tree()
-            write_manifest(f"{stage}/{stacks.layer_name(number)}", tree.entries())
+            write_manifest(f"{stage}/{stacks.layer_name(number)}", tree.entries(), layer.path)
             if number:
                 below.cover(tree)
     finally:

@@ -3,9 +3,9 @@
 #
 #     sudo examples/flatten_debian.sh [DIR]
 #
-# What `umoci unpack` makes of both must be the same tree, what `skopeo inspect` prints of both the same configuration but
-# for the layers and their history, and the check of the new image must find no fault. It works in DIR, which must be
-# absent or empty and stays; without one it works in a temporary folder. It needs root, a network, some 2 GB and, of
+# What `umoci unpack` makes of both must be the same tree, what `skopeo inspect` prints of both the same configuration
+# but for the layers and their history, and the check of the new image must find no fault. It works in DIR, which must
+# be absent or empty and stays; without one it works in a temporary folder. It needs root, a network, some 2 GB and, of
 # Debian's packages, mmdebstrap, umoci and skopeo. It ends with status 0 where all is the same.
 set -euo pipefail
 

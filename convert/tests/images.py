@@ -88,13 +88,15 @@ def write_layout(path: str, layers: list[bytes], unpacked: list[bytes] | None = 
     put_index(path, [put_manifest(path, layers, unpacked, "linux/amd64")])
 
 
-def write_saved(path: str, layers: list[bytes], more: dict[str, object] | None = None) -> None:
+def write_saved(
+    path: str, layers: list[bytes], more: dict[str, object] | None = None, name: str = "layer.tar"
+) -> None:
     """What `docker save` wrote before it wrote OCI layouts: a folder for each layer, links for equal ones."""
     config = json.dumps({
         **(more or {"os": "linux", "architecture": "amd64"}),
         "rootfs": {"type": "layers", "diff_ids": [f"sha256:{_sha256(data)}" for data in layers]},
     }).encode()
-    names = [f"{number:064x}/layer.tar" for number in range(len(layers))]
+    names = [f"{number:064x}/{name}" for number in range(len(layers))]
     listed = [{"Config": f"{_sha256(config)}.json", "RepoTags": ["small:latest"], "Layers": names}]
     with tarfile.open(path, "w") as file:
         seen: dict[bytes, str] = {}

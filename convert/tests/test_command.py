@@ -3,6 +3,7 @@
 import ast
 import contextlib
 import errno
+import fcntl
 import filecmp
 import hashlib
 import io
@@ -12,13 +13,14 @@ import runpy
 import shutil
 import signal
 import socket
+import stat
 import subprocess
 import sys
 import time
 import unittest
 from unittest import mock
 
-from support import COMMAND, FolderTest, call, run, run_as_anybody
+from support import COMMAND, ROOT, FolderTest, call, run, run_as_anybody, why_no_trusted
 
 from convert import places
 from convert.entries import Entry
@@ -330,8 +332,223 @@ class Scanning(CommandTest):
                 os.mkdir(self.path("in"))
 
 
+class Outputs(CommandTest):
+    """What is written over, and by whom it can be read."""
+
+    def setUp(self) -> None:
+        super().setUp()
+        os.mkdir(self.path("in"))
+        with open(self.path("in", "f"), "wb") as file:
+            file.write(b"a")
+        os.utime(self.path("in"), (0, 0))
+        self.words = ("scan", self.path("in"), "--blobs", self.path("blobs"), "--userxattr", "--out")
+        self.require_done(call(*self.words, self.path("plain")))
+        with open(self.path("plain"), encoding="utf-8") as file:
+            self.text = file.read()
+
+    def test_standard_output(self) -> None:
+        for word in ("-", "/dev/stdout", "/dev/fd/1"):
+            result = run(*self.words, word)
+            self.assertEqual((result.returncode, result.stdout), (0, self.text), result.stderr)
+        with open(self.path("file"), "wb") as file:
+            file.write(b"before\n")
+            file.flush()
+            words = [sys.executable, "-B", str(COMMAND), *self.words, "/dev/stdout"]
+            subprocess.run(words, stdout=file, stderr=subprocess.DEVNULL, check=True)
+        with open(self.path("file"), encoding="utf-8") as file:
+            self.assertEqual(file.read(), "before\n" + self.text)
+
+    def test_pipes_and_devices_stay(self) -> None:
+        os.mkfifo(self.path("pipe"))
+        reader = os.open(self.path("pipe"), os.O_RDONLY | os.O_NONBLOCK)
+        try:
+            self.require_done(call(*self.words, self.path("pipe")))
+            self.assertEqual(os.read(reader, 1 << 16).decode(), self.text)
+        finally:
+            os.close(reader)
+        os.symlink("/dev/null", self.path("null"))
+        self.require_done(call(*self.words, self.path("null")))
+        os.symlink("/dev/full", self.path("full"))
+        self.require_fault(call(*self.words, self.path("full")), 4, f"cannot write {self.path('full')}: No space left")
+        kinds = [stat.S_IFMT(os.lstat(self.path(name)).st_mode) for name in ("pipe", "null", "full")]
+        self.assertEqual(kinds, [stat.S_IFIFO, stat.S_IFLNK, stat.S_IFLNK])
+        self.assertTrue(stat.S_ISCHR(os.stat("/dev/null").st_mode) and stat.S_ISCHR(os.stat("/dev/full").st_mode))
+
+    def test_a_device_node_stays(self) -> None:
+        reason = why_no_trusted(self.folder)
+        if reason:
+            self.skipTest(reason)
+        os.mknod(self.path("node"), 0o20600, os.makedev(1, 3))
+        self.require_done(call(*self.words, self.path("node")))
+        self.assertEqual(os.lstat(self.path("node")).st_rdev, os.makedev(1, 3))
+
+    def test_links_to_files(self) -> None:
+        os.mkdir(self.path("d"))
+        os.symlink("../target", self.path("d", "link"))
+        for _ in range(2):
+            self.require_done(call(*self.words, self.path("d", "link")))
+            self.assertEqual(os.readlink(self.path("d", "link")), "../target")
+            with open(self.path("target"), encoding="utf-8") as file:
+                self.assertEqual(file.read(), self.text)
+        self.require_fault(call(*self.words, self.path("d")), 4, "it is a folder")
+        self.require_nothing_left("blobs", "d", "in", "plain", "target")
+
+    def test_who_can_read(self) -> None:
+        self.assertEqual(self._modes("blobs", f"blobs/{A}"), [0o700, 0o600])
+        pack = ("pack", self.path("plain"), "--blobs", self.path("blobs"), "--out")
+        self.require_done(call(*pack, self.path("image")))
+        self.require_done(call(*pack, self.path("image.tar")))
+        self.require_done(call("unpack", self.path("image.tar"), "--out", self.path("out")))
+        self.assertEqual(
+            self._modes("image", "image.tar", "out", "out/blobs", f"out/blobs/{A}"), [0o700, 0o600, 0o700, 0o700, 0o600]
+        )
+
+    def _modes(self, *names: str) -> list[int]:
+        return [stat.S_IMODE(os.stat(self.path(name)).st_mode) for name in names]
+
+    def test_blobs_with_other_bytes(self) -> None:
+        for size in (1, 5_000, 300_000):
+            data = b"a" * size
+            blob = self.path("blobs", hashlib.sha256(data).hexdigest())
+            with open(self.path("in", "f"), "wb") as file:
+                file.write(data)
+            for there in (b"b" * size, data):
+                with open(blob, "wb") as file:
+                    file.write(there)
+                before = os.stat(blob).st_ino
+                self.require_done(call(*self.words, self.path("plain")))
+                with open(blob, "rb") as file:
+                    self.assertEqual(file.read(), data)
+                self.assertEqual(os.stat(blob).st_ino == before, there == data)
+
+
+class Stages(CommandTest):
+    """What a run that was cut off leaves, and full disks."""
+
+    def setUp(self) -> None:
+        super().setUp()
+        os.mkdir(self.path("in"))
+        with open(self.path("in", "f"), "wb") as file:
+            file.write(os.urandom(100_000))
+        self.words = (
+            "scan", self.path("in"), "--out", self.path("l.json"), "--blobs", self.path("blobs"), "--userxattr",
+        )
+
+    def stage(self, folder: str, age: int) -> str:
+        """A stage that no process has."""
+        path = os.path.join(folder, f".layers-{age:016}")
+        os.makedirs(os.path.join(path, "inner"))
+        os.utime(path, (time.time() - age, time.time() - age))
+        return path
+
+    def test_old_ones_go(self) -> None:
+        os.mkdir(self.path("blobs"))
+        old, young = self.stage(self.path("blobs"), 90_000), self.stage(self.path("blobs"), 80_000)
+        here = self.stage(self.folder, 90_000)
+        result = call(*self.words)
+        self.require_done(result)
+        for path in (old, here):
+            self.assertFalse(os.path.exists(path))
+            self.assertIn(f"took away {path}, which a run that was cut off left", result[2])
+        self.assertTrue(os.path.exists(young))
+        self.assertIn(f"there is {young}, the stage of a run that was cut off", result[2])
+
+    def test_one_of_a_run_that_lives(self) -> None:
+        os.mkdir(self.path("blobs"))
+        old = self.stage(self.path("blobs"), 90_000)
+        file = os.open(old, os.O_RDONLY)
+        try:
+            fcntl.flock(file, fcntl.LOCK_EX)
+            self.assertIn(f"there is {old}, the stage of a run that is at work", call(*self.words)[2])
+            self.assertTrue(os.path.exists(old))
+        finally:
+            os.close(file)
+
+    def test_one_in_an_output(self) -> None:
+        self.require_done(call(*self.words))
+        build = ("build", self.path("l.json"), "--blobs", self.path("blobs"), "--out", self.path("out"))
+        os.mkdir(self.path("out"))
+        young = self.stage(self.path("out"), 80_000)
+        self.require_fault(call(*build), 4, f"it holds {young}, the stage of a run that was cut off")
+        shutil.rmtree(young)
+        self.stage(self.path("out"), 90_000)
+        self.require_done(call(*build))
+        self.assertEqual(os.listdir(self.path("out")), ["f"])
+
+    def test_killed(self) -> None:
+        for number in range(2_000):
+            with open(self.path("in", str(number)), "wb") as file:
+                file.write(b"%d" % number)
+        words = [sys.executable, "-B", str(COMMAND), *self.words, "--workers", "1"]
+        with subprocess.Popen(words, stderr=subprocess.DEVNULL) as process:
+            while process.poll() is None and not os.path.exists(self.path("blobs")):
+                time.sleep(0.001)
+            time.sleep(0.02)
+            process.kill()
+        left = os.listdir(self.path("blobs"))
+        if process.returncode == -signal.SIGKILL and left and left[0].startswith(".layers-"):
+            self.assertIn(f"{left[0]}, the stage of a run that was cut off", call(*self.words)[2])
+
+    def test_a_full_disk(self) -> None:
+        limit = "import resource, sys; resource.setrlimit(resource.RLIMIT_FSIZE, (50_000, 50_000)); "
+        start = f"sys.path.insert(0, {str(ROOT)!r}); from convert.command import main; sys.exit(main(sys.argv[1:]))"
+        for size in (100_000, 1_000_000):
+            with open(self.path("in", "f"), "wb") as file:
+                file.write(os.urandom(size))
+            result = subprocess.run(
+                [sys.executable, "-B", "-c", limit + start, *self.words], capture_output=True, text=True, check=False
+            )
+            told = f"layers: cannot write {self.path('blobs')}: File too large\n"
+            self.assertEqual((result.returncode, result.stderr), (4, told))
+            self.require_nothing_left("in")
+
+
 class Packing(CommandTest):
     """`pack`."""
+
+    def test_marks_of_the_host(self) -> None:
+        marks = {f"trusted.overlay.{name}": "79" for name in ("origin", "impure", "uuid", "nlink", "upper", "opaque")}
+        layer = self.write_manifest({"path": "/d", "xattrs": {**marks, "user.k": "76"}})
+        result = call("pack", layer, "--blobs", self.path("blobs"), "--out", self.path("image"))
+        self.require_done(result)
+        self.assertIn("5 marks of the host's overlay left out", result[2])
+        self.require_done(call("unpack", self.path("image"), "--out", self.path("out"), "--overlay-marks"))
+        found = read_manifest(self.path("out", "l0.json"))[1].attributes
+        self.assertEqual(found, {"trusted.overlay.opaque": b"y", "user.k": b"v"})
+
+    def test_packed_layers(self) -> None:
+        layer = self.write_manifest({"path": "/f", "kind": "file", "size": 1, "blob": A})
+        for compress, magic in (("none", b"./"), ("gzip", b"\x1f\x8b"), ("zstd", b"\x28\xb5\x2f\xfd")):
+            if compress == "zstd" and shutil.which("zstd") is None:
+                continue
+            words = ("pack", layer, "--blobs", self.path("blobs"), "--compress", compress, "--out")
+            for name in ("image", "image.tar", "again.tar"):
+                self.require_done(call(*words, self.path(name)))
+            with open(self.path("image.tar"), "rb") as one, open(self.path("again.tar"), "rb") as two:
+                self.assertEqual(one.read(), two.read())
+            for name in ("image", "image.tar"):
+                self.require_done(call("unpack", self.path(name), "--out", self.path("out")))
+                self.assertEqual(read_manifest(self.path("out", "l0.json")), read_manifest(layer))
+                shutil.rmtree(self.path("out"))
+            (described,) = self._manifest(self.path("image"))["layers"]
+            suffix = "" if compress == "none" else f"+{compress}"
+            self.assertEqual(described["mediaType"], f"application/vnd.oci.image.layer.v1.tar{suffix}")
+            with open(self.path("image", "blobs", "sha256", described["digest"][7:]), "rb") as file:
+                self.assertTrue(file.read().startswith(magic))
+            shutil.rmtree(self.path("image"))
+
+    def _manifest(self, image: str) -> dict[str, list[dict[str, str]]]:
+        with open(f"{image}/index.json", encoding="utf-8") as file:
+            digest = json.load(file)["manifests"][0]["digest"][7:]
+        with open(f"{image}/blobs/sha256/{digest}", encoding="utf-8") as file:
+            return json.load(file)
+
+    def test_without_the_zstd_program(self) -> None:
+        layer = self.write_manifest()
+        with mock.patch("convert.compression.shutil.which", return_value=None):
+            words = ("--blobs", self.path("blobs"), "--out", self.path("image"), "--compress", "zstd")
+            self.require_fault(call("pack", layer, *words), 5, "there is no zstd program")
+        self.require_nothing_left("blobs", "l.json")
 
     def test_what_no_image_has(self) -> None:
         for entry, reason in (

@@ -41,6 +41,9 @@ case $what in
 esac
 """
 
+# Tells its number in a file that is there only with it.
+_WAITS = "echo $$ > {0}.new; mv {0}.new {0}; exec sleep 60"
+
 
 class FlattenTest(FolderTest):
     """A test with a folder `in` for what is given, and `all`, where images are written."""
@@ -134,7 +137,8 @@ class Steps(FlattenTest):
         for line, begin in zip(told, (
             "unpack: 3 layers, ", "show: entries 1, ", "fsck: faults 0 notes 0, ", "vacuum: done vacuum, ",
             "merge 1 of 2: entries 2, ", "merge 2 of 2: entries 2, ", "show of the new layers: entries 1, ",
-            "pack: 1 layer, ", "the new image, read again: entries 1, ", f"{self.path('all', 'flat')}: 1 layer in place of 3, ",
+            "pack: 1 layer, ", "the new image, read again: entries 1, ",
+            f"{self.path('all', 'flat')}: 1 layer in place of 3, ",
         ), strict=True):
             self.assertRegex(line, rf"^layers: {begin}\d+\.\d\d s")
 
@@ -168,6 +172,12 @@ class Steps(FlattenTest):
             self.assertTrue(os.path.exists(self.path("in", "kept", "stack", "l2.json")))
             shutil.rmtree(self.path("in", "kept"))
 
+    def test_a_program_that_can_not_be_run(self) -> None:
+        with open(self.program, "w", encoding="utf-8") as file:
+            file.write("#!/absent\n")
+        self.require_fault_at_end(self.flatten(), 3, f"cannot run {self.program}: No such file or directory")
+        self.left()
+
     def test_a_program_that_is_ended(self) -> None:
         self.manner("[ $what = merge ] && kill -9 $$")
         self.require_fault_at_end(self.flatten(), 5, "ovl_layers merge was ended by signal 9; nothing is written")
@@ -181,7 +191,8 @@ class Steps(FlattenTest):
     def test_something_else_is_shown(self) -> None:
         for number in (2, 3):
             for out in ("flat", "flat.tar"):
-                self.manner(f'[ $what = show ] && [ $(grep -c ^show "$here/calls") = {number} ] && {{ echo other; exit; }}')
+                is_show = f'[ $what = show ] && [ $(grep -c ^show "$here/calls") = {number} ]'
+                self.manner(f"{is_show} && {{ echo other; exit; }}")
                 self.require_fault_at_end(
                     self.flatten(out=out), 5,
                     "the new layers show something else, so nothing is written; --keep DIR keeps both reports",
@@ -271,9 +282,11 @@ class Steps(FlattenTest):
             result = subprocess.run(["sh"], input=script, capture_output=True, text=True, check=False)
             self.assertEqual(result.returncode, 0, result.stderr)
             self.assertEqual(self.calls(), calls)
-            self.assertEqual(*(sorted(os.listdir(self.path("all", name, "blobs", "sha256"))) for name in ("flat", "wanted")))
+            written = []
             for name in ("flat", "wanted"):
+                written.append(sorted(os.listdir(self.path("all", name, "blobs", "sha256"))))
                 shutil.rmtree(self.path("all", name))
+            self.assertEqual(*written)
         self.assertTrue(os.path.exists(self.path("in", "kept \"here\"", "before.show")))
         words = (*kept, "--overlay-marks", "--skip-unsupported", "--dry-run")
         self.assertIn("\n# here `ovl_layers deref` of each layer", self.flatten(*words)[1])
@@ -331,11 +344,10 @@ class Processes(FlattenTest):
     def test_interrupted(self) -> None:
         for number in (signal.SIGTERM, signal.SIGINT, signal.SIGHUP):
             for keep in ((), ("--keep", self.path("in", "kept"))):
-                self.place("bin", "ovl_layers", says=f"echo $$ > {self.path('in', 'started')}; exec sleep 60")
+                self.place("bin", "ovl_layers", says=_WAITS.format(self.path("in", "started")))
                 with subprocess.Popen(self.words(*keep), stderr=subprocess.DEVNULL) as process:
                     while process.poll() is None and not os.path.exists(self.path("in", "started")):
                         time.sleep(0.01)
-                    time.sleep(0.02)
                     process.send_signal(number)
                 self.assertEqual(process.returncode, 128 + number)
                 self.left()
@@ -360,13 +372,14 @@ class ImageTest(FlattenTest):
         os.chmod(self.program, 0o755)
         self.use(self.program)
 
-    def shown(self, image: str, *words: str) -> str:
+    def shown(self, image: str, *more: str) -> str:
         """What the layers of an image show."""
         stack = self.path("in", "stack")
-        self.require_done(call("unpack", image, "--out", stack, *words))
+        self.require_done(call("unpack", image, "--out", stack, *more))
         layers = [f"{stack}/l{number}.json" for number in range(len(os.listdir(stack)) - 2)]
         result = subprocess.run([self.program, "show", *layers], capture_output=True, text=True, check=True)
-        checked = subprocess.run([self.program, "fsck", "--blobs", f"{stack}/blobs", *layers], capture_output=True, check=False)
+        words = [self.program, "fsck", "--blobs", f"{stack}/blobs", *layers]
+        checked = subprocess.run(words, capture_output=True, check=False)
         self.assertEqual(checked.returncode, 0, checked.stdout)
         shutil.rmtree(stack)
         return result.stdout

@@ -76,12 +76,14 @@ class Entries(ImageTest):
         self.assertEqual(
             self.one(
                 member(".wh.gone"), folder("o"), member("o/.wh..wh..opq"), member("o/k", b"a"),
-                member("n/.wh..wh..opq"), member("n/f"), member(".wh.again"), member("again/f", b"a"), member("file", b"a"),
+                member("n/.wh..wh..opq"), member("n/f"), member(".wh.again"), member("again/f", b"a"),
+                member("file", b"a"),
                 member(".wh.file"),
             ),
             [
                 "dir 755 /", f"dir 755 /again {opaque}", f"file 644 /again/f {A[:4]}", f"file 644 /file {A[:4]}",
-                "char 0 /gone 0:0", f"dir 755 /n {opaque}", "file 644 /n/f", f"dir 755 /o {opaque}", f"file 644 /o/k {A[:4]}",
+                "char 0 /gone 0:0", f"dir 755 /n {opaque}", "file 644 /n/f", f"dir 755 /o {opaque}",
+                f"file 644 /o/k {A[:4]}",
             ],
         )
 

@@ -36,7 +36,8 @@ class Launcher(FolderTest):
 
     def test_texts(self) -> None:
         for words, name in (
-            (("--help",), "../help"), (("-h", "show"), "../help"), (("--version",), "../version"), (("-V",), "../version"),
+            (("--help",), "../help"), (("-h", "show"), "../help"),
+            (("--version",), "../version"), (("-V",), "../version"),
             *(((command, word), command) for command in _COMMANDS for word in ("-h", "--help")),
         ):
             self.assertEqual(self.run_launcher(*words), (0, text(name), ""), words)
@@ -53,8 +54,8 @@ class Launcher(FolderTest):
 
     def test_what_wants_the_program(self) -> None:
         for words in (
-            (), ("show",), ("show", "--hlep"), ("show", "examples/root.json", "--help"), ("fsck", "x"), ("-hx",), ("--",),
-            ("--help=x",), ("a\x1b[31m",), (b"\xff",),
+            (), ("show",), ("show", "--hlep"), ("show", "examples/root.json", "--help"), ("fsck", "x"), ("-hx",),
+            ("--",), ("--help=x",), ("a\x1b[31m",), (b"\xff",),
         ):
             self.assertEqual(self.run_launcher(*words), (126, "", _NO_BUILD), words)
 

@@ -97,14 +97,16 @@ class Chains(FolderTest):
     def test_folders_that_are_no_layers(self) -> None:
         words = ("--out", self.path("out"), "--userxattr")
         for folder, reason in (
-            (self.home, "; name the folder of a layer in it"), (f"{self.layers[0]}/diff", "; name the folder that it is in"),
+            (self.home, "; name the folder of a layer in it"),
+            (f"{self.layers[0]}/diff", "; name the folder that it is in"),
             (self.folder, "; name the folder of a layer in it"), (f"{self.home}/l", "or of containers-storage\n"),
             (self.path("absent"), "No such file"), (f"{self.layers[0]}/link", "Not a directory"),
         ):
             self.require_fault(call("store", folder, *words), 3, f"cannot read {folder}: ", reason)
         for name in ("composefs-data", "lower-id"):
             os.mkdir(f"{self.layers[0]}/{name}")
-            self.require_fault(self.store(), 3, f"cannot read {self.layers[0]}: it is kept in a way that isn't read: it has {name}")
+            told = f"cannot read {self.layers[0]}: it is kept in a way that isn't read: it has {name}"
+            self.require_fault(self.store(), 3, told)
             os.rmdir(f"{self.layers[0]}/{name}")
         self.require_nothing_left("overlay2")
 
