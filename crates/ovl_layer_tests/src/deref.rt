@@ -10,6 +10,7 @@ use ovl_board::{Parcel, Piece, plain_walk};
 use ovl_deref::{DerefWork, finish_deref};
 use ovl_inode::Inode;
 use ovl_lookup::Stack;
+use ovl_manifest::Layer;
 use ovl_names::{Name, Path};
 use ovl_rewrite::RewriteFault;
 use std::alloc::{AllocError, Global};
@@ -51,10 +52,16 @@ fn a_moved_directory_is_filled_with_what_it_shows(rt: HostRuntime) -> Result<(),
     Ok(())
 }
 
+// The layer that a stack's topmost one is made into.
+pub(crate) fn dereferenced(alloc: Global, stack: &Stack) -> Result<Layer, RewriteFault> {
+    let work = DerefWork::new(stack);
+    let parcels = walked(alloc, &work)?;
+    finish_deref(alloc, &work, parcels)
+}
+
 // The number of entries that are given, the root's too.
 fn entries_given(alloc: Global, stack: &Stack) -> Result<usize, RewriteFault> {
-    let work = DerefWork::new(stack);
-    let layer = finish_deref(alloc, &work, walked(alloc, &work)?)?;
+    let layer = dereferenced(alloc, stack)?;
     Ok(layer.entries(alloc)?.len())
 }
 

@@ -3,6 +3,8 @@
 #![tactic(auto)]
 
 #[cfg(test)]
+mod data_only;
+#[cfg(test)]
 mod deref;
 #[cfg(test)]
 mod inode;

@@ -12,7 +12,10 @@ pub(crate) const DIR: &str = "\"kind\":\"dir\",\"mode\":493";
 pub(crate) const FILE: &str =
     "\"kind\":\"file\",\"mode\":420,\"size\":1,\"blob\":\"ca978112ca1bbdcafac231b39a23dc4da786eff8147c4e72b9807785afee48bb\"";
 
-const METACOPY: &str = "\"kind\":\"file\",\"mode\":420,\"size\":1";
+pub(crate) const OTHER_FILE: &str =
+    "\"kind\":\"file\",\"mode\":420,\"size\":1,\"blob\":\"3e23e8160039594a33894f6564e1b1348bbd7a0088d42c4acb73eeaed59c009d\"";
+
+pub(crate) const METACOPY: &str = "\"kind\":\"file\",\"mode\":420,\"size\":1";
 
 pub(crate) const WHITEOUT: &str = "\"kind\":\"char\",\"mode\":0,\"major\":0,\"minor\":0";
 
@@ -25,7 +28,7 @@ pub(crate) const BESIDE_R: &str = "\"trusted.overlay.redirect\":\"72\"";
 // The text `a/b`, which is no redirect.
 const MALFORMED: &str = "\"trusted.overlay.redirect\":\"612f62\"";
 
-const HAS_METACOPY: &str = "\"trusted.overlay.metacopy\":\"\"";
+pub(crate) const HAS_METACOPY: &str = "\"trusted.overlay.metacopy\":\"\"";
 
 const METACOPY_TO_X: &str =
     "\"trusted.overlay.metacopy\":\"\",\"trusted.overlay.redirect\":\"2f78\"";
@@ -36,8 +39,11 @@ const METACOPY_BESIDE_R: &str =
 const METACOPY_MALFORMED: &str =
     "\"trusted.overlay.metacopy\":\"\",\"trusted.overlay.redirect\":\"612f62\"";
 
-// A layer of a root and these entries: the path, what its kind states, and the attributes of each.
-pub(crate) fn layer_of(alloc: Global, entries: &[(&str, &str, &str)]) -> Result<Layer, Fail> {
+// Entries of a layer: the path, what its kind states, and the attributes of each.
+pub(crate) type Lines<'a> = &'a [(&'a str, &'a str, &'a str)];
+
+// A layer of a root and these entries.
+pub(crate) fn layer_of(alloc: Global, entries: Lines<'_>) -> Result<Layer, Fail> {
     let mut text = String::from_str(alloc, "{\"overlay-layer\":1,\"entries\":[")?;
     push_entry(alloc, &mut text, ("/", DIR, ""))?;
     for entry in entries {
@@ -48,7 +54,7 @@ pub(crate) fn layer_of(alloc: Global, entries: &[(&str, &str, &str)]) -> Result<
     Ok(read_layer(alloc, text.as_bytes())?)
 }
 
-fn sheet_of(alloc: Global, entries: &[(&str, &str, &str)]) -> Result<Sheet, Fail> {
+fn sheet_of(alloc: Global, entries: Lines<'_>) -> Result<Sheet, Fail> {
     match Sheet::of(alloc, layer_of(alloc, entries)?) {
         Ok(sheet) => Ok(sheet),
         Err(_) => Err(Fail::from(AllocError)),
@@ -111,6 +117,7 @@ fn faults_of_a_stack_have_their_texts(rt: HostRuntime) -> Result<(), Fail> {
     for (fault, wanted) in [
         (StackFault::Layers, "layers must be 1 to 128"),
         (StackFault::Memory, "out of memory"),
+        (StackFault::DataCount, "data layers must leave a layer"),
     ] {
         let text = fault.to_string(rt.alloc())?;
         assert_eq!(rt; text.as_str(), wanted);
@@ -221,7 +228,7 @@ fn look_at(alloc: Global, stack: &Stack, from: usize, path: &str) -> Result<Look
 #[test]
 fn a_stack_shows_what_its_hits_say(rt: HostRuntime) -> Result<(), Fail> {
     let stack = moved_in_opaque(rt.alloc())?;
-    assert_eq!(rt; stack.layers(), 2);
+    assert_eq!(rt; stack.ordinary(), 2);
     assert!(rt; matches!(look_at(rt.alloc(), &stack, 0, "/n/d/k")?, Look::Shown(_)));
     assert!(rt; matches!(look_at(rt.alloc(), &stack, 0, "/n/z")?, Look::Nothing));
     assert!(rt; matches!(look_at(rt.alloc(), &stack, 1, "/n/z")?, Look::Shown(_)));

@@ -36,7 +36,7 @@ fn walked(
 }
 
 // The two layers that a stack's topmost ones are merged into.
-fn merged(alloc: Global, stack: &Stack) -> Result<MergeDone, MergeFault> {
+pub(crate) fn merged(alloc: Global, stack: &Stack) -> Result<MergeDone, MergeFault> {
     let work = MergeWork::new(stack)?;
     let parcels = walked(alloc, &work)?;
     finish_merge(alloc, &work, parcels)

@@ -1,4 +1,4 @@
-use crate::lookup::{DIR, FILE, WHITEOUT, layer_of};
+use crate::lookup::{DIR, FILE, Lines, OTHER_FILE, WHITEOUT, layer_of};
 use ovl_board::{Parcel, Piece, plain_walk};
 use ovl_lookup::Stack;
 use ovl_names::{Name, Path};
@@ -6,15 +6,10 @@ use ovl_vacuum::{VacuumDone, VacuumWork, finish_vacuum};
 use std::alloc::Global;
 use std::test::Fail;
 
-const OTHER_FILE: &str =
-    "\"kind\":\"file\",\"mode\":420,\"size\":1,\"blob\":\"3e23e8160039594a33894f6564e1b1348bbd7a0088d42c4acb73eeaed59c009d\"";
-
 const OTHER_MODE: &str =
     "\"kind\":\"file\",\"mode\":421,\"size\":1,\"blob\":\"ca978112ca1bbdcafac231b39a23dc4da786eff8147c4e72b9807785afee48bb\"";
 
 const OTHER_DIR: &str = "\"kind\":\"dir\",\"mode\":448";
-
-type Lines<'a> = &'a [(&'a str, &'a str, &'a str)];
 
 fn stack_of(alloc: Global, upper: Lines<'_>, lower: Lines<'_>) -> Result<Stack, Fail> {
     let mut layers = Vec::new(alloc);
