@@ -13,8 +13,6 @@ mod commands;
 #[cfg(test)]
 mod fsck;
 #[cfg(test)]
-mod gates;
-#[cfg(test)]
 mod new_layers;
 #[cfg(test)]
 mod stacks;
