@@ -15,8 +15,6 @@ mod data_layers;
 #[cfg(test)]
 mod fsck;
 #[cfg(test)]
-mod gates;
-#[cfg(test)]
 mod new_layers;
 #[cfg(test)]
 mod stacks;
