@@ -1,5 +1,5 @@
 -- What a run that fails is told as, and numbers within their limits.
-use Rattle.std.proofs.Common.{◌≡◌, ◌≢◌, ◌⊎◌, inl, inr, ℕ, ◌+◌, ◌-◌, ◌<◌, ◌≤◌, true, false, Result, Ok, Err, List, [], refl, sym, subst, arith}
+use Rattle.std.proofs.Common.{◌≡◌, ◌≢◌, ◌⊎◌, inl, inr, ℕ, ◌+◌, ◌-◌, ◌<◌, ◌≤◌, true, false, List, refl, arith}
 use Rattle.ovl_lookup.specs.Stacks.{StackView}
 use Rattle.ovl_board.specs.declared.pieces.Piece.{Piece}
 use Rattle.ovl_board.specs.declared.assembly.BoardFault.{BoardFault}
@@ -11,13 +11,10 @@ use Rattle.ovl_engine.specs.declared.requests.Command.{Command}
 use Rattle.ovl_engine.specs.declared.requests.Command.TheVariants.{Show, Fsck, Vacuum, Deref, Merge}
 use Rattle.ovl_engine.specs.declared.faults.EngineFault.{EngineFault}
 use Rattle.ovl_engine.specs.declared.faults.EngineFault.TheVariants.{Workers as NoWorkers, Layers, Layer, BlobOrder, BlobSize, NoLower, Faulty, LimitOut, Run, Memory as WantsMemory, DataLayers}
-use Rattle.ovl_engine.specs.declared.requests.Answer.{Answer}
-use Rattle.ovl_engine.specs.Requests.{Request}
 use Rattle.ovl_engine.specs.Refusals.{failed_run}
 use Rattle.ovl_check.specs.Blobs.{BlobView}
 use Rattle.ovl_engine.specs.Commands.{checks, makes_layers}
-use Rattle.ovl_engine.specs.Outcomes.{stack_of, MayRefuse, IsFailure, IsAccepted, IsRefusal, IsRun, IsOutcome}
-use Rattle.ovl_engine.specs.Kept.{IsRequestOf}
+use Rattle.ovl_engine.specs.Outcomes.{MayRefuse, IsFailure}
 
 module _ (command : Command) (stack : StackView) (blobs : List BlobView) (may_refuse : Piece → Type 0) where
   board_failed : (fault : BoardFault) → fault ≡ BoardMemory → IsFailure command stack blobs may_refuse (failed_run (Board fault))
@@ -73,35 +70,3 @@ not_beyond limit n some few (inr many) = omega arith
 pub not_refused : (limit n all bottom front back : ℕ) → n ≡ all → front ≡ n - bottom → back ≡ all - (n - bottom) → bottom < all → all ≤ limit → (front ≡ 0) ⊎ (limit < front + back) → ⊥
 not_refused limit n all bottom front back same ahead behind some few (inl none) = omega arith
 not_refused limit n all bottom front back same ahead behind some few (inr many) = omega arith
-
--- what a request is refused for comes of it
-pub refusal-outcome : (request : Request) (may_refuse : Piece → Type 0) (fault : EngineFault) → IsRefusal request fault → IsOutcome request may_refuse (Err fault)
-refusal-outcome request may_refuse WantsMemory is = tt
-refusal-outcome request may_refuse (Faulty report) is = absurd is
-refusal-outcome request may_refuse LimitOut is = absurd is
-refusal-outcome request may_refuse (Run fault) is = absurd is
-refusal-outcome request may_refuse NoWorkers is = is
-refusal-outcome request may_refuse Layers is = is
-refusal-outcome request may_refuse (Layer index fault) is = is
-refusal-outcome request may_refuse BlobOrder is = is
-refusal-outcome request may_refuse BlobSize is = is
-refusal-outcome request may_refuse NoLower is = is
-refusal-outcome request may_refuse DataLayers is = is
-
--- what comes of the stack of a request that nothing refuses comes of the request
-pub run-outcome : (request : Request) (stack : StackView) (may_refuse : Piece → Type 0) (result : Result Answer EngineFault) → IsAccepted request → IsRequestOf stack request → IsRun request.what stack request.blobs may_refuse result → IsOutcome request may_refuse result
-run-outcome request stack may_refuse result accepted of is = by result (subst (λ (s : StackView). IsRun request.what s request.blobs may_refuse result) of.same is)
-  where
-    by : (result : Result Answer EngineFault) → IsRun request.what (stack_of request) request.blobs may_refuse result → IsOutcome request may_refuse result
-    by (Ok answer) is = (accepted, is)
-    by (Err (Faulty report)) is = (accepted, is)
-    by (Err LimitOut) is = (accepted, is)
-    by (Err (Run fault)) is = (accepted, is)
-    by (Err WantsMemory) is = tt
-    by (Err NoWorkers) is = absurd is
-    by (Err Layers) is = absurd is
-    by (Err (Layer index fault)) is = absurd is
-    by (Err BlobOrder) is = absurd is
-    by (Err BlobSize) is = absurd is
-    by (Err NoLower) is = absurd is
-    by (Err DataLayers) is = absurd is
