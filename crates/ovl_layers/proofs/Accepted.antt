@@ -8,7 +8,7 @@ use Rattle.std.proofs.lemmas.Slice.Eq.{bytes_eq-Decides}
 use Rattle.clap.specs.Facts.{explicit_source}
 use Rattle.clap.specs.Kinds.{Kinds, check_kinds}
 use Rattle.clap.specs.Values.{IsUnsignedIn}
-use Rattle.clap.specs.Walk.{Names, Row, Rule, Text, all_of, answers_to, arg_by_id, default_rows, first_of, has_row, more_values, nothing_held, one_of, reading_by, row_text, rows_after, settled, stop_after, walk, walk_from, with_default, with_values}
+use Rattle.clap.specs.Walk.{Names, Row, Rule, Text, all_of, answers_to, arg_by_id, default_rows, first_of, has_row, more_values, nothing_held, reading_by, row_text, rows_after, settled, stop_after, walk, walk_from, with_default, with_values}
 use Rattle.clap.specs.Simple.{Shape, built, built_leaf, entered, filled, inherited, label_of, marked_built, names_of, rows_at, subcommand_of, with_leaf_noted}
 use Rattle.clap.specs.Takes.{is_given, value_passes}
 use Rattle.clap.specs.Faults.{check_fault, entered_fault, fault_of, level_fault, settle_fault, walk_fault}

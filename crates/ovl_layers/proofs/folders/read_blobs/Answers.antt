@@ -1,4 +1,4 @@
-use Rattle.std.proofs.Common.{◌∙◌, List, ap, map}
+use Rattle.std.proofs.Common.{◌∙◌, ap, map}
 use Rattle.ovl_check.specs.declared.blobs.Blob.{Blob}
 use Rattle.ovl_layers.proofs.Ascending.{ascending_blobs}
 use Rattle.ovl_layers.proofs.folders.read_blobs.Goals as goal
