@@ -345,7 +345,11 @@ class Processes(FlattenTest):
         for number in (signal.SIGTERM, signal.SIGINT, signal.SIGHUP):
             for keep in ((), ("--keep", self.path("in", "kept"))):
                 self.place("bin", "ovl_layers", says=_WAITS.format(self.path("in", "started")))
-                with subprocess.Popen(self.words(*keep), stderr=subprocess.DEVNULL) as process:
+                with subprocess.Popen(
+                    self.words(*keep), stderr=subprocess.DEVNULL,
+                    # A shell has commands in the background ignore it, and so all that they start.
+                    preexec_fn=lambda: signal.signal(signal.SIGINT, signal.SIG_DFL),
+                ) as process:
                     while process.poll() is None and not os.path.exists(self.path("in", "started")):
                         time.sleep(0.01)
                     process.send_signal(number)
