@@ -131,7 +131,7 @@ class Buildah(FolderTest):
     """A store that buildah makes, beside what it mounts and what the kernel shows of that."""
 
     def test_store(self) -> None:
-        reason = why_no_overlay(self.folder) or (None if shutil.which("buildah") else "needs buildah")
+        reason = why_no_overlay(self.folder, "l") or (None if shutil.which("buildah") else "needs buildah")
         if reason:
             self.skipTest(reason)
         result = subprocess.run(
