@@ -82,7 +82,7 @@ def shown(folder: str, top: str) -> str:
         built.append(f"{folder}/built{number}")
         done("build", f"{stored}/l{number}.json", "--blobs", f"{stored}/blobs", "--out", built[-1])
     os.mkdir(f"{folder}/again")
-    with mounted_overlay(f"{folder}/again", built, "redirect_dir=follow,metacopy=on"):
+    with mounted_overlay(f"{folder}/again", built, [], "redirect_dir=follow,metacopy=on"):
         return done("mounted", f"{folder}/again")
 
 
