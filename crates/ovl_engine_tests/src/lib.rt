@@ -15,6 +15,8 @@ mod data_layers;
 #[cfg(test)]
 mod fsck;
 #[cfg(test)]
+mod gates;
+#[cfg(test)]
 mod new_layers;
 #[cfg(test)]
 mod stacks;

@@ -236,7 +236,7 @@ fn a_stack_with_faults_gives_their_report_and_no_layer(rt: HostRuntime) -> Resul
 }
 
 // The entries of 40 directories with a file each.
-fn forty_directories(alloc: Global) -> Result<String, Fail> {
+pub(crate) fn forty_directories(alloc: Global) -> Result<String, Fail> {
     let mut entries = String::new(alloc);
     for number in 0..40 {
         let entry = format!(in alloc; "dir /d{number:02}, file /d{number:02}/k, ")?;
