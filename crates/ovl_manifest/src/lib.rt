@@ -1,4 +1,4 @@
-//! Layers as trees of sorted children, seen as finite maps from paths to inodes, and the manifests that state them.
+//! Layers as trees and as flat tables, both seen as finite maps from paths to inodes, and the manifests that state them.
 #![tactic(auto)]
 
 mod builders;
