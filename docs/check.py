@@ -1,7 +1,7 @@
 #!/usr/bin/env python3
 """Looks whether the documents name what is there.
 
-- HEADLINE.md has every definition that is reached from the clauses `keeps` and `sound` of `command`, beside its file.
+- HEADLINE.md has every definition that is reached from the contract of `command`, beside its file.
 - PROVED.md has every public call of the crates, and none that isn't there.
 - Links of all documents lead somewhere, and files that ARCHITECTURE.md names are there.
 
@@ -12,7 +12,7 @@ import sys
 from pathlib import Path
 
 TOP = Path(__file__).resolve().parent.parent
-CLAUSES = ["makes_layers", "stays_sound", "request_of", "KeepsTree", "after", "HasSoundStack"]
+CLAUSES = ["IsOutcome", "is_outside", "request_of", "makes_layers", "KeepsTree", "after", "stays_sound", "HasSoundStack"]
 TESTS = {"ovl_layer_tests", "ovl_pool_tests", "ovl_engine_tests", "ovl_layers_tests"}
 
 
@@ -34,16 +34,16 @@ def definitions():
             file = f"{crate.name}/{'.'.join(path.relative_to(crate / 'specs').with_suffix('').parts)}"
             taken[file], current = {}, None
             for line in path.read_text(encoding="utf-8").splitlines():
-                use = re.match(r"use Rattle\.(ovl_\w+)\.specs\.([\w.]+)\.\{(.*)\}", line)
+                use = re.match(r"(?:pub )?use Rattle\.(ovl_\w+)\.specs\.([\w.]+)\.\{(.*)\}", line)
                 head = re.match(r"(?:abbrev )?(?:pub )?(?:record |data )?(\S+)", line)
                 if use and not use[2].startswith("declared"):
                     for name in use[3].split(","):
                         own, _, alias = name.strip().partition(" as ")
                         taken[file][alias or own] = (f"{use[1]}/{use[2]}", own)
-                if re.match(r"(abbrev|pub|record|data)\b", line) and head[1] != "mod":
+                if re.match(r"(abbrev|pub|record|data)\b", line) and head[1] not in ("mod", "use"):
                     current = (file, head[1])
                     found[current] = set()
-                if current and not line.startswith(("--", "use ")):
+                if current and not line.startswith(("--", "use ", "pub use ")):
                     found[current] |= words(line.split(" -- ")[0])
     return found, taken
 
@@ -57,9 +57,10 @@ def reached(found, taken):
             continue
         seen.add(key)
         for word in found[key]:
-            other = taken[key[0]].get(word, (key[0], word))
-            if other in found:
-                todo.append(other)
+            other = (key[0], word)
+            while other not in found and other[1] in taken.get(other[0], {}):
+                other = taken[other[0]][other[1]]
+            todo.append(other)
     return seen
 
 
@@ -74,7 +75,7 @@ def headline():
             told |= {(f"{crate}/{name}", one) for one in re.findall(r"`([^`]+)`", names)}
     found, taken = definitions()
     needed = reached(found, taken)
-    print(f"{len(needed)} definitions are reached from the headline")
+    print(f"{len(needed)} definitions are reached from the contract of command")
     for file, name in sorted(needed - told):
         yield f"HEADLINE.md lacks {name} of {file}"
     known = {name for _, name in found}
