@@ -1,4 +1,4 @@
-ghost use Rattle.std.specs.Prelude.{◌≡◌, IsTrue, IfOk, OnOk, MatchResult, string_bytes, ◌++◌};
+ghost use Rattle.std.specs.Prelude.{◌≡◌, IsTrue, IfOk, OnOk, OnErr, string_bytes, ◌++◌};
 ghost use Rattle.ovl_names.specs.Escapes.{escaped as escaped_text, escaped_byte, is_plain as the_plain};
 
 use std::alloc::{AllocError, Global};
@@ -18,9 +18,8 @@ pub fn escaped(alloc: Global, text: &str) -> Result<String, AllocError>
 
 /// Appends a text as [`escaped`] gives it; fails, with nothing changed, only for want of memory.
 pub fn push_escaped(alloc: Global, written: &mut String, text: &str) -> Result<(), AllocError>
-    ensures { MatchResult result
-        (λ _. string_bytes written.new ≡ string_bytes written.old ++ escaped_text text.now)
-        (λ _. string_bytes written.new ≡ string_bytes written.old) }
+    ensures appended { OnOk result (string_bytes written.new ≡ string_bytes written.old ++ escaped_text text.now) }
+    ensures same { OnErr result (string_bytes written.new ≡ string_bytes written.old) }
 {
     let bytes = text.as_bytes();
     if bytes.iter().all(|byte| is_plain(*byte)) {

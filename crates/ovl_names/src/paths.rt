@@ -91,6 +91,15 @@ impl Path {
         }
     }
 
+    /// The root, with room for so many names below it; fails only for want of memory.
+    pub fn with_room(alloc: Global, names: usize) -> Result<Path, AllocError>
+        ensures { IfOk result (λ path. path ≡ []) }
+    {
+        Ok(Path {
+            names: Vec::with_capacity(alloc, names)?,
+        })
+    }
+
     /// The path that a text spells: `/`, or names of at most 64 with `/` before each, in at most 4,095 bytes.
     /// Otherwise the first fault in the order of [`PathFault`], each looked for in the whole text before the next.
     pub fn parse(alloc: Global, text: &str) -> Result<Path, PathFault>
