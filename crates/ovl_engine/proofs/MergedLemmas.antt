@@ -9,7 +9,7 @@ use Rattle.ovl_lookup.specs.declared.looks.Look.{Look}
 use Rattle.ovl_lookup.specs.Stacks.{StackView}
 use Rattle.ovl_lookup.specs.Merged.{IsMerged, look}
 use Rattle.ovl_lookup.specs.Passes.{kids_along, looks_from, looks_under, looks_placed}
-use Rattle.ovl_lookup.proofs.ListLemmas.{is-merged, shows-root}
+use Rattle.ovl_lookup.proofs.LawsOfKids.{is-merged, shows-root}
 use Rattle.ovl_board.specs.declared.pieces.Piece.{Piece}
 use Rattle.ovl_board.specs.Walks.{preorder}
 use Rattle.ovl_board.specs.Parcels.{ParcelView, own_view}
