@@ -17,13 +17,12 @@ use Rattle.ovl_lookup.specs.Stacks.{StackView}
 use Rattle.ovl_lookup.specs.Merged.{look, shows, shows_directory, is_nothing, is_shown_directory}
 use Rattle.ovl_lookup.specs.Passes.{kids_along}
 use Rattle.ovl_lookup.specs.ViewPasses.{AreLooks}
-use Rattle.ovl_lookup.proofs.KidLemmas.{kids-ascend, kids-same, are-kids}
-use Rattle.ovl_lookup.proofs.KidLaws.{kids-unique, none-along}
-use Rattle.ovl_lookup.proofs.ListLemmas.{shows-limited}
+use Rattle.ovl_lookup.proofs.LawsOfKids.{kids-ascend, kids-same, are-kids, kids-unique, none-along}
+use Rattle.ovl_lookup.proofs.LawsOfLooks.{shows-limited}
 use Rattle.ovl_board.specs.declared.pieces.Piece.{Piece}
 use Rattle.ovl_board.specs.Pieces.{IsBefore, IsOneBelow, HasLawfulKids}
-use Rattle.ovl_board.proofs.Members.{In, Rises, All-Every, AllPairs-Rises}
-use Rattle.ovl_board.proofs.PieceOrder.{fork_before}
+use Rattle.ovl_board.proofs.LawsOfMembers.{In, Rises, All-Every, AllPairs-Rises}
+use Rattle.ovl_board.proofs.LawsOfPieces.{fork_before}
 use Rattle.ovl_engine.specs.Directories.{HasAllNames, NamedLook, named_look, looks_in, piece_in, show_kids, show_depth}
 
 -- ---- directories without names

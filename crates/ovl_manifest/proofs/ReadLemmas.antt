@@ -68,10 +68,6 @@ none_of true false false false false none = (refl, refl, refl)
 not_past : (limit n : ℕ) → nat_lt limit n ≡ false → nat_le n limit ≡ true
 not_past limit n past = grind (arith, nat_tests)
 
-pub path-spelled : (text : List ℕ) → path_fault depth_limit text ≡ None → path_text (text_parts text) ≡ text
-path-spelled text none =
-    text_of_parts text (none_of (starts_with nat_eq text (slash ∷ [])) (list_any (λ part. length part == 0) (text_parts text)) (list_any (λ part. is_some (name_fault part)) (text_parts text)) (nat_lt depth_limit (length (text_parts text))) (nat_lt text_limit (length text)) none).0
-
 pub within : (text : List ℕ) → path_fault depth_limit text ≡ None → is_within_limits (text_parts text) ≡ true
 within text none =
     let tests = none_of (starts_with nat_eq text (slash ∷ [])) (list_any (λ part. length part == 0) (text_parts text)) (list_any (λ part. is_some (name_fault part)) (text_parts text)) (nat_lt depth_limit (length (text_parts text))) (nat_lt text_limit (length text)) none in

@@ -3,7 +3,7 @@ use Rattle.std.specs.List.{All}
 use Rattle.ovl_manifest.specs.Layers.{IsLayer}
 use Rattle.ovl_lookup.specs.Stacks.{StackView}
 use Rattle.ovl_lookup.specs.Passes.{looks_from, looks_placed}
-use Rattle.ovl_lookup.proofs.ListLemmas.{is-merged, shows-root}
+use Rattle.ovl_lookup.proofs.LawsOfKids.{is-merged, shows-root}
 use Rattle.ovl_lookup.proofs.stacks.Stack.list.Goals as goal
 
 pub returns : goal.returns
