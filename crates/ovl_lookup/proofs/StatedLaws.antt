@@ -1,6 +1,6 @@
 -- What is found and shown can be stated in a manifest: names, sound inodes, no escaped attribute.
 use Rattle.std.proofs.Common.{◌≡◌, ℕ, Bool, true, false, cond, Option, Some, None, List, [], ◌∷◌, refl, sym, ap, ◌∙◌}
-use Rattle.std.specs.Prelude.{◌||◌, ◌&&◌, not, filter, nat_le, is_some}
+use Rattle.std.specs.Prelude.{◌||◌, ◌&&◌, not, filter, is_some}
 use Rattle.std.specs.List.{list_all, list_any, filter_map, cons_option, All}
 use Rattle.std.specs.Cmp.Lexicographic.{bytes_decides}
 use Rattle.std.proofs.lemmas.List.Folds.{list_all-append, list_any-append}
@@ -9,12 +9,12 @@ use Rattle.ovl_names.specs.Paths.{PathNames, child_path, has_names}
 use Rattle.ovl_names.proofs.Ascending.{both, not_true}
 use Rattle.ovl_inode.specs.declared.inodes.Inode.{Inode}
 use Rattle.ovl_inode.specs.declared.inodes.Kind.{Kind}
-use Rattle.ovl_inode.specs.declared.inodes.Kind.TheVariants.{Dir, File, Symlink, Char, Block, Fifo, Socket}
-use Rattle.ovl_inode.specs.Attributes.{Attributes, attribute, visible_attributes, are_attributes, has_escaped_name, is_escaped_name, is_overlay_name, metacopy_name}
+use Rattle.ovl_inode.specs.Attributes.{Attributes, attribute, visible_attributes, has_escaped_name, is_escaped_name, is_overlay_name, metacopy_name}
 use Rattle.ovl_inode.specs.Inodes.{visible}
 use Rattle.ovl_inode.specs.Marks.{is_directory, is_regular, is_metacopy, has_metacopy, is_data}
-use Rattle.ovl_inode.specs.Sound.{is_sound_inode, is_sound_kind, is_word, is_seconds, mode_limit}
+use Rattle.ovl_inode.specs.Sound.{is_sound_inode, is_sound_kind}
 use Rattle.ovl_inode.proofs.AttributeLemmas.{are_attributes-visible}
+use Rattle.ovl_inode.proofs.SoundLaws.{sound_values, sound-with, kind-full}
 use Rattle.ovl_manifest.specs.Layers.{Entries, Entry, entry_at, name_below, names_below, IsLayer}
 use Rattle.ovl_lookup.specs.declared.looks.Look.{Look}
 use Rattle.ovl_lookup.specs.declared.looks.Look.TheVariants.{Nothing, Shown, Broken}
@@ -125,41 +125,8 @@ data-all test of data_only each found contents all is = alone (list_all is_metac
 
 -- ---- sound inodes
 
--- another kind and other attributes
-pub sound-with : (inode : Inode) (kind : Kind) (attrs : Attributes) → is_sound_inode inode ≡ true → is_sound_kind kind (is_some (attribute attrs metacopy_name)) ≡ true → are_attributes attrs ≡ true → is_sound_inode (record inode { kind = kind; attrs = attrs }) ≡ true
-sound-with inode kind attrs sound kinds attributes =
-    let most = both {a = is_sound_kind inode.kind (has_metacopy inode) && nat_le inode.mode mode_limit && is_word inode.uid && is_word inode.gid && is_seconds inode.mtime} {b = are_attributes inode.attrs} sound in
-    let times = both {a = is_sound_kind inode.kind (has_metacopy inode) && nat_le inode.mode mode_limit && is_word inode.uid && is_word inode.gid} {b = is_seconds inode.mtime} most.0 in
-    let gids = both {a = is_sound_kind inode.kind (has_metacopy inode) && nat_le inode.mode mode_limit && is_word inode.uid} {b = is_word inode.gid} times.0 in
-    let uids = both {a = is_sound_kind inode.kind (has_metacopy inode) && nat_le inode.mode mode_limit} {b = is_word inode.uid} gids.0 in
-    let modes = both {a = is_sound_kind inode.kind (has_metacopy inode)} {b = nat_le inode.mode mode_limit} uids.0 in
-    (λ j. kinds j && modes.1 j && uids.1 j && gids.1 j && times.1 j && attributes j)
-
-pub sound-kind : (inode : Inode) → is_sound_inode inode ≡ true → is_sound_kind inode.kind (has_metacopy inode) ≡ true
-sound-kind inode sound =
-    let most = both {a = is_sound_kind inode.kind (has_metacopy inode) && nat_le inode.mode mode_limit && is_word inode.uid && is_word inode.gid && is_seconds inode.mtime} {b = are_attributes inode.attrs} sound in
-    let times = both {a = is_sound_kind inode.kind (has_metacopy inode) && nat_le inode.mode mode_limit && is_word inode.uid && is_word inode.gid} {b = is_seconds inode.mtime} most.0 in
-    let gids = both {a = is_sound_kind inode.kind (has_metacopy inode) && nat_le inode.mode mode_limit && is_word inode.uid} {b = is_word inode.gid} times.0 in
-    let uids = both {a = is_sound_kind inode.kind (has_metacopy inode) && nat_le inode.mode mode_limit} {b = is_word inode.uid} gids.0 in
-    (both {a = is_sound_kind inode.kind (has_metacopy inode)} {b = nat_le inode.mode mode_limit} uids.0).0
-
-pub sound-attributes : (inode : Inode) → is_sound_inode inode ≡ true → are_attributes inode.attrs ≡ true
-sound-attributes inode sound =
-    (both {a = is_sound_kind inode.kind (has_metacopy inode) && nat_le inode.mode mode_limit && is_word inode.uid && is_word inode.gid && is_seconds inode.mtime} {b = are_attributes inode.attrs} sound).1
-
--- a kind stays sound without `metacopy` where that is no matter
-kind-full : (kind : Kind) (had : Bool) → (elim kind as (λ _. Bool) [ File size blob ↦ true | _ ↦ false ] && had) ≡ false → is_sound_kind kind had ≡ true → is_sound_kind kind false ≡ true
-kind-full (File size blob) true full sound = let bad : true ≡ false = full in cc
-kind-full (File size blob) false full sound = sound
-kind-full Dir had full sound = refl
-kind-full (Symlink target) had full sound = sound
-kind-full (Char major minor) had full sound = sound
-kind-full (Block major minor) had full sound = sound
-kind-full Fifo had full sound = refl
-kind-full Socket had full sound = refl
-
 pub data-kind : (contents : Inode) → is_data contents ≡ true → is_sound_inode contents ≡ true → is_sound_kind contents.kind false ≡ true
-data-kind contents own sound = kind-full contents.kind (has_metacopy contents) (by (has_metacopy contents) (both {a = is_regular contents} {b = not (has_metacopy contents)} own).1) (sound-kind contents sound)
+data-kind contents own sound = kind-full contents.kind (has_metacopy contents) (by (has_metacopy contents) (both {a = is_regular contents} {b = not (has_metacopy contents)} own).1) (sound_values contents sound).kind
   where
     by : (b : Bool) → not b ≡ true → (is_regular contents && b) ≡ false
     by true n = let bad : false ≡ true = n in cc
@@ -174,7 +141,7 @@ pub sound-visible : (inode : Inode) (kind : Kind) → is_sound_inode inode ≡ t
 sound-visible inode kind sound kinds =
     sound-with inode kind (visible_attributes inode.attrs) sound
     (ap (λ o. is_sound_kind kind (is_some o)) (attribute-hidden inode.attrs metacopy_name refl) ∙ kinds)
-    (are_attributes-visible inode.attrs (sound-attributes inode sound))
+    (are_attributes-visible inode.attrs (sound_values inode sound).attrs)
 
 abbrev by_data : Inode → Option Inode → Look
 by_data inode found = elim found as (λ _. Look) [ Some contents ↦ Shown (record (visible inode) { kind = contents.kind }) | None ↦ Broken (record (visible inode) { kind = without_blob inode.kind }) ]
@@ -195,7 +162,7 @@ shown-sound stack each deep path inode shown = by (things_found stack.layers pat
         split : (b : Bool) → (is_regular first && has_metacopy first) ≡ b → (o : Option Inode) → data_of stack.data_only (first ∷ more) ≡ o → cond b (by_data first o) (Shown (visible first)) ≡ Shown inode → is_sound_inode inode ≡ true
         split false b o d s =
             let same : visible first ≡ inode = cc in
-            ap is_sound_inode (sym same) ∙ sound-visible first first.kind own (kind-full first.kind (has_metacopy first) b (sound-kind first own))
+            ap is_sound_inode (sym same) ∙ sound-visible first first.kind own (kind-full first.kind (has_metacopy first) b (sound_values first own).kind)
         split true b (Some contents) d s =
             let same : record (visible first) { kind = contents.kind } ≡ inode = cc in
             ap is_sound_inode (sym same) ∙ sound-visible first contents.kind own (data-kind contents (data-regular stack.data_only (first ∷ more) contents d) (data-all is_sound_inode (λ layer is. is.sound) stack.data_only deep (first ∷ more) contents all d))

@@ -1,5 +1,5 @@
 -- The members of an entry in a manifest, and the values that they state.
-use Rattle.std.specs.Prelude.{ℕ, ◌+◌, ◌^◌, ◌-◌, ℤ, Bool, false, ◌&&◌, ◌==◌, Option, Some, None, List, [], ◌∷◌, if◌then◌else◌, length, codes, nat_le, is_some, is_none, option_and_then}
+use Rattle.std.specs.Prelude.{ℕ, ◌+◌, ◌^◌, ◌-◌, ℤ, Bool, false, ◌&&◌, ◌==◌, Option, Some, None, List, [], ◌∷◌, ◌++◌, if◌then◌else◌, length, codes, nat_le, is_some, is_none, option_and_then}
 use Rattle.std.specs.Option.{option_map}
 use Rattle.std.specs.List.{list_all}
 use Rattle.std.specs.Str.{bytes_eq}
@@ -96,20 +96,23 @@ kind_named value name =
 abbrev pub kind_field : Data → Option Kind
 kind_field value = option_and_then (kind_named value) (text_field (codes "kind") value)
 
--- the members that an entry of a kind has
+-- the members that entries of all kinds have, those that only a kind has, and all of an entry of a kind
 abbrev pub common_members : List (List ℕ)
 common_members =
     codes "gid" ∷ codes "kind" ∷ codes "mode" ∷ codes "mtime" ∷ codes "path" ∷ codes "uid" ∷ codes "xattrs" ∷ []
 
+abbrev pub own_members : Kind → List (List ℕ)
+own_members Dir = []
+own_members (File size None) = codes "size" ∷ []
+own_members (File size (Some blob)) = codes "blob" ∷ codes "size" ∷ []
+own_members (Symlink target) = codes "target" ∷ []
+own_members (Char major minor) = codes "major" ∷ codes "minor" ∷ []
+own_members (Block major minor) = codes "major" ∷ codes "minor" ∷ []
+own_members Fifo = []
+own_members Socket = []
+
 abbrev pub kind_members : Kind → List (List ℕ)
-kind_members Dir = common_members
-kind_members (File size None) = codes "size" ∷ common_members
-kind_members (File size (Some blob)) = codes "blob" ∷ codes "size" ∷ common_members
-kind_members (Symlink target) = codes "target" ∷ common_members
-kind_members (Char major minor) = codes "major" ∷ codes "minor" ∷ common_members
-kind_members (Block major minor) = codes "major" ∷ codes "minor" ∷ common_members
-kind_members Fifo = common_members
-kind_members Socket = common_members
+kind_members kind = own_members kind ++ common_members
 
 -- the inode that an object states
 abbrev pub inode_with : Kind → Attributes → Data → Option Inode

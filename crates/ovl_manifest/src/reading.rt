@@ -50,7 +50,7 @@ fn read_value(alloc: Global, value: &Value) -> Result<Layer, LayerFault>
         (λ layer. layer_of_value (view value.now) ≡ Ok layer)
         (λ fault. IsFaultOf (layer_of_value (view value.now)) fault) }
 {
-    if !is_made_of(value, &["entries", "overlay-layer"]) {
+    if !is_made_of(value, &[], &["entries", "overlay-layer"]) {
         return Err(LayerFault::Shape);
     }
     let (Some(version), Some(entries)) = (value.get("overlay-layer"), value.get("entries")) else {
