@@ -19,12 +19,13 @@ use Rattle.ovl_inode.specs.Sound.{is_sound_inode, has_sound_blob, is_word, mode_
 use Rattle.ovl_inode.proofs.SoundLaws.{HasSoundValues, sound_values}
 use Rattle.ovl_manifest.specs.Layers.{Entry, Entries, is_within_limits}
 use Rattle.ovl_manifest.specs.Fields.{has_exactly, up_to, path_of_text, natural_field, attributes_of, attributes_field, kind_field, kind_members, inode_with, inode_field, path_field, entry_with, entry_of}
+use Rattle.ovl_manifest.specs.Versions.{written}
 use Rattle.ovl_manifest.specs.Manifest.{stated_entries}
 use Rattle.ovl_manifest.specs.Text.{whole, attribute_members, entry_value, entry_items}
 use Rattle.ovl_manifest.proofs.ValueLemmas.{up_to-within, word-within, seconds-back, digest-back, path-back, attributes-back}
 
 -- a value that has an entry's members states the entry
-module _ (path : PathNames) (inode : Inode) (value : Data) (has_path : get (codes "path") value ≡ Some (string (path_text path))) (has_mode : get (codes "mode") value ≡ Some (whole inode.mode)) (has_uid : get (codes "uid") value ≡ Some (whole inode.uid)) (has_gid : get (codes "gid") value ≡ Some (whole inode.gid)) (has_mtime : get (codes "mtime") value ≡ Some (number (of_integer inode.mtime))) (has_attrs : get (codes "xattrs") value ≡ Some (object (attribute_members inode.attrs))) (has_kind : kind_field value ≡ Some inode.kind) (members : has_exactly (kind_members inode.kind) value ≡ true) (named : has_names path ≡ true) (limited : is_within_limits path ≡ true) (sound : is_sound_inode inode ≡ true) where
+module _ (path : PathNames) (inode : Inode) (value : Data) (has_path : get (codes "path") value ≡ Some (string (path_text path))) (has_mode : get (codes "mode") value ≡ Some (whole inode.mode)) (has_uid : get (codes "uid") value ≡ Some (whole inode.uid)) (has_gid : get (codes "gid") value ≡ Some (whole inode.gid)) (has_mtime : get (codes "mtime") value ≡ Some (number (of_integer inode.mtime))) (has_attrs : get (codes "xattrs") value ≡ Some (object (attribute_members inode.attrs))) (has_kind : kind_field value ≡ Some inode.kind) (members : has_exactly (kind_members written inode.kind) value ≡ true) (named : has_names path ≡ true) (limited : is_within_limits path ≡ true) (sound : is_sound_inode inode ≡ true) where
   values : HasSoundValues inode
   values = sound_values inode sound
 
@@ -39,15 +40,15 @@ module _ (path : PathNames) (inode : Inode) (value : Data) (has_path : get (code
       (rw (natural (codes "gid") (2 ^ 32 - 1) inode.gid has_gid (word-within inode.gid values.gid))
       (rw seconds refl)))
 
-  pub assembled : entry_of value ≡ Some (path, inode)
+  pub assembled : entry_of written value ≡ Some (path, inode)
   assembled =
-      let path_read : path_field value ≡ Some path = ap (λ (o : Option Data). option_and_then path_of_text (option_and_then as_str o)) has_path ∙ path-back path named limited in
+      let path_read : path_field written value ≡ Some path = ap (λ (o : Option Data). option_and_then (path_of_text written) (option_and_then as_str o)) has_path ∙ path-back path named limited in
       let attributes_read : attributes_field value ≡ Some inode.attrs = ap (option_and_then attributes_of) has_attrs ∙ attributes-back inode.attrs values.attrs in
       let inode_read : inode_field value ≡ Some inode =
       ap (option_and_then (λ kind. option_and_then (λ attrs. inode_with kind attrs value) (attributes_field value))) has_kind
       ∙ (ap (option_and_then (λ attrs. inode_with inode.kind attrs value)) attributes_read ∙ inode-stated) in
-      ap (option_and_then (λ own. option_and_then (entry_with value own) (inode_field value))) path_read
-      ∙ (ap (option_and_then (entry_with value path)) inode_read
+      ap (option_and_then (λ own. option_and_then (entry_with written value own) (inode_field value))) path_read
+      ∙ (ap (option_and_then (entry_with written value path)) inode_read
       ∙ (ap (λ b. if b && is_sound_inode inode then Some (path, inode) else None) members ∙ ap (λ b. if b then Some (path, inode) else None) sound))
 
 -- ---- each kind
@@ -68,7 +69,7 @@ module _ (inode : Inode) (path : PathNames) (named : has_names path ≡ true) (l
       ap (option_and_then (λ one. option_map (λ other. made one other) (up_to (2 ^ 32 - 1) minor))) (up_to-within (2 ^ 32 - 1) major (word-within major parts.0))
       ∙ ap (option_map (λ other. made major other)) (up_to-within (2 ^ 32 - 1) minor (word-within minor parts.1))
 
-  kind-stated : (kind : Kind) → is_sound_inode (of_kind kind) ≡ true → entry_of (entry_value (path, of_kind kind)) ≡ Some (path, of_kind kind)
+  kind-stated : (kind : Kind) → is_sound_inode (of_kind kind) ≡ true → entry_of written (entry_value (path, of_kind kind)) ≡ Some (path, of_kind kind)
   kind-stated Dir sound = assembled path (of_kind Dir) (entry_value (path, of_kind Dir)) refl refl refl refl refl refl refl refl named limited sound
   kind-stated Fifo sound = assembled path (of_kind Fifo) (entry_value (path, of_kind Fifo)) refl refl refl refl refl refl refl refl named limited sound
   kind-stated Socket sound = assembled path (of_kind Socket) (entry_value (path, of_kind Socket)) refl refl refl refl refl refl refl refl named limited sound
@@ -92,10 +93,10 @@ module _ (inode : Inode) (path : PathNames) (named : has_names path ≡ true) (l
       ∙ ap (λ (o : Option Digest). option_map (λ (own : Option Digest). File size own) (option_map (λ d. Some d) o)) digest in
       assembled path made (entry_value (path, made)) refl refl refl refl refl refl read refl named limited sound
 
-pub entry-stated : (entry : Entry) → has_names entry.0 ≡ true → is_within_limits entry.0 ≡ true → is_sound_inode entry.1 ≡ true → entry_of (entry_value entry) ≡ Some entry
+pub entry-stated : (entry : Entry) → has_names entry.0 ≡ true → is_within_limits entry.0 ≡ true → is_sound_inode entry.1 ≡ true → entry_of written (entry_value entry) ≡ Some entry
 entry-stated entry named limited sound = kind-stated entry.1 entry.0 named limited entry.1.kind sound
 
-pub entries-stated : (entries : Entries) → list_all (λ entry. has_names entry.0) entries ≡ true → list_all (λ entry. is_within_limits entry.0) entries ≡ true → list_all (λ entry. is_sound_inode entry.1) entries ≡ true → stated_entries (entry_items entries) ≡ map (λ entry. Some entry) entries
+pub entries-stated : (entries : Entries) → list_all (λ entry. has_names entry.0) entries ≡ true → list_all (λ entry. is_within_limits entry.0) entries ≡ true → list_all (λ entry. is_sound_inode entry.1) entries ≡ true → stated_entries written (entry_items entries) ≡ map (λ entry. Some entry) entries
 entries-stated [] named limited sound = refl
 entries-stated (entry ∷ entries) named limited sound =
     let names = both {a = has_names entry.0} {b = list_all (λ e. has_names e.0) entries} named in

@@ -5,8 +5,9 @@ ghost use Rattle.std.specs.Str.{bytes_eq};
 ghost use Rattle.serde_json.specs.Data.{string};
 ghost use Rattle.serde_json.specs.Find.{get};
 ghost use Rattle.serde_json.specs.View.{view, members_view};
-ghost use Rattle.ovl_manifest.specs.Fields.{has_exactly, own_members as kind_own_members, kind_members, text_field, natural_field, seconds_field, path_field, attribute_after, attributes_after, attributes_field, blob_field, file_kind, kind_named, kind_field, inode_with, inode_field, entry_of};
+ghost use Rattle.ovl_manifest.specs.Fields.{has_exactly, own_members as kind_own_members, text_field, natural_field, seconds_field, path_field, attribute_after, attributes_after, attributes_field, blob_field, file_kind, kind_named, kind_field, inode_with, inode_field, entry_of};
 
+use crate::versions::Version;
 use hex::FromHexError;
 use ovl_inode::{
     AttrFault, Attrs, Digest, Inode, Kind, MODE_LIMIT, SIZE_LIMIT, Target, are_lower_digits, sound,
@@ -15,34 +16,41 @@ use ovl_names::{Path, PathFault};
 use serde_json::{Map, Value};
 use std::alloc::{AllocError, Global};
 
-// The members that entries of all kinds have.
-const COMMON_MEMBERS: &[&str] = &["gid", "kind", "mode", "mtime", "path", "uid", "xattrs"];
-
 /// The entry that a member of `entries` states, and `None` where it states none.
-pub(crate) fn read_entry(alloc: Global, value: &Value) -> Result<Option<(Path, Inode)>, AllocError>
-    ensures { IfOk result (λ entry. entry ≡ entry_of (view value.now)) }
+pub(crate) fn read_entry(
+    alloc: Global,
+    version: Version,
+    value: &Value,
+) -> Result<Option<(Path, Inode)>, AllocError>
+    ensures { IfOk result (λ entry. entry ≡ entry_of version (view value.now)) }
 {
-    let Some(path) = read_path(alloc, value)? else {
+    let Some(path) = read_path(alloc, version, value)? else {
         return Ok(None);
     };
     let Some(inode) = read_inode(alloc, value)? else {
         return Ok(None);
     };
-    if has_members(value, &inode.kind) && sound(&inode) {
+    let own = own_members(&inode.kind);
+    if is_made_of(value, own, version.common_members()) && sound(&inode) {
         Ok(Some((path, inode)))
     } else {
         Ok(None)
     }
 }
 
-fn read_path(alloc: Global, value: &Value) -> Result<Option<Path>, AllocError>
-    ensures { IfOk result (λ path. path ≡ path_field (view value.now)) }
+fn read_path(
+    alloc: Global,
+    version: Version,
+    value: &Value,
+) -> Result<Option<Path>, AllocError>
+    ensures { IfOk result (λ path. path ≡ path_field version (view value.now)) }
 {
     let Some(text) = text(value, "path") else {
         return Ok(None);
     };
     match Path::parse(alloc, text) {
-        Ok(path) => Ok(Some(path)),
+        Ok(path) if path.len() <= version.depth() => Ok(Some(path)),
+        Ok(_) => Ok(None),
         Err(PathFault::Memory) => Err(AllocError),
         Err(_) => Ok(None),
     }
@@ -240,13 +248,6 @@ pub(crate) fn put_digits(
         Err(FromHexError::OutOfMemory) => Err(AllocError),
         Err(_) => Ok(false),
     }
-}
-
-// Whether the object has exactly the members of an entry of this kind.
-fn has_members(value: &Value, kind: &Kind) -> bool
-    ensures { result ≡ has_exactly (kind_members kind.now) (view value.now) }
-{
-    is_made_of(value, own_members(kind), COMMON_MEMBERS)
 }
 
 // The members that only entries of this kind have.
