@@ -83,9 +83,6 @@ descended done p kids rest law d = (
     only x (inl e) = e
     only x (inr h) = absurd h
 
-pub descends-start : (root : Piece) → Descends [] (root ∷ [])
-descends-start root = (tt, (λ x h. absurd h), ((λ y h. absurd h), tt))
-
 pub descended-at : {O : Type 0} (parcels : List (Parcel O)) (i : ℕ) (parcel : Parcel O) → AllLawful (bare parcels) → i < length parcels → parcel ≡ get_or parcels i parcel
     → (kept now : List Piece) → Descends (pieces_of (bare (take i parcels))) (reverse (kept ++ parcel.piece ∷ [])) → now ≡ kept ++ reverse parcel.kids.items → Descends (pieces_of (bare (take (i + 1) parcels))) (reverse now)
 descended-at {O} parcels i parcel lawful lt here kept now d e =

@@ -61,9 +61,6 @@ open_set q (d ∷ desks) zero desk h = omega (arith, times-append q (desk_pieces
 open_set q (d ∷ desks) (suc w) desk h =
     omega (arith, open_set q desks w desk (omega arith), times-append q (desk_pieces d) (open_pieces (set desks w desk)), times-append q (desk_pieces d) (open_pieces desks))
 
-with_lane : List DeskView → ℕ → List Piece → List DeskView
-with_lane desks l lane = set desks l (record (desk_of desks l) { lane = lane })
-
 -- a change of a lane changes no hand and no outbox
 lane_keeps : (desks : List DeskView) (l w : ℕ) (lane : List Piece) → ((desk_of (set desks l (record (desk_of desks l) { lane = lane })) w).hand ≡ (desk_of desks w).hand) × ((desk_of (set desks l (record (desk_of desks l) { lane = lane })) w).outbox ≡ (desk_of desks w).outbox)
 lane_keeps [] l w lane = (refl, refl)

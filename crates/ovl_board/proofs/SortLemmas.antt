@@ -1,5 +1,5 @@
 -- Sorted lists of pieces: their first double, and what a search in them says.
-use Rattle.std.proofs.Common.{◌≡◌, ℕ, ◌+◌, ◌-◌, ◌<◌, ◌≤◌, inl, inr, Bool, true, false, List, [], ◌∷◌, ◌++◌, length, get_or, take, drop, refl, sym, ap, ◌∙◌, subst, arith, Contains, Result, Ok, Err, OnOk, zero, IsSorted, suc, drop-cons}
+use Rattle.std.proofs.Common.{◌≡◌, ℕ, ◌+◌, ◌-◌, ◌<◌, ◌≤◌, inl, inr, true, false, List, [], ◌∷◌, ◌++◌, length, get_or, take, drop, refl, sym, ap, ◌∙◌, subst, arith, Contains, Result, Ok, Err, OnOk, zero, IsSorted, suc, drop-cons}
 use Rattle.std.proofs.lemmas.List.{get_or-take, take-append-drop, get_or_read, length-take}
 use Rattle.std.proofs.lemmas.List.Sorted.{ranks_by, sorted_far, searchable_from_sorted, all_adjacent_more}
 use Rattle.std.proofs.lemmas.Bool.{cases_lt}
@@ -26,9 +26,6 @@ IsAtMost p q = IsBefore q p → ⊥
 
 not_less : (r : Ordering) → is_lt r ≡ false → r ≡ Less → ⊥
 not_less r e l = let no : true ≡ false = ap is_lt (sym l) ∙ e in absurd (cc)
-
-is_before : Piece → Piece → Bool
-is_before p q = is_lt (piece_cmp p q)
 
 weak_order : IsStrictWeakOrder (λ p q. is_lt (piece_cmp p q))
 weak_order = ranks_by piece_cmp_total (λ (p : Piece). p)

@@ -10,7 +10,8 @@ use Rattle.ovl_names.specs.Names.{PathName, name_eq, name_cmp}
 use Rattle.ovl_names.specs.Paths.{PathNames, child_path, path_cmp, depth_limit}
 use Rattle.ovl_manifest.specs.Layers.{Entries, Entry, IsLayer, entry_cmp, is_directory_at, name_below, names_below}
 use Rattle.ovl_lookup.specs.Stacks.{all_layers}
-use Rattle.ovl_lookup.proofs.ChildLemmas.{directory-limited, all-first, all-rest}
+use Rattle.ovl_lookup.proofs.LawsOfWalks.{directory-limited}
+use Rattle.ovl_lookup.proofs.LawsOfPaths.{all-first, all-rest}
 use Rattle.ovl_board.specs.declared.pieces.Piece.{Piece}
 use Rattle.ovl_board.specs.Pieces.{IsBefore, IsOneBelow, HasLawfulKids}
 use Rattle.ovl_board.proofs.PieceOrder.{siblings, fork_before}

@@ -21,8 +21,8 @@ use Rattle.ovl_manifest.specs.Layers.{Entries, Entry, IsLayer, entry_at, entry_c
 use Rattle.ovl_lookup.specs.Stacks.{all_layers}
 use Rattle.ovl_lookup.specs.Walk.{walk, mark_at}
 use Rattle.ovl_lookup.specs.Sound.{is_moved, goes_on_there, redirect_is_double}
-use Rattle.ovl_lookup.proofs.WalkFacts.{directory-above, parent_path-child, length-child}
-use Rattle.ovl_lookup.proofs.ChildLemmas.{names_below-has}
+use Rattle.ovl_lookup.proofs.LawsOfWalks.{directory-above, names_below-has}
+use Rattle.ovl_lookup.proofs.LawsOfPaths.{parent_path-child, length-child}
 use Rattle.ovl_board.specs.declared.pieces.Piece.{Piece}
 use Rattle.ovl_board.specs.Pieces.{IsBefore}
 use Rattle.ovl_board.specs.Walks.{Reached, start, next, ToKid}

@@ -17,11 +17,9 @@ use Rattle.ovl_lookup.specs.Stacks.{StackView}
 use Rattle.ovl_lookup.specs.Passes.{kids_along}
 use Rattle.ovl_lookup.specs.Merged.{look, is_nothing}
 use Rattle.ovl_lookup.specs.Words.{over, top_layer, lower_layers}
-use Rattle.ovl_lookup.proofs.ChildLemmas.{entry-limited, names_below-has}
-use Rattle.ovl_lookup.proofs.KidLemmas.{kids-ascend, kids-same}
-use Rattle.ovl_lookup.proofs.LawLemmas.{ShowsWithinDepth-holds}
-use Rattle.ovl_lookup.proofs.TopLaws.{top-over, top-layer, lower-layers}
-use Rattle.ovl_lookup.proofs.WalkLaws.{directory_found}
+use Rattle.ovl_lookup.proofs.LawsOfWalks.{entry-limited, names_below-has, directory_found}
+use Rattle.ovl_lookup.proofs.LawsOfKids.{kids-ascend, kids-same}
+use Rattle.ovl_lookup.proofs.LawsOfLooks.{ShowsWithinDepth-holds, top-over, top-layer, lower-layers}
 use Rattle.ovl_board.proofs.Members.{In, Rises}
 use Rattle.ovl_board.proofs.PieceOrder.{siblings}
 use Rattle.ovl_rewrite.specs.NewLayers.{IsTold}

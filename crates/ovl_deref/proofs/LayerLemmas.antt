@@ -21,15 +21,11 @@ use Rattle.ovl_lookup.specs.Walk.{mark_at}
 use Rattle.ovl_lookup.specs.Stacks.{StackView}
 use Rattle.ovl_lookup.specs.Merged.{look, is_nothing, is_shown_directory}
 use Rattle.ovl_lookup.specs.Sound.{IsSoundStack, is_moved}
-use Rattle.ovl_lookup.proofs.FoundLemmas.{metacopy-file}
-use Rattle.ovl_lookup.proofs.LawLemmas.{ShowsParents-holds}
-use Rattle.ovl_lookup.proofs.WalkFacts.{lookup-all, parent_path-child}
+use Rattle.ovl_lookup.proofs.LawsOfInodes.{metacopy-file, attribute-hidden, unescaped-filter}
+use Rattle.ovl_lookup.proofs.LawsOfLooks.{ShowsParents-holds, shown-visible, is_broken, never-broken, all-over, shown-sound, shown-unescaped, shown-named}
+use Rattle.ovl_lookup.proofs.LawsOfPaths.{lookup-all, parent_path-child, last-name, all-entries}
 use Rattle.ovl_lookup.specs.Words.{over}
-use Rattle.ovl_lookup.proofs.EntryLaws.{entry-parent, directory-entry, directory-parent_of}
-use Rattle.ovl_lookup.proofs.PathLemmas.{last-name, all-entries}
-use Rattle.ovl_lookup.proofs.ShownLaws.{shown-visible, attribute-hidden, is_broken, never-broken, all-over}
-use Rattle.ovl_lookup.proofs.StatedLaws.{shown-sound, shown-unescaped, shown-named, unescaped-filter}
-use Rattle.ovl_lookup.proofs.WalkLaws.{directory_found, mark-child}
+use Rattle.ovl_lookup.proofs.LawsOfWalks.{entry-parent, directory-entry, directory-parent_of, directory_found, mark-child}
 use Rattle.ovl_rewrite.proofs.InodeLemmas.{opaque_named, unescaped-with, directory-flag}
 use Rattle.ovl_deref.specs.Deref.{any_prefix, is_in_moved, inode_shown, unfolded, full_attributes, filled, dereferenced_inode, dereferenced_at, IsDereferenced}
 use Rattle.ovl_deref.specs.Laws.{DerefGivesLayer}

@@ -43,13 +43,6 @@ impl Target {
         self.text.as_str()
     }
 
-    /// The target's text, which takes no memory.
-    pub fn into_string(self) -> String
-        ensures { string_bytes result ≡ self }
-    {
-        self.text
-    }
-
     /// A target equal to this one; fails only for want of memory.
     pub fn copy(&self, alloc: Global) -> Result<Target, AllocError>
         ensures { IfOk result (λ target. target ≡ self.now) }

@@ -1,5 +1,5 @@
 -- The tokens that are written of a layer are those of its value, and read back they state the layer.
-use Rattle.std.proofs.Common.{◌≡◌, ◌∙◌, ℕ, ℤ, pos, negsuc, List, [], ◌∷◌, ◌++◌, Some, None, refl, sym, ap, append_assoc, decimal}
+use Rattle.std.proofs.Common.{◌≡◌, ◌∙◌, ℕ, ℤ, pos, negsuc, List, [], ◌∷◌, ◌++◌, Some, None, refl, sym, ap, append_assoc}
 use Rattle.std.specs.Prelude.{codes}
 use Rattle.std.specs.Fmt.{signed_decimal}
 use Rattle.std.specs.List.{flat_map}
@@ -15,7 +15,7 @@ use Rattle.ovl_inode.specs.declared.inodes.Kind.TheVariants.{Dir, File, Symlink,
 use Rattle.ovl_inode.specs.Attributes.{Attributes}
 use Rattle.ovl_inode.specs.Kinds.{kind_word}
 use Rattle.ovl_manifest.specs.Layers.{Entries}
-use Rattle.ovl_manifest.specs.Text.{attribute_members, entry_value, entry_items, layer_value}
+use Rattle.ovl_manifest.specs.Text.{attribute_members, entry_value, entry_items}
 use Rattle.ovl_manifest.specs.Tokens.{value_tokens, entries_tokens, number_member, text_member, attribute_tokens, blob_tokens, device_tokens, contents_tokens}
 use Rattle.ovl_manifest.proofs.TextLemmas.{attributes_in_turn}
 
@@ -65,9 +65,6 @@ entries-end (entry ∷ entries) =
 
 pub entries_array : (entries : Entries) → value_tokens (array (entry_items entries)) ≡ begin_array ∷ (entries_tokens entries ++ end_array ∷ [])
 entries_array entries = ap (λ ts. begin_array ∷ ts) (entries-end entries)
-
-pub layer_object : (layer : Entries) → begin_object ∷ Token.key (codes "entries") ∷ (value_tokens (array (entry_items layer)) ++ Token.key (codes "overlay-layer") ∷ Token.number (decimal 1) ∷ end_object ∷ []) ≡ value_tokens (layer_value layer)
-layer_object layer = refl
 
 -- ---- what is written after what
 

@@ -21,24 +21,18 @@ use Rattle.ovl_manifest.specs.Layers.{Entry, Entries, IsLayer, entry_at, entry_c
 use Rattle.ovl_lookup.specs.Trace.{things_found}
 use Rattle.ovl_lookup.specs.Merged.{look, shows, shown_of, data_of}
 use Rattle.ovl_lookup.specs.Sound.{IsSoundStack}
-use Rattle.ovl_lookup.proofs.WalkFacts.{parent_path-child}
-use Rattle.ovl_lookup.proofs.FoundLemmas.{metacopy-file, shown_of-contents}
-use Rattle.ovl_lookup.proofs.ChildLemmas.{all-first, all-rest, any_found}
-use Rattle.ovl_lookup.proofs.KidLemmas.{shows-found}
-use Rattle.ovl_lookup.proofs.EntryLaws.{directory-parent_of}
-use Rattle.ovl_lookup.proofs.PathLemmas.{last-name, all-entries}
-use Rattle.ovl_lookup.proofs.WalkLaws.{directory_found}
-use Rattle.ovl_lookup.proofs.LookLaws.{data-regular}
-use Rattle.ovl_lookup.proofs.AttributeLaws.{attribute-with}
-use Rattle.ovl_lookup.proofs.StatedLaws.{found-all, data-all, data-kind, sound-visible, unescaped-filter, shown-named}
+use Rattle.ovl_lookup.proofs.LawsOfPaths.{parent_path-child, all-first, all-rest, last-name, all-entries}
+use Rattle.ovl_lookup.proofs.LawsOfInodes.{metacopy-file, attribute-with, data-kind, sound-visible, unescaped-filter}
+use Rattle.ovl_lookup.proofs.LawsOfFound.{shown_of-contents, any_found, data-regular, found-all, data-all}
+use Rattle.ovl_lookup.proofs.LawsOfLooks.{shows-found, shown-named}
+use Rattle.ovl_lookup.proofs.LawsOfWalks.{directory-parent_of, directory_found}
 use Rattle.ovl_rewrite.proofs.InodeLemmas.{opaque_named, unescaped-with, directory-flag}
 use Rattle.ovl_merge.specs.Places.{Merge, whole, two_layers, lower_path, first_hit, passes, shows_own_directory, is_hidden, reach, gets_opaque, natural, base, child_of, shows_at}
 use Rattle.ovl_merge.specs.MergeDown.{with_value, last_name, with_contents, merged_directory, merged_metacopy, unreached_metacopy, kept_place, merged_inode, merged_entry, merged_entry_of, needs_whiteout, new_whiteout, IsMergedDown}
 use Rattle.ovl_merge.specs.Laws.{MergeGivesLayer}
-use Rattle.ovl_lookup.proofs.NameParts.{name_facts}
+use Rattle.ovl_lookup.proofs.LawsOfNames.{name_facts, walk-named}
 use Rattle.ovl_merge.proofs.ByteLemmas.{utf8-bytes}
 use Rattle.ovl_merge.proofs.Redirects.{slashed-utf8}
-use Rattle.ovl_lookup.proofs.NamedWalks.{walk-named}
 use Rattle.ovl_merge.proofs.Values.{attribute-other, with_metacopy}
 use Rattle.ovl_merge.proofs.Firsts.{whole-first, rest_of, first-cons, first_of-hits}
 use Rattle.ovl_merge.proofs.Inodes.{merged-directory, merged-metacopy, merged-other, redirected-cases}

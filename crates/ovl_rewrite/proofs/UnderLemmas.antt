@@ -85,12 +85,6 @@ WalksAmong before after i old new =
     (after ≡ views_among tree deepest piece (drop i (tree piece.dir)) ++ rest)
     × (new ≡ old ++ entries_among tree deepest piece (take i (tree piece.dir)))
 
--- a tree has a parcel of its directory first
-pub walk-none : (after : List View) (old new : Entries) → WalksUnder [] after old new
-walk-none after old new tree deepest is piece rest is_under =
-    let bad : 0 ≡ length (views_under tree deepest piece ++ rest) = ap length is_under in
-    absurd (omega (arith, bad, ap (λ (views : List View). length (views ++ rest)) (views-first tree deepest is piece)))
-
 module _ (before : List View) (view : View) (later : List View) (first : before ≡ view ∷ later) where
   head : (tree : Tree) (deepest : ℕ) (is : IsTree tree deepest) (piece : Piece) (rest : List View) → before ≡ views_under tree deepest piece ++ rest
       → (view ≡ own tree deepest piece) × (later ≡ views_among tree deepest piece (tree piece.dir) ++ rest)

@@ -9,8 +9,7 @@ use Rattle.ovl_names.specs.Names.{PathName}
 use Rattle.ovl_names.specs.Paths.{PathNames, child_path, depth_limit}
 use Rattle.ovl_manifest.specs.Layers.{is_directory_at, names_below, IsLayer}
 use Rattle.ovl_lookup.specs.Stacks.{StackView}
-use Rattle.ovl_lookup.proofs.ChildLemmas.{entry-limited}
-use Rattle.ovl_lookup.proofs.EntryLaws.{entry-parent}
+use Rattle.ovl_lookup.proofs.LawsOfWalks.{entry-limited, entry-parent}
 use Rattle.ovl_board.specs.declared.pieces.Piece.{Piece}
 use Rattle.ovl_board.specs.Walks.{Reached, start, next, ToKid, preorder}
 use Rattle.ovl_board.specs.Parcels.{own_view, pieces_of}

@@ -18,10 +18,9 @@ use Rattle.ovl_lookup.specs.Stacks.{StackView, from_layer}
 use Rattle.ovl_lookup.specs.Merged.{look}
 use Rattle.ovl_lookup.specs.Words.{over, top_layer, lower_layers}
 use Rattle.ovl_lookup.specs.Equal.{look_eq}
-use Rattle.ovl_lookup.proofs.LookLaws.{nothing-under}
-use Rattle.ovl_lookup.proofs.TopLaws.{top-over}
-use Rattle.ovl_lookup.proofs.WalkFacts.{length-child, parent_path-child}
-use Rattle.ovl_lookup.proofs.PathLemmas.{natural_path-child}
+use Rattle.ovl_lookup.proofs.LawsOfLooks.{nothing-under, top-over}
+use Rattle.ovl_lookup.proofs.LawsOfPaths.{length-child, parent_path-child}
+use Rattle.ovl_lookup.proofs.LawsOfWalks.{natural_path-child}
 use Rattle.ovl_vacuum.specs.Vacuum.{may_be_idle, is_idle}
 use Rattle.ovl_vacuum.specs.Directories.{is_idle_at}
 use Rattle.ovl_vacuum.specs.Visits.{IsSought, look_by}

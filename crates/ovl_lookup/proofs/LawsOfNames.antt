@@ -1,16 +1,17 @@
--- What walks follow has names, and stays below the root.
-use Rattle.std.proofs.Common.{◌≡◌, ℕ, suc, ◌+◌, ◌<◌, List, [], ◌∷◌, ◌++◌, length, drop, get_or, Bool, true, false, cond, Option, Some, None, is_some, refl, sym, ap, ◌∙◌, subst, append_assoc, add-one, arith, length-append, lit<}
-use Rattle.std.specs.Prelude.{not, ◌&&◌, ◌||◌, ◌==◌, nat_lt, unwrap_or}
-use Rattle.std.specs.List.{list_any, list_all, onto_first}
+-- Laws of names: what walks follow has names, and stays below the root.
+use Rattle.std.proofs.Common.{◌≡◌, ℕ, List, [], ◌∷◌, ◌++◌, length, Bool, true, false, cond, Some, None, refl, ap, ◌∙◌, suc, ◌+◌, ◌<◌, drop, get_or, Option, is_some, sym, subst, append_assoc, add-one, arith, length-append, lit<}
+use Rattle.std.specs.Prelude.{not, ◌&&◌, ◌||◌, ◌==◌, nat_lt, is_none, unwrap_or}
+use Rattle.std.specs.List.{list_any, onto_first, list_all}
+use Rattle.std.proofs.lemmas.Bool.{or_parts, eqb-true}
 use Rattle.std.specs.Str.{is_utf8, IsUtf8}
+use Rattle.std.proofs.lemmas.List.Splits.{slice_split-cons_yes, slice_split-cons_no}
+use Rattle.std.proofs.lemmas.Str.{IsUtf8-from_is_utf8, is_utf8-from_IsUtf8, IsUtf8-take, IsUtf8-drop, IsCharBoundary-before_ascii, IsCharBoundary-after_ascii}
 use Rattle.std.proofs.Math.Seq.{take-append_seam}
-use Rattle.std.proofs.lemmas.Bool.{eqb-true, or_parts}
 use Rattle.std.proofs.lemmas.List.{append-nil}
 use Rattle.std.proofs.lemmas.List.Folds.{list_any-append, list_all-append}
-use Rattle.std.proofs.lemmas.List.Splits.{slice_split-cons_yes, slice_split-cons_no}
-use Rattle.std.proofs.lemmas.Str.{IsUtf8-take, IsUtf8-drop, IsCharBoundary-before_ascii, IsCharBoundary-after_ascii, IsUtf8-from_is_utf8, is_utf8-from_IsUtf8}
-use Rattle.ovl_names.specs.Names.{PathName, is_name, name_eq, dot, dot_dot, slash, name_limit}
-use Rattle.ovl_names.specs.Paths.{PathNames, has_names, is_root, child_path, parts_between, longest}
+use Rattle.ovl_names.specs.declared.names.NameFault.TheVariants.{Empty, TooLong, Dot, Slash, Nul}
+use Rattle.ovl_names.specs.Names.{is_name, name_fault, name_eq, dot, dot_dot, slash, name_limit, PathName}
+use Rattle.ovl_names.specs.Paths.{parts_between, PathNames, has_names, is_root, child_path, longest}
 use Rattle.ovl_names.proofs.Ascending.{both, not_true}
 use Rattle.ovl_names.proofs.NameLemmas.{has_names-child}
 use Rattle.ovl_inode.specs.declared.inodes.Inode.{Inode}
@@ -28,9 +29,54 @@ use Rattle.ovl_lookup.specs.Walk.{walk, walk_from, walk_beyond, walk_to_file, no
 use Rattle.ovl_lookup.specs.Merged.{last_of, last_place, place_of_data}
 use Rattle.ovl_lookup.proofs.Longest.{longest-rest}
 use Rattle.ovl_lookup.proofs.Turns.{turn-child, turn-moved}
-use Rattle.ovl_lookup.proofs.WalkFacts.{length-child}
-use Rattle.ovl_lookup.proofs.WalkLaws.{by_child}
-use Rattle.ovl_lookup.proofs.NameParts.{not_false, name_from, one_part, split_at}
+use Rattle.ovl_lookup.proofs.LawsOfPaths.{by_child, length-child}
+
+not_false : (b : Bool) → not b ≡ false → b ≡ true
+not_false true e = refl
+not_false false e = let bad : true ≡ false = e in cc
+
+-- ---- names
+
+pub record NameFacts (name : List ℕ) : Type 0 where
+  pub some : (length name == 0) ≡ false
+  pub short : nat_lt name_limit (length name) ≡ false
+  pub undotted : (name_eq name dot || name_eq name dot_dot) ≡ false
+  pub whole : list_any (λ byte. byte == slash) name ≡ false
+  pub nul : list_any (λ byte. byte == 0) name ≡ false
+  pub utf8 : IsUtf8 name
+
+pub name_facts : (name : List ℕ) → is_name name ≡ true → NameFacts name
+name_facts name is =
+    let parts = both {a = is_none (name_fault name)} {b = is_utf8 name} is in
+    let tests = none_of (length name == 0) (nat_lt name_limit (length name)) (name_eq name dot || name_eq name dot_dot) (list_any (λ byte. byte == slash) name) (list_any (λ byte. byte == 0) name) parts.0 in
+    record { some = tests.0; short = tests.1; undotted = tests.2; whole = tests.3; nul = tests.4; utf8 = IsUtf8-from_is_utf8 name parts.1 }
+  where
+    none_of : (a b c d e : Bool) → is_none (cond a (Some Empty) (cond b (Some TooLong) (cond c (Some Dot) (cond d (Some Slash) (cond e (Some Nul) None))))) ≡ true → (a ≡ false) × (b ≡ false) × (c ≡ false) × (d ≡ false) × (e ≡ false)
+    none_of true b c d e none = let bad : false ≡ true = none in cc
+    none_of false true c d e none = let bad : false ≡ true = none in cc
+    none_of false false true d e none = let bad : false ≡ true = none in cc
+    none_of false false false true e none = let bad : false ≡ true = none in cc
+    none_of false false false false true none = let bad : false ≡ true = none in cc
+    none_of false false false false false none = (refl, refl, refl, refl, refl)
+
+name_from : (name : List ℕ) → NameFacts name → is_name name ≡ true
+name_from name f =
+    λ j. is_none (cond (f.some j) (Some Empty) (cond (f.short j) (Some TooLong) (cond (f.undotted j) (Some Dot) (cond (f.whole j) (Some Slash) (cond (f.nul j) (Some Nul) None))))) && is_utf8-from_IsUtf8 name f.utf8 j
+
+-- ---- texts that are split
+
+-- a text without separator is its only part, and one is cut at its first separator
+pub one_part : (text : List ℕ) → list_any (λ byte. byte == slash) text ≡ false → parts_between text ≡ text ∷ []
+one_part [] none = refl
+one_part (byte ∷ bytes) none =
+    let parts = or_parts (byte == slash) (list_any (λ b. b == slash) bytes) none in
+    slice_split-cons_no (λ b. b == slash) byte bytes parts.0 ∙ ap (onto_first byte) (one_part bytes parts.1)
+
+pub split_at : (front : List ℕ) (byte : ℕ) (rest : List ℕ) → list_any (λ b. b == slash) front ≡ false → (byte == slash) ≡ true → parts_between (front ++ byte ∷ rest) ≡ front ∷ parts_between rest
+split_at [] byte rest whole is = slice_split-cons_yes (λ b. b == slash) byte rest is
+split_at (first ∷ front) byte rest whole is =
+    let parts = or_parts (first == slash) (list_any (λ b. b == slash) front) whole in
+    slice_split-cons_no (λ b. b == slash) first (front ++ byte ∷ rest) parts.0 ∙ ap (onto_first first) (split_at front byte rest parts.1 is)
 
 -- ---- what is read has names
 
@@ -205,7 +251,7 @@ mark-named inode =
     by false false false false own meta named = tt
 
 -- so has the path at which data-only layers have the data of a metacopy file
-pub place-named : (inode : Inode) (place : PathNames) → place_of_data (mark_of inode) ≡ Some place → (has_names place ≡ true) × (is_root place ≡ false)
+place-named : (inode : Inode) (place : PathNames) → place_of_data (mark_of inode) ≡ Some place → (has_names place ≡ true) × (is_root place ≡ false)
 place-named inode place e = by (mark_of inode) (mark-named inode) e
   where
     by : (mark : Mark) → IsNamedMark mark → place_of_data mark ≡ Some place → (has_names place ≡ true) × (is_root place ≡ false)
