@@ -1,5 +1,5 @@
 -- Objects of exactly some members.
-use Rattle.std.proofs.Common.{◌≡◌, ◌∙◌, ℕ, ◌+◌, List, [], ◌∷◌, ◌++◌, Bool, false, sym, ap, refl, Some, None, length, length-append, nat_eq, Bor, map, arith}
+use Rattle.std.proofs.Common.{◌≡◌, ◌∙◌, ℕ, ◌+◌, List, [], ◌∷◌, ◌++◌, Bool, sym, ap, refl, Some, None, length, length-append, nat_eq, Bor, map, eq-eqb, arith}
 use Rattle.std.specs.Prelude.{◌&&◌, is_some, unwrap_or, String}
 use Rattle.std.specs.declared.alloc.Global.{Global}
 use Rattle.std.specs.List.{list_all}
@@ -38,10 +38,10 @@ module _ (own common : List (Bor (List ℕ))) (d : Data) (entries : List (String
   counts = ap (has_count (length names)) (is_object d (members_view entries) is) ∙ (λ j. nat_eq (member_count-view entries j) (count j))
 
   all : list_all is_there names ≡ (list_all (λ name. is_some (get name.now d)) own && list_all (λ name. is_some (get name.now d)) common)
-  all = list_all-append is_there (map now own) (map now common) ∙ (λ j. list_all-map is_there own now j && list_all-map is_there common now j)
+  all = list_all-append is_there (map now own) (map now common) ∙ (λ j. list_all-map is_there now own j && list_all-map is_there now common j)
 
-  pub has_exactly-parts : has_exactly (map (λ name. name.now) own ++ map (λ name. name.now) common) d ≡ (nat_eq (length entries) (length own + length common) && (list_all (λ name. is_some (get name.now d)) own && list_all (λ name. is_some (get name.now d)) common))
-  has_exactly-parts = λ j. counts j && all j
+  pub has_exactly-counted : length entries ≡ length own + length common → has_exactly names d ≡ (list_all (λ name. is_some (get name.now d)) own && list_all (λ name. is_some (get name.now d)) common)
+  has_exactly-counted same = λ j. (counts ∙ eq-eqb (length entries) (length own + length common) same) j && all j
 
 -- a member whose attribute can be put, and one that states none
 pub attributes_after-put : (attrs more : Attributes) (name : List ℕ) (value : Data) (others : Members) → attribute_after attrs name value ≡ Some more → attributes_after attrs (member name value others) ≡ attributes_after more others

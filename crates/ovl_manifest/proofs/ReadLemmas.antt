@@ -1,6 +1,6 @@
 -- What a stated entry is, and what one more entry makes of a layer.
-use Rattle.std.proofs.Common.{◌≡◌, ℕ, ◌<◌, ◌≤◌, ◌+◌, ◌⊎◌, zero, suc, get_or, List, [], ◌∷◌, ◌++◌, Bool, true, false, Option, Some, None, Result, Ok, Err, refl, sym, ap, ◌∙◌, subst, length, length-append, drop, take, arith, le-leb, leb-true, ltb-true, lt-ltb}
-use Rattle.std.specs.Option.{option_and_then, option_eq}
+use Rattle.std.proofs.Common.{◌≡◌, ℕ, ◌<◌, ◌≤◌, ◌+◌, ◌⊎◌, zero, suc, get_or, List, [], ◌∷◌, ◌++◌, Bool, true, false, Option, Some, None, Result, Ok, Err, refl, sym, ap, ◌∙◌, subst, length, length-append, drop, take, arith, le-leb, leb-true}
+use Rattle.std.specs.Option.{option_and_then}
 use Rattle.std.specs.Prelude.{◌==◌, not, nat_eq, nat_lt, nat_le, is_some, is_none, if◌then◌else◌, flat_map, codes}
 use Rattle.std.specs.List.{starts_with, list_any}
 use Rattle.std.proofs.lemmas.Bool.{eqb-true}
@@ -8,7 +8,7 @@ use Rattle.std.proofs.lemmas.Bool.Decides.{nat_tests}
 use Rattle.std.proofs.lemmas.Option.{option_and_then_some}
 use Rattle.std.proofs.lemmas.Str.{IsUtf8-from_is_utf8, is_utf8-from_IsUtf8}
 use Rattle.std.specs.Str.{IsUtf8, is_utf8}
-use Rattle.serde_json.specs.Data.{Num, unsigned, negative, float, Data, null, boolean, number, string, array, object, Items}
+use Rattle.serde_json.specs.Data.{unsigned, negative, float, Data, null, boolean, number, string, array, object, Items}
 use Rattle.serde_json.specs.Find.{get, as_number, as_u64, as_array}
 use Rattle.serde_json.specs.Read.{read}
 use Rattle.serde_json.specs.View.{view, items_view}
@@ -17,7 +17,7 @@ use Rattle.ovl_names.specs.Names.{slash, name_fault}
 use Rattle.ovl_names.specs.Paths.{PathNames, parent_path, path_fault, path_text, text_parts, parts_between, depth_limit, text_limit}
 use Rattle.ovl_names.specs.declared.paths.PathFault.{PathFault}
 use Rattle.ovl_names.specs.declared.paths.PathFault.TheVariants.{NotAbsolute, EmptyPart, BadPart, TooDeep, TooLong}
-use Rattle.ovl_names.proofs.Ascending.{both, not_false}
+use Rattle.ovl_names.proofs.Ascending.{both}
 use Rattle.ovl_inode.specs.Sound.{is_sound_inode}
 use Rattle.ovl_manifest.specs.Layers.{Entry, Entries, is_directory_at, is_within_limits, entry_limit}
 use Rattle.ovl_manifest.specs.Versions.{depth_of, version_of}
@@ -82,70 +82,6 @@ within version text none =
     let shallow : nat_le (length (text_parts text)) depth_limit ≡ true =
     le-leb (length (text_parts text)) depth_limit (omega (arith, leb-true (length (text_parts text)) (depth_of version) (not_past (depth_of version) (length (text_parts text)) tests.1), depth-limited version)) in
     rw shallow short
-
--- ---- a path that is read by the limit of all versions, and that of one
-
-abbrev least_fault : Bool → Bool → Bool → Bool → Bool → Option PathFault
-least_fault a b c deep e = if not a then Some NotAbsolute else if b then Some EmptyPart else if c then Some BadPart else if deep then Some TooDeep else if e then Some TooLong else None
-
-still_none : (a b c d e deep : Bool) → least_fault a b c d e ≡ None → deep ≡ false → is_none (least_fault a b c deep e) ≡ true
-still_none a b c d e true none shallow = let bad : true ≡ false = shallow in cc
-still_none false b c d e false none shallow = let bad : Some NotAbsolute ≡ None = none in cc
-still_none true true c d e false none shallow = let bad : Some EmptyPart ≡ None = none in cc
-still_none true false true d e false none shallow = let bad : Some BadPart ≡ None = none in cc
-still_none true false false true e false none shallow = let bad : Some TooDeep ≡ None = none in cc
-still_none true false false false true false none shallow = let bad : Some TooLong ≡ None = none in cc
-still_none true false false false false false none shallow = refl
-
-too_deep : (a b c e deep : Bool) → deep ≡ true → is_none (least_fault a b c deep e) ≡ false
-too_deep a b c e false is = let bad : false ≡ true = is in cc
-too_deep false b c e true is = refl
-too_deep true true c e true is = refl
-too_deep true false true e true is = refl
-too_deep true false false e true is = refl
-
-still_some : (a b c d e deep : Bool) → is_none (least_fault a b c d e) ≡ false → (d ≡ true → deep ≡ true) → is_none (least_fault a b c deep e) ≡ false
-still_some false b c d e deep some deeper = refl
-still_some true true c d e deep some deeper = refl
-still_some true false true d e deep some deeper = refl
-still_some true false false true e deep some deeper = too_deep true false false e deep (deeper refl)
-still_some true false false false true true some deeper = refl
-still_some true false false false true false some deeper = refl
-still_some true false false false false deep some deeper = let bad : true ≡ false = some in cc
-
-module _ (version : Version) (text : List ℕ) where
-  abbrev a : Bool
-  a = starts_with nat_eq text (slash ∷ [])
-
-  abbrev b : Bool
-  b = list_any (λ part. length part == 0) (text_parts text)
-
-  abbrev c : Bool
-  c = list_any (λ part. is_some (name_fault part)) (text_parts text)
-
-  abbrev d : Bool
-  d = nat_lt depth_limit (length (text_parts text))
-
-  abbrev e : Bool
-  e = nat_lt text_limit (length text)
-
-  abbrev deep : Bool
-  deep = nat_lt (depth_of version) (length (text_parts text))
-
-  pub path-taken : path_fault depth_limit text ≡ None → length (text_parts text) ≤ depth_of version → path_of_text version text ≡ Some (text_parts text)
-  path-taken none shallow = ap (λ o. if o then Some (text_parts text) else None) (still_none a b c d e deep none few)
-    where
-      few : nat_lt (depth_of version) (length (text_parts text)) ≡ false
-      few = grind (arith, nat_tests)
-
-  pub path-deep : depth_of version < length (text_parts text) → path_of_text version text ≡ None
-  path-deep past = ap (λ o. if o then Some (text_parts text) else None) (too_deep a b c e deep (lt-ltb (depth_of version) (length (text_parts text)) past))
-
-  pub path-refused : (fault : PathFault) → path_fault depth_limit text ≡ Some fault → path_of_text version text ≡ None
-  path-refused fault is = ap (λ o. if o then Some (text_parts text) else None) (still_some a b c d e deep (ap is_none is) deeper)
-    where
-      deeper : nat_lt depth_limit (length (text_parts text)) ≡ true → nat_lt (depth_of version) (length (text_parts text)) ≡ true
-      deeper past = lt-ltb (depth_of version) (length (text_parts text)) (omega (arith, ltb-true depth_limit (length (text_parts text)) past, depth-limited version))
 
 -- ---- a stated entry is sound and keeps the limits
 
@@ -277,7 +213,7 @@ module _ (version : Version) (values : List Value) (k : ℕ) (value : Value) (in
 -- ---- the fields of a manifest
 
 version_read : (number_of : Data) (version : Version) (items : Items) → option_and_then version_of (option_and_then as_u64 (as_number number_of)) ≡ Some version → layer_of_fields (as_number number_of) (Some items) ≡ layer_of_entries (stated_entries version items)
-version_read (number (unsigned n)) version items is = rw is refl
+version_read (number (unsigned n)) version items is = ap (λ o. elim o as (λ _. Result Entries LayerFault) [ Some own ↦ layer_of_entries (stated_entries own items) | None ↦ Err WrongVersion ]) is
 version_read (number (negative n)) version items is = let bad : None ≡ Some version = is in cc
 version_read (number (float n)) version items is = let bad : None ≡ Some version = is in cc
 version_read null version items is = let bad : None ≡ Some version = is in cc

@@ -270,7 +270,10 @@ pub(crate) fn is_made_of(value: &Value, own: &[&str], common: &[&str]) -> bool
     let Some(members) = value.as_object() else {
         return false;
     };
-    members.len() == own.len() + common.len() && has_all(value, own) && has_all(value, common)
+    if members.len() != own.len() + common.len() {
+        return false;
+    }
+    has_all(value, own) && has_all(value, common)
 }
 
 // Whether the value has a member of each of these names.

@@ -1,0 +1,19 @@
+use Rattle.std.proofs.Common.{◌∙◌, List, ℕ, sym, ap, Bor, arith}
+use Rattle.std.specs.Prelude.{◌&&◌, is_some}
+use Rattle.std.specs.List.{list_all}
+use Rattle.serde_json.specs.View.{view}
+use Rattle.serde_json.specs.Find.{get}
+use Rattle.ovl_manifest.proofs.FieldLemmas.{has_exactly-counted}
+use Rattle.ovl_manifest.proofs.fields.is_made_of.Goals as goal
+
+pub returns-then-has_all : goal.returns-then-has_all
+returns-then-has_all c =
+    let counted = has_exactly-counted c.args.own.now c.args.common.now (view c.args.value.now) c.in-Some.members.now.entries c.in-Some.ensures (omega arith) in
+    c.has_all-then-has_all.ensures
+    ∙ sym (counted ∙ ap (λ b. b && list_all (λ (name : Bor (List ℕ)). is_some (get name.now (view c.args.value.now))) c.args.common.now) (sym c.has_all.ensures ∙ c.if-has_all.true))
+
+pub returns-else-has_all : goal.returns-else-has_all
+returns-else-has_all c =
+    let counted = has_exactly-counted c.args.own.now c.args.common.now (view c.args.value.now) c.in-Some.members.now.entries c.in-Some.ensures (omega arith) in
+    c.if-has_all.false
+    ∙ sym (counted ∙ ap (λ b. b && list_all (λ (name : Bor (List ℕ)). is_some (get name.now (view c.args.value.now))) c.args.common.now) (sym c.has_all.ensures ∙ c.if-has_all.false))
