@@ -10,9 +10,10 @@ use Rattle.ovl_board.specs.Walks.{IsWalk, Reached}
 use Rattle.ovl_board.specs.Parcels.{ParcelView, parcel_view, pieces_of}
 use Rattle.ovl_board.specs.Balance.{times, kids_in, IsBalanced, AllLawful, HasKid}
 use Rattle.ovl_board.specs.Assembly.{IsInOrder, bare}
-use Rattle.ovl_board.proofs.Members.{In, Every, Rises, In-cases, In-map, get_or-In, Rises-append, Rises-AllPairs, All-Every, Every-All, Contains-In}
-use Rattle.ovl_board.proofs.PieceOrder.{IsUnder, under_one, before_under, before_siblings}
-use Rattle.ovl_board.proofs.CountLemmas.{mark, times-cons, times-append, all_reached, all_there}
+use Rattle.ovl_board.proofs.LawsOfMembers.{In, Every, Rises, In-cases, In-map, get_or-In, Rises-append, Rises-AllPairs, All-Every, Every-All, Contains-In}
+use Rattle.ovl_board.proofs.LawsOfPieces.{IsUnder, under_one, before_under, before_siblings}
+use Rattle.ovl_board.proofs.LawsOfCounts.{mark, times-cons}
+use Rattle.ovl_board.proofs.CountLemmas.{times-append, all_reached, all_there}
 use Rattle.ovl_board.proofs.AssemblyLemmas.{IsWalk-moved}
 
 -- the piece that was open last has its parcel now, and the kids of that parcel are open

@@ -12,8 +12,9 @@ use Rattle.ovl_board.specs.Desks.{DeskView, empty_desk, is_free, push_first}
 use Rattle.ovl_board.specs.Parcels.{ParcelView, own_view, pieces_of}
 use Rattle.ovl_board.specs.Balance.{times, kids_in, IsBalanced}
 use Rattle.ovl_board.specs.Machine.{CoreState, start_desks, start_state, desk_of, with_desk, take_first, after_take, after_steal, after_push, work_piece, with_desks, after, after_all, desk_pieces, open_pieces, IsIdle, IsCoreState}
-use Rattle.ovl_board.proofs.Members.{In, Every, All-Every, Every-All, get_or-In}
-use Rattle.ovl_board.proofs.CountLemmas.{mark, times-cons, times-append}
+use Rattle.ovl_board.proofs.LawsOfMembers.{In, Every, All-Every, Every-All, get_or-In}
+use Rattle.ovl_board.proofs.LawsOfCounts.{mark, times-cons}
+use Rattle.ovl_board.proofs.CountLemmas.{times-append}
 
 -- a full hand stands beside an empty outbox
 abbrev pub IsFree : DeskView → Type 0

@@ -14,7 +14,7 @@ use Rattle.ovl_lookup.specs.Stacks.{all_layers}
 use Rattle.ovl_names.specs.Paths.{PathNames}
 use Rattle.ovl_board.specs.declared.works.Parcel.{Parcel}
 use Rattle.ovl_board.specs.Parcels.{parcel_view, parcel_views}
-use Rattle.ovl_board.proofs.Members.{In, In-left, In-right, In-cases}
+use Rattle.ovl_board.proofs.LawsOfMembers.{In, In-left, In-right, In-cases}
 use Rattle.ovl_check.specs.declared.findings.Finding.{Finding}
 use Rattle.ovl_check.specs.declared.findings.Code.TheVariants.{RedirectDouble}
 use Rattle.ovl_check.specs.declared.subjects.CheckOut.{CheckOut}

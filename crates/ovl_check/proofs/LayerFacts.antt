@@ -14,8 +14,8 @@ use Rattle.ovl_lookup.proofs.LawsOfWalks.{directory-limited}
 use Rattle.ovl_lookup.proofs.LawsOfPaths.{all-first, all-rest}
 use Rattle.ovl_board.specs.declared.pieces.Piece.{Piece}
 use Rattle.ovl_board.specs.Pieces.{IsBefore, IsOneBelow, HasLawfulKids}
-use Rattle.ovl_board.proofs.PieceOrder.{siblings, fork_before}
-use Rattle.ovl_board.proofs.Members.{In, Rises, All-Every, AllPairs-Rises, In-map-cases, In-filter-cases, Rises-filter}
+use Rattle.ovl_board.proofs.LawsOfPieces.{siblings, fork_before}
+use Rattle.ovl_board.proofs.LawsOfMembers.{In, Rises, All-Every, AllPairs-Rises, In-map-cases, In-filter-cases, Rises-filter}
 use Rattle.ovl_check.specs.Checks.{CheckView, layer_at, directory_piece, check_kids}
 use Rattle.ovl_check.proofs.Ascent.{Rises-ascends}
 

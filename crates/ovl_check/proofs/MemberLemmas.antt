@@ -27,9 +27,8 @@ use Rattle.ovl_board.specs.declared.pieces.Piece.{Piece}
 use Rattle.ovl_board.specs.Pieces.{IsBefore}
 use Rattle.ovl_board.specs.Walks.{Reached, start, next, ToKid}
 use Rattle.ovl_board.specs.Parcels.{IsPlain, pieces_of, own_view}
-use Rattle.ovl_board.proofs.PieceOrder.{path_eq_decides, snoc_view}
-use Rattle.ovl_board.proofs.CountLemmas.{piece_eq}
-use Rattle.ovl_board.proofs.Members.{In, Rises, In-left, In-right, In-cases, In-map, In-map-cases, In-flat_map, In-flat_map-cases, In-Contains, Contains-In, Every-All, Rises-AllPairs, In-filter-cases}
+use Rattle.ovl_board.proofs.LawsOfPieces.{path_eq_decides, snoc_view, piece_eq}
+use Rattle.ovl_board.proofs.LawsOfMembers.{In, Rises, In-left, In-right, In-cases, In-map, In-map-cases, In-flat_map, In-flat_map-cases, In-Contains, Contains-In, Every-All, Rises-AllPairs, In-filter-cases}
 use Rattle.ovl_check.specs.declared.findings.Finding.{Finding}
 use Rattle.ovl_check.specs.declared.findings.Code.{Code}
 use Rattle.ovl_check.specs.declared.findings.Code.TheVariants.{RedirectDouble}

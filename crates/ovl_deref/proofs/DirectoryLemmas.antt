@@ -20,8 +20,8 @@ use Rattle.ovl_lookup.specs.Words.{over, top_layer, lower_layers}
 use Rattle.ovl_lookup.proofs.LawsOfWalks.{entry-limited, names_below-has, directory_found}
 use Rattle.ovl_lookup.proofs.LawsOfKids.{kids-ascend, kids-same}
 use Rattle.ovl_lookup.proofs.LawsOfLooks.{ShowsWithinDepth-holds, top-over, top-layer, lower-layers}
-use Rattle.ovl_board.proofs.Members.{In, Rises}
-use Rattle.ovl_board.proofs.PieceOrder.{siblings}
+use Rattle.ovl_board.proofs.LawsOfMembers.{In, Rises}
+use Rattle.ovl_board.proofs.LawsOfPieces.{siblings}
 use Rattle.ovl_rewrite.specs.NewLayers.{IsTold}
 use Rattle.ovl_rewrite.proofs.Ascents.{NameBefore, rising-ascend}
 use Rattle.ovl_deref.specs.Deref.{is_in_moved, inode_shown, dereferenced_inode}

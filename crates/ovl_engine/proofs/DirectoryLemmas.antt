@@ -21,8 +21,8 @@ use Rattle.ovl_lookup.proofs.LawsOfKids.{kids-ascend, kids-same, are-kids, kids-
 use Rattle.ovl_lookup.proofs.LawsOfLooks.{shows-limited}
 use Rattle.ovl_board.specs.declared.pieces.Piece.{Piece}
 use Rattle.ovl_board.specs.Pieces.{IsBefore, IsOneBelow, HasLawfulKids}
-use Rattle.ovl_board.proofs.Members.{In, Rises, All-Every, AllPairs-Rises}
-use Rattle.ovl_board.proofs.PieceOrder.{fork_before}
+use Rattle.ovl_board.proofs.LawsOfMembers.{In, Rises, All-Every, AllPairs-Rises}
+use Rattle.ovl_board.proofs.LawsOfPieces.{fork_before}
 use Rattle.ovl_engine.specs.Directories.{HasAllNames, NamedLook, named_look, looks_in, piece_in, show_kids, show_depth}
 
 -- ---- directories without names

@@ -13,8 +13,7 @@ use Rattle.ovl_lookup.proofs.LawsOfKids.{is-merged, shows-root}
 use Rattle.ovl_board.specs.declared.pieces.Piece.{Piece}
 use Rattle.ovl_board.specs.Walks.{preorder}
 use Rattle.ovl_board.specs.Parcels.{ParcelView, own_view}
-use Rattle.ovl_board.proofs.WalkLemmas.{IsPlain-from_preorder}
-use Rattle.ovl_board.proofs.LawLemmas.{HasReachedPieces-holds}
+use Rattle.ovl_board.proofs.LawsOfWalks.{IsPlain-from_preorder, HasReachedPieces-holds}
 use Rattle.ovl_engine.specs.Directories.{NamedLook, show_kids, show_out, show_root, IsShowWalk}
 use Rattle.ovl_engine.proofs.DirectoryLemmas.{kids_lawful}
 

@@ -12,8 +12,7 @@ use Rattle.ovl_manifest.specs.Builders.{pair_after}
 use Rattle.ovl_manifest.proofs.BackLemmas.{pairs-back}
 use Rattle.ovl_manifest.proofs.BuilderLemmas.{pair-taken}
 use Rattle.ovl_board.specs.Parcels.{IsPlain}
-use Rattle.ovl_board.proofs.WalkLemmas.{IsPlain-from_preorder}
-use Rattle.ovl_board.proofs.LawLemmas.{HasReachedPieces-holds}
+use Rattle.ovl_board.proofs.LawsOfWalks.{IsPlain-from_preorder, HasReachedPieces-holds}
 use Rattle.ovl_rewrite.specs.Passes.{Tree, IsTree, tree_kids, tree_out, entries_under, View, views_under, WalksUnder, StopsUnder}
 use Rattle.ovl_rewrite.specs.NewLayers.{NewLayer, IsOf, IsToldBy, tree_by, root_piece}
 use Rattle.ovl_rewrite.proofs.TreeLemmas.{told-ascend, told-of, is-tree}

@@ -11,8 +11,8 @@ use Rattle.ovl_manifest.specs.Layers.{Entries, IsLayer}
 use Rattle.ovl_board.specs.declared.pieces.Piece.{Piece}
 use Rattle.ovl_board.specs.Walks.{preorder}
 use Rattle.ovl_board.specs.Parcels.{own_view}
-use Rattle.ovl_board.proofs.Members.{get_or-In, Contains-In, In}
-use Rattle.ovl_board.proofs.WalkLemmas.{preorder_step}
+use Rattle.ovl_board.proofs.LawsOfMembers.{get_or-In, Contains-In, In}
+use Rattle.ovl_board.proofs.LawsOfWalks.{preorder_step}
 use Rattle.ovl_rewrite.specs.Directories.{NamedInode, piece_in, directories_among}
 use Rattle.ovl_rewrite.specs.Passes.{Tree, IsTree, tree_kids, tree_out, entries_under, View, views_under, WalksUnder, StopsUnder}
 

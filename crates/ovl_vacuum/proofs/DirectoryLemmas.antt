@@ -18,10 +18,9 @@ use Rattle.ovl_lookup.proofs.LawsOfPaths.{filter-all}
 use Rattle.ovl_board.specs.declared.pieces.Piece.{Piece}
 use Rattle.ovl_board.specs.Pieces.{IsBefore, IsOneBelow, HasLawfulKids}
 use Rattle.ovl_board.specs.Walks.{Reached, start, next, IsWalk, ToKid, preorder}
-use Rattle.ovl_board.proofs.Members.{In, Every, Rises, All-Every, Every-All, AllPairs-Rises, Rises-AllPairs, Contains-In, In-Contains, In-map, In-map-cases, In-filter-cases, Rises-filter, rising_same}
-use Rattle.ovl_board.proofs.PieceOrder.{siblings, fork_before, before_trans}
-use Rattle.ovl_board.proofs.CountLemmas.{less_differs, piece_eq}
-use Rattle.ovl_board.proofs.WalkLemmas.{IsWalk-preorder}
+use Rattle.ovl_board.proofs.LawsOfMembers.{In, Every, Rises, All-Every, Every-All, AllPairs-Rises, Rises-AllPairs, Contains-In, In-Contains, In-map, In-map-cases, In-filter-cases, Rises-filter, rising_same}
+use Rattle.ovl_board.proofs.LawsOfPieces.{siblings, fork_before, before_trans, less_differs, piece_eq}
+use Rattle.ovl_board.proofs.LawsOfWalks.{IsWalk-preorder}
 use Rattle.ovl_vacuum.specs.Directories.{piece_in, vacuum_root}
 use Rattle.ovl_vacuum.specs.Passes.{paths_under}
 

@@ -16,7 +16,7 @@ use Rattle.ovl_lookup.specs.Stacks.{StackView}
 use Rattle.ovl_lookup.proofs.LawsOfPaths.{own-first, own-later}
 use Rattle.ovl_board.specs.declared.works.Parcel.{Parcel}
 use Rattle.ovl_board.specs.Parcels.{parcel_view, parcel_views}
-use Rattle.ovl_board.proofs.Members.{In, Every, Every-All, In-right}
+use Rattle.ovl_board.proofs.LawsOfMembers.{In, Every, Every-All, In-right}
 use Rattle.ovl_vacuum.specs.Vacuum.{is_idle, vacuumed_layer, removed_paths}
 use Rattle.ovl_lookup.specs.Words.{top_layer, lower_layers}
 use Rattle.ovl_vacuum.specs.Directories.{IdleName, names_seen, is_idle_at, vacuum_root, IsVacuumWalk}

@@ -1,15 +1,18 @@
--- The order of pieces: a piece comes before what lies under it, and what lies under two ordered siblings is ordered.
-use Rattle.std.proofs.Common.{◌≡◌, ◌⊎◌, inl, inr, ◌+◌, List, [], ◌∷◌, ◌++◌, length, refl, ap, ◌∙◌, arith, true, Some, append_assoc, length-append}
-use Rattle.std.specs.Ordering.{nat_cmp, ordering_then, partial_ordering_then, is_some_and, is_ge}
+-- Laws of the order of pieces.
+use Rattle.std.proofs.Common.{◌≡◌, ◌⊎◌, inl, inr, ◌+◌, List, [], ◌∷◌, ◌++◌, length, refl, ap, ◌∙◌, arith, true, Some, append_assoc, length-append, ℕ, ◌-◌, ◌<◌, ◌≤◌, false, sym, get_or, IsSorted}
+use Rattle.std.specs.Ordering.{nat_cmp, ordering_then, partial_ordering_then, is_some_and, is_ge, is_lt}
 use Rattle.std.specs.declared.cmp.Ordering.{Ordering}
 use Rattle.std.specs.declared.cmp.Ordering.TheVariants.{Less, Equal, Greater}
-use Rattle.std.specs.Cmp.{IsTotalOrder, then_total, on_total}
+use Rattle.std.specs.Cmp.{IsTotalOrder, then_total, on_total, IsStrictWeakOrder}
 use Rattle.std.specs.Cmp.Lexicographic.{slice_cmp, nat_list_cmp_total, lists_total, pointwise_decides, bytes_decides}
 use Rattle.std.proofs.lemmas.Cmp.{tied_itself, nat_cmp_total}
+use Rattle.std.specs.FinMap.{slice_cmp-IsAntisymmetric, nat_cmp-IsAntisymmetric}
+use Rattle.std.proofs.lemmas.List.Sorted.{ranks_by, sorted_far}
 use Rattle.ovl_names.specs.Names.{PathName, name_cmp}
 use Rattle.ovl_names.specs.Paths.{PathNames, path_eq, path_cmp}
 use Rattle.ovl_board.specs.declared.pieces.Piece.{Piece}
 use Rattle.ovl_board.specs.Pieces.{piece_cmp, IsBefore, IsOneBelow}
+use Rattle.ovl_board.proofs.LawsOfMembers.{Rises, Rises-AllPairs}
 
 module _ {K : Type 0} (R : K → K → Ordering) (o : IsTotalOrder R) where
   pub prefix_before : (d : List K) (n : K) (rest : List K) → slice_cmp R d (d ++ n ∷ rest) ≡ Less
@@ -86,3 +89,49 @@ snoc_same [] [] m n h = refl
 snoc_same [] (y ∷ e) m n h = absurd (omega (arith, ap length h, length-append e (n ∷ [])))
 snoc_same (x ∷ d) [] m n h = absurd (omega (arith, ap length h, length-append d (m ∷ [])))
 snoc_same (x ∷ d) (y ∷ e) m n h = let t : d ++ m ∷ [] ≡ e ++ n ∷ [] = cc in let a = snoc_same d e m n t in cc
+
+pub same_itself : (p : Piece) → piece_cmp p p ≡ Equal
+same_itself p = rw (tied_itself nat_cmp_total p.space) (tied_itself (lists_total nat_list_cmp_total) p.dir)
+
+then_equal : (r s : Ordering) → ordering_then r s ≡ Equal → (r ≡ Equal) × (s ≡ Equal)
+then_equal Less s e = absurd (cc)
+then_equal Equal s e = (refl, e)
+then_equal Greater s e = absurd (cc)
+
+abbrev pub piece_at : ℕ → PathNames → Piece
+piece_at s d = record { space = s; dir = d }
+
+pub piece_eq : (p q : Piece) → p.space ≡ q.space → p.dir ≡ q.dir → p ≡ q
+piece_eq p q a b = ap (λ x. piece_at x p.dir) a ∙ ap (piece_at q.space) b
+
+pub same_piece : (p q : Piece) → piece_cmp p q ≡ Equal → p ≡ q
+same_piece p q h =
+    let b = then_equal (nat_cmp p.space q.space) (path_cmp p.dir q.dir) h in
+    piece_eq p q (nat_cmp-IsAntisymmetric p.space q.space b.0) (slice_cmp-IsAntisymmetric (slice_cmp-IsAntisymmetric nat_cmp-IsAntisymmetric) p.dir q.dir b.1)
+
+pub less_differs : (p q : Piece) → IsBefore p q → p ≡ q → ⊥
+less_differs p q lt e = let c : Less ≡ Equal = sym lt ∙ ap (piece_cmp p) (sym e) ∙ same_itself p in absurd (cc)
+
+-- p doesn't come after q
+abbrev pub IsAtMost : Piece → Piece → Type 0
+IsAtMost p q = IsBefore q p → ⊥
+
+not_less : (r : Ordering) → is_lt r ≡ false → r ≡ Less → ⊥
+not_less r e l = let no : true ≡ false = ap is_lt (sym l) ∙ e in absurd (cc)
+
+weak_order : IsStrictWeakOrder (λ p q. is_lt (piece_cmp p q))
+weak_order = ranks_by piece_cmp_total (λ (p : Piece). p)
+
+pub at_most : (ps : List Piece) → IsSorted piece_cmp ps → (i j : ℕ) (d : Piece) → i ≤ j → j < length ps → IsAtMost (get_or ps i d) (get_or ps j d)
+at_most ps up i j d le h = not_less (piece_cmp (get_or ps j d) (get_or ps i d)) (sorted_far (λ p q. is_lt (piece_cmp p q)) weak_order ps up i j d le h)
+
+pub Rises-sorted : (ps : List Piece) → IsSorted piece_cmp ps → Rises IsAtMost ps
+Rises-sorted ps up = Rises-AllPairs IsAtMost ps (λ i j d lt h. at_most ps up i j d (omega arith) h)
+
+pub before_unless_same : (p q : Piece) → IsAtMost p q → (p ≡ q → ⊥) → IsBefore p q
+before_unless_same p q le ne = by (piece_cmp p q) refl
+  where
+    by : (r : Ordering) → piece_cmp p q ≡ r → piece_cmp p q ≡ Less
+    by Less e = e
+    by Equal e = absurd (ne (same_piece p q e))
+    by Greater e = absurd (le (rw e at (piece_cmp_total.antisymm q p)))

@@ -1,4 +1,4 @@
--- Members of lists, by recursion, and the words of std in terms of them.
+-- Laws of what is in a list, and of lists that rise.
 use Rattle.std.proofs.Common.{◌≡◌, ℕ, zero, suc, ◌+◌, ◌<◌, ◌⊎◌, inl, inr, Bool, true, false, cond, List, [], ◌∷◌, ◌++◌, length, get_or, map, filter, refl, sym, ap, ◌∙◌, subst, arith, All, Contains, AllPairs}
 use Rattle.std.specs.List.{flat_map, AllAdjacentBelow}
 
