@@ -1,5 +1,5 @@
 -- Objects of exactly some members.
-use Rattle.std.proofs.Common.{◌≡◌, ◌∙◌, ℕ, ◌+◌, List, [], ◌∷◌, ◌++◌, Bool, sym, ap, refl, Some, None, length, length-append, nat_eq, Bor, map, eq-eqb, arith}
+use Rattle.std.proofs.Common.{◌≡◌, ◌∙◌, ℕ, ◌+◌, List, [], ◌∷◌, ◌++◌, Bool, false, sym, ap, refl, Some, None, length, length-append, nat_eq, Bor, map, eq-eqb, arith}
 use Rattle.std.specs.Prelude.{◌&&◌, is_some, unwrap_or, String}
 use Rattle.std.specs.declared.alloc.Global.{Global}
 use Rattle.std.specs.List.{list_all}
@@ -42,6 +42,9 @@ module _ (own common : List (Bor (List ℕ))) (d : Data) (entries : List (String
 
   pub has_exactly-counted : length entries ≡ length own + length common → has_exactly names d ≡ (list_all (λ name. is_some (get name.now d)) own && list_all (λ name. is_some (get name.now d)) common)
   has_exactly-counted same = λ j. (counts ∙ eq-eqb (length entries) (length own + length common) same) j && all j
+
+  pub has_exactly-miscounted : nat_eq (length entries) (length own + length common) ≡ false → has_exactly names d ≡ false
+  has_exactly-miscounted other = ap (λ b. b && list_all is_there names) (counts ∙ other)
 
 -- a member whose attribute can be put, and one that states none
 pub attributes_after-put : (attrs more : Attributes) (name : List ℕ) (value : Data) (others : Members) → attribute_after attrs name value ≡ Some more → attributes_after attrs (member name value others) ≡ attributes_after more others

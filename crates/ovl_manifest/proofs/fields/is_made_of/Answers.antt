@@ -1,10 +1,16 @@
-use Rattle.std.proofs.Common.{◌∙◌, List, ℕ, sym, ap, Bor, arith}
+use Rattle.std.proofs.Common.{◌≡◌, ◌∙◌, ◌+◌, List, ℕ, false, sym, ap, length, nat_eq, Bor, arith}
 use Rattle.std.specs.Prelude.{◌&&◌, is_some}
 use Rattle.std.specs.List.{list_all}
+use Rattle.std.proofs.lemmas.Bool.Decides.{nat_tests}
 use Rattle.serde_json.specs.View.{view}
 use Rattle.serde_json.specs.Find.{get}
-use Rattle.ovl_manifest.proofs.FieldLemmas.{has_exactly-counted}
+use Rattle.ovl_manifest.proofs.FieldLemmas.{has_exactly-counted, has_exactly-miscounted}
 use Rattle.ovl_manifest.proofs.fields.is_made_of.Goals as goal
+
+pub returns-then-len-own : goal.returns-then-len-own
+returns-then-len-own c =
+    let other : nat_eq (length c.in-Some.members.now.entries) (length c.args.own.now + length c.args.common.now) ≡ false = grind (arith, nat_tests) in
+    sym (has_exactly-miscounted c.args.own.now c.args.common.now (view c.args.value.now) c.in-Some.members.now.entries c.in-Some.ensures other)
 
 pub returns-then-has_all : goal.returns-then-has_all
 returns-then-has_all c =
