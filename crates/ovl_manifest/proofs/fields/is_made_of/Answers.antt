@@ -9,8 +9,9 @@ use Rattle.ovl_manifest.proofs.fields.is_made_of.Goals as goal
 
 pub returns-then-len-own : goal.returns-then-len-own
 returns-then-len-own c =
-    let other : nat_eq (length c.in-Some.members.now.entries) (length c.args.own.now + length c.args.common.now) ≡ false = grind (arith, nat_tests) in
-    sym (has_exactly-miscounted c.args.own.now c.args.common.now (view c.args.value.now) c.in-Some.members.now.entries c.in-Some.ensures other)
+    let count : ℕ = length c.args.own.now + length c.args.common.now in
+    let other : nat_eq c.len.result count ≡ false = grind (arith, nat_tests) in
+    sym (has_exactly-miscounted c.args.own.now c.args.common.now (view c.args.value.now) c.in-Some.members.now.entries c.in-Some.ensures (ap (λ n. nat_eq n count) (sym c.len.ensures.len) ∙ other))
 
 pub returns-then-has_all : goal.returns-then-has_all
 returns-then-has_all c =
