@@ -7,7 +7,7 @@ use Rattle.std.specs.Ordering.{is_lt}
 use Rattle.std.specs.Cmp.Lexicographic.{nat_list_cmp_total, bytes_decides}
 use Rattle.ovl_names.specs.Names.{PathName, name_eq, name_cmp}
 use Rattle.ovl_names.specs.Order.{ascends}
-use Rattle.ovl_names.specs.Paths.{PathNames, child_path, path_cmp}
+use Rattle.ovl_names.specs.Paths.{PathNames, child_path, path_cmp, depth_limit}
 use Rattle.ovl_names.proofs.Ascending.{both, is_lt-Less}
 use Rattle.ovl_inode.specs.declared.inodes.Inode.{Inode}
 use Rattle.ovl_manifest.specs.Layers.{Entries, Entry, entry_at, entry_cmp, name_below, names_below, IsLayer}
@@ -144,7 +144,7 @@ module _ (stack : StackView) (each : All IsLayer stack.layers) (some : 0 < lengt
           own : (found : Option Inode) → entry_at (top_layer stack) path ≡ found → length path ≤ deref_depth stack
           own None e =
               let bad : None ≡ Some inode = sym (outside (top_layer stack) (lower_layers stack) top_is lower_are path free ∙ ap (option_map (dereferenced_inode (top_layer stack) (lower_layers stack) path)) e) ∙ here in cc
-          own (Some i) e = let own_bound : length path ≤ 64 = entry-limited (top_layer stack) path i top_is e in omega (arith, own_bound, some)
+          own (Some i) e = let own_bound : length path ≤ depth_limit = entry-limited (top_layer stack) path i top_is e in omega (arith, own_bound, some)
 
   directory-limited : (path : PathNames) → directory_found (new_at stack path) ≡ true → length path ≤ deref_depth stack
   directory-limited path = by (new_at stack path) refl

@@ -100,7 +100,8 @@ impl Path {
         })
     }
 
-    /// The path that a text spells: `/`, or names of at most 64 with `/` before each, in at most 4,095 bytes.
+    /// The path that a text spells: `/`, or at most [`DEPTH_LIMIT`] names with `/` before each, in at most
+    /// [`TEXT_LIMIT`] bytes.
     /// Otherwise the first fault in the order of [`PathFault`], each looked for in the whole text before the next.
     pub fn parse(alloc: Global, text: &str) -> Result<Path, PathFault>
         ensures { MatchResult result
