@@ -32,8 +32,8 @@ use Rattle.ovl_lookup.proofs.LookLaws.{data-regular}
 use Rattle.ovl_lookup.proofs.AttributeLaws.{attribute-with}
 use Rattle.ovl_lookup.proofs.StatedLaws.{found-all, data-all, data-kind, sound-with, sound-kind, sound-visible, sound-attributes, unescaped-filter, shown-named}
 use Rattle.ovl_rewrite.proofs.InodeLemmas.{opaque_named, unescaped-with, directory-flag}
-use Rattle.ovl_merge.specs.Places.{Merge, whole, two_layers, lower_path, first_hit, passes, shows_own_directory, is_hidden, reach, gets_opaque, natural, base, child_of, shows_at}
-use Rattle.ovl_merge.specs.MergeDown.{with_value, last_name, with_contents, merged_directory, merged_metacopy, unreached_metacopy, kept_place, merged_inode, merged_entry, merged_entry_of, needs_whiteout, new_whiteout, IsMergedDown}
+use Rattle.ovl_merge.specs.Places.{Merge, whole, two_layers, lower_path, first_hit, passes, shows_own_directory, is_hidden, reach, gets_opaque, natural, base, child_of, shows_at, last_name}
+use Rattle.ovl_merge.specs.MergeDown.{with_value, with_contents, merged_directory, merged_metacopy, unreached_metacopy, kept_place, merged_inode, merged_entry, merged_entry_of, needs_whiteout, new_whiteout, IsMergedDown}
 use Rattle.ovl_merge.specs.Laws.{MergeGivesLayer}
 use Rattle.ovl_lookup.proofs.NameParts.{name_facts}
 use Rattle.ovl_merge.proofs.ByteLemmas.{utf8-bytes}
