@@ -27,8 +27,8 @@ use Rattle.ovl_lookup.proofs.LawsOfFound.{shown_of-contents, any_found, data-reg
 use Rattle.ovl_lookup.proofs.LawsOfLooks.{shows-found, shown-named}
 use Rattle.ovl_lookup.proofs.LawsOfWalks.{directory-parent_of, directory_found}
 use Rattle.ovl_rewrite.proofs.InodeLemmas.{opaque_named, unescaped-with, directory-flag}
-use Rattle.ovl_merge.specs.Places.{Merge, whole, two_layers, lower_path, first_hit, passes, shows_own_directory, is_hidden, reach, gets_opaque, natural, base, child_of, shows_at}
-use Rattle.ovl_merge.specs.MergeDown.{with_value, last_name, with_contents, merged_directory, merged_metacopy, unreached_metacopy, kept_place, merged_inode, merged_entry, merged_entry_of, needs_whiteout, new_whiteout, IsMergedDown}
+use Rattle.ovl_merge.specs.Places.{Merge, whole, two_layers, lower_path, first_hit, passes, shows_own_directory, is_hidden, reach, gets_opaque, natural, base, child_of, shows_at, last_name}
+use Rattle.ovl_merge.specs.MergeDown.{with_value, with_contents, merged_directory, merged_metacopy, unreached_metacopy, kept_place, merged_inode, merged_entry, merged_entry_of, needs_whiteout, new_whiteout, IsMergedDown}
 use Rattle.ovl_merge.specs.Laws.{MergeGivesLayer}
 use Rattle.ovl_lookup.proofs.LawsOfNames.{name_facts, walk-named}
 use Rattle.ovl_merge.proofs.ByteLemmas.{utf8-bytes}
