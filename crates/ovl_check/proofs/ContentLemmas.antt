@@ -16,7 +16,7 @@ use Rattle.ovl_check.specs.Codes.{all_codes, is_blob_fault}
 use Rattle.ovl_check.specs.Blobs.{BlobView, is_wrong}
 use Rattle.ovl_check.specs.Conditions.{find_blob, has_blob, names_blob, blob_is_missing, blob_is_of_other_size, blob_is_wrong, holds}
 use Rattle.ovl_check.specs.Findings.{finding, any_code, findings_at, findings_in, data_findings_from, findings_from}
-use Rattle.ovl_check.specs.Contents.{content_of, contents_of, find_content, has_content, names_content, holds_of_contents, findings_of_contents_at, findings_of_contents_in, data_findings_of_contents_from, findings_of_contents_from, content_is_missing, names_content, TellsOfNamed, TellsOfLayers}
+use Rattle.ovl_check.specs.Contents.{content_of, contents_of, find_content, has_content, names_content, holds_of_contents, findings_of_contents_at, findings_of_contents_in, data_findings_of_contents_from, findings_of_contents_from, content_is_missing, TellsOfNamed, TellsOfLayers}
 use Rattle.ovl_check.specs.Laws.{FindingsNeedContents, FindingsNeedNamed}
 
 -- ---- lists

@@ -2,7 +2,7 @@
 use Rattle.std.proofs.Common.{◌≡◌, ℕ, true, List, length}
 use Rattle.std.specs.Prelude.{◌==◌, ◌&&◌, ◌||◌, filter, AllPairs, All}
 use Rattle.std.specs.List.{AllAdjacentBelow, list_any}
-use Rattle.ovl_board.proofs.Members.{In, Rises, All-Every, AllPairs-Rises, In-map, In-map-cases, In-flat_map, In-flat_map-cases, Contains-In, Rises-from_adjacent, In-filter-cases, Rises-filter}
+use Rattle.ovl_board.proofs.LawsOfMembers.{In, Rises, All-Every, AllPairs-Rises, In-map, In-map-cases, In-flat_map, In-flat_map-cases, Contains-In, Rises-from_adjacent, In-filter-cases, Rises-filter}
 use Rattle.std.specs.Cmp.Lexicographic.{nat_list_cmp_total}
 use Rattle.std.specs.declared.cmp.Ordering.TheVariants.{Less}
 use Rattle.ovl_check.specs.declared.contents.Content.{Content}

@@ -8,4 +8,4 @@ pub returns-in_err-parcels-clause-fault : goal.returns-in_err-parcels-clause-fau
 returns-in_err-parcels-clause-fault g c =
     let out = err_from_is_err_and c.from_residual.result c.from_residual.ensures.1 in
     let refused = MayRefuseOwn Deref c.args.stack.now (g.G.Gate.may_refuse c.args.team.now.gate.now) in
-    rw (out.1, out.2) (λ found clean. unwalked refused Deref c.args.stack.now found c.in_err-parcels.field-0.0 (rw (c.new-work.ensures) at c.in_err-parcels.ensures))
+    rw (out.1, out.2) (λ found clean. unwalked refused Deref c.args.stack.now found c.in_err-parcels.field-0.0 (rw (c.new-work.ensures.value) at c.in_err-parcels.ensures))
