@@ -47,10 +47,11 @@ pub(crate) fn deref<G: Gate + Sync, R: Threads + Wait + Sync>(
     expect_clean(team.alloc, found)?;
     let layer = dereferenced(team, &stack)?;
     let_go(team.rt, team.alloc, stack, team.workers);
+    let alloc = team.alloc;
     let report = || -> Result<Vec<u8>, AllocError>
         ensures told { IfOk result (λ report. report.items ≡ layer_report layer) }
         ensures layer { OnOk result (IsLayer layer) }
-    { layer_report_of(team.alloc, &layer) };
+    { layer_report_of(alloc, &layer) };
     Ok(rewritten(team.rt, team.alloc, team.workers, report, &[&layer])?)
 }
 

@@ -46,10 +46,11 @@ pub(crate) fn merge<G: Gate + Sync, R: Threads + Wait + Sync>(
     let done = merged(team, &stack)?;
     let_go(team.rt, team.alloc, stack, team.workers);
     let MergeDone { top, lower } = done;
+    let alloc = team.alloc;
     let report = || -> Result<Vec<u8>, AllocError>
         ensures told { IfOk result (λ report. report.items ≡ layer_report lower) }
         ensures layer { OnOk result (IsLayer lower) }
-    { layer_report_of(team.alloc, &lower) };
+    { layer_report_of(alloc, &lower) };
     Ok(rewritten(team.rt, team.alloc, team.workers, report, &[&top, &lower])?)
 }
 

@@ -44,9 +44,10 @@ pub(crate) fn vacuum<G: Gate + Sync, R: Threads + Wait + Sync>(
     let_go(team.rt, team.alloc, stack, team.workers);
     let VacuumDone { layer, removed } = done;
     let kept = entry_count(&layer)?;
+    let alloc = team.alloc;
     let report = || -> Result<Vec<u8>, AllocError>
         ensures { IfOk result (λ report. report.items ≡ vacuum_report removed.items kept) }
-    { vacuum_report_of(team.alloc, &removed, kept) };
+    { vacuum_report_of(alloc, &removed, kept) };
     Ok(rewritten(team.rt, team.alloc, team.workers, report, &[&layer])?)
 }
 
