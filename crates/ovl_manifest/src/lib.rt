@@ -1,4 +1,4 @@
-//! Layers as trees of sorted children, seen as finite maps from paths to inodes, and the manifests that state them.
+//! Layers as trees and as tables, seen as finite maps from paths to inodes, and their manifests.
 #![tactic(auto)]
 
 mod builders;
