@@ -5,7 +5,8 @@ use Rattle.std.specs.Option.{option_map}
 use Rattle.std.specs.List.{list_any}
 use Rattle.ovl_names.specs.Names.{PathName, name_eq, name_cmp}
 use Rattle.ovl_names.specs.Order.{ascends}
-use Rattle.ovl_names.specs.Paths.{PathNames, child_path}
+use Rattle.ovl_names.specs.Paths.{PathNames, child_path, path_cmp, depth_limit}
+use Rattle.ovl_names.proofs.Ascending.{both, is_lt-Less}
 use Rattle.ovl_inode.specs.declared.inodes.Inode.{Inode}
 use Rattle.ovl_manifest.specs.Layers.{entry_at, names_below, IsLayer}
 use Rattle.ovl_lookup.specs.declared.looks.Look.{Look}
@@ -14,13 +15,13 @@ use Rattle.ovl_lookup.specs.Stacks.{StackView}
 use Rattle.ovl_lookup.specs.Passes.{kids_along}
 use Rattle.ovl_lookup.specs.Merged.{look, is_nothing}
 use Rattle.ovl_lookup.specs.Words.{over, top_layer, lower_layers}
-use Rattle.ovl_lookup.proofs.ChildLemmas.{entry-limited, names_below-has}
-use Rattle.ovl_lookup.proofs.KidLemmas.{kids-ascend, kids-same}
-use Rattle.ovl_lookup.proofs.KidNames.{kid-names-ascend}
-use Rattle.ovl_lookup.proofs.LawLemmas.{ShowsWithinDepth-holds}
-use Rattle.ovl_lookup.proofs.TopLaws.{top-over, top-layer, lower-layers}
-use Rattle.ovl_lookup.proofs.WalkLaws.{directory_found}
+use Rattle.ovl_lookup.proofs.LawsOfWalks.{entry-limited, names_below-has, directory_found}
+use Rattle.ovl_lookup.proofs.LawsOfKids.{kids-ascend, kids-same, kid-names-ascend}
+use Rattle.ovl_lookup.proofs.LawsOfLooks.{ShowsWithinDepth-holds, top-over, top-layer, lower-layers}
+use Rattle.ovl_board.proofs.LawsOfMembers.{In, Rises}
+use Rattle.ovl_board.proofs.LawsOfPieces.{siblings}
 use Rattle.ovl_rewrite.specs.NewLayers.{IsTold, TellsLayer}
+use Rattle.ovl_rewrite.proofs.Ascents.{NameBefore, rising-ascend}
 use Rattle.ovl_rewrite.proofs.DirectoryLemmas.{layer-told}
 use Rattle.ovl_deref.specs.Deref.{is_in_moved, inode_shown, dereferenced_inode}
 use Rattle.ovl_deref.specs.Directories.{is_at_moved, new_at, names_in, deref_kids, deref_out, deref_depth}
@@ -96,7 +97,7 @@ module _ (stack : StackView) (each : All IsLayer stack.layers) (some : 0 < lengt
           own : (found : Option Inode) → entry_at (top_layer stack) path ≡ found → length path ≤ deref_depth stack
           own None e =
               let bad : None ≡ Some inode = sym (outside (top_layer stack) (lower_layers stack) top_is lower_are path free ∙ ap (option_map (dereferenced_inode (top_layer stack) (lower_layers stack) path)) e) ∙ here in cc
-          own (Some i) e = let own_bound : length path ≤ 64 = entry-limited (top_layer stack) path i top_is e in omega (arith, own_bound, some)
+          own (Some i) e = let own_bound : length path ≤ depth_limit = entry-limited (top_layer stack) path i top_is e in omega (arith, own_bound, some)
 
   directory-limited : (path : PathNames) → directory_found (new_at stack path) ≡ true → length path ≤ deref_depth stack
   directory-limited path = by (new_at stack path) refl

@@ -21,20 +21,16 @@ use Rattle.ovl_lookup.specs.Trace.{things_found}
 use Rattle.ovl_lookup.specs.Merged.{look, shows, shows_directory, last_place, full_file_in}
 use Rattle.ovl_lookup.specs.Passes.{entered_path, entered_closed}
 use Rattle.ovl_lookup.specs.WalkLaws.{PassesOver}
-use Rattle.ovl_lookup.proofs.WalkFacts.{length-child, parent_path-child, lookup-all}
-use Rattle.ovl_lookup.proofs.FoundLemmas.{things_found-step, metacopy-file}
-use Rattle.ovl_lookup.proofs.ChildLemmas.{all-first, all-rest, child_found, any_found, starts_directory, walk-below, Below}
-use Rattle.ovl_lookup.proofs.KidLemmas.{shows-found}
-use Rattle.ovl_lookup.proofs.LawLemmas.{ShowsParents-holds}
-use Rattle.ovl_merge.specs.Places.{Merge, whole, two_layers, lower_path, rest_path, is_open, first_of, first_hit, passes, shows_own_directory, is_nothing_or, is_shown_regular, goes_on, reach, reach_of, shows_directory_at, shows_at, base_at, child_of, natural_at, natural, base, gets_opaque, last_name}
-use Rattle.ovl_merge.specs.MergeDown.{with_value, redirected, redirected_from, merged_directory, merged_metacopy, unreached_metacopy, has_data_alone, kept_if_alone, kept_place, merged_inode, new_whiteout, needs_whiteout, merged_entry_of, IsMergedDown}
+use Rattle.ovl_lookup.proofs.LawsOfPaths.{length-child, parent_path-child, lookup-all, all-first, all-rest, by_child}
+use Rattle.ovl_lookup.proofs.LawsOfFound.{things_found-step, child_found, any_found, starts_directory}
+use Rattle.ovl_lookup.proofs.LawsOfInodes.{metacopy-file}
+use Rattle.ovl_lookup.proofs.LawsOfWalks.{walk-below, Below, directory_found, walk-child_directory, walk-child_end, walk-child_beyond, file-found, file-is_found, whiteout-closes, passes-over}
+use Rattle.ovl_lookup.proofs.LawsOfLooks.{shows-found, ShowsParents-holds}
+use Rattle.ovl_merge.specs.Places.{Merge, whole, two_layers, lower_path, rest_path, is_open, first_of, first_hit, passes, shows_own_directory, is_nothing_or, is_shown_regular, goes_on, reach, reach_of, shows_directory_at, shows_at, base_at, child_of, natural_below, natural, base, gets_opaque, natural_at, last_name}
+use Rattle.ovl_merge.specs.MergeDown.{with_value, last_name, redirected, redirected_from, merged_directory, merged_metacopy, unreached_metacopy, has_data_alone, kept_if_alone, kept_place, merged_inode, new_whiteout, needs_whiteout, merged_entry_of, IsMergedDown}
 use Rattle.ovl_merge.proofs.Values.{with_metacopy, mark-copied, mark-copied_moved, mark-plain, mark-opaque, mark-moved}
-use Rattle.ovl_lookup.proofs.WalkLaws.{directory_found, by_child}
-use Rattle.ovl_lookup.proofs.ChildLaws.{walk-child_directory, walk-child_end}
-use Rattle.ovl_lookup.proofs.BeyondLaws.{walk-child_beyond}
 use Rattle.ovl_merge.proofs.Redirects.{redirect-absolute, redirect-beside}
-use Rattle.ovl_lookup.proofs.NamedWalks.{walk-named, walk-below_root, last-named}
-use Rattle.ovl_lookup.proofs.PassLaws.{file-found, file-is_found, whiteout-closes, passes-over}
+use Rattle.ovl_lookup.proofs.LawsOfNames.{walk-named, walk-below_root, last-named}
 use Rattle.ovl_merge.proofs.Firsts.{first_hit-steps, first_step, found-first_hit, first_of-hits, first-none, first-cons, PassesBoth, passes-found, unshown, hit-no_whiteout}
 use Rattle.ovl_merge.proofs.Inodes.{IsOther, merged-metacopy, merged-directory, merged-is_directory, merged-is_other}
 

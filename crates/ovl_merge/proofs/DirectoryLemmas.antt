@@ -9,12 +9,12 @@ use Rattle.ovl_inode.specs.declared.inodes.Inode.{Inode}
 use Rattle.ovl_manifest.specs.Layers.{IsLayer}
 use Rattle.ovl_lookup.specs.Stacks.{StackView}
 use Rattle.ovl_lookup.specs.Passes.{own_names_along, put_names}
-use Rattle.ovl_lookup.proofs.KidLemmas.{any-put, ascends-put, kids-same}
-use Rattle.ovl_lookup.proofs.LawLemmas.{ShowsWithinDepth-holds}
-use Rattle.ovl_lookup.proofs.WalkLaws.{directory_found}
+use Rattle.ovl_lookup.proofs.LawsOfKids.{any-put, ascends-put, kids-same}
+use Rattle.ovl_lookup.proofs.LawsOfLooks.{ShowsWithinDepth-holds}
+use Rattle.ovl_lookup.proofs.LawsOfWalks.{directory_found}
 use Rattle.ovl_rewrite.specs.NewLayers.{IsTold, TellsLayer}
+use Rattle.ovl_merge.specs.Places.{Merge, whole, two_layers, base, child_of, shows_at, merge_of}
 use Rattle.ovl_rewrite.proofs.DirectoryLemmas.{layer-told}
-use Rattle.ovl_merge.specs.Places.{Merge, whole, merge_of, two_layers, base, child_of, shows_at}
 use Rattle.ovl_merge.specs.MergeDown.{merged_entry}
 use Rattle.ovl_merge.specs.Directories.{base_names, candidate_names, merge_kids, merge_out, merge_depth}
 use Rattle.ovl_merge.proofs.MergedEntries.{entry-directory, entry-stands, two}

@@ -18,15 +18,14 @@ use Rattle.ovl_lookup.specs.declared.looks.Look.{Look}
 use Rattle.ovl_lookup.specs.declared.looks.Look.TheVariants.{Nothing}
 use Rattle.ovl_lookup.specs.declared.views.DirView.{DirView}
 use Rattle.ovl_lookup.specs.DirViews.{IsViewOf}
-use Rattle.ovl_lookup.proofs.LookLaws.{nothing-under}
+use Rattle.ovl_lookup.proofs.LawsOfLooks.{nothing-under}
 use Rattle.ovl_lookup.specs.Walk.{walk}
 use Rattle.ovl_lookup.specs.Stacks.{StackView, from_layer}
 use Rattle.ovl_lookup.specs.Passes.{own_names_along, put_names, kids_along}
 use Rattle.ovl_lookup.specs.Merged.{look, shows_directory, AreKids}
 use Rattle.ovl_lookup.specs.Words.{top_layer, lower_layers}
-use Rattle.ovl_lookup.proofs.WalkFacts.{length-child, parent_path-child}
-use Rattle.ovl_lookup.proofs.KidLemmas.{put_names-append}
-use Rattle.ovl_lookup.proofs.KidLaws.{kids-unique}
+use Rattle.ovl_lookup.proofs.LawsOfPaths.{length-child, parent_path-child}
+use Rattle.ovl_lookup.proofs.LawsOfKids.{put_names-append, kids-unique}
 use Rattle.ovl_rewrite.specs.Directories.{NamedInode}
 use Rattle.ovl_merge.specs.declared.passages.Passage.{Passage}
 use Rattle.ovl_merge.specs.declared.near.Near.{Near}

@@ -13,8 +13,8 @@ use Rattle.ovl_inode.specs.declared.inodes.Inode.{Inode}
 use Rattle.ovl_inode.specs.Marks.{is_directory}
 use Rattle.ovl_board.specs.declared.pieces.Piece.{Piece}
 use Rattle.ovl_board.specs.Pieces.{IsBefore, IsOneBelow, HasLawfulKids}
-use Rattle.ovl_board.proofs.Members.{In, Rises, All-Every, AllPairs-Rises, In-map-cases, In-filter-cases, Rises-filter}
-use Rattle.ovl_board.proofs.PieceOrder.{fork_before}
+use Rattle.ovl_board.proofs.LawsOfMembers.{In, Rises, All-Every, AllPairs-Rises, In-map-cases, In-filter-cases, Rises-filter}
+use Rattle.ovl_board.proofs.LawsOfPieces.{fork_before}
 use Rattle.ovl_rewrite.specs.Directories.{NamedInode, piece_in}
 use Rattle.ovl_rewrite.specs.Passes.{Tree, tree_kids, tree_out}
 use Rattle.ovl_rewrite.specs.NewLayers.{NewLayer, is_directory_found, has_directory, named_entry, tree_by, IsTold, AreEntriesOf, TellsLayer}

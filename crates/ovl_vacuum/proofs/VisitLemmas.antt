@@ -23,14 +23,12 @@ use Rattle.ovl_lookup.specs.Stacks.{StackView, from_layer}
 use Rattle.ovl_lookup.specs.Merged.{look}
 use Rattle.ovl_lookup.specs.Words.{over, top_layer, lower_layers}
 use Rattle.ovl_lookup.specs.Equal.{look_eq}
-use Rattle.ovl_lookup.proofs.ChildLemmas.{names_below-has}
-use Rattle.ovl_lookup.proofs.KidNames.{kid-names-ascend}
-use Rattle.ovl_lookup.proofs.LookLaws.{nothing-under}
-use Rattle.ovl_lookup.proofs.TopLaws.{top-over, top-layer}
-use Rattle.ovl_lookup.proofs.WalkFacts.{length-child, parent_path-child}
-use Rattle.ovl_lookup.proofs.PathLemmas.{natural_path-child}
+use Rattle.ovl_lookup.proofs.LawsOfLooks.{nothing-under, top-over, top-layer}
+use Rattle.ovl_lookup.proofs.LawsOfPaths.{length-child, parent_path-child}
+use Rattle.ovl_lookup.proofs.LawsOfWalks.{natural_path-child, names_below-has}
+use Rattle.ovl_lookup.proofs.LawsOfKids.{kid-names-ascend}
 use Rattle.ovl_board.specs.declared.pieces.Piece.{Piece}
-use Rattle.ovl_board.proofs.Members.{In}
+use Rattle.ovl_board.proofs.LawsOfMembers.{In}
 use Rattle.ovl_vacuum.specs.Vacuum.{may_be_idle, is_idle}
 use Rattle.ovl_vacuum.specs.Directories.{is_idle_at, IdleName, idle_name, piece_in, TellsIdle}
 use Rattle.ovl_vacuum.specs.Visits.{IsSought, look_by}
