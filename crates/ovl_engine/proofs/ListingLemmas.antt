@@ -7,7 +7,7 @@ use Rattle.std.proofs.lemmas.Bool.{cases_lt}
 use Rattle.std.proofs.lemmas.List.{map-append}
 use Rattle.std.proofs.lemmas.List.Folds.{flat_map-map}
 use Rattle.ovl_names.specs.Names.{PathName}
-use Rattle.ovl_names.specs.Paths.{PathNames, child_path}
+use Rattle.ovl_names.specs.Paths.{PathNames, child_path, depth_limit}
 use Rattle.ovl_manifest.specs.Layers.{IsLayer}
 use Rattle.ovl_lookup.specs.Stacks.{StackView}
 use Rattle.ovl_lookup.specs.Merged.{IsMerged, look, is_shown_directory}
@@ -49,7 +49,7 @@ OpenView = PathNames × List NamedLook
 
 module _ (stack : StackView) where
   abbrev whole : ℕ
-  whole = 64 * length stack.layers
+  whole = depth_limit * length stack.layers
 
   -- the paths that it has still to tell, and the pieces below it that are still to be opened
   abbrev pub paths_left : OpenView → List PathNames

@@ -1,6 +1,6 @@
 -- Laws of inodes: their marks, what of them is visible, and which are sound.
 use Rattle.std.proofs.Common.{◌≡◌, ℕ, Bool, true, false, cond, Some, None, List, [], ◌∷◌, refl, sym, ap, ◌∙◌, Option}
-use Rattle.std.specs.Prelude.{not, filter, ◌&&◌, ◌||◌, ◌==◌, is_some, nat_le}
+use Rattle.std.specs.Prelude.{not, filter, ◌&&◌, ◌||◌, ◌==◌, is_some}
 use Rattle.std.specs.BTreeMap.{insert_entry}
 use Rattle.std.specs.Ordering.{match_ordering}
 use Rattle.std.specs.Cmp.Lexicographic.{bytes_decides}
@@ -10,18 +10,19 @@ use Rattle.std.specs.List.{list_all, list_any}
 use Rattle.std.proofs.lemmas.Map.Entries.{lookup-filter-keys}
 use Rattle.ovl_names.specs.Names.{name_cmp, name_eq}
 use Rattle.ovl_names.proofs.Ascending.{both}
-use Rattle.ovl_inode.specs.Attributes.{Attributes, attribute, with_attribute, visible_attributes, is_overlay_name, redirect_name, opaque_name, metacopy_name, whiteout_name, are_attributes, has_escaped_name, is_escaped_name}
+use Rattle.ovl_inode.specs.Attributes.{Attributes, attribute, with_attribute, visible_attributes, is_overlay_name, redirect_name, opaque_name, metacopy_name, whiteout_name, has_escaped_name, is_escaped_name}
 use Rattle.ovl_inode.specs.declared.inodes.Inode.{Inode}
 use Rattle.ovl_inode.specs.declared.inodes.Kind.{Kind}
-use Rattle.ovl_inode.specs.declared.inodes.Kind.TheVariants.{Dir, File, Char, Symlink, Block, Fifo, Socket}
+use Rattle.ovl_inode.specs.declared.inodes.Kind.TheVariants.{Dir, File, Char}
 use Rattle.ovl_inode.specs.declared.marks.Mark.TheVariants.{Whiteout, DirOpaque, Leaf, Meta, DirMoved, DirBad, DirPlain, MetaBad}
 use Rattle.ovl_inode.specs.declared.marks.Mark.{Mark}
 use Rattle.ovl_inode.specs.declared.marks.Redirect.{Redirect}
 use Rattle.ovl_inode.specs.Redirects.{read_redirect}
 use Rattle.ovl_inode.specs.Marks.{mark_of, is_metacopy, is_metacopy_mark, is_directory, is_regular, is_whiteout, has_opaque, has_metacopy, redirect_reading, directory_mark, metacopy_mark, is_data, has_attribute}
 use Rattle.ovl_inode.specs.Inodes.{visible}
-use Rattle.ovl_inode.specs.Sound.{is_sound_inode, is_sound_kind, is_word, is_seconds, mode_limit}
+use Rattle.ovl_inode.specs.Sound.{is_sound_inode, is_sound_kind}
 use Rattle.ovl_inode.proofs.AttributeLemmas.{are_attributes-visible}
+use Rattle.ovl_inode.proofs.SoundLaws.{sound_values, sound-with, kind-full}
 use Rattle.ovl_manifest.proofs.NodeLemmas.{name_eq-same, name_eq-cmp}
 use Rattle.ovl_lookup.specs.Sound.{is_malformed, is_meta}
 use Rattle.ovl_lookup.proofs.LawsOfPaths.{filter-all}
@@ -228,41 +229,8 @@ directory-marked inode is = mark-directory inode (directory-no_whiteout inode is
 
 -- ---- sound inodes
 
--- another kind and other attributes
-pub sound-with : (inode : Inode) (kind : Kind) (attrs : Attributes) → is_sound_inode inode ≡ true → is_sound_kind kind (is_some (attribute attrs metacopy_name)) ≡ true → are_attributes attrs ≡ true → is_sound_inode (record inode { kind = kind; attrs = attrs }) ≡ true
-sound-with inode kind attrs sound kinds attributes =
-    let most = both {a = is_sound_kind inode.kind (has_metacopy inode) && nat_le inode.mode mode_limit && is_word inode.uid && is_word inode.gid && is_seconds inode.mtime} {b = are_attributes inode.attrs} sound in
-    let times = both {a = is_sound_kind inode.kind (has_metacopy inode) && nat_le inode.mode mode_limit && is_word inode.uid && is_word inode.gid} {b = is_seconds inode.mtime} most.0 in
-    let gids = both {a = is_sound_kind inode.kind (has_metacopy inode) && nat_le inode.mode mode_limit && is_word inode.uid} {b = is_word inode.gid} times.0 in
-    let uids = both {a = is_sound_kind inode.kind (has_metacopy inode) && nat_le inode.mode mode_limit} {b = is_word inode.uid} gids.0 in
-    let modes = both {a = is_sound_kind inode.kind (has_metacopy inode)} {b = nat_le inode.mode mode_limit} uids.0 in
-    (λ j. kinds j && modes.1 j && uids.1 j && gids.1 j && times.1 j && attributes j)
-
-pub sound-kind : (inode : Inode) → is_sound_inode inode ≡ true → is_sound_kind inode.kind (has_metacopy inode) ≡ true
-sound-kind inode sound =
-    let most = both {a = is_sound_kind inode.kind (has_metacopy inode) && nat_le inode.mode mode_limit && is_word inode.uid && is_word inode.gid && is_seconds inode.mtime} {b = are_attributes inode.attrs} sound in
-    let times = both {a = is_sound_kind inode.kind (has_metacopy inode) && nat_le inode.mode mode_limit && is_word inode.uid && is_word inode.gid} {b = is_seconds inode.mtime} most.0 in
-    let gids = both {a = is_sound_kind inode.kind (has_metacopy inode) && nat_le inode.mode mode_limit && is_word inode.uid} {b = is_word inode.gid} times.0 in
-    let uids = both {a = is_sound_kind inode.kind (has_metacopy inode) && nat_le inode.mode mode_limit} {b = is_word inode.uid} gids.0 in
-    (both {a = is_sound_kind inode.kind (has_metacopy inode)} {b = nat_le inode.mode mode_limit} uids.0).0
-
-pub sound-attributes : (inode : Inode) → is_sound_inode inode ≡ true → are_attributes inode.attrs ≡ true
-sound-attributes inode sound =
-    (both {a = is_sound_kind inode.kind (has_metacopy inode) && nat_le inode.mode mode_limit && is_word inode.uid && is_word inode.gid && is_seconds inode.mtime} {b = are_attributes inode.attrs} sound).1
-
--- a kind stays sound without `metacopy` where that is no matter
-pub kind-full : (kind : Kind) (had : Bool) → (elim kind as (λ _. Bool) [ File size blob ↦ true | _ ↦ false ] && had) ≡ false → is_sound_kind kind had ≡ true → is_sound_kind kind false ≡ true
-kind-full (File size blob) true full sound = let bad : true ≡ false = full in cc
-kind-full (File size blob) false full sound = sound
-kind-full Dir had full sound = refl
-kind-full (Symlink target) had full sound = sound
-kind-full (Char major minor) had full sound = sound
-kind-full (Block major minor) had full sound = sound
-kind-full Fifo had full sound = refl
-kind-full Socket had full sound = refl
-
 pub data-kind : (contents : Inode) → is_data contents ≡ true → is_sound_inode contents ≡ true → is_sound_kind contents.kind false ≡ true
-data-kind contents own sound = kind-full contents.kind (has_metacopy contents) (by (has_metacopy contents) (both {a = is_regular contents} {b = not (has_metacopy contents)} own).1) (sound-kind contents sound)
+data-kind contents own sound = kind-full contents.kind (has_metacopy contents) (by (has_metacopy contents) (both {a = is_regular contents} {b = not (has_metacopy contents)} own).1) (sound_values contents sound).kind
   where
     by : (b : Bool) → not b ≡ true → (is_regular contents && b) ≡ false
     by true n = let bad : false ≡ true = n in cc
@@ -277,7 +245,7 @@ pub sound-visible : (inode : Inode) (kind : Kind) → is_sound_inode inode ≡ t
 sound-visible inode kind sound kinds =
     sound-with inode kind (visible_attributes inode.attrs) sound
     (ap (λ o. is_sound_kind kind (is_some o)) (attribute-hidden inode.attrs metacopy_name refl) ∙ kinds)
-    (are_attributes-visible inode.attrs (sound-attributes inode sound))
+    (are_attributes-visible inode.attrs (sound_values inode sound).attrs)
 
 -- ---- no escaped attribute
 

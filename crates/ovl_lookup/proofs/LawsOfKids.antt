@@ -16,7 +16,7 @@ use Rattle.std.specs.Map.{lookup}
 use Rattle.std.proofs.lemmas.Cmp.{tied_itself}
 use Rattle.ovl_names.specs.Names.{PathName, name_eq, name_cmp}
 use Rattle.ovl_names.specs.Order.{ascends}
-use Rattle.ovl_names.specs.Paths.{PathNames, child_path, path_cmp, path_eq}
+use Rattle.ovl_names.specs.Paths.{PathNames, child_path, path_cmp, path_eq, depth_limit}
 use Rattle.ovl_names.proofs.Ascending.{both, list_all-before, ascends-filter, is_lt-Less}
 use Rattle.ovl_inode.specs.declared.inodes.Inode.{Inode}
 use Rattle.ovl_manifest.specs.Layers.{Entry, Entries, entry_cmp, name_below, names_below, IsLayer, entry_at}
@@ -355,9 +355,9 @@ not-above stack each path rest none = by (shows stack (path ++ rest)) refl
     by true e = sym (shows-above stack each path rest e) ∙ none
     by false e = refl
 
-looks-same : (depth : ℕ) (stack : StackView) → All IsLayer stack.layers → (path : PathNames) → shows stack path ≡ true → 64 * length stack.layers + 1 ≤ length path + depth → (rest : PathNames) → lookup (path_eq rest) (looks_from depth stack path) ≡ at_shown (look stack (path ++ rest))
+looks-same : (depth : ℕ) (stack : StackView) → All IsLayer stack.layers → (path : PathNames) → shows stack path ≡ true → depth_limit * length stack.layers + 1 ≤ length path + depth → (rest : PathNames) → lookup (path_eq rest) (looks_from depth stack path) ≡ at_shown (look stack (path ++ rest))
 looks-same zero stack each path shown deep rest =
-    let limit : length path ≤ 64 * length stack.layers = shows-limited stack each path shown in absurd (omega (arith, limit))
+    let limit : length path ≤ depth_limit * length stack.layers = shows-limited stack each path shown in absurd (omega (arith, limit))
 looks-same (suc depth) stack each path shown deep [] =
     shown-some (look stack path) shown ∙ ap (λ (p : PathNames). at_shown (look stack p)) (sym (append-nil path))
 looks-same (suc depth) stack each path shown deep (name ∷ rest) =
@@ -365,7 +365,7 @@ looks-same (suc depth) stack each path shown deep (name ∷ rest) =
     ∙ (ap (λ b. cond b (lookup (path_eq rest) (looks_from depth stack (child_path path name))) None) (kids-same stack each path name)
     ∙ by (looks-same depth stack each (child_path path name)) (shows stack (child_path path name)) refl)
   where
-    by : (shows stack (child_path path name) ≡ true → 64 * length stack.layers + 1 ≤ length (child_path path name) + depth → (rest : PathNames) → lookup (path_eq rest) (looks_from depth stack (child_path path name)) ≡ at_shown (look stack (child_path path name ++ rest)))
+    by : (shows stack (child_path path name) ≡ true → depth_limit * length stack.layers + 1 ≤ length (child_path path name) + depth → (rest : PathNames) → lookup (path_eq rest) (looks_from depth stack (child_path path name)) ≡ at_shown (look stack (child_path path name ++ rest)))
         → (b : Bool) → shows stack (child_path path name) ≡ b → cond b (lookup (path_eq rest) (looks_from depth stack (child_path path name))) None ≡ at_shown (look stack (path ++ name ∷ rest))
     by later true e =
         later e (omega (arith, length-append path (name ∷ []))) rest
@@ -389,12 +389,12 @@ placed-root : (looks : Looks) → looks_placed [] looks ≡ looks
 placed-root [] = refl
 placed-root (entry ∷ looks) = ap (λ (rest : Looks). entry ∷ rest) (placed-root looks)
 
-pub is-merged : (stack : StackView) → All IsLayer stack.layers → shows stack [] ≡ true → (looks : Looks) → looks ≡ looks_placed [] (looks_from (64 * length stack.layers + 1) stack []) → IsMerged stack looks
+pub is-merged : (stack : StackView) → All IsLayer stack.layers → shows stack [] ≡ true → (looks : Looks) → looks ≡ looks_placed [] (looks_from (depth_limit * length stack.layers + 1) stack []) → IsMerged stack looks
 is-merged stack each root looks is =
-    let whole : looks ≡ looks_from (64 * length stack.layers + 1) stack [] = is ∙ placed-root (looks_from (64 * length stack.layers + 1) stack []) in
-    let same = looks-same (64 * length stack.layers + 1) stack each [] root (omega arith) in
+    let whole : looks ≡ looks_from (depth_limit * length stack.layers + 1) stack [] = is ∙ placed-root (looks_from (depth_limit * length stack.layers + 1) stack []) in
+    let same = looks-same (depth_limit * length stack.layers + 1) stack each [] root (omega arith) in
     record {
-      in_order = ap (ascends look_cmp) whole ∙ looks-ascend (64 * length stack.layers + 1) stack [];
+      in_order = ap (ascends look_cmp) whole ∙ looks-ascend (depth_limit * length stack.layers + 1) stack [];
       same = λ path. ap (λ (l : Looks). look_at l path) whole ∙ (ap (λ (o : Option Look). elim o as (λ _. Look) [ Some found ↦ found | None ↦ Nothing ]) (same path) ∙ found_or_nothing (look stack path));
       shown = λ path found. never_nothing (look stack path) (sym (same path) ∙ (ap (λ (l : Looks). lookup (path_eq path) l) (sym whole) ∙ found));
     }

@@ -7,7 +7,7 @@ use Rattle.std.proofs.lemmas.List.Folds.{list_any-append, list_all-append}
 use Rattle.std.proofs.lemmas.Bool.{or_parts}
 use Rattle.std.specs.Cmp.Lexicographic.{bytes_decides}
 use Rattle.ovl_names.specs.Names.{PathName, name_eq, is_name}
-use Rattle.ovl_names.specs.Paths.{PathNames, child_path, longest, has_names}
+use Rattle.ovl_names.specs.Paths.{PathNames, child_path, longest, has_names, depth_limit}
 use Rattle.ovl_names.proofs.Ascending.{both, not_true}
 use Rattle.ovl_names.specs.Order.{ascends}
 use Rattle.ovl_inode.specs.declared.inodes.Inode.{Inode}
@@ -31,7 +31,8 @@ use Rattle.ovl_lookup.specs.Sound.{IsSoundStack, are_sound, is_faulty, redirect_
 use Rattle.ovl_lookup.specs.Laws.{ShowsParents, ShowsWithinDepth}
 use Rattle.ovl_lookup.proofs.Longest.{longest-holds, longest-rest}
 use Rattle.ovl_lookup.proofs.LawsOfPaths.{all-entries, all-first, all-rest, by_child, last-name, lookup-all}
-use Rattle.ovl_lookup.proofs.LawsOfInodes.{IsVisible, attribute-hidden, bare-mark, data-kind, directory-kind, directory-no_whiteout, kind-full, regular_kind, sound-kind, sound-visible, unescaped-filter, visible-twice, whiteout_test}
+use Rattle.ovl_inode.proofs.SoundLaws.{sound_values, kind-full}
+use Rattle.ovl_lookup.proofs.LawsOfInodes.{IsVisible, attribute-hidden, bare-mark, data-kind, directory-kind, directory-no_whiteout, regular_kind, sound-visible, unescaped-filter, visible-twice, whiteout_test}
 use Rattle.ovl_lookup.proofs.LawsOfWalks.{directory-limited, directory_found, entry-limited, entry-parent, found-file, mark-file, walk-finds, walk-stop, walk-whole}
 use Rattle.ovl_lookup.proofs.LawsOfFound.{any_found, by_data, child_found, data-all, data-regular, found-all, shown-any, shown_of-full, starts_directory, things_found-step}
 
@@ -43,12 +44,12 @@ found-some (Some inode) = true
 
 -- a walk takes off at most as many names as a layer is deep, and none from what it finds
 abbrev Within : Step → ℕ → Type 0
-Within step n = (found-some step.found ≡ true → n ≤ 64) × (n ≤ 64 + length step.next)
+Within step n = (found-some step.found ≡ true → n ≤ depth_limit) × (n ≤ depth_limit + length step.next)
 
-beyond-within : (found : Option Inode) (turned : PathNames) (shut : Bool) (own : PathName) (rest : PathNames) (n : ℕ) → n ≤ 64 → (found-some found ≡ true → n + 1 ≤ 64) → Within (walk_beyond found turned shut own rest) (n + length (own ∷ rest))
+beyond-within : (found : Option Inode) (turned : PathNames) (shut : Bool) (own : PathName) (rest : PathNames) (n : ℕ) → n ≤ depth_limit → (found-some found ≡ true → n + 1 ≤ depth_limit) → Within (walk_beyond found turned shut own rest) (n + length (own ∷ rest))
 beyond-within None turned shut own rest n within entry = ((λ h. let bad : false ≡ true = h in cc), omega (arith, length-append turned (own ∷ rest)))
 beyond-within (Some inode) turned shut own [] n within entry =
-    let one : n + 1 ≤ 64 = entry refl in
+    let one : n + 1 ≤ depth_limit = entry refl in
     ((λ h. omega (arith, one)), omega (arith, one))
 beyond-within (Some inode) turned shut own (other ∷ rest) n within entry = ((λ h. let bad : false ≡ true = h in cc), omega (arith, length-append turned (own ∷ other ∷ rest)))
 
@@ -58,13 +59,13 @@ walk-within layer path is = by (drop (length (longest (is_directory_at layer) pa
     holds : is_directory_at layer (longest (is_directory_at layer) path) ≡ true
     holds = longest-holds (is_directory_at layer) path is.rooted
 
-    short : length (longest (is_directory_at layer) path) ≤ 64
+    short : length (longest (is_directory_at layer) path) ≤ depth_limit
     short = directory-limited layer (longest (is_directory_at layer) path) is holds
 
     by : (rest : PathNames) → drop (length (longest (is_directory_at layer) path)) path ≡ rest → Within (walk layer path) (length path)
     by [] e =
         let whole : longest (is_directory_at layer) path ≡ path = sym (append-nil (longest (is_directory_at layer) path)) ∙ (ap (λ (r : PathNames). longest (is_directory_at layer) path ++ r) (sym e) ∙ longest-rest (is_directory_at layer) path) in
-        let all : length path ≤ 64 = omega (arith, short, ap length whole) in
+        let all : length path ≤ depth_limit = omega (arith, short, ap length whole) in
         ((λ h. all), omega (arith, all))
     by (own ∷ rest) e =
         let whole : longest (is_directory_at layer) path ++ own ∷ rest ≡ path = ap (λ (r : PathNames). longest (is_directory_at layer) path ++ r) (sym e) ∙ longest-rest (is_directory_at layer) path in
@@ -74,12 +75,12 @@ walk-within layer path is = by (drop (length (longest (is_directory_at layer) pa
         (beyond-within (entry_at layer (child_path (longest (is_directory_at layer) path) own)) (turn layer (longest (is_directory_at layer) path)) (is_shut layer (longest (is_directory_at layer) path)) own rest (length (longest (is_directory_at layer) path)) short
         (entry (entry_at layer (child_path (longest (is_directory_at layer) path) own)) refl)))
       where
-        entry : (found : Option Inode) → entry_at layer (child_path (longest (is_directory_at layer) path) own) ≡ found → found-some found ≡ true → length (longest (is_directory_at layer) path) + 1 ≤ 64
+        entry : (found : Option Inode) → entry_at layer (child_path (longest (is_directory_at layer) path) own) ≡ found → found-some found ≡ true → length (longest (is_directory_at layer) path) + 1 ≤ depth_limit
         entry None here h = let bad : false ≡ true = h in cc
         entry (Some inode) here h = omega (arith, entry-limited layer (child_path (longest (is_directory_at layer) path) own) inode is here, length-append (longest (is_directory_at layer) path) (own ∷ []))
 
--- something is found at no path deeper than 64 names for each layer
-found-limited : (layers : List Entries) → All IsLayer layers → (path : PathNames) → any_found (things_found layers path) ≡ true → length path ≤ 64 * length layers
+-- something is found at no path deeper than the most names of a path for each layer
+found-limited : (layers : List Entries) → All IsLayer layers → (path : PathNames) → any_found (things_found layers path) ≡ true → length path ≤ depth_limit * length layers
 found-limited [] each path found = let bad : false ≡ true = found in cc
 found-limited (layer ∷ layers) each path found =
     by (λ p. found-limited layers (all-rest IsLayer layer layers each) p) (walk layer path).found refl (walk layer path).closed refl
@@ -90,14 +91,14 @@ found-limited (layer ∷ layers) each path found =
     found_here : any_found (cons_option (walk layer path).found (cond (walk layer path).closed [] (things_found layers (walk layer path).next))) ≡ true
     found_here = ap any_found (sym (things_found-step layer layers path)) ∙ found
 
-    by : ((p : PathNames) → any_found (things_found layers p) ≡ true → length p ≤ 64 * length layers) → (here : Option Inode) → (walk layer path).found ≡ here → (closed : Bool) → (walk layer path).closed ≡ closed → length path ≤ 64 * length (layer ∷ layers)
+    by : ((p : PathNames) → any_found (things_found layers p) ≡ true → length p ≤ depth_limit * length layers) → (here : Option Inode) → (walk layer path).found ≡ here → (closed : Bool) → (walk layer path).closed ≡ closed → length path ≤ depth_limit * length (layer ∷ layers)
     by later (Some inode) f closed c =
-        let most : length path ≤ 64 = within.0 (ap found-some f) in
+        let most : length path ≤ depth_limit = within.0 (ap found-some f) in
         omega (arith, most)
     by later None f true c =
         let bad : false ≡ true = sym (λ j. any_found (cons_option (f j) (cond (c j) [] (things_found layers (walk layer path).next)))) ∙ found_here in cc
     by later None f false c =
-        let rest : length (walk layer path).next ≤ 64 * length layers = later (walk layer path).next (sym (λ j. any_found (cons_option (f j) (cond (c j) [] (things_found layers (walk layer path).next)))) ∙ found_here) in
+        let rest : length (walk layer path).next ≤ depth_limit * length layers = later (walk layer path).next (sym (λ j. any_found (cons_option (f j) (cond (c j) [] (things_found layers (walk layer path).next)))) ∙ found_here) in
         omega (arith, rest, within.1)
 
 -- ---- what is shown, and the topmost layer
@@ -127,7 +128,7 @@ module _ (stack : StackView) (some : 0 < length stack.layers) where
       by [] each none = absurd (omega (arith, none))
       by (layer ∷ layers) each some = all-rest IsLayer layer layers each
 
-pub shows-limited : (stack : StackView) → All IsLayer stack.layers → (path : PathNames) → shows stack path ≡ true → length path ≤ 64 * length stack.layers
+pub shows-limited : (stack : StackView) → All IsLayer stack.layers → (path : PathNames) → shows stack path ≡ true → length path ≤ depth_limit * length stack.layers
 shows-limited stack each path shown = found-limited stack.layers each path (sym (shows-found stack path) ∙ shown)
 
 -- none of the seven holds at an entry
@@ -444,7 +445,7 @@ shown-sound stack each deep path inode shown = by (things_found stack.layers pat
         split : (b : Bool) → (is_regular first && has_metacopy first) ≡ b → (o : Option Inode) → data_of stack.data_only (first ∷ more) ≡ o → cond b (by_data first o) (Shown (visible first)) ≡ Shown inode → is_sound_inode inode ≡ true
         split false b o d s =
             let same : visible first ≡ inode = cc in
-            ap is_sound_inode (sym same) ∙ sound-visible first first.kind own (kind-full first.kind (has_metacopy first) b (sound-kind first own))
+            ap is_sound_inode (sym same) ∙ sound-visible first first.kind own (kind-full first.kind (has_metacopy first) b (sound_values first own).kind)
         split true b (Some contents) d s =
             let same : record (visible first) { kind = contents.kind } ≡ inode = cc in
             ap is_sound_inode (sym same) ∙ sound-visible first contents.kind own (data-kind contents (data-regular stack.data_only (first ∷ more) contents d) (data-all is_sound_inode (λ layer is. is.sound) stack.data_only deep (first ∷ more) contents all d))

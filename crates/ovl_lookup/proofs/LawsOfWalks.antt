@@ -181,15 +181,15 @@ names_below-has (entry ∷ layer) path name inode here = by (names_below-has lay
 
 -- ---- how deep an entry is
 
-pub entry-limited : (layer : Entries) (path : PathNames) (inode : Inode) → IsLayer layer → entry_at layer path ≡ Some inode → length path ≤ 64
+pub entry-limited : (layer : Entries) (path : PathNames) (inode : Inode) → IsLayer layer → entry_at layer path ≡ Some inode → length path ≤ depth_limit
 entry-limited layer path inode is here =
     let limited : is_within_limits path ≡ true = lookup-all (λ (entry : Entry). is_within_limits entry.0) path layer inode is.limited here in
-    leb-true (length path) 64 (both {a = nat_le (length path) depth_limit} {b = nat_le (length (path_text path)) text_limit} limited).0
+    leb-true (length path) depth_limit (both {a = nat_le (length path) depth_limit} {b = nat_le (length (path_text path)) text_limit} limited).0
 
-pub directory-limited : (layer : Entries) (path : PathNames) → IsLayer layer → is_directory_at layer path ≡ true → length path ≤ 64
+pub directory-limited : (layer : Entries) (path : PathNames) → IsLayer layer → is_directory_at layer path ≡ true → length path ≤ depth_limit
 directory-limited layer path is holds = by (entry_at layer path) refl holds
   where
-    by : (found : Option Inode) → entry_at layer path ≡ found → elim found as (λ _. Bool) [ Some inode ↦ is_directory inode | None ↦ false ] ≡ true → length path ≤ 64
+    by : (found : Option Inode) → entry_at layer path ≡ found → elim found as (λ _. Bool) [ Some inode ↦ is_directory inode | None ↦ false ] ≡ true → length path ≤ depth_limit
     by None e h = let bad : false ≡ true = h in cc
     by (Some inode) e h = entry-limited layer path inode is e
 

@@ -7,7 +7,8 @@ pub fn merged_tree_has_parents()
     ensures { ShowsParents }
 {}
 
-/// The merged tree is no deeper than 64 times the number of layers, the data-only ones not counted.
+/// The merged tree is no deeper than the most names of a layer's path times the number of layers, the data-only ones
+/// not counted.
 pub fn merged_tree_is_within_depth()
     ensures { ShowsWithinDepth }
 {}

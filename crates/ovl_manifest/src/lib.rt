@@ -15,6 +15,7 @@ mod sheet_drafts;
 mod sheets;
 mod text_paths;
 mod trees;
+mod versions;
 mod writing;
 mod written_entries;
 

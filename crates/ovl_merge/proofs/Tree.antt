@@ -23,8 +23,8 @@ use Rattle.ovl_lookup.proofs.LawsOfInodes.{directory-kind, metacopy-file, bare_f
 use Rattle.ovl_lookup.proofs.LawsOfFound.{things_found-step, data_of-metacopy, data_below-metacopy, shown_of-full, shown_of-contents, shown_of-broken, any_found, shown-any}
 use Rattle.ovl_lookup.proofs.LawsOfPaths.{all-first, all-rest}
 use Rattle.ovl_lookup.specs.Words.{over}
-use Rattle.ovl_merge.specs.Places.{Merge, whole, lower_path, rest_path, is_open, first_hit, is_nothing_or, is_shown_regular, goes_on, reach, reach_of}
-use Rattle.ovl_merge.specs.MergeDown.{with_value, last_name, redirected, with_contents, merged_metacopy, unreached_metacopy, kept_place, merged_inode, merged_entry_of, IsMergedDown}
+use Rattle.ovl_merge.specs.Places.{Merge, whole, lower_path, rest_path, is_open, first_hit, is_nothing_or, is_shown_regular, goes_on, reach, reach_of, last_name}
+use Rattle.ovl_merge.specs.MergeDown.{with_value, redirected, with_contents, merged_metacopy, unreached_metacopy, kept_place, merged_inode, merged_entry_of, IsMergedDown}
 use Rattle.ovl_merge.specs.Laws.{after_merge, MergeKeepsTree}
 use Rattle.ovl_merge.proofs.Values.{visible-value, visible-visible, with_metacopy}
 use Rattle.ovl_merge.proofs.Firsts.{found-whole, passes-found, whole-first, rest_of, hit-from}

@@ -29,10 +29,10 @@ use Rattle.ovl_lookup.proofs.LawsOfKids.{put_names-append, kids-unique}
 use Rattle.ovl_rewrite.specs.Directories.{NamedInode}
 use Rattle.ovl_merge.specs.declared.passages.Passage.{Passage}
 use Rattle.ovl_merge.specs.declared.near.Near.{Near}
-use Rattle.ovl_merge.specs.Places.{Merge, two_layers, merge_of, lower_path, first_hit, passes, shows_own_directory, reach, reach_of, shows_directory_at, gets_opaque_at}
-use Rattle.ovl_merge.specs.MergeDown.{with_value, with_contents, last_name, redirected, redirected_from, merged_directory, merged_metacopy, unreached_metacopy, kept_place, merged_inode, merged_entry, merged_entry_of}
+use Rattle.ovl_merge.specs.Places.{Merge, two_layers, merge_of, lower_path, first_hit, passes, shows_own_directory, reach, reach_of, shows_directory_at, goes_on_at, gets_opaque_at, last_name}
+use Rattle.ovl_merge.specs.MergeDown.{with_value, with_contents, redirected, redirected_from, merged_directory, merged_metacopy, unreached_metacopy, kept_place, merged_inode, merged_entry, merged_entry_of}
 use Rattle.ovl_merge.specs.Directories.{named_inode, candidate_names, entries_in}
-use Rattle.ovl_merge.specs.Reckoned.{IsPassage, IsViewIn, IsNear, found_by, first_in, goes_on_at, name_directly_in}
+use Rattle.ovl_merge.specs.Reckoned.{IsPassage, IsViewIn, IsNear, found_by, first_in, name_directly_in}
 use Rattle.ovl_merge.proofs.Firsts.{first_step, first_hit-steps}
 use Rattle.ovl_merge.proofs.Core.{last_name-child}
 use Rattle.ovl_merge.proofs.MergedEntries.{entry-stands}
