@@ -13,6 +13,7 @@ use Rattle.ovl_pool.specs.declared.runs.RunFault.TheVariants.{Workers as RunWork
 use Rattle.ovl_pool.specs.Runs.{MayBeRefused}
 use Rattle.ovl_check.specs.Blobs.{BlobView, blob_kids, blob_root}
 use Rattle.ovl_check.specs.Checks.{CheckView, check_kids, directory_piece}
+use Rattle.ovl_check.specs.Contents.{contents_of}
 use Rattle.ovl_check.specs.Findings.{findings}
 use Rattle.ovl_vacuum.specs.Vacuum.{vacuumed_layer, removed_paths}
 use Rattle.ovl_vacuum.specs.Directories.{vacuum_kids, vacuum_root}
@@ -98,7 +99,7 @@ IsAnswer Merge stack blobs answer = (is_clean (findings blobs stack) ≡ true) �
 
 -- what is checked: this stack, with these blobs
 abbrev pub check_of : StackView → List BlobView → CheckView
-check_of stack blobs = record { stack = stack; blobs = blobs }
+check_of stack blobs = record { stack = stack; contents = contents_of blobs }
 
 -- the gate may refuse a piece of the blobs, or a directory of a layer
 abbrev pub MayRefuseBlobs : List BlobView → (Piece → Type 0) → Type 0

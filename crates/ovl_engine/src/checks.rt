@@ -1,8 +1,8 @@
-ghost use Rattle.std.specs.Prelude.{◌≡◌, ◌<◌, ◌≤◌, true, MatchResult, length, map};
+ghost use Rattle.std.specs.Prelude.{◌≡◌, ◌<◌, ◌≤◌, true, List, MatchResult, length, map};
 ghost use Rattle.ovl_lookup.specs.Stacks.{StackView, all_layers};
 ghost use Rattle.ovl_board.specs.Machine.{worker_limit};
 ghost use Rattle.ovl_board.specs.Parcels.{parcel_views};
-ghost use Rattle.ovl_check.specs.Blobs.{blob_views, are_in_order, wrong_names};
+ghost use Rattle.ovl_check.specs.Blobs.{BlobView, blob_views, are_in_order, wrong_names};
 ghost use Rattle.ovl_check.specs.Checks.{check_seen};
 ghost use Rattle.ovl_check.specs.CheckViews.{check_view};
 ghost use Rattle.ovl_check.specs.Walks.{AreLayerWalks};
@@ -12,6 +12,7 @@ ghost use Rattle.ovl_engine.specs.Outcomes.{IsFailure};
 
 use crate::faults::EngineFault;
 use ovl_board::{Parcel, Piece};
+use ovl_check::laws::findings_need_contents;
 use ovl_check::{
     BLOB_SPACE, Blob, BlobWork, CheckOut, CheckWork, Finding, finish_blobs, finish_check,
 };
@@ -39,6 +40,7 @@ pub(crate) fn findings_of<G: Gate + Sync, R: Threads + Wait + Sync>(
         (λ found. found.items ≡ findings (blob_views blobs.now) stack.now)
         (λ fault. IsFailure Fsck stack.now (blob_views blobs.now) (G.may_refuse gate.now) fault) }
 {
+    findings_need_contents();
     let wrong = wrong_blobs(rt, alloc, blobs, workers, gate)?;
     let work = CheckWork::new(stack, blobs, &wrong);
     let walks = layer_walks(rt, alloc, stack, &work, workers, gate)?;
@@ -82,7 +84,7 @@ fn layer_walks<'a, G: Gate + Sync, R: Threads + Wait + Sync>(
     ensures { MatchResult result
         (λ walks. (length walks.items ≡ length (all_layers stack.now))
         × AreLayerWalks (check_view work.now) 0 (map (λ parcels. parcel_views check_seen parcels.items) walks.items))
-        (λ fault. IsFailure Fsck stack.now (check_view work.now).blobs (G.may_refuse gate.now) fault) }
+        (λ fault. (blobs : List BlobView) → IsFailure Fsck stack.now blobs (G.may_refuse gate.now) fault) }
 {
     let mut walks = Vec::new(alloc);
     for i in 0..stack.layers() {
