@@ -33,8 +33,8 @@ returns c =
       ascend = ascends-Rises digest_cmp after (Rises-sorted digest_cmp after (rw is (IsStrictlySortedBy-dedup nat_list_cmp_total texts_ties sorted c.in_ok-sort.ensures.sorted)));
       same = λ name. (
         (λ h. subst (λ (l : List (List ℕ)). Contains l name) all (Contains-permutation sorted before name (IsPermutation-sym before sorted mixed)
-        (Contains-from_dedup bytes_eq sorted name (subst (λ (l : List (List ℕ)). Contains l name) is h)))),
+            (Contains-from_dedup bytes_eq sorted name (subst (λ (l : List (List ℕ)). Contains l name) is h)))),
         (λ h. subst (λ (l : List (List ℕ)). Contains l name) (sym is) (Contains-dedup nat_list_eq_equiv (λ x y e. (bytes_decides x y).0 e) sorted name
-        (Contains-permutation before sorted name mixed (subst (λ (l : List (List ℕ)). Contains l name) (sym all) h)))),
+            (Contains-permutation before sorted name mixed (subst (λ (l : List (List ℕ)). Contains l name) (sym all) h)))),
       );
     }
