@@ -47,7 +47,7 @@ module _ (refused : Type 0) where
 
   -- nor is a command done that makes layers where a fault is found
   pub unclean : (command : Command) → makes_layers command ≡ true → (stack : StackView) (found : List Finding) (fault : EngineFault) → IsUnclean found fault → IsFailure command stack found refused fault
-  unclean command makes stack found (Faulty report) is = (makes, is)
+  unclean command makes stack found (Faulty report) is = (makes, is.0, is.1)
   unclean command makes stack found WantsMemory is = tt
   unclean command makes stack found LimitOut is = absurd is
   unclean command makes stack found (Run fault) is = absurd is

@@ -27,3 +27,8 @@ returns-clause-sound g c =
     keeps_soundness c.in_ok-rewritten.field-0 (c.in_ok-layer.layer ∷ []) stack c.in_ok-rewritten.ensures.back some
     (deref_sound stack c.ordinary-layers.ensures.each c.in_ok-layer.layer c.in_ok-rewritten.ensures.report.1 c.in_ok-layer.ensures.layer
     c.deref_keeps_soundness.ensures some (c.requires.sound c.in_ok-expect_clean.ensures.clean))
+
+pub returns-in_err-layer-clause-outcome : goal.returns-in_err-layer-clause-outcome
+returns-in_err-layer-clause-outcome g c =
+    let out = err_from_is_err_and c.from_residual-in_err-layer.result c.from_residual-in_err-layer.ensures.1 in
+    rw (out.1, out.2) (c.in_err-layer.ensures.fault c.args.found.items c.in_ok-expect_clean.ensures.clean)
