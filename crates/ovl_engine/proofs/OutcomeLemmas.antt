@@ -1,7 +1,6 @@
 -- What a run that fails is told as, and numbers within their limits.
-use Rattle.std.proofs.Common.{◌≡◌, ◌≢◌, ◌⊎◌, inl, inr, ℕ, ◌+◌, ◌-◌, ◌<◌, ◌≤◌, true, false, Result, Ok, Err, List, refl, sym, subst, arith, ◌∙◌}
+use Rattle.std.proofs.Common.{◌≡◌, ◌≢◌, ◌⊎◌, inl, inr, ℕ, ◌+◌, ◌-◌, ◌<◌, ◌≤◌, true, Result, Ok, Err, List, refl, arith}
 use Rattle.ovl_lookup.specs.Stacks.{StackView}
-use Rattle.ovl_board.specs.declared.pieces.Piece.{Piece}
 use Rattle.ovl_board.specs.declared.assembly.BoardFault.{BoardFault}
 use Rattle.ovl_board.specs.declared.assembly.BoardFault.TheVariants.{Double, Stranger, Missing, Memory as BoardMemory}
 use Rattle.ovl_pool.specs.declared.runs.RunFault.{RunFault}
@@ -9,12 +8,11 @@ use Rattle.ovl_pool.specs.declared.runs.RunFault.TheVariants.{Workers, Gate, Boa
 use Rattle.ovl_pool.specs.Runs.{IsBoardMemory}
 use Rattle.ovl_check.specs.declared.findings.Finding.{Finding}
 use Rattle.ovl_engine.specs.declared.requests.Command.{Command}
-use Rattle.ovl_engine.specs.declared.requests.Command.TheVariants.{Show, Fsck, Vacuum, Deref, Merge}
 use Rattle.ovl_engine.specs.declared.requests.Answer.{Answer}
 use Rattle.ovl_engine.specs.declared.faults.EngineFault.{EngineFault}
 use Rattle.ovl_engine.specs.declared.faults.EngineFault.TheVariants.{Workers as NoWorkers, Layers, Layer, BlobOrder, BlobSize, NoLower, Faulty, LimitOut, Run, Memory as WantsMemory, DataLayers}
 use Rattle.ovl_engine.specs.Refusals.{failed_run}
-use Rattle.ovl_engine.specs.Commands.{checks, makes_layers}
+use Rattle.ovl_engine.specs.Commands.{makes_layers}
 use Rattle.ovl_engine.specs.Outcomes.{IsFailedRun, IsFailedWalk, IsFailure, IsUnclean, IsRun}
 
 module _ (refused : Type 0) where

@@ -12,7 +12,6 @@ use Rattle.ovl_check.specs.Findings.{findings}
 use Rattle.ovl_check.specs.Stated.{IsStated}
 use Rattle.ovl_engine.specs.declared.requests.Command.{Command}
 use Rattle.ovl_engine.specs.declared.requests.Answer.{Answer}
-use Rattle.ovl_engine.specs.declared.faults.EngineFault.{EngineFault}
 use Rattle.ovl_engine.specs.declared.faults.EngineFault.TheVariants.{Memory}
 use Rattle.ovl_engine.specs.declared.contents.CommandFault.{CommandFault}
 use Rattle.ovl_engine.specs.declared.contents.CommandFault.TheVariants.{Engine, Contents as ContentsFault}
