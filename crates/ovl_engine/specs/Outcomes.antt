@@ -87,15 +87,19 @@ pub record IsMergedInto (stack : StackView) (answer : Answer) : Type 0 where
   pub rewritten : IsRewritten (layer_report lower) (merged_top (merge_of stack) ∷ lower ∷ []) answer
 
 -- the answer of a command over this stack, of which this is found
-abbrev pub IsAnswer : Command → StackView → List Finding → Answer → Type 0
-IsAnswer Show stack found answer = IsShowReport stack answer.report.items × (answer.layers.items ≡ []) × (answer.clean ≡ true)
-IsAnswer Fsck stack found answer =
+abbrev pub IsAnswerOf : Command → StackView → List Finding → Answer → Type 0
+IsAnswerOf Show stack found answer = IsShowReport stack answer.report.items × (answer.layers.items ≡ []) × (answer.clean ≡ true)
+IsAnswerOf Fsck stack found answer =
     (answer.report.items ≡ fsck_report found)
     × (answer.layers.items ≡ [])
     × (answer.clean ≡ is_clean found)
-IsAnswer Vacuum stack found answer = (is_clean found ≡ true) × IsVacuumed stack answer
-IsAnswer Deref stack found answer = (is_clean found ≡ true) × IsUnfolded stack answer
-IsAnswer Merge stack found answer = (is_clean found ≡ true) × IsMergedInto stack answer
+IsAnswerOf Vacuum stack found answer = (is_clean found ≡ true) × IsVacuumed stack answer
+IsAnswerOf Deref stack found answer = (is_clean found ≡ true) × IsUnfolded stack answer
+IsAnswerOf Merge stack found answer = (is_clean found ≡ true) × IsMergedInto stack answer
+
+-- the answer of a command over this stack and blobs
+abbrev pub IsAnswer : Command → StackView → List BlobView → Answer → Type 0
+IsAnswer command stack blobs answer = IsAnswerOf command stack (findings blobs stack) answer
 
 -- what is checked: this stack; which directories that reaches has nothing to do with contents
 abbrev pub check_of : StackView → CheckView
@@ -198,7 +202,7 @@ IsUnclean found DataLayers = ⊥
 
 -- what comes of a command over a stack, of which this is found
 abbrev pub IsRun : Command → StackView → List Finding → Type 0 → Result Answer EngineFault → Type 0
-IsRun command stack found refused (Ok answer) = IsAnswer command stack found answer
+IsRun command stack found refused (Ok answer) = IsAnswerOf command stack found answer
 IsRun command stack found refused (Err fault) = IsFailure command stack found refused fault
 
 -- nothing refuses the request
@@ -230,7 +234,7 @@ found_in request = findings request.blobs (stack_of request)
 -- what comes of a request, by a gate that may refuse these pieces; want of memory may come at any time
 abbrev pub IsOutcome : Request → (Piece → Type 0) → Result Answer EngineFault → Type 0
 IsOutcome request may_refuse (Ok answer) =
-    IsAccepted request × IsAnswer request.what (stack_of request) (found_in request) answer
+    IsAccepted request × IsAnswer request.what (stack_of request) request.blobs answer
 IsOutcome request may_refuse (Err (Faulty report)) =
     IsAccepted request × IsFoundFaulty request.what (found_in request) report.items
 IsOutcome request may_refuse (Err LimitOut) =

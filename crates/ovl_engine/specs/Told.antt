@@ -17,7 +17,7 @@ use Rattle.ovl_engine.specs.declared.contents.CommandFault.{CommandFault}
 use Rattle.ovl_engine.specs.declared.contents.CommandFault.TheVariants.{Engine, Contents as ContentsFault}
 use Rattle.ovl_engine.specs.Commands.{checks}
 use Rattle.ovl_engine.specs.Requests.{Request}
-use Rattle.ovl_engine.specs.Outcomes.{IsAccepted, IsAnswer, IsFailure, IsRefusal, MayRefuseLayers, MayRefuseOwn, stack_of}
+use Rattle.ovl_engine.specs.Outcomes.{IsAccepted, IsAnswerOf, IsFailure, IsRefusal, MayRefuseLayers, MayRefuseOwn, stack_of}
 
 -- the bytes of a name, among blobs
 abbrev pub bytes_named : List BlobView → List ℕ → Option (List ℕ)
@@ -47,7 +47,7 @@ MayRefuseTold command stack may_refuse = ((checks command ≡ true) × MayRefuse
 
 -- what comes of a command over a stack and contents that are told; that they aren't is told as such
 abbrev pub IsRunOver : {F : Type 0} → Command → StackView → (List ℕ → Option (List ℕ) → Type 0) → (F → Type 0) → (Piece → Type 0) → Result Answer (CommandFault F) → Type 0
-IsRunOver command stack may_be may_fail may_refuse (Ok answer) = HoldsOfFound may_be command stack (λ found. IsAnswer command stack found answer)
+IsRunOver command stack may_be may_fail may_refuse (Ok answer) = HoldsOfFound may_be command stack (λ found. IsAnswerOf command stack found answer)
 IsRunOver command stack may_be may_fail may_refuse (Err (ContentsFault fault)) = (checks command ≡ true) × may_fail fault
 IsRunOver command stack may_be may_fail may_refuse (Err (Engine fault)) =
     (fault ≡ Memory)
