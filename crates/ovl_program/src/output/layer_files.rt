@@ -81,8 +81,8 @@ fn put_out<R: Files, W: Write>(
         (λ fault. IsLeftOut answer.now (W.contents writer.old) (W.contents writer.new) fault) }
 {
     open_all(rt, paths, files)?;
-    empty_all(files)?;
-    hand_out(answer, files, writer)
+    empty_all(files.as_slice())?;
+    hand_out(answer, files.as_mut_slice(), writer)
 }
 
 // Opens the files of these paths, in their order, and makes those that aren't there. What is in them stays.
@@ -95,7 +95,7 @@ fn open_all<R: Files>(rt: &R, paths: &[String], files: &mut Vec<R::File>) -> Res
         (λ fault. fault.part < length paths.now) }
 {
     for (index, path) in paths.iter().enumerate() {
-        let Some(file) = open_apart(rt, path.as_str(), files) else {
+        let Some(file) = open_apart(rt, path.as_str(), files.as_slice()) else {
             return Err(OutFault {
                 part: index as u8,
                 written: 0,
