@@ -9,15 +9,15 @@ use Rattle.ovl_program.proofs.output.report.write_report.Goals as goal
 pub write_answer-requires : goal.write_answer-requires
 write_answer-requires g c = few_layers _ _ _ c.in-Ok.answer c.in-Ok.ensures.outcome.1
 
-pub returns-in-Ok-Some : goal.returns-in-Ok-Some
-returns-in-Ok-Some g c =
+pub returns-in-Some : goal.returns-in-Some
+returns-in-Some g c =
     answered (request_of c.args.what c.args.manifests.items c.args.bottom c.args.blobs.now c.args.workers) c.args.out.now
     (g.W.Write.contents c.args.writer.now) (g.W.Write.contents c.write_answer.new.writer)
     c.in-Some.folder c.in-Some.is c.as_str.result.now c.as_str.ensures.value c.in-Ok.answer c.in-Ok.ensures.outcome
     c.write_answer.result c.write_answer.ensures
 
-pub returns-in-Ok-None : goal.returns-in-Ok-None
-returns-in-Ok-None g c =
+pub returns-in-Ok : goal.returns-in-Ok
+returns-in-Ok g c =
     told (request_of c.args.what c.args.manifests.items c.args.bottom c.args.blobs.now c.args.workers) c.args.out.now
     (g.W.Write.contents c.args.writer.now) (g.W.Write.contents c.write.new.writer)
     c.deref.result.now c.of.result c.write.result
