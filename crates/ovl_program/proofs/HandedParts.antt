@@ -43,7 +43,7 @@ pub handed_last : {V F : Type 0} (view : F → Option (List ℕ)) (bytes : V →
     → length layers ≡ 0 → length files ≡ length layers → news ≡ files
     → MatchResult result (λ _. Appends old new report) (λ fault. (fault.part ≡ 0) × ((fault.written < length report) × Appends old new (take fault.written report)))
     → MatchResult result (λ _. AreWhole (map view files ++ old ∷ []) (map view news ++ new ∷ []) (map bytes layers ++ report ∷ []))
-      (λ fault. IsCutAt fault.part fault.written (map view files ++ old ∷ []) (map view news ++ new ∷ []) (map bytes layers ++ report ∷ []))
+    (λ fault. IsCutAt fault.part fault.written (map view files ++ old ∷ []) (map view news ++ new ∷ []) (map bytes layers ++ report ∷ []))
 handed_last view bytes layers files news old new report result none each same gone =
     let no_layers : layers ≡ [] = nil_from_length layers none in
     let no_files : files ≡ [] = nil_from_length files (each ∙ none) in

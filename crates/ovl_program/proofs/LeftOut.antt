@@ -30,8 +30,8 @@ unfinished folder answer before after paths fault told each named layer report (
 pub handed_out : {F : Type 0} (view : F → Option (List ℕ)) (answer : Answer) (files news : List F) (before after : Option (List ℕ)) (result : Result ℕ OutFault)
     → length files ≡ length answer.layers.items → length news ≡ length files
     → MatchResult result
-      (λ status. (status ≡ ending_status (ending_of answer.clean)) × AreWhole (map view files ++ before ∷ []) (map view news ++ after ∷ []) (new_manifests answer ++ answer.report.items ∷ []))
-      (λ fault. IsCutAt fault.part fault.written (map view files ++ before ∷ []) (map view news ++ after ∷ []) (new_manifests answer ++ answer.report.items ∷ []))
+    (λ status. (status ≡ ending_status (ending_of answer.clean)) × AreWhole (map view files ++ before ∷ []) (map view news ++ after ∷ []) (new_manifests answer ++ answer.report.items ∷ []))
+    (λ fault. IsCutAt fault.part fault.written (map view files ++ before ∷ []) (map view news ++ after ∷ []) (new_manifests answer ++ answer.report.items ∷ []))
     → MatchResult result (λ _. Appends before after answer.report.items) (λ fault. IsLeftOut answer before after fault)
 handed_out view answer files news before after result each same gone = by result gone
   where
@@ -46,8 +46,8 @@ handed_out view answer files news before after result each same gone = by result
 
     by : (result : Result ℕ OutFault)
         → MatchResult result
-          (λ status. (status ≡ ending_status (ending_of answer.clean)) × AreWhole (map view files ++ before ∷ []) (map view news ++ after ∷ []) (new_manifests answer ++ answer.report.items ∷ []))
-          (λ fault. IsCutAt fault.part fault.written (map view files ++ before ∷ []) (map view news ++ after ∷ []) (new_manifests answer ++ answer.report.items ∷ []))
+        (λ status. (status ≡ ending_status (ending_of answer.clean)) × AreWhole (map view files ++ before ∷ []) (map view news ++ after ∷ []) (new_manifests answer ++ answer.report.items ∷ []))
+        (λ fault. IsCutAt fault.part fault.written (map view files ++ before ∷ []) (map view news ++ after ∷ []) (new_manifests answer ++ answer.report.items ∷ []))
         → MatchResult result (λ _. Appends before after answer.report.items) (λ fault. IsLeftOut answer before after fault)
     by (Ok status) gone = whole_at_last (map view files) (map view news) (new_manifests answer) before after answer.report.items old new gone.1
     by (Err fault) cut =

@@ -22,7 +22,15 @@ fn words_make_a_line(rt: HostRuntime) -> Result<(), Fail> {
             "Line { what: Deref, workers: 4, data_layers: 0, blobs: Some(\"b\"), out: Some(\"o\"), layers: [\"a\", \"a\"] }",
         ),
         (
-            ["merge", "--data-layers=127", "--blobs=b", "--out=o", "--", "-a"].as_slice(),
+            [
+                "merge",
+                "--data-layers=127",
+                "--blobs=b",
+                "--out=o",
+                "--",
+                "-a",
+            ]
+            .as_slice(),
             "Line { what: Merge, workers: 4, data_layers: 127, blobs: Some(\"b\"), out: Some(\"o\"), layers: [\"-a\"] }",
         ),
     ] {
@@ -46,7 +54,11 @@ fn words_that_no_command_takes_are_a_usage_fault(rt: HostRuntime) -> Result<(), 
         ),
     ] {
         let text = format!(in alloc; "error: {reason}\n\nFor more information, try '--help'.\n")?;
-        assert_eq!(rt; line(alloc, words).err(), Some(LineFault::Usage(text)), "at {words:?}");
+        assert_eq!(rt;
+            line(alloc, words).err(),
+            Some(LineFault::Usage(text)),
+            "at {words:?}"
+        );
     }
     Ok(())
 }
@@ -64,6 +76,9 @@ fn a_fault_of_words_shows_its_text(rt: HostRuntime) -> Result<(), Fail> {
     let alloc = rt.alloc();
     let usage = LineFault::Usage(String::from_str(alloc, "error: no\n")?);
     assert_eq!(rt; usage.to_string(alloc)?.as_str(), "error: no\n");
-    assert_eq!(rt; LineFault::Memory.to_string(alloc)?.as_str(), "out of memory");
+    assert_eq!(rt;
+        LineFault::Memory.to_string(alloc)?.as_str(),
+        "out of memory"
+    );
     Ok(())
 }

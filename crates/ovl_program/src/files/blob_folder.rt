@@ -10,8 +10,8 @@ ghost use Rattle.ovl_program.specs.Faults.{IsUnread};
 ghost use Rattle.ovl_program.specs.BlobFolders.{blob_path as path_of_blob, IsInFolder, IsNamedBy, IsSpelt};
 
 use crate::faults::ProgramFault;
-use crate::files::manifests::SharedFiles;
 use crate::files::held_blobs::HeldBlobs;
+use crate::files::manifests::SharedFiles;
 use crate::files::reads::{INPUT_LIMIT, ReadFault};
 use ovl_engine::{BLOB_LIMIT, Blob};
 use ovl_inode::Digest;

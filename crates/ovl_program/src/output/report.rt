@@ -4,9 +4,9 @@ ghost use Rattle.ovl_engine.specs.Requests.{request_of};
 ghost use Rattle.ovl_program.specs.declared.faults.ProgramFault.TheVariants.{Output};
 ghost use Rattle.ovl_program.specs.Reported.{IsReported};
 
-use crate::output::status::Ending;
 use crate::faults::ProgramFault;
 use crate::output::layer_files::write_answer;
+use crate::output::status::Ending;
 use ovl_engine::{Blob, Command, EngineFault, command_of, emit};
 use ovl_pool::OpenGate;
 use std::io::Write;

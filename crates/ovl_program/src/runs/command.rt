@@ -3,12 +3,12 @@ ghost use Rattle.ovl_check.specs.Blobs.{blob_views, are_in_order};
 ghost use Rattle.ovl_program.specs.Faults.{IsUnread};
 ghost use Rattle.ovl_program.specs.Programs.{IsOfBlobs, IsPerformed};
 
-use crate::output::status::Ending;
-use crate::faults::ProgramFault;
-use crate::files::manifests::{SharedFiles, read_files};
-use crate::files::blob_folder::read_blobs;
 use crate::command_line::options::Line;
+use crate::faults::ProgramFault;
+use crate::files::blob_folder::read_blobs;
+use crate::files::manifests::{SharedFiles, read_files};
 use crate::output::report::write_report;
+use crate::output::status::Ending;
 use ovl_engine::Blob;
 use std::io::Write;
 use std::rt::Files;
