@@ -116,6 +116,16 @@ def edits_of(crate):
     return sorted(it for it in os.listdir(folder) if it.endswith(".edit")) if os.path.isdir(folder) else []
 
 
+def tests_of(crate):
+    """How many functions of a crate are tests."""
+    count = 0
+    for folder, _, names in os.walk(f"crates/{crate}/src"):
+        for name in names:
+            with open(os.path.join(folder, name), encoding="utf-8") as file:
+                count += sum(line.strip() == "#[test]" for line in file)
+    return count
+
+
 def minutes(seconds):
     return f"{seconds / 60:.1f}"
 
@@ -126,23 +136,24 @@ def row(*cells):
 
 def table(gate, total, wall):
     """The table as lines, with what the gate took in all."""
-    head = ("Crate", "Proof", "Tests", "Edits", "In all", "Number of edits", "Seconds an edit")
+    head = ("Crate", "Proof", "Tests", "Edits", "In all", "Number of tests", "Seconds a test", "Number of edits", "Seconds an edit")
     lines = [row(*head), "| --- " + "| ---: " * (len(head) - 1) + "|"]
-    sums, number = dict.fromkeys(PARTS, 0.0), 0
+    sums, tests, edits = dict.fromkeys(PARTS, 0.0), 0, 0
     for crate in crates():
         took = {part: sum(gate.of(crate, part)) for part in PARTS}
-        lines.append(line_of(f"`{crate}`", took, len(edits_of(crate))))
+        lines.append(line_of(f"`{crate}`", took, tests_of(crate), len(edits_of(crate))))
         sums = {part: sums[part] + took[part] for part in PARTS}
-        number += len(edits_of(crate))
-    lines.append(line_of("all crates", sums, number))
+        tests += tests_of(crate)
+        edits += len(edits_of(crate))
+    lines.append(line_of("all crates", sums, tests, edits))
     rest = total - sum(sums.values())
-    lines += [row(name, "", "", "", minutes(it), "", "") for name, it in (("the rest", rest), ("the gate", total))]
+    lines += [row(name, "", "", "", minutes(it), "", "", "", "") for name, it in (("the rest", rest), ("the gate", total))]
     return [*lines, "", f"It ran for {minutes(wall)} minutes on {machine()}."]
 
 
-def line_of(name, took, edits):
-    each = f"{took['edits'] / edits:.0f}" if edits else ""
-    return row(name, *map(minutes, took.values()), minutes(sum(took.values())), edits, each)
+def line_of(name, took, tests, edits):
+    each = [f"{took[part] / number:.0f}" if number else "" for part, number in (("tests", tests), ("edits", edits))]
+    return row(name, *map(minutes, took.values()), minutes(sum(took.values())), tests, each[0], edits, each[1])
 
 
 def dearest(gate, count):

@@ -162,7 +162,7 @@ CASES = [
     Case("3,000 metacopy files through N layers", "fsck", metacopy_files, (16, 32, 64), 2.2),
     Case("3,000 metacopy files whose data lie in the last of N data-only layers", "fsck", data_only_layers, (1, 8, 64),
          data_only=lambda size: size),
-    Case("3,000 metacopy files with redirects through N layers into a data-only one", "fsck", chains_into_data, (1, 8, 64), 2.2,
+    Case("3,000 metacopy files with redirects through N layers into a data-only one", "fsck", chains_into_data, (1, 8, 32, 64), 2.2,
          data_only=lambda size: 1),
     Case("a layer of N entries", "show", full_layer, (131_072, 1_048_576)),
     Case("a directory of N files", "show", one_directory, (50_000, 100_000, 200_000)),

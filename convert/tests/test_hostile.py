@@ -26,6 +26,7 @@ GIGABYTE = 1 << 30
 BOMB_BYTES = GIGABYTE
 MEMORY = 200 * 1024  # KB, that the whole process may have
 SECONDS = 20  # of processor time
+FILES = 24  # that it may have open
 
 
 class HostileTest(FolderTest):
@@ -353,7 +354,7 @@ def _spoilt(pick: random.Random, data: bytes) -> bytes:
 
 
 class Bomb(HostileTest):
-    """What is small and unpacks to much, by a process with little memory and time."""
+    """What is small and unpacks to much, by a process with little memory and time, and few open files."""
 
     def bounded(self, *words: object) -> "subprocess.CompletedProcess[str]":
         """Unpacks the image within the bounds."""
@@ -483,6 +484,7 @@ def _packed_zeros(count: int) -> bytes:
 def _limit() -> None:
     resource.setrlimit(resource.RLIMIT_AS, (MEMORY * 1024, MEMORY * 1024))
     resource.setrlimit(resource.RLIMIT_CPU, (SECONDS, SECONDS))
+    resource.setrlimit(resource.RLIMIT_NOFILE, (FILES, FILES))
 
 
 if __name__ == "__main__":

@@ -10,9 +10,11 @@ use Rattle.ovl_board.specs.declared.works.Parcel.{Parcel}
 use Rattle.ovl_board.specs.Parcels.{ParcelView, parcel_view, pieces_of}
 use Rattle.ovl_board.specs.Balance.{kids_in, AllLawful, HasKid}
 use Rattle.ovl_board.specs.Assembly.{IsLeast, NoPiece, IsDouble, IsStranger, IsMissing, IsBoardFault, IsAbsent, IsListFault, AreExpected, IsInOrder, bare}
-use Rattle.ovl_board.proofs.Members.{In, In-map, In-flat_map, Contains-In, In-Contains, All-Every, Every-All, Rises-AllPairs}
-use Rattle.ovl_board.proofs.PieceOrder.{before_trans, before_under, length_below}
-use Rattle.ovl_board.proofs.CountLemmas.{mark, times_rising, parcel_of_kid, In-or}
+use Rattle.ovl_board.proofs.CountLemmas.{times_rising, In-or}
+use Rattle.ovl_board.proofs.LawsOfMembers.{All-Every, Contains-In, Every-All, In, In-Contains, In-flat_map, In-map, Rises-AllPairs}
+use Rattle.ovl_board.proofs.LawsOfPieces.{before_trans, before_under, length_below}
+use Rattle.ovl_board.proofs.LawsOfCounts.{mark, parcel_of_kid}
+use Rattle.ovl_board.proofs.LawsOfWalks.{reached_by}
 
 pub before_one : (p q : Piece) → IsOneBelow p q → IsBefore p q
 before_one p q b = before_under p q q b (refl, ([], sym (append-nil q.dir)))
@@ -91,10 +93,6 @@ module _ {S : Type 0} (root : Piece) (views : List (ParcelView S)) (lawful : All
     IsBoardFault-list (Stranger p) h = (no_double h.0, stranger p h.1)
     IsBoardFault-list (Missing p) h = (no_double h.0, no_stranger h.1, missing h.1 p h.2)
     IsBoardFault-list Memory h = tt
-
-pub reached_by : (S T : Piece → Piece → Type 0) → ((p q : Piece) → S p q → T p q) → (root p : Piece) → Reached S root p → Reached T root p
-reached_by S T f root _ start = start
-reached_by S T f root _ (next {p = p} {q = q} r s) = next (reached_by S T f root p r) (f p q s)
 
 -- parcels in another order have the same pieces, kids and faults
 module _ {S : Type 0} (root : Piece) (views moved : List (ParcelView S)) (same : IsPermutation views moved) where

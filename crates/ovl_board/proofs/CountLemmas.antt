@@ -1,71 +1,20 @@
 -- What the balance says once nothing is open: each reached piece has one parcel, and no other piece has one.
-use Rattle.std.proofs.Common.{◌≡◌, ℕ, zero, suc, ◌+◌, ◌-◌, ◌<◌, ◌≤◌, ◌⊎◌, inl, inr, Bool, true, false, cond, eqb, ◌&&◌, eq-eqb, List, [], ◌∷◌, ◌++◌, length, min, refl, sym, ap, ◌∙◌, subst, arith, IsPermutation}
-use Rattle.std.specs.Ordering.{nat_cmp, is_eq, ordering_then}
-use Rattle.std.specs.declared.cmp.Ordering.{Ordering}
-use Rattle.std.specs.declared.cmp.Ordering.TheVariants.{Less, Equal, Greater}
-use Rattle.std.specs.Cmp.Lexicographic.{nat_list_cmp_total, lists_total}
-use Rattle.std.specs.FinMap.{slice_cmp-IsAntisymmetric, nat_cmp-IsAntisymmetric}
-use Rattle.std.proofs.lemmas.Cmp.{tied_itself, nat_cmp_total}
+use Rattle.std.proofs.Common.{◌≡◌, ℕ, zero, suc, ◌+◌, ◌-◌, ◌<◌, ◌≤◌, ◌⊎◌, inl, inr, Bool, true, false, eqb, ◌&&◌, eq-eqb, List, [], ◌∷◌, ◌++◌, length, min, refl, sym, ap, ◌∙◌, subst, arith, IsPermutation}
 use Rattle.std.proofs.lemmas.Bool.{cases_lt, eqb-true}
-use Rattle.std.proofs.lemmas.List.Sums.{sum_by-cons, sum_by-append}
+use Rattle.std.proofs.lemmas.List.Sums.{sum_by-append}
 use Rattle.std.proofs.lemmas.List.Sorted.{IsPermutation-refl, IsPermutation-cons, IsPermutation-trans, IsPermutation-sym, IsPermutation-middle}
-use Rattle.ovl_names.specs.Paths.{PathNames, path_cmp, path_eq}
+use Rattle.ovl_names.specs.Paths.{path_eq}
 use Rattle.ovl_board.specs.declared.pieces.Piece.{Piece}
-use Rattle.ovl_board.specs.Pieces.{piece_cmp, IsBefore, IsOneBelow, AreLawfulKids}
+use Rattle.ovl_board.specs.Pieces.{IsBefore, IsOneBelow, AreLawfulKids}
 use Rattle.ovl_board.specs.Walks.{Reached, start, next}
 use Rattle.ovl_board.specs.Parcels.{ParcelView, pieces_of}
-use Rattle.ovl_board.specs.Balance.{is_same, times, kids_in, IsBalanced, AllLawful, HasKid}
-use Rattle.ovl_board.proofs.Members.{In, Every, Rises, In-map, In-flat_map, In-flat_map-cases, In-split, Contains-In, In-Contains, Every-All, Rises-AllPairs}
-use Rattle.ovl_board.proofs.PieceOrder.{length_below, snoc_view, snoc_same, path_eq_decides}
-
-pub same_itself : (p : Piece) → piece_cmp p p ≡ Equal
-same_itself p = rw (tied_itself nat_cmp_total p.space) (tied_itself (lists_total nat_list_cmp_total) p.dir)
-
-then_equal : (r s : Ordering) → ordering_then r s ≡ Equal → (r ≡ Equal) × (s ≡ Equal)
-then_equal Less s e = absurd (cc)
-then_equal Equal s e = (refl, e)
-then_equal Greater s e = absurd (cc)
-
-abbrev piece_at : ℕ → PathNames → Piece
-piece_at s d = record { space = s; dir = d }
-
-pub piece_eq : (p q : Piece) → p.space ≡ q.space → p.dir ≡ q.dir → p ≡ q
-piece_eq p q a b = ap (λ x. piece_at x p.dir) a ∙ ap (piece_at q.space) b
-
-pub same_piece : (p q : Piece) → piece_cmp p q ≡ Equal → p ≡ q
-same_piece p q h =
-    let b = then_equal (nat_cmp p.space q.space) (path_cmp p.dir q.dir) h in
-    piece_eq p q (nat_cmp-IsAntisymmetric p.space q.space b.0) (slice_cmp-IsAntisymmetric (slice_cmp-IsAntisymmetric nat_cmp-IsAntisymmetric) p.dir q.dir b.1)
-
--- 1 at p, and 0 elsewhere
-abbrev pub mark : Piece → Piece → ℕ
-mark p q = cond (is_same p q) 1 0
-
-pub mark_cases : (p q : Piece) → ((mark p q ≡ 1) × (p ≡ q)) ⊎ (mark p q ≡ 0)
-mark_cases p q = by (piece_cmp p q) refl
-  where
-    by : (r : Ordering) → piece_cmp p q ≡ r → ((◌≡◌ {A = ℕ} (cond (is_eq r) 1 0) 1) × (p ≡ q)) ⊎ (◌≡◌ {A = ℕ} (cond (is_eq r) 1 0) 0)
-    by Less e = inr refl
-    by Equal e = inl (refl, same_piece p q e)
-    by Greater e = inr refl
-
-pub mark_itself : (p q : Piece) → p ≡ q → mark p q ≡ 1
-mark_itself p q e = rw (← e, same_itself p)
-
-pub times-cons : (p q : Piece) (ps : List Piece) → times p (q ∷ ps) ≡ mark p q + times p ps
-times-cons p q ps = sum_by-cons (mark p) q ps
+use Rattle.ovl_board.specs.Balance.{times, kids_in, IsBalanced, AllLawful, HasKid}
+use Rattle.ovl_board.proofs.LawsOfMembers.{Contains-In, Every, Every-All, In, In-Contains, In-flat_map, In-map, In-split, Rises, Rises-AllPairs}
+use Rattle.ovl_board.proofs.LawsOfPieces.{length_below, less_differs, path_eq_decides, piece_at, piece_eq, snoc_same, snoc_view}
+use Rattle.ovl_board.proofs.LawsOfCounts.{In-times, mark, mark_cases, mark_itself, parcel_of_kid, times-In, times-cons}
 
 pub times-append : (p : Piece) (ps qs : List Piece) → times p (ps ++ qs) ≡ times p ps + times p qs
 times-append p ps qs = sum_by-append (mark p) ps qs
-
-pub In-times : (p : Piece) (ps : List Piece) → In p ps → 1 ≤ times p ps
-In-times p [] h = absurd h
-In-times p (q ∷ ps) (inl e) = omega (arith, times-cons p q ps, mark_itself p q e)
-In-times p (q ∷ ps) (inr h) = omega (arith, times-cons p q ps, In-times p ps h)
-
-pub times-In : (p : Piece) (ps : List Piece) → 1 ≤ times p ps → In p ps
-times-In p [] h = absurd (omega arith)
-times-In p (q ∷ ps) h = elim (mark_cases p q) [ inl m ↦ inl m.1 | inr m ↦ inr (times-In p ps (omega (arith, times-cons p q ps))) ]
 
 pub times_none : (p : Piece) (ps : List Piece) → (In p ps → ⊥) → times p ps ≡ 0
 times_none p [] h = refl
@@ -74,9 +23,6 @@ times_none p (q ∷ ps) h = elim (mark_cases p q) [ inl m ↦ absurd (h (inl m.1
 -- a piece stands in a list, or it doesn't
 pub In-or : (p : Piece) (ps : List Piece) → In p ps ⊎ (In p ps → ⊥)
 In-or p ps = elim (cases_lt 0 (times p ps)) [ inl some ↦ inl (times-In p ps (omega arith)) | inr none ↦ inr (λ i. absurd (omega (arith, In-times p ps i))) ]
-
-pub less_differs : (p q : Piece) → IsBefore p q → p ≡ q → ⊥
-less_differs p q lt e = let c : Less ≡ Equal = sym lt ∙ ap (piece_cmp p) (sym e) ∙ same_itself p in absurd (cc)
 
 -- a strictly ascending list has each piece once
 pub times_rising : (p : Piece) (ps : List Piece) → Rises IsBefore ps → times p ps ≤ 1
@@ -99,10 +45,6 @@ IsPermutation-from_times (p ∷ ps) qs h =
 
 pub same_parent : (p q kid : Piece) → IsOneBelow p kid → IsOneBelow q kid → p ≡ q
 same_parent p q kid a b = piece_eq p q (sym a.0 ∙ b.0) (snoc_same p.dir q.dir a.1.0 b.1.0 (sym a.1.1 ∙ b.1.1))
-
--- the parcel of which a piece is a kid
-pub parcel_of_kid : {S : Type 0} (views : List (ParcelView S)) (p : Piece) → In p (kids_in views) → (v : ParcelView S) × (In v views × In p v.kids)
-parcel_of_kid {S} views p h = let c = In-flat_map-cases (λ (v : ParcelView S). v.kids) p views h in (c.0, (c.1, c.2))
 
 module _ {S : Type 0} (root : Piece) (views : List (ParcelView S)) (lawful : AllLawful views) (balanced : IsBalanced root views []) where
   balance_at : (p : Piece) → times p (pieces_of views) ≡ mark p root + times p (kids_in views)

@@ -10,9 +10,10 @@ use Rattle.ovl_board.specs.Walks.{IsWalk, Reached}
 use Rattle.ovl_board.specs.Parcels.{ParcelView, parcel_view, pieces_of}
 use Rattle.ovl_board.specs.Balance.{times, kids_in, IsBalanced, AllLawful, HasKid}
 use Rattle.ovl_board.specs.Assembly.{IsInOrder, bare}
-use Rattle.ovl_board.proofs.Members.{In, Every, Rises, In-cases, In-map, get_or-In, Rises-append, Rises-AllPairs, All-Every, Every-All, Contains-In}
-use Rattle.ovl_board.proofs.PieceOrder.{IsUnder, under_one, before_under, before_siblings}
-use Rattle.ovl_board.proofs.CountLemmas.{mark, times-cons, times-append, all_reached, all_there}
+use Rattle.ovl_board.proofs.LawsOfMembers.{In, Every, Rises, In-cases, In-map, get_or-In, Rises-append, Rises-AllPairs, All-Every, Every-All, Contains-In}
+use Rattle.ovl_board.proofs.LawsOfPieces.{IsUnder, under_one, before_under, before_siblings}
+use Rattle.ovl_board.proofs.LawsOfCounts.{mark, times-cons}
+use Rattle.ovl_board.proofs.CountLemmas.{times-append, all_reached, all_there}
 use Rattle.ovl_board.proofs.AssemblyLemmas.{IsWalk-moved}
 
 -- the piece that was open last has its parcel now, and the kids of that parcel are open
@@ -82,9 +83,6 @@ descended done p kids rest law d = (
     only : (x : Piece) → In x (p ∷ []) → x ≡ p
     only x (inl e) = e
     only x (inr h) = absurd h
-
-pub descends-start : (root : Piece) → Descends [] (root ∷ [])
-descends-start root = (tt, (λ x h. absurd h), ((λ y h. absurd h), tt))
 
 pub descended-at : {O : Type 0} (parcels : List (Parcel O)) (i : ℕ) (parcel : Parcel O) → AllLawful (bare parcels) → i < length parcels → parcel ≡ get_or parcels i parcel
     → (kept now : List Piece) → Descends (pieces_of (bare (take i parcels))) (reverse (kept ++ parcel.piece ∷ [])) → now ≡ kept ++ reverse parcel.kids.items → Descends (pieces_of (bare (take (i + 1) parcels))) (reverse now)

@@ -1,21 +1,19 @@
 -- Reached pieces name by name, and that a plain walk is the only one.
-use Rattle.std.proofs.Common.{◌≡◌, ℕ, List, [], ◌∷◌, ◌++◌, map, refl, sym, ap, ◌∙◌, subst, arith, append-nil, append_assoc, IsPermutation}
+use Rattle.std.proofs.Common.{◌≡◌, ℕ, List, [], ◌∷◌, ◌++◌, refl, sym, ap, ◌∙◌, subst, arith, append-nil, append_assoc, IsPermutation}
 use Rattle.std.proofs.lemmas.List.Sorted.{Contains-permutation, IsPermutation-sym, IsPermutation-map, sum_by-IsPermutation}
 use Rattle.ovl_names.specs.Names.{PathName}
 use Rattle.ovl_names.specs.Paths.{PathNames, child_path}
 use Rattle.ovl_board.specs.declared.pieces.Piece.{Piece}
 use Rattle.ovl_board.specs.Pieces.{IsBefore, IsOneBelow, HasLawfulKids}
 use Rattle.ovl_board.specs.Walks.{Reached, start, next, ToKid, StepsToKids, IsReachedByNames}
-use Rattle.ovl_board.specs.Parcels.{ParcelView, parcel_view, pieces_of, own_view}
+use Rattle.ovl_board.specs.Parcels.{ParcelView, parcel_view, pieces_of}
 use Rattle.ovl_board.specs.Balance.{HasKid}
 use Rattle.ovl_board.specs.Assembly.{bare}
-use Rattle.ovl_board.specs.Machine.{start_state}
-use Rattle.ovl_board.specs.Laws.{ReachedByNames, HasReachedPieces, KeepsBalance, BalancedHaveNoFault, OwnAssemble, InOrderHaveNoFault}
-use Rattle.ovl_board.proofs.Members.{In, Rises, Contains-In, In-Contains, Every-All, Rises-AllPairs, rising_same}
-use Rattle.ovl_board.proofs.PieceOrder.{before_trans}
-use Rattle.ovl_board.proofs.CountLemmas.{mark, less_differs, times_rising, once, all_reached, all_there, piece_eq}
-use Rattle.ovl_board.proofs.MachineLemmas.{start_kept, all_kept}
-use Rattle.ovl_board.proofs.OwnLemmas.{own_lawful-bare, order_plain}
+use Rattle.ovl_board.specs.Laws.{ReachedByNames, BalancedHaveNoFault, InOrderHaveNoFault}
+use Rattle.ovl_board.proofs.CountLemmas.{times_rising, once, all_reached, all_there}
+use Rattle.ovl_board.proofs.LawsOfMembers.{Contains-In, Every-All, In-Contains, Rises-AllPairs}
+use Rattle.ovl_board.proofs.LawsOfPieces.{piece_eq}
+use Rattle.ovl_board.proofs.LawsOfCounts.{mark}
 
 abbrev at : ℕ → PathNames → Piece
 at space dir = record { space = space; dir = dir }
@@ -51,33 +49,6 @@ module _ (kids : Piece → List Piece) where
 
 pub ReachedByNames-holds : ReachedByNames
 ReachedByNames-holds kids deepest law root p = (by_names kids deepest law root p, from_names kids deepest law root p)
-
--- two ascending lists of pieces with the same members are one
-same_pieces : (ps qs : List Piece) → Rises IsBefore ps → Rises IsBefore qs → ((x : Piece) → In x ps → In x qs) → ((x : Piece) → In x qs → In x ps) → ps ≡ qs
-same_pieces = rising_same IsBefore (λ x lt. less_differs x x lt refl) before_trans
-
-module _ {S : Type 0} (kids : Piece → List Piece) (out : Piece → S) where
-  pub HasReachedPieces-holds : HasReachedPieces kids out
-  HasReachedPieces-holds root views plain = (
-    (λ p. ((λ h. Every-All (Reached (ToKid kids) root) (pieces_of views) plain.walk.reached p (In-Contains p (pieces_of views) h)), plain.walk.whole p)),
-    plain.walk.ascend,
-    (λ p. times_rising p (pieces_of views) (Rises-AllPairs IsBefore (pieces_of views) plain.walk.ascend)),
-    (λ others other.
-        let same : pieces_of others ≡ pieces_of views = same_pieces (pieces_of others) (pieces_of views)
-        (Rises-AllPairs IsBefore (pieces_of others) other.walk.ascend) (Rises-AllPairs IsBefore (pieces_of views) plain.walk.ascend)
-        (λ p h. In-Contains p (pieces_of views) (plain.walk.whole p (Every-All (Reached (ToKid kids) root) (pieces_of others) other.walk.reached p h)))
-        (λ p h. In-Contains p (pieces_of others) (other.walk.whole p (Every-All (Reached (ToKid kids) root) (pieces_of views) plain.walk.reached p h))) in
-        other.own ∙ (ap (map (own_view kids out)) same ∙ sym plain.own)),
-  )
-
-  pub KeepsBalance-holds : KeepsBalance kids out
-  KeepsBalance-holds root workers events = (all_kept kids out root (start_state root workers) events (start_kept root workers)).balance
-
-  pub OwnAssemble-holds : {O : Type 0} (seen : O → S) → OwnAssemble kids out seen
-  OwnAssemble-holds seen deepest law parcels own = (
-    own_lawful-bare seen kids out deepest law parcels own,
-    (λ root assembled order. order_plain seen kids out root parcels assembled own order),
-  )
 
 pub BalancedHaveNoFault-holds : BalancedHaveNoFault
 BalancedHaveNoFault-holds root views lawful balance = (

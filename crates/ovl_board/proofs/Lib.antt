@@ -1,12 +1,13 @@
-pub mod Members
-pub mod PieceOrder
+pub mod LawsOfMembers
+pub mod LawsOfPieces
+pub mod LawsOfCounts
+pub mod LawsOfWalks
 pub mod WalkLemmas
 pub mod CountLemmas
 pub mod SortLemmas
 pub mod AssemblyLemmas
 pub mod MachineLemmas
 pub mod CoreLemmas
-pub mod OwnLemmas
 pub mod TreeLemmas
 pub mod LawLemmas
 pub mod SubtreeLemmas

@@ -12,8 +12,9 @@ use Rattle.ovl_board.specs.Desks.{DeskView, empty_desk, is_free, push_first}
 use Rattle.ovl_board.specs.Parcels.{ParcelView, own_view, pieces_of}
 use Rattle.ovl_board.specs.Balance.{times, kids_in, IsBalanced}
 use Rattle.ovl_board.specs.Machine.{CoreState, start_desks, start_state, desk_of, with_desk, take_first, after_take, after_steal, after_push, work_piece, with_desks, after, after_all, desk_pieces, open_pieces, IsIdle, IsCoreState}
-use Rattle.ovl_board.proofs.Members.{In, Every, All-Every, Every-All, get_or-In}
-use Rattle.ovl_board.proofs.CountLemmas.{mark, times-cons, times-append}
+use Rattle.ovl_board.proofs.LawsOfMembers.{In, Every, All-Every, Every-All, get_or-In}
+use Rattle.ovl_board.proofs.LawsOfCounts.{mark, times-cons}
+use Rattle.ovl_board.proofs.CountLemmas.{times-append}
 
 -- a full hand stands beside an empty outbox
 abbrev pub IsFree : DeskView → Type 0
@@ -60,9 +61,6 @@ open_set q [] w desk h = absurd (omega arith)
 open_set q (d ∷ desks) zero desk h = omega (arith, times-append q (desk_pieces desk) (open_pieces desks), times-append q (desk_pieces d) (open_pieces desks))
 open_set q (d ∷ desks) (suc w) desk h =
     omega (arith, open_set q desks w desk (omega arith), times-append q (desk_pieces d) (open_pieces (set desks w desk)), times-append q (desk_pieces d) (open_pieces desks))
-
-with_lane : List DeskView → ℕ → List Piece → List DeskView
-with_lane desks l lane = set desks l (record (desk_of desks l) { lane = lane })
 
 -- a change of a lane changes no hand and no outbox
 lane_keeps : (desks : List DeskView) (l w : ℕ) (lane : List Piece) → ((desk_of (set desks l (record (desk_of desks l) { lane = lane })) w).hand ≡ (desk_of desks w).hand) × ((desk_of (set desks l (record (desk_of desks l) { lane = lane })) w).outbox ≡ (desk_of desks w).outbox)

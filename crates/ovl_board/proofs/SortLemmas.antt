@@ -1,51 +1,24 @@
 -- Sorted lists of pieces: their first double, and what a search in them says.
-use Rattle.std.proofs.Common.{◌≡◌, ℕ, ◌+◌, ◌-◌, ◌<◌, ◌≤◌, inl, inr, Bool, true, false, List, [], ◌∷◌, ◌++◌, length, get_or, take, drop, refl, sym, ap, ◌∙◌, subst, arith, Contains, Result, Ok, Err, OnOk, zero, IsSorted, suc, drop-cons}
+use Rattle.std.proofs.Common.{◌≡◌, ℕ, ◌+◌, ◌-◌, ◌<◌, ◌≤◌, inl, inr, true, false, List, [], ◌∷◌, ◌++◌, length, get_or, take, drop, refl, sym, ap, ◌∙◌, subst, arith, Contains, Result, Ok, Err, OnOk, zero, IsSorted, suc, drop-cons}
 use Rattle.std.proofs.lemmas.List.{get_or-take, take-append-drop, get_or_read, length-take}
-use Rattle.std.proofs.lemmas.List.Sorted.{ranks_by, sorted_far, searchable_from_sorted, all_adjacent_more}
+use Rattle.std.proofs.lemmas.List.Sorted.{ranks_by, searchable_from_sorted, all_adjacent_more}
 use Rattle.std.proofs.lemmas.Bool.{cases_lt}
 use Rattle.std.specs.List.{AllAdjacentBelow}
 use Rattle.std.specs.List.Sorted.{IsBinarySearchResult, IsSearchInRange, IsSortedBy}
 use Rattle.std.specs.Result.{is_err}
 use Rattle.std.specs.Cmp.{IsStrictWeakOrder}
 use Rattle.std.specs.Ordering.{is_lt}
-use Rattle.std.specs.declared.cmp.Ordering.{Ordering}
-use Rattle.std.specs.declared.cmp.Ordering.TheVariants.{Less, Equal, Greater}
+use Rattle.std.specs.declared.cmp.Ordering.TheVariants.{Equal, Greater}
 use Rattle.ovl_board.specs.declared.pieces.Piece.{Piece}
 use Rattle.ovl_board.specs.Pieces.{piece_cmp, IsBefore}
 use Rattle.ovl_board.specs.declared.works.Parcel.{Parcel}
 use Rattle.ovl_board.specs.Parcels.{pieces_of}
 use Rattle.ovl_board.specs.Balance.{times}
 use Rattle.ovl_board.specs.Assembly.{IsLeast, IsAbsent, bare}
-use Rattle.ovl_board.proofs.Members.{In, Rises, Rises-parts, Rises-AllPairs, Rises-from_adjacent, get_or-In}
-use Rattle.ovl_board.proofs.PieceOrder.{piece_cmp_total, before_trans}
-use Rattle.ovl_board.proofs.CountLemmas.{same_piece, same_itself, less_differs, mark_itself, times-cons, times-append, times_rising, times_none, In-times}
-
--- p doesn't come after q
-abbrev pub IsAtMost : Piece → Piece → Type 0
-IsAtMost p q = IsBefore q p → ⊥
-
-not_less : (r : Ordering) → is_lt r ≡ false → r ≡ Less → ⊥
-not_less r e l = let no : true ≡ false = ap is_lt (sym l) ∙ e in absurd (cc)
-
-is_before : Piece → Piece → Bool
-is_before p q = is_lt (piece_cmp p q)
-
-weak_order : IsStrictWeakOrder (λ p q. is_lt (piece_cmp p q))
-weak_order = ranks_by piece_cmp_total (λ (p : Piece). p)
-
-at_most : (ps : List Piece) → IsSorted piece_cmp ps → (i j : ℕ) (d : Piece) → i ≤ j → j < length ps → IsAtMost (get_or ps i d) (get_or ps j d)
-at_most ps up i j d le h = not_less (piece_cmp (get_or ps j d) (get_or ps i d)) (sorted_far (λ p q. is_lt (piece_cmp p q)) weak_order ps up i j d le h)
-
-pub Rises-sorted : (ps : List Piece) → IsSorted piece_cmp ps → Rises IsAtMost ps
-Rises-sorted ps up = Rises-AllPairs IsAtMost ps (λ i j d lt h. at_most ps up i j d (omega arith) h)
-
-pub before_unless_same : (p q : Piece) → IsAtMost p q → (p ≡ q → ⊥) → IsBefore p q
-before_unless_same p q le ne = by (piece_cmp p q) refl
-  where
-    by : (r : Ordering) → piece_cmp p q ≡ r → piece_cmp p q ≡ Less
-    by Less e = e
-    by Equal e = absurd (ne (same_piece p q e))
-    by Greater e = absurd (le (rw e at (piece_cmp_total.antisymm q p)))
+use Rattle.ovl_board.proofs.CountLemmas.{times-append, times_rising, times_none}
+use Rattle.ovl_board.proofs.LawsOfMembers.{In, Rises, Rises-from_adjacent, Rises-parts, get_or-In}
+use Rattle.ovl_board.proofs.LawsOfPieces.{IsAtMost, Rises-sorted, at_most, before_trans, before_unless_same, less_differs, piece_cmp_total, same_itself, same_piece}
+use Rattle.ovl_board.proofs.LawsOfCounts.{In-times, mark_itself, times-cons}
 
 -- a piece that stands at the end of an ascending front and again right behind it is the least double
 pub double_least : (front back : List Piece) (p : Piece) → Rises IsAtMost (front ++ p ∷ back) → Rises IsBefore front → In p front → IsLeast (λ q. 2 ≤ times q (front ++ p ∷ back)) p

@@ -13,8 +13,8 @@ use Rattle.std.specs.FinMap.{slice_cmp-IsAntisymmetric, nat_cmp-IsAntisymmetric}
 use Rattle.ovl_names.specs.Names.{name_cmp, name_eq}
 use Rattle.ovl_names.specs.Paths.{PathNames, path_cmp}
 use Rattle.ovl_board.specs.Trees.{is_child, children}
-use Rattle.ovl_board.proofs.Members.{Every, place}
-use Rattle.ovl_board.proofs.PieceOrder.{prefix_before}
+use Rattle.ovl_board.proofs.LawsOfMembers.{Every, place}
+use Rattle.ovl_board.proofs.LawsOfPieces.{prefix_before}
 use Rattle.ovl_board.proofs.TreeLemmas.{IsLess, child_is, less_trans, not_less_itself, starts-decides, between}
 
 filter_none : {X : Type 0} (p : X → Bool) (xs : List X) → Every (λ x. p x ≡ false) xs → filter p xs ≡ []

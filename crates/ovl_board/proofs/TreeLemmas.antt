@@ -16,8 +16,8 @@ use Rattle.ovl_names.proofs.Ascending.{both}
 use Rattle.ovl_board.specs.declared.pieces.Piece.{Piece}
 use Rattle.ovl_board.specs.Pieces.{IsBefore, IsOneBelow, AreLawfulKids, HasLawfulKids}
 use Rattle.ovl_board.specs.Trees.{HasTreeShape, EachFollows, is_child, is_next, children, tree_piece, tree_kids, deepest_path}
-use Rattle.ovl_board.proofs.Members.{In, Rises, In-map-cases, In-filter-cases, Rises-filter, All-Every, AllPairs-Rises, Rises-AllPairs, Rises-from_adjacent}
-use Rattle.ovl_board.proofs.PieceOrder.{snoc_view, path_eq_decides, prefix_before}
+use Rattle.ovl_board.proofs.LawsOfMembers.{In, Rises, In-map-cases, In-filter-cases, Rises-filter, All-Every, AllPairs-Rises, Rises-AllPairs, Rises-from_adjacent}
+use Rattle.ovl_board.proofs.LawsOfPieces.{snoc_view, path_eq_decides, prefix_before}
 
 -- the path above a path's last name
 parent-snoc : (d : PathNames) (n : PathName) → parent_path (d ++ n ∷ []) ≡ d

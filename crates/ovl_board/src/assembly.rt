@@ -1,4 +1,4 @@
-ghost use Rattle.std.specs.Prelude.{◌≡◌, ◌≤◌, [], ◌∷◌, ◌++◌, map, reverse, OnOk, IfOk, IsTrue, MatchOption, MatchResult, All, AllPairs, Contains, IsSorted, IsPermutation};
+ghost use Rattle.std.specs.Prelude.{◌≡◌, ◌≤◌, [], ◌∷◌, ◌++◌, map, reverse, OnOk, OnErr, IfOk, IsTrue, MatchOption, MatchResult, All, AllPairs, Contains, IsSorted, IsPermutation};
 ghost use Rattle.ovl_board.specs.declared.assembly.BoardFault.TheVariants.{Memory};
 ghost use Rattle.ovl_board.specs.Pieces.{IsBefore, piece_cmp};
 ghost use Rattle.ovl_board.specs.Parcels.{pieces_of};
@@ -77,11 +77,11 @@ fn assemble_unordered<T: Drop>(
     Ok(parcels)
 }
 
-/// Puts parcels into the order of their pieces; fails only for want of memory. They stay the same parcels in either
-/// case.
+/// Puts parcels into the order of their pieces; fails, with nothing changed, only for want of memory.
 pub fn sort_parcels<T>(parcels: &mut Vec<Parcel<T>>) -> Result<(), AllocError>
     ensures same { IsPermutation parcels.old.items parcels.new.items }
     ensures sorted { OnOk result (IsSorted piece_cmp (pieces_of (bare parcels.new.items))) }
+    ensures kept { OnErr result (parcels.new.items ≡ parcels.old.items) }
 {
     parcels.sort_by(|a, b| a.piece.cmp(&b.piece))
 }

@@ -10,7 +10,7 @@ use Rattle.std.specs.declared.cmp.Ordering.{Ordering}
 use Rattle.std.specs.declared.cmp.Ordering.TheVariants.{Less, Equal}
 use Rattle.ovl_names.specs.Order.{ascends}
 use Rattle.ovl_names.proofs.Ascending.{both, is_lt-Less}
-use Rattle.ovl_board.proofs.Members.{In, Every, Rises, rising_same}
+use Rattle.ovl_board.proofs.LawsOfMembers.{In, Every, Rises, rising_same}
 
 -- ---- tests of all elements, and of some
 

@@ -14,8 +14,8 @@ use Rattle.ovl_lookup.specs.Stacks.{StackView}
 use Rattle.ovl_lookup.specs.Trace.{things_found}
 use Rattle.ovl_lookup.specs.Merged.{look, shown_of, is_nothing, shows, shows_directory}
 use Rattle.ovl_lookup.specs.Passes.{data_below}
-use Rattle.ovl_lookup.proofs.ChildLemmas.{shown-any}
-use Rattle.ovl_lookup.proofs.LawLemmas.{ShowsParents-holds}
+use Rattle.ovl_lookup.proofs.LawsOfFound.{shown-any}
+use Rattle.ovl_lookup.proofs.LawsOfLooks.{ShowsParents-holds}
 use Rattle.ovl_check.specs.Checks.{first_below, layers_below}
 use Rattle.ovl_check.specs.Facts.{data_size}
 

@@ -14,12 +14,12 @@ use Rattle.ovl_names.specs.Names.{PathName, name_eq, name_cmp}
 use Rattle.ovl_names.specs.Paths.{PathNames, is_root}
 use Rattle.ovl_names.specs.Order.{ascends}
 use Rattle.ovl_lookup.specs.Passes.{put_names}
-use Rattle.ovl_lookup.proofs.KidLemmas.{ascends-put, put_names-append, any-put}
+use Rattle.ovl_lookup.proofs.LawsOfKids.{ascends-put, put_names-append, any-put}
 use Rattle.ovl_board.specs.declared.pieces.Piece.{Piece}
 use Rattle.ovl_board.specs.Pieces.{IsBefore, IsOneBelow, AreLawfulKids, HasLawfulKids}
 use Rattle.ovl_names.proofs.Ascending.{both}
-use Rattle.ovl_board.proofs.CountLemmas.{piece_eq}
-use Rattle.ovl_board.proofs.Members.{In, Rises, All-Every, AllPairs-Rises, In-map, In-map-cases, In-flat_map, In-flat_map-cases, Contains-In, Rises-from_adjacent, In-filter-cases, Rises-filter}
+use Rattle.ovl_board.proofs.LawsOfPieces.{piece_eq}
+use Rattle.ovl_board.proofs.LawsOfMembers.{In, Rises, All-Every, AllPairs-Rises, In-map, In-map-cases, In-flat_map, In-flat_map-cases, Contains-In, Rises-from_adjacent, In-filter-cases, Rises-filter}
 use Rattle.ovl_board.specs.Walks.{Reached, start, next, ToKid}
 use Rattle.ovl_board.specs.Parcels.{ParcelView, IsPlain, own_view}
 use Rattle.ovl_check.specs.declared.blobs.Blob.{Blob}

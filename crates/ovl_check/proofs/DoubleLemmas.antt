@@ -14,9 +14,8 @@ use Rattle.ovl_names.specs.Paths.{PathNames, path_cmp}
 use Rattle.ovl_names.proofs.Ascending.{both}
 use Rattle.ovl_lookup.specs.Trails.{trail_cmp}
 use Rattle.ovl_board.specs.Pieces.{IsBefore}
-use Rattle.ovl_board.proofs.Members.{In, Rises, In-left, In-right, In-cases}
-use Rattle.ovl_board.proofs.PieceOrder.{before_trans}
-use Rattle.ovl_board.proofs.CountLemmas.{less_differs}
+use Rattle.ovl_board.proofs.LawsOfMembers.{In, Rises, In-left, In-right, In-cases}
+use Rattle.ovl_board.proofs.LawsOfPieces.{before_trans, less_differs}
 use Rattle.ovl_check.specs.declared.findings.Finding.{Finding}
 use Rattle.ovl_check.specs.declared.findings.Code.TheVariants.{RedirectDouble}
 use Rattle.ovl_check.specs.Findings.{finding}

@@ -13,7 +13,7 @@ use Rattle.ovl_names.specs.Order.{ascends}
 use Rattle.ovl_names.proofs.Ascending.{ascends-next, is_lt-Less}
 use Rattle.std.proofs.lemmas.Cmp.{tied_itself}
 use Rattle.ovl_manifest.proofs.NodeLemmas.{name_eq-cmp}
-use Rattle.ovl_board.proofs.Members.{In, Every, Rises, In-map, In-map-cases, get_or-In, place, Contains-In, In-Contains, In-filter-cases}
+use Rattle.ovl_board.proofs.LawsOfMembers.{In, Every, Rises, In-map, In-map-cases, get_or-In, place, Contains-In, In-Contains, In-filter-cases}
 use Rattle.ovl_check.specs.declared.blobs.Blob.{Blob}
 use Rattle.ovl_check.specs.Blobs.{BlobView, digest_cmp, blob_cmp, are_in_order, blob_view, blob_views, is_wrong, wrong_names}
 use Rattle.std.specs.Result.{is_ok}

@@ -5,17 +5,16 @@ use Rattle.std.specs.List.{flat_map, list_any, All}
 use Rattle.std.specs.List.Sorted.{IsPermutation}
 use Rattle.std.proofs.Math.Nat.{min-eq_left, min-eq_right}
 use Rattle.std.proofs.lemmas.List.Elements.{All-cons}
-use Rattle.ovl_lookup.proofs.ChildLemmas.{all-first, all-rest}
+use Rattle.ovl_lookup.proofs.LawsOfPaths.{all-first, all-rest, drop_past}
 use Rattle.std.proofs.lemmas.Bool.{lt-ltb, le-ltb}
 use Rattle.std.proofs.lemmas.List.{flat_map_more, append-nil}
 use Rattle.std.proofs.lemmas.List.Sorted.{IsPermutation-trans, IsPermutation-append_left}
 use Rattle.ovl_manifest.specs.Layers.{Entries, IsLayer}
 use Rattle.ovl_lookup.specs.Stacks.{all_layers}
-use Rattle.ovl_lookup.proofs.FoundLemmas.{drop_past}
 use Rattle.ovl_names.specs.Paths.{PathNames}
 use Rattle.ovl_board.specs.declared.works.Parcel.{Parcel}
 use Rattle.ovl_board.specs.Parcels.{parcel_view, parcel_views}
-use Rattle.ovl_board.proofs.Members.{In, In-left, In-right, In-cases}
+use Rattle.ovl_board.proofs.LawsOfMembers.{In, In-left, In-right, In-cases}
 use Rattle.ovl_check.specs.declared.findings.Finding.{Finding}
 use Rattle.ovl_check.specs.declared.findings.Code.TheVariants.{RedirectDouble}
 use Rattle.ovl_check.specs.declared.subjects.CheckOut.{CheckOut}

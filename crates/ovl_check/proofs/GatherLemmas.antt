@@ -20,8 +20,10 @@ use Rattle.ovl_lookup.specs.Stacks.{StackView}
 use Rattle.ovl_lookup.specs.Trace.{things_found}
 use Rattle.ovl_lookup.specs.Merged.{look, is_nothing, data_of, place_of_data, data_at_place}
 use Rattle.ovl_lookup.specs.Sound.{data_at}
-use Rattle.ovl_lookup.proofs.WalkFacts.{walk-whole, walk-stop, parent_path-child}
-use Rattle.ovl_lookup.proofs.FoundLemmas.{metacopy-file, bare_file, data_of-metacopy}
+use Rattle.ovl_lookup.proofs.LawsOfWalks.{walk-whole, walk-stop}
+use Rattle.ovl_lookup.proofs.LawsOfPaths.{parent_path-child}
+use Rattle.ovl_lookup.proofs.LawsOfInodes.{metacopy-file, bare_file}
+use Rattle.ovl_lookup.proofs.LawsOfFound.{data_of-metacopy}
 use Rattle.ovl_check.specs.declared.directories.Directory.{Directory}
 use Rattle.ovl_check.specs.declared.facts.KindFacts.TheVariants.{WhiteoutInOpaque, Whiteout, Moved, Metacopy, Other}
 use Rattle.ovl_check.specs.Conditions.{is_opaque, is_in_opaque, is_in_marked}

@@ -10,11 +10,12 @@ use Rattle.ovl_names.specs.Names.{PathName, name_eq, name_cmp}
 use Rattle.ovl_names.specs.Paths.{PathNames, child_path, path_cmp, depth_limit}
 use Rattle.ovl_manifest.specs.Layers.{Entries, Entry, IsLayer, entry_cmp, is_directory_at, name_below, names_below}
 use Rattle.ovl_lookup.specs.Stacks.{all_layers}
-use Rattle.ovl_lookup.proofs.ChildLemmas.{directory-limited, all-first, all-rest}
+use Rattle.ovl_lookup.proofs.LawsOfWalks.{directory-limited}
+use Rattle.ovl_lookup.proofs.LawsOfPaths.{all-first, all-rest}
 use Rattle.ovl_board.specs.declared.pieces.Piece.{Piece}
 use Rattle.ovl_board.specs.Pieces.{IsBefore, IsOneBelow, HasLawfulKids}
-use Rattle.ovl_board.proofs.PieceOrder.{siblings, fork_before}
-use Rattle.ovl_board.proofs.Members.{In, Rises, All-Every, AllPairs-Rises, In-map-cases, In-filter-cases, Rises-filter}
+use Rattle.ovl_board.proofs.LawsOfPieces.{siblings, fork_before}
+use Rattle.ovl_board.proofs.LawsOfMembers.{In, Rises, All-Every, AllPairs-Rises, In-map-cases, In-filter-cases, Rises-filter}
 use Rattle.ovl_check.specs.Checks.{CheckView, layer_at, directory_piece, check_kids}
 use Rattle.ovl_check.proofs.Ascent.{Rises-ascends}
 

@@ -21,15 +21,14 @@ use Rattle.ovl_manifest.specs.Layers.{Entries, Entry, IsLayer, entry_at, entry_c
 use Rattle.ovl_lookup.specs.Stacks.{all_layers}
 use Rattle.ovl_lookup.specs.Walk.{walk, mark_at}
 use Rattle.ovl_lookup.specs.Sound.{is_moved, goes_on_there, redirect_is_double}
-use Rattle.ovl_lookup.proofs.WalkFacts.{directory-above, parent_path-child, length-child}
-use Rattle.ovl_lookup.proofs.ChildLemmas.{names_below-has}
+use Rattle.ovl_lookup.proofs.LawsOfWalks.{directory-above, names_below-has}
+use Rattle.ovl_lookup.proofs.LawsOfPaths.{parent_path-child, length-child}
 use Rattle.ovl_board.specs.declared.pieces.Piece.{Piece}
 use Rattle.ovl_board.specs.Pieces.{IsBefore}
 use Rattle.ovl_board.specs.Walks.{Reached, start, next, ToKid}
 use Rattle.ovl_board.specs.Parcels.{IsPlain, pieces_of, own_view}
-use Rattle.ovl_board.proofs.PieceOrder.{path_eq_decides, snoc_view}
-use Rattle.ovl_board.proofs.CountLemmas.{piece_eq}
-use Rattle.ovl_board.proofs.Members.{In, Rises, In-left, In-right, In-cases, In-map, In-map-cases, In-flat_map, In-flat_map-cases, In-Contains, Contains-In, Every-All, Rises-AllPairs, In-filter-cases}
+use Rattle.ovl_board.proofs.LawsOfPieces.{path_eq_decides, snoc_view, piece_eq}
+use Rattle.ovl_board.proofs.LawsOfMembers.{In, Rises, In-left, In-right, In-cases, In-map, In-map-cases, In-flat_map, In-flat_map-cases, In-Contains, Contains-In, Every-All, Rises-AllPairs, In-filter-cases}
 use Rattle.ovl_check.specs.declared.findings.Finding.{Finding}
 use Rattle.ovl_check.specs.declared.findings.Code.{Code}
 use Rattle.ovl_check.specs.declared.findings.Code.TheVariants.{RedirectDouble}

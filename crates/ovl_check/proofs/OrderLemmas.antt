@@ -12,8 +12,8 @@ use Rattle.std.proofs.lemmas.Cmp.{tied_itself, nat_cmp_total, ranked}
 use Rattle.ovl_names.specs.Paths.{PathNames, path_cmp}
 use Rattle.ovl_manifest.specs.Layers.{Entries, Entry, IsLayer, entry_cmp}
 use Rattle.ovl_lookup.specs.Stacks.{StackView}
-use Rattle.ovl_lookup.proofs.ChildLemmas.{all-first, all-rest}
-use Rattle.ovl_board.proofs.Members.{In, Rises, Rises-append, Rises-flat_map, In-cases, In-map-cases, In-flat_map-cases, Rises-filter}
+use Rattle.ovl_lookup.proofs.LawsOfPaths.{all-first, all-rest}
+use Rattle.ovl_board.proofs.LawsOfMembers.{In, Rises, Rises-append, Rises-flat_map, In-cases, In-map-cases, In-flat_map-cases, Rises-filter}
 use Rattle.ovl_check.specs.declared.findings.Finding.{Finding}
 use Rattle.ovl_check.specs.declared.findings.Code.{Code}
 use Rattle.ovl_check.specs.declared.findings.Code.TheVariants.{RedirectForm, RedirectLost, RedirectKind, RedirectDouble, RedirectOpen, DataMissing, DataSize, BlobMissing, BlobSize, BlobDigest, OrphanWhiteout, WhiteoutInOpaque, WhiteoutUnmarked, ImpureMissing, MarkIgnored}

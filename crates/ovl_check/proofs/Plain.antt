@@ -6,7 +6,7 @@ use Rattle.ovl_board.specs.declared.pieces.Piece.{Piece}
 use Rattle.ovl_board.specs.declared.works.Parcel.{Parcel}
 use Rattle.ovl_board.specs.Walks.{Reached, ToKid}
 use Rattle.ovl_board.specs.Parcels.{ParcelView, IsPlain, AreOwn, pieces_of, own_view, parcel_views}
-use Rattle.ovl_board.proofs.Members.{In, In-map, In-map-cases, In-Contains}
+use Rattle.ovl_board.proofs.LawsOfMembers.{In, In-map, In-map-cases, In-Contains}
 
 module _ {S : Type 0} (kids : Piece → List Piece) (out : Piece → S) where
   pub own-view : (views : List (ParcelView S)) → AreOwn kids out views → (v : ParcelView S) → In v views → v ≡ own_view kids out v.piece

@@ -29,16 +29,12 @@ use Rattle.ovl_lookup.specs.Stacks.{StackView}
 use Rattle.ovl_lookup.specs.Trace.{things_found}
 use Rattle.ovl_lookup.specs.Merged.{look, shown_of, data_of, is_shown_directory, is_nothing}
 use Rattle.ovl_lookup.specs.Sound.{IsSoundStack, is_moved, is_malformed, is_meta, has_other_size, goes_on_there, is_seen_there, data_at}
-use Rattle.ovl_lookup.proofs.FoundLemmas.{metacopy-file, shown_of-full, shown_of-contents}
-use Rattle.ovl_lookup.proofs.WalkFacts.{walk-stop, directory-above, directory-parent, parent_path-child}
+use Rattle.ovl_lookup.proofs.LawsOfInodes.{metacopy-file, attribute-with, visible-with, by_reading, IsVisible, visible-twice, attribute-hidden, visible-mark, directory-no_whiteout}
+use Rattle.ovl_lookup.proofs.LawsOfFound.{shown_of-full, shown_of-contents, data-regular}
+use Rattle.ovl_lookup.proofs.LawsOfWalks.{walk-stop, directory-above, directory-parent, directory-entry, mark-file, directory_found, mark-child, same-mark, same-turn, same-walk, Beyond, walk-end, walk-past, BeyondFrom, end-from, is_shut-at}
+use Rattle.ovl_lookup.proofs.LawsOfPaths.{parent_path-child, filter-filter, last-name, by_child}
 use Rattle.ovl_lookup.specs.Words.{over, SameEntries}
-use Rattle.ovl_lookup.proofs.AttributeLaws.{attribute-with, visible-with, filter-filter}
-use Rattle.ovl_lookup.proofs.EntryLaws.{directory-entry}
-use Rattle.ovl_lookup.proofs.LookLaws.{look-by, look-same, look-closed, nothing-under, data-regular}
-use Rattle.ovl_lookup.proofs.PathLemmas.{last-name}
-use Rattle.ovl_lookup.proofs.ShownLaws.{by_reading, IsVisible, visible-twice, attribute-hidden, shown-visible, visible-mark, is_broken, never-broken, data-there, directory-no_whiteout, all-over, entry-found, entry-directory_shown, mark-file}
-use Rattle.ovl_lookup.proofs.SoundLaws.{Faultless, sound-first, sound-rest, sound-whole}
-use Rattle.ovl_lookup.proofs.WalkLaws.{directory_found, mark-child, by_child, same-mark, same-turn, same-walk, Beyond, walk-end, walk-past, BeyondFrom, end-from, is_shut-at}
+use Rattle.ovl_lookup.proofs.LawsOfLooks.{look-by, look-same, look-closed, nothing-under, shown-visible, is_broken, never-broken, data-there, all-over, entry-found, entry-directory_shown, Faultless, sound-first, sound-rest, sound-whole}
 use Rattle.ovl_deref.specs.Deref.{any_prefix, is_in_moved, inode_shown, unfolded, full_attributes, filled, dereferenced_inode, IsDereferenced}
 use Rattle.ovl_deref.specs.Laws.{DerefKeepsTree, DerefKeepsSoundness}
 
@@ -127,10 +123,6 @@ same_whiteout Socket other had f g e = let bad : false ≡ true = f in cc
 file_kind : (kind : Kind) → file_test kind ≡ true → directory_test kind ≡ false
 file_kind Dir is = let bad : false ≡ true = is in cc
 file_kind _ is = refl
-
-directory_kind : (kind : Kind) → directory_test kind ≡ true → file_test kind ≡ false
-directory_kind (File size blob) is = let bad : false ≡ true = is in cc
-directory_kind _ is = refl
 
 -- which attributes a full file has
 pub full-attribute : (attrs : Attributes) (name : List ℕ) (kept : Bool) → not (name_eq name metacopy_name || name_eq name redirect_name) ≡ kept → attribute (full_attributes attrs) name ≡ cond kept (attribute attrs name) None

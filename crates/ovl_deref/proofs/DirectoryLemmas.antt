@@ -1,80 +1,31 @@
 -- What the new layer has in a directory: its names are in order, and all that it has there has one of them.
-use Rattle.std.proofs.Common.{◌≡◌, ◌≤◌, ◌<◌, inl, inr, Bool, true, false, cond, Option, Some, None, [], ◌∷◌, length, refl, sym, ap, ◌∙◌, arith}
+use Rattle.std.proofs.Common.{◌≡◌, ◌≤◌, ◌<◌, Bool, true, false, cond, Option, Some, None, length, refl, sym, ap, ◌∙◌, arith}
 use Rattle.std.specs.Prelude.{not, All}
 use Rattle.std.specs.Option.{option_map}
-use Rattle.std.specs.List.{list_any, list_all, cons_option}
-use Rattle.std.specs.Ordering.{is_lt}
-use Rattle.std.specs.Cmp.Lexicographic.{nat_list_cmp_total, bytes_decides}
+use Rattle.std.specs.List.{list_any}
 use Rattle.ovl_names.specs.Names.{PathName, name_eq, name_cmp}
 use Rattle.ovl_names.specs.Order.{ascends}
-use Rattle.ovl_names.specs.Paths.{PathNames, child_path, path_cmp}
+use Rattle.ovl_names.specs.Paths.{PathNames, child_path, path_cmp, depth_limit}
 use Rattle.ovl_names.proofs.Ascending.{both, is_lt-Less}
 use Rattle.ovl_inode.specs.declared.inodes.Inode.{Inode}
-use Rattle.ovl_manifest.specs.Layers.{Entries, Entry, entry_at, entry_cmp, name_below, names_below, IsLayer}
+use Rattle.ovl_manifest.specs.Layers.{entry_at, names_below, IsLayer}
 use Rattle.ovl_lookup.specs.declared.looks.Look.{Look}
 use Rattle.ovl_lookup.specs.declared.looks.Look.TheVariants.{Nothing, Shown, Broken}
 use Rattle.ovl_lookup.specs.Stacks.{StackView}
 use Rattle.ovl_lookup.specs.Passes.{kids_along}
 use Rattle.ovl_lookup.specs.Merged.{look, is_nothing}
 use Rattle.ovl_lookup.specs.Words.{over, top_layer, lower_layers}
-use Rattle.ovl_lookup.proofs.ChildLemmas.{entry-limited, names_below-has}
-use Rattle.ovl_lookup.proofs.KidLemmas.{kids-ascend, kids-same}
-use Rattle.ovl_lookup.proofs.LawLemmas.{ShowsWithinDepth-holds}
-use Rattle.ovl_lookup.proofs.TopLaws.{top-over, top-layer, lower-layers}
-use Rattle.ovl_lookup.proofs.WalkLaws.{directory_found}
-use Rattle.ovl_board.proofs.Members.{In, Rises}
-use Rattle.ovl_board.proofs.PieceOrder.{siblings}
-use Rattle.ovl_rewrite.specs.NewLayers.{IsTold}
+use Rattle.ovl_lookup.proofs.LawsOfWalks.{entry-limited, names_below-has, directory_found}
+use Rattle.ovl_lookup.proofs.LawsOfKids.{kids-ascend, kids-same, kid-names-ascend}
+use Rattle.ovl_lookup.proofs.LawsOfLooks.{ShowsWithinDepth-holds, top-over, top-layer, lower-layers}
+use Rattle.ovl_board.proofs.LawsOfMembers.{In, Rises}
+use Rattle.ovl_board.proofs.LawsOfPieces.{siblings}
+use Rattle.ovl_rewrite.specs.NewLayers.{IsTold, TellsLayer}
 use Rattle.ovl_rewrite.proofs.Ascents.{NameBefore, rising-ascend}
+use Rattle.ovl_rewrite.proofs.DirectoryLemmas.{layer-told}
 use Rattle.ovl_deref.specs.Deref.{is_in_moved, inode_shown, dereferenced_inode}
-use Rattle.ovl_deref.specs.Directories.{is_at_moved, new_at, names_in, deref_depth}
+use Rattle.ovl_deref.specs.Directories.{is_at_moved, new_at, names_in, deref_kids, deref_out, deref_depth}
 use Rattle.ovl_deref.proofs.LayerLemmas.{in_moved-child, outside, within, parent-kept}
-
--- ---- the names of a layer in a directory
-
--- a name below a directory is that of an entry
-name_below-path : (directory path : PathNames) (own : PathName) → name_below directory path ≡ Some own → path ≡ child_path directory own
-name_below-path [] [] own below = let bad : None ≡ Some own = below in cc
-name_below-path [] (name ∷ []) own below = let same : name ≡ own = cc in ap (λ (n : PathName). n ∷ []) same
-name_below-path [] (name ∷ next ∷ names) own below = let bad : None ≡ Some own = below in cc
-name_below-path (first ∷ directory) [] own below = let bad : None ≡ Some own = below in cc
-name_below-path (first ∷ directory) (name ∷ names) own below = by (name_below-path directory names own) (name_eq first name) refl below
-  where
-    by : (name_below directory names ≡ Some own → names ≡ child_path directory own) → (b : Bool) → name_eq first name ≡ b → cond b (name_below directory names) None ≡ Some own → name ∷ names ≡ first ∷ child_path directory own
-    by later true e below = (λ j. sym ((bytes_decides first name).0 e) j ∷ later below j)
-    by later false e below = let bad : None ≡ Some own = below in cc
-
--- what holds of all entries holds of that with such a name
-name-entry : (test : Entry → Bool) (layer : Entries) (directory : PathNames) (name : PathName) → list_all test layer ≡ true → In name (names_below layer directory) → (inode : Inode) × (test (child_path directory name, inode) ≡ true)
-name-entry test [] directory name all h = absurd h
-name-entry test (entry ∷ layer) directory name all h = by (name-entry test layer directory name parts.1) (name_below directory entry.0) refl h
-  where
-    parts : (test entry ≡ true) × (list_all test layer ≡ true)
-    parts = both {a = test entry} {b = list_all test layer} all
-
-    by : (In name (names_below layer directory) → (inode : Inode) × (test (child_path directory name, inode) ≡ true)) → (own : Option PathName) → name_below directory entry.0 ≡ own
-        → In name (cons_option own (names_below layer directory)) → (inode : Inode) × (test (child_path directory name, inode) ≡ true)
-    by later None e h = later h
-    by later (Some own) e (inl same) = (entry.1, ap (λ (path : PathNames). test (path, entry.1)) (ap (child_path directory) same ∙ sym (name_below-path directory entry.0 own e)) ∙ parts.0)
-    by later (Some own) e (inr h) = later h
-
-names-rise : (layer : Entries) (directory : PathNames) → ascends entry_cmp layer ≡ true → Rises NameBefore (names_below layer directory)
-names-rise [] directory up = tt
-names-rise (entry ∷ layer) directory up = by (names-rise layer directory parts.1) (name_below directory entry.0) refl
-  where
-    parts : (list_all (λ later. is_lt (entry_cmp entry later)) layer ≡ true) × (ascends entry_cmp layer ≡ true)
-    parts = both {a = list_all (λ later. is_lt (entry_cmp entry later)) layer} {b = ascends entry_cmp layer} up
-
-    by : Rises NameBefore (names_below layer directory) → (own : Option PathName) → name_below directory entry.0 ≡ own → Rises NameBefore (cons_option own (names_below layer directory))
-    by rest None e = rest
-    by rest (Some own) e = (
-      (λ name h.
-          let other = name-entry (λ later. is_lt (entry_cmp entry later)) layer directory name parts.0 h in
-          siblings name_cmp nat_list_cmp_total directory own name
-          (ap (λ (p : PathNames). path_cmp p (child_path directory name)) (sym (name_below-path directory entry.0 own e))
-          ∙ is_lt-Less (path_cmp entry.0 (child_path directory name)) other.1)),
-      rest,
-    )
 
 -- ---- what the new layer has in a directory
 
@@ -126,7 +77,7 @@ module _ (stack : StackView) (each : All IsLayer stack.layers) (some : 0 < lengt
     where
       by : (b : Bool) → ascends name_cmp (cond b (kids_along stack directory) (names_below (top_layer stack) directory)) ≡ true
       by true = kids-ascend stack directory
-      by false = rising-ascend name_cmp (names_below (top_layer stack) directory) (names-rise (top_layer stack) directory top_is.in_order)
+      by false = kid-names-ascend (top_layer stack) directory top_is.in_order
 
   -- what has an entry in it is a directory
   new-parent : (directory : PathNames) (name : PathName) (inode : Inode) → new_at stack (child_path directory name) ≡ Some inode → directory_found (new_at stack directory) ≡ true
@@ -146,7 +97,7 @@ module _ (stack : StackView) (each : All IsLayer stack.layers) (some : 0 < lengt
           own : (found : Option Inode) → entry_at (top_layer stack) path ≡ found → length path ≤ deref_depth stack
           own None e =
               let bad : None ≡ Some inode = sym (outside (top_layer stack) (lower_layers stack) top_is lower_are path free ∙ ap (option_map (dereferenced_inode (top_layer stack) (lower_layers stack) path)) e) ∙ here in cc
-          own (Some i) e = let own_bound : length path ≤ 64 = entry-limited (top_layer stack) path i top_is e in omega (arith, own_bound, some)
+          own (Some i) e = let own_bound : length path ≤ depth_limit = entry-limited (top_layer stack) path i top_is e in omega (arith, own_bound, some)
 
   directory-limited : (path : PathNames) → directory_found (new_at stack path) ≡ true → length path ≤ deref_depth stack
   directory-limited path = by (new_at stack path) refl
@@ -158,3 +109,7 @@ module _ (stack : StackView) (each : All IsLayer stack.layers) (some : 0 < lengt
   -- its names tell the new layer
   pub told : IsTold (new_at stack) (names_in stack) (deref_depth stack)
   told = record { in_order = names_in-ascend; named = new-named; closed = new-parent; shallow = directory-limited }
+
+  -- visits tell it
+  pub tells : TellsLayer (new_at stack) (deref_kids stack) (deref_out stack)
+  tells = layer-told (new_at stack) (names_in stack) (deref_depth stack) told

@@ -12,10 +12,10 @@ use Rattle.ovl_lookup.specs.Stacks.{StackView}
 use Rattle.ovl_lookup.specs.Merged.{look}
 use Rattle.ovl_lookup.specs.Sound.{IsSoundStack}
 use Rattle.ovl_lookup.specs.Words.{over, top_layer, lower_layers}
-use Rattle.ovl_lookup.proofs.FoundLemmas.{metacopy-file}
-use Rattle.ovl_lookup.proofs.MapLaws.{entries-unique}
-use Rattle.ovl_lookup.proofs.TopLaws.{top-over, top-layer, lower-layers}
-use Rattle.ovl_lookup.proofs.WalkLaws.{directory_found}
+use Rattle.ovl_lookup.proofs.LawsOfInodes.{metacopy-file}
+use Rattle.ovl_lookup.proofs.LawsOfPaths.{entries-unique}
+use Rattle.ovl_lookup.proofs.LawsOfLooks.{top-over, top-layer, lower-layers}
+use Rattle.ovl_lookup.proofs.LawsOfWalks.{directory_found}
 use Rattle.ovl_rewrite.specs.Passes.{View}
 use Rattle.ovl_rewrite.specs.NewLayers.{IsToldBy}
 use Rattle.ovl_rewrite.specs.Limits.{keeps_limits}

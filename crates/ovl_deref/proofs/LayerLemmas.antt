@@ -13,6 +13,7 @@ use Rattle.ovl_inode.specs.Attributes.{attribute, attribute_cmp, is_attribute, v
 use Rattle.ovl_inode.specs.Marks.{is_directory, is_metacopy}
 use Rattle.ovl_inode.specs.Sound.{is_sound_inode, is_sound_kind}
 use Rattle.ovl_inode.proofs.AttributeLemmas.{are_attributes-visible, are_attributes-with}
+use Rattle.ovl_inode.proofs.SoundLaws.{sound_values, sound-with}
 use Rattle.ovl_manifest.specs.Layers.{Entries, Entry, entry_at, entry_cmp, entry_limit, is_directory_at, is_within_limits, has_parent, IsLayer}
 use Rattle.ovl_lookup.specs.declared.looks.Look.{Look}
 use Rattle.ovl_lookup.specs.declared.looks.Look.TheVariants.{Nothing, Shown, Broken}
@@ -20,15 +21,11 @@ use Rattle.ovl_lookup.specs.Walk.{mark_at}
 use Rattle.ovl_lookup.specs.Stacks.{StackView}
 use Rattle.ovl_lookup.specs.Merged.{look, is_nothing, is_shown_directory}
 use Rattle.ovl_lookup.specs.Sound.{IsSoundStack, is_moved}
-use Rattle.ovl_lookup.proofs.FoundLemmas.{metacopy-file}
-use Rattle.ovl_lookup.proofs.LawLemmas.{ShowsParents-holds}
-use Rattle.ovl_lookup.proofs.WalkFacts.{lookup-all, parent_path-child}
+use Rattle.ovl_lookup.proofs.LawsOfInodes.{metacopy-file, attribute-hidden, unescaped-filter}
+use Rattle.ovl_lookup.proofs.LawsOfLooks.{ShowsParents-holds, shown-visible, is_broken, never-broken, all-over, shown-sound, shown-unescaped, shown-named}
+use Rattle.ovl_lookup.proofs.LawsOfPaths.{lookup-all, parent_path-child, last-name, all-entries}
 use Rattle.ovl_lookup.specs.Words.{over}
-use Rattle.ovl_lookup.proofs.EntryLaws.{entry-parent, directory-entry, directory-parent_of}
-use Rattle.ovl_lookup.proofs.PathLemmas.{last-name, all-entries}
-use Rattle.ovl_lookup.proofs.ShownLaws.{shown-visible, attribute-hidden, is_broken, never-broken, all-over}
-use Rattle.ovl_lookup.proofs.StatedLaws.{shown-sound, shown-unescaped, shown-named, sound-with, sound-kind, sound-attributes, unescaped-filter}
-use Rattle.ovl_lookup.proofs.WalkLaws.{directory_found, mark-child}
+use Rattle.ovl_lookup.proofs.LawsOfWalks.{entry-parent, directory-entry, directory-parent_of, directory_found, mark-child}
 use Rattle.ovl_rewrite.proofs.InodeLemmas.{opaque_named, unescaped-with, directory-flag}
 use Rattle.ovl_deref.specs.Deref.{any_prefix, is_in_moved, inode_shown, unfolded, full_attributes, filled, dereferenced_inode, dereferenced_at, IsDereferenced}
 use Rattle.ovl_deref.specs.Laws.{DerefGivesLayer}
@@ -149,11 +146,11 @@ module _ (top : Entries) (below : StackView) (is : IsLayer top) (each : All IsLa
     unfolded_well inode directory well =
         sound-with inode inode.kind (with_attribute (visible_attributes inode.attrs) opaque_name (codes "y")) well
         (directory-flag inode.kind (is_some (attribute (with_attribute (visible_attributes inode.attrs) opaque_name (codes "y")) metacopy_name)) directory)
-        (are_attributes-with (visible_attributes inode.attrs) opaque_name (codes "y") (are_attributes-visible inode.attrs (sound-attributes inode well)) opaque_named refl)
+        (are_attributes-with (visible_attributes inode.attrs) opaque_name (codes "y") (are_attributes-visible inode.attrs (sound_values inode well).attrs) opaque_named refl)
 
     full_well : (inode : Inode) (kind : Kind) → is_sound_inode inode ≡ true → is_sound_kind kind false ≡ true → is_sound_inode (record inode { kind = kind; attrs = full_attributes inode.attrs }) ≡ true
     full_well inode kind well kinds =
-        let parts = both {a = list_all is_attribute inode.attrs} {b = ascends attribute_cmp inode.attrs} (sound-attributes inode well) in
+        let parts = both {a = list_all is_attribute inode.attrs} {b = ascends attribute_cmp inode.attrs} (sound_values inode well).attrs in
         sound-with inode kind (full_attributes inode.attrs) well
         (ap (λ o. is_sound_kind kind (is_some o)) (full-attribute inode.attrs metacopy_name false refl) ∙ kinds)
         (λ j. list_all-filter is_attribute (λ attr. not (name_eq attr.0 metacopy_name || name_eq attr.0 redirect_name)) inode.attrs parts.0 j
@@ -163,7 +160,7 @@ module _ (top : Entries) (below : StackView) (is : IsLayer top) (each : All IsLa
     shown_kind path inode shown =
         let v = shown-visible (over top below) each_over path inode shown in
         ap (λ o. is_sound_kind inode.kind (is_some o)) (sym (ap (λ a. attribute a metacopy_name) (sym v.bare) ∙ attribute-hidden inode.attrs metacopy_name refl))
-        ∙ sound-kind inode (shown-sound (over top below) each_over deep path inode shown)
+        ∙ (sound_values inode (shown-sound (over top below) each_over deep path inode shown)).kind
 
     inode_stated : (path : PathNames) (inode : Inode) → entry_at top path ≡ Some inode → is_sound_inode (dereferenced_inode top below path inode) ≡ true
     inode_stated path inode here = by (is_moved (mark_at top path)) refl (is_metacopy inode) (look (over top below) path) refl

@@ -30,11 +30,10 @@ use Rattle.ovl_lookup.specs.Merged.{look, is_nothing, shows_directory}
 use Rattle.ovl_lookup.specs.ViewPasses.{AreLooks}
 use Rattle.ovl_lookup.specs.Sound.{is_moved}
 use Rattle.ovl_lookup.specs.Words.{over, top_layer, lower_layers}
-use Rattle.ovl_lookup.proofs.ChildLemmas.{all-first, all-rest}
-use Rattle.ovl_lookup.proofs.KidLaws.{kids-unique}
-use Rattle.ovl_lookup.proofs.LookLaws.{nothing-under}
-use Rattle.ovl_lookup.proofs.TopLaws.{top-over}
-use Rattle.ovl_lookup.proofs.WalkLaws.{mark-child}
+use Rattle.ovl_lookup.proofs.LawsOfPaths.{all-first, all-rest}
+use Rattle.ovl_lookup.proofs.LawsOfKids.{kids-unique}
+use Rattle.ovl_lookup.proofs.LawsOfLooks.{nothing-under, top-over}
+use Rattle.ovl_lookup.proofs.LawsOfWalks.{mark-child}
 use Rattle.ovl_rewrite.specs.Directories.{NamedInode}
 use Rattle.ovl_deref.specs.Deref.{inode_shown, unfolded, full_attributes, filled, dereferenced_inode}
 use Rattle.ovl_deref.specs.Directories.{is_at_moved, new_at, names_in, named_inode, inodes_in}

@@ -23,14 +23,10 @@ pub(crate) fn filled(alloc: Global, inode: &Inode, look: &Look) -> Result<Inode,
     ensures { IfOk result (λ full. full ≡ the_filled inode.now look.now) }
 {
     match look {
-        Look::Shown(shown) => Ok(Inode {
-            kind: shown.kind.copy(alloc)?,
-            mode: inode.mode,
-            uid: inode.uid,
-            gid: inode.gid,
-            mtime: inode.mtime,
-            attrs: full_attrs(alloc, &inode.attrs)?,
-        }),
+        Look::Shown(shown) => Ok(inode.with(
+            shown.kind.copy(alloc)?,
+            full_attrs(alloc, &inode.attrs)?,
+        )),
         Look::Nothing | Look::Broken(_) => inode.copy(alloc),
     }
 }

@@ -1,4 +1,6 @@
 ghost use Rattle.std.specs.Prelude.{◌≡◌};
+ghost use Rattle.ovl_rewrite.specs.NewLayers.{TellsLayer};
+ghost use Rattle.ovl_deref.specs.Directories.{new_at, deref_kids, deref_out};
 
 use crate::directories::inodes_in;
 use ovl_board::{Piece, Work};
@@ -26,10 +28,13 @@ impl<'a> Model for DerefWork<'a> {
 }
 
 impl<'a> DerefWork<'a> {
-    /// The work of this stack.
+    /// The work of this stack; its visits tell the new topmost layer.
     pub fn new(stack: &'a Stack) -> DerefWork<'a>
-        ensures { result ≡ stack.now }
+        ensures value { result ≡ stack.now }
+        ensures tells { TellsLayer (new_at stack.now) (deref_kids stack.now) (deref_out stack.now) }
     {
+        // Each layer of a stack is one.
+        let _layers = stack.ordinary();
         DerefWork { stack }
     }
 }

@@ -7,7 +7,7 @@ use Rattle.std.specs.Cmp.Lexicographic.{nat_list_cmp_total, bytes_decides}
 use Rattle.std.proofs.lemmas.Cmp.{tied_itself, nat_cmp_total}
 use Rattle.std.proofs.lemmas.List.Elements.{All-head, All-tail}
 use Rattle.ovl_names.specs.Names.{PathName, name_eq, name_cmp}
-use Rattle.ovl_names.specs.Paths.{PathNames, child_path}
+use Rattle.ovl_names.specs.Paths.{PathNames, child_path, depth_limit}
 use Rattle.ovl_names.specs.Order.{ascends}
 use Rattle.ovl_names.proofs.Ascending.{both, is_lt-Less}
 use Rattle.ovl_manifest.specs.Layers.{IsLayer}
@@ -17,13 +17,12 @@ use Rattle.ovl_lookup.specs.Stacks.{StackView}
 use Rattle.ovl_lookup.specs.Merged.{look, shows, shows_directory, is_nothing, is_shown_directory}
 use Rattle.ovl_lookup.specs.Passes.{kids_along}
 use Rattle.ovl_lookup.specs.ViewPasses.{AreLooks}
-use Rattle.ovl_lookup.proofs.KidLemmas.{kids-ascend, kids-same, are-kids}
-use Rattle.ovl_lookup.proofs.KidLaws.{kids-unique, none-along}
-use Rattle.ovl_lookup.proofs.ListLemmas.{shows-limited}
+use Rattle.ovl_lookup.proofs.LawsOfKids.{kids-ascend, kids-same, are-kids, kids-unique, none-along}
+use Rattle.ovl_lookup.proofs.LawsOfLooks.{shows-limited}
 use Rattle.ovl_board.specs.declared.pieces.Piece.{Piece}
 use Rattle.ovl_board.specs.Pieces.{IsBefore, IsOneBelow, HasLawfulKids}
-use Rattle.ovl_board.proofs.Members.{In, Rises, All-Every, AllPairs-Rises}
-use Rattle.ovl_board.proofs.PieceOrder.{fork_before}
+use Rattle.ovl_board.proofs.LawsOfMembers.{In, Rises, All-Every, AllPairs-Rises}
+use Rattle.ovl_board.proofs.LawsOfPieces.{fork_before}
 use Rattle.ovl_engine.specs.Directories.{HasAllNames, NamedLook, named_look, looks_in, piece_in, show_kids, show_depth}
 
 -- ---- directories without names
@@ -36,9 +35,9 @@ no_kids : (stack : StackView) → All IsLayer stack.layers → (path : PathNames
 no_kids stack each path none = no_names (kids_along stack path) (λ name has. none name (sym (kids-same stack each path name) ∙ has))
 
 -- the deepest paths have none, and what isn't shown as a directory has none
-pub none_deepest : (stack : StackView) → All IsLayer stack.layers → (path : PathNames) → length path ≡ 64 * length stack.layers → kids_along stack path ≡ []
+pub none_deepest : (stack : StackView) → All IsLayer stack.layers → (path : PathNames) → length path ≡ depth_limit * length stack.layers → kids_along stack path ≡ []
 none_deepest stack each path deep = no_kids stack each path (λ name shown.
-    let limit : length (child_path path name) ≤ 64 * length stack.layers = shows-limited stack each (child_path path name) shown in
+    let limit : length (child_path path name) ≤ depth_limit * length stack.layers = shows-limited stack each (child_path path name) shown in
     absurd (omega (arith, limit, length-append path (name ∷ []))))
 
 pub none_elsewhere : (stack : StackView) → All IsLayer stack.layers → (path : PathNames) → shows_directory stack path ≡ false → kids_along stack path ≡ []
@@ -129,6 +128,6 @@ kids_lawful stack each = record {
   };
   shallow = λ p. All-Every (λ (kid : Piece). length kid.dir ≤ show_depth stack) (show_kids stack p) (λ q h.
       let kid = is_kid stack p q (kids_along stack p.dir) h in
-      subst (λ (d : PathNames). length d ≤ 64 * length stack.layers) (sym (ap (λ (r : Piece). r.dir) kid.1.0))
+      subst (λ (d : PathNames). length d ≤ depth_limit * length stack.layers) (sym (ap (λ (r : Piece). r.dir) kid.1.0))
       (shows-limited stack each (child_path p.dir kid.0) (directory_shows (look stack (child_path p.dir kid.0)) kid.1.1)));
 }

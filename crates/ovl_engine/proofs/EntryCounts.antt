@@ -5,7 +5,7 @@ use Rattle.std.specs.List.{flat_map, sum_by, All}
 use Rattle.std.proofs.lemmas.List.{length-map}
 use Rattle.std.proofs.lemmas.List.Sums.{sum_by-append, sum_by-cons}
 use Rattle.ovl_names.specs.Names.{PathName}
-use Rattle.ovl_names.specs.Paths.{PathNames, child_path}
+use Rattle.ovl_names.specs.Paths.{PathNames, child_path, depth_limit}
 use Rattle.ovl_manifest.specs.Layers.{IsLayer}
 use Rattle.ovl_lookup.specs.Stacks.{StackView}
 use Rattle.ovl_lookup.specs.Merged.{look, is_shown_directory}
@@ -28,7 +28,7 @@ sum_by-map f g (x ∷ xs) =
 
 module _ (stack : StackView) (each : All IsLayer stack.layers) where
   abbrev whole : ℕ
-  whole = 64 * length stack.layers
+  whole = depth_limit * length stack.layers
 
   -- how much a directory has in it
   abbrev size : Piece → ℕ

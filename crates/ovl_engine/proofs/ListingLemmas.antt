@@ -7,7 +7,7 @@ use Rattle.std.proofs.lemmas.Bool.{cases_lt}
 use Rattle.std.proofs.lemmas.List.{map-append}
 use Rattle.std.proofs.lemmas.List.Folds.{flat_map-map}
 use Rattle.ovl_names.specs.Names.{PathName}
-use Rattle.ovl_names.specs.Paths.{PathNames, child_path}
+use Rattle.ovl_names.specs.Paths.{PathNames, child_path, depth_limit}
 use Rattle.ovl_manifest.specs.Layers.{IsLayer}
 use Rattle.ovl_lookup.specs.Stacks.{StackView}
 use Rattle.ovl_lookup.specs.Merged.{IsMerged, look, is_shown_directory}
@@ -15,7 +15,7 @@ use Rattle.ovl_lookup.specs.Passes.{kids_along}
 use Rattle.ovl_board.specs.declared.pieces.Piece.{Piece}
 use Rattle.ovl_board.specs.Walks.{preorder}
 use Rattle.ovl_board.specs.Parcels.{ParcelView, parcel_view, parcel_views}
-use Rattle.ovl_board.proofs.Members.{In, Every, In-left, In-right, In-cases, In-map-cases}
+use Rattle.ovl_board.proofs.LawsOfMembers.{In, Every, In-left, In-right, In-cases, In-map-cases}
 use Rattle.ovl_engine.specs.Directories.{NamedLook, ShowParcel, named_look, looks_in, piece_in, directories_in, show_kids, show_root, IsShowWalk}
 use Rattle.ovl_engine.proofs.DirectoryLemmas.{none_deepest, none_elsewhere}
 use Rattle.ovl_engine.proofs.MergedLemmas.{at, with_look, paths_from, below, own, tree_paths, tree_merged, views_are}
@@ -49,7 +49,7 @@ OpenView = PathNames × List NamedLook
 
 module _ (stack : StackView) where
   abbrev whole : ℕ
-  whole = 64 * length stack.layers
+  whole = depth_limit * length stack.layers
 
   -- the paths that it has still to tell, and the pieces below it that are still to be opened
   abbrev pub paths_left : OpenView → List PathNames

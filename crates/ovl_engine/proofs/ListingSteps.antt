@@ -13,7 +13,7 @@ use Rattle.ovl_names.specs.Escapes.{escaped, shown_path}
 use Rattle.ovl_manifest.specs.Layers.{IsLayer}
 use Rattle.ovl_lookup.specs.Stacks.{StackView}
 use Rattle.ovl_lookup.specs.Merged.{is_shown_directory}
-use Rattle.ovl_board.proofs.Members.{Every}
+use Rattle.ovl_board.proofs.LawsOfMembers.{Every}
 use Rattle.ovl_engine.specs.declared.listings.Open.{Open}
 use Rattle.ovl_engine.specs.Directories.{NamedLook, ShowParcel, IsShowWalk}
 use Rattle.ovl_engine.specs.Reports.{look_line, show_line, shown_names}

@@ -3,18 +3,17 @@ use Rattle.std.proofs.Common.{◌≡◌, ℕ, zero, suc, ◌+◌, ◌-◌, ◌*�
 use Rattle.std.specs.List.{flat_map, All}
 use Rattle.std.proofs.lemmas.List.{map-append}
 use Rattle.ovl_names.specs.Names.{PathName}
-use Rattle.ovl_names.specs.Paths.{PathNames, child_path}
+use Rattle.ovl_names.specs.Paths.{PathNames, child_path, depth_limit}
 use Rattle.ovl_manifest.specs.Layers.{IsLayer}
 use Rattle.ovl_lookup.specs.declared.looks.Look.{Look}
 use Rattle.ovl_lookup.specs.Stacks.{StackView}
 use Rattle.ovl_lookup.specs.Merged.{IsMerged, look}
 use Rattle.ovl_lookup.specs.Passes.{kids_along, looks_from, looks_under, looks_placed}
-use Rattle.ovl_lookup.proofs.ListLemmas.{is-merged, shows-root}
+use Rattle.ovl_lookup.proofs.LawsOfKids.{is-merged, shows-root}
 use Rattle.ovl_board.specs.declared.pieces.Piece.{Piece}
 use Rattle.ovl_board.specs.Walks.{preorder}
 use Rattle.ovl_board.specs.Parcels.{ParcelView, own_view}
-use Rattle.ovl_board.proofs.WalkLemmas.{IsPlain-from_preorder}
-use Rattle.ovl_board.proofs.LawLemmas.{HasReachedPieces-holds}
+use Rattle.ovl_board.proofs.LawsOfWalks.{IsPlain-from_preorder, HasReachedPieces-holds}
 use Rattle.ovl_engine.specs.Directories.{NamedLook, show_kids, show_out, show_root, IsShowWalk}
 use Rattle.ovl_engine.proofs.DirectoryLemmas.{kids_lawful}
 
@@ -63,15 +62,15 @@ module _ (stack : StackView) where
 
   module _ (each : All IsLayer stack.layers) (some : 0 < length stack.layers) where
     abbrev whole_depth : ℕ
-    whole_depth = 64 * length stack.layers
+    whole_depth = depth_limit * length stack.layers
 
     abbrev pub tree : Looks
-    tree = looks_placed [] (looks_from (64 * length stack.layers + 1) stack [])
+    tree = looks_placed [] (looks_from (depth_limit * length stack.layers + 1) stack [])
 
     pub tree_paths : tree ≡ map with_look ([] ∷ below whole_depth [])
     tree_paths =
-        let next : 64 * length stack.layers + 1 ≡ suc (64 * length stack.layers) = omega arith in
-        placed_is (64 * length stack.layers + 1) [] ∙ ap (λ (n : ℕ). map with_look (paths_from n [])) next
+        let next : depth_limit * length stack.layers + 1 ≡ suc (depth_limit * length stack.layers) = omega arith in
+        placed_is (depth_limit * length stack.layers + 1) [] ∙ ap (λ (n : ℕ). map with_look (paths_from n [])) next
 
     pub tree_merged : IsMerged stack tree
     tree_merged = is-merged stack each (shows-root stack each some) tree refl

@@ -1,4 +1,5 @@
 pub mod OnLiterals
+pub mod SoundLaws
 pub mod AttributeLemmas
 pub mod DigestLemmas
 mod Rows

@@ -10,15 +10,11 @@ use Rattle.std.proofs.lemmas.List.Splits.{slice_split-cons_no}
 use lib.Utf8.{encode}
 use Rattle.ovl_names.specs.Names.{slash}
 use Rattle.ovl_names.specs.Paths.{parts_between}
-use Rattle.ovl_inode.specs.declared.marks.RedirectFault.TheVariants.{Empty, Text, Slash, Part}
+use Rattle.ovl_inode.specs.declared.marks.RedirectFault.TheVariants.{Text, Slash, Part}
 use Rattle.ovl_inode.specs.Redirects.{redirect_fault, is_absolute, is_bad_part}
 
 not_empty : {X : Type 0} (x : X) (xs : List X) → (length (x ∷ xs) == 0) ≡ false
 not_empty x xs = grind (arith, nat_tests)
-
--- an empty value, and one that is no text
-pub empty_fault : (value : List ℕ) → (length value == 0) ≡ true → redirect_fault value ≡ Some Empty
-empty_fault value none = rw none refl
 
 pub encoding_fault : (value : List ℕ) → (length value == 0) ≡ false → (IsUtf8 value → ⊥) → redirect_fault value ≡ Some Text
 encoding_fault value some bad = by (is_utf8 value) refl
@@ -26,9 +22,6 @@ encoding_fault value some bad = by (is_utf8 value) refl
     by : (b : Bool) → is_utf8 value ≡ b → redirect_fault value ≡ Some Text
     by true e = absurd (bad (IsUtf8-from_is_utf8 value e))
     by false e = rw some (rw e refl)
-
-pub nul_fault : (value : List ℕ) → (length value == 0) ≡ false → is_utf8 value ≡ true → list_any (λ byte. byte == 0) value ≡ true → redirect_fault value ≡ Some Text
-nul_fault value some utf8 nul = rw some (rw utf8 (rw nul refl))
 
 -- the fault of an absolute value, by what its parts are
 pub absolute_fault : (rest : List ℕ) (empty bad : Bool) → is_utf8 (slash ∷ rest) ≡ true → list_any (λ byte. byte == 0) (slash ∷ rest) ≡ false → list_any (λ part. length part == 0) (parts_between rest) ≡ empty → list_any is_bad_part (parts_between rest) ≡ bad → redirect_fault (slash ∷ rest) ≡ (if empty then Some Slash else if bad then Some Part else None)

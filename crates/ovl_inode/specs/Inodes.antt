@@ -1,6 +1,11 @@
--- What the merged tree shows of an inode.
+-- An inode with other values, and what the merged tree shows of it.
 use Rattle.ovl_inode.specs.declared.inodes.Inode.{Inode}
-use Rattle.ovl_inode.specs.Attributes.{visible_attributes}
+use Rattle.ovl_inode.specs.declared.inodes.Kind.{Kind}
+use Rattle.ovl_inode.specs.Attributes.{Attributes, visible_attributes}
+
+-- the inode with this kind and these attributes, and all else as it is
+abbrev pub inode_with : Inode → Kind → Attributes → Inode
+inode_with inode kind attrs = record inode { kind = kind; attrs = attrs }
 
 -- the inode without the overlay's own attributes
 abbrev pub visible : Inode → Inode

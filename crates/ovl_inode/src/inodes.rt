@@ -4,7 +4,7 @@ ghost use Rattle.std.specs.Cmp.Lexicographic.{nat_list_eq_equiv};
 ghost use Rattle.std.specs.Str.{bytes_eq};
 ghost use Rattle.ovl_inode.specs.Sound.{is_sound_inode, is_sound_kind, has_sound_blob, is_target};
 ghost use Rattle.ovl_inode.specs.Kinds.{kind_word, size_of, blob_of as the_blob};
-ghost use Rattle.ovl_inode.specs.Inodes.{visible as visible_inode};
+ghost use Rattle.ovl_inode.specs.Inodes.{inode_with, visible as visible_inode};
 ghost use Rattle.ovl_inode.specs.Equal.{kind_eq, inode_eq};
 ghost use Rattle.ovl_inode.specs.EqualLaws.{kind_eq_equiv, inode_eq_equiv};
 
@@ -41,13 +41,6 @@ impl Target {
         ensures { result.now ≡ self.now }
     {
         self.text.as_str()
-    }
-
-    /// The target's text, which takes no memory.
-    pub fn into_string(self) -> String
-        ensures { string_bytes result ≡ self }
-    {
-        self.text
     }
 
     /// A target equal to this one; fails only for want of memory.
@@ -206,14 +199,21 @@ impl Inode {
     pub fn copy(&self, alloc: Global) -> Result<Inode, AllocError>
         ensures { IfOk result (λ inode. inode ≡ self.now) }
     {
-        Ok(Inode {
-            kind: self.kind.copy(alloc)?,
+        Ok(self.with(self.kind.copy(alloc)?, self.attrs.copy(alloc)?))
+    }
+
+    /// The inode with this kind and these attributes; the rest is as here.
+    pub fn with(&self, kind: Kind, attrs: Attrs) -> Inode
+        ensures { result ≡ inode_with self.now kind attrs }
+    {
+        Inode {
+            kind,
             mode: self.mode,
             uid: self.uid,
             gid: self.gid,
             mtime: self.mtime,
-            attrs: self.attrs.copy(alloc)?,
-        })
+            attrs,
+        }
     }
 }
 
@@ -261,14 +261,7 @@ pub fn blob_of(inode: &Inode) -> Option<Digest>
 pub fn visible(alloc: Global, inode: &Inode) -> Result<Inode, AllocError>
     ensures { IfOk result (λ shown. shown ≡ visible_inode inode.now) }
 {
-    Ok(Inode {
-        kind: inode.kind.copy(alloc)?,
-        mode: inode.mode,
-        uid: inode.uid,
-        gid: inode.gid,
-        mtime: inode.mtime,
-        attrs: inode.attrs.visible(alloc)?,
-    })
+    Ok(inode.with(inode.kind.copy(alloc)?, inode.attrs.visible(alloc)?))
 }
 
 /// Whether a manifest can state the inode: a mode of at most 4,095; a file of at most 2^63 - 1 bytes, with a blob

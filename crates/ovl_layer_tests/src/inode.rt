@@ -114,7 +114,7 @@ fn names_and_values_of_attributes_are_copied(rt: HostRuntime) -> Result<(), Fail
 fn targets_are_copied(rt: HostRuntime) -> Result<(), Fail> {
     let target = Target::from(String::from_str(rt.alloc(), "a b")?);
     assert_eq!(rt;
-        target.copy(rt.alloc())?.into_string().as_str(),
+        target.copy(rt.alloc())?.as_str(),
         target.as_str()
     );
     Ok(())

@@ -192,32 +192,6 @@ fn walks_follow_the_redirects_that_are_well_formed(rt: HostRuntime) -> Result<()
     Ok(())
 }
 
-#[test]
-fn the_layers_below_have_an_entry_where_its_directory_goes_on(rt: HostRuntime) -> Result<(), Fail> {
-    let stack = moved_in_opaque(rt.alloc())?;
-    if stack.layers() == 0 {
-        return Err(Fail::from("no layer"));
-    }
-    for (path, natural) in [
-        ("/", Some("/")),
-        ("/x", Some("/x")),
-        ("/n/d/k", Some("/x/k")),
-        ("/n/z", None),
-    ] {
-        let path = Path::parse(rt.alloc(), path)?;
-        let found = match stack.natural_path(rt.alloc(), 0, &path)? {
-            Some(found) => Some(found.shown(rt.alloc())?),
-            None => None,
-        };
-        assert_eq!(rt;
-            found.as_ref().map(|text| text.as_str()),
-            natural,
-            "at {path:?}"
-        );
-    }
-    Ok(())
-}
-
 fn look_at(alloc: Global, stack: &Stack, from: usize, path: &str) -> Result<Look, Fail>
     requires { from ≤ length stack.now.layers }
 {

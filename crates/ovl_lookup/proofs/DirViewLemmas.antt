@@ -2,7 +2,7 @@
 use Rattle.std.proofs.Common.{◌≡◌, ℕ, ◌+◌, ◌<◌, length, arith, Bool, true, false, cond, Option, Some, None, is_some, get_or, List, [], ◌∷◌, ◌++◌, take, drop, refl, sym, ap, ◌∙◌, subst, append_assoc, inl, inr, ◌⊎◌}
 use Rattle.std.specs.Prelude.{◌||◌, unwrap_or, slice_get, IsSomeAnd}
 use Rattle.std.specs.Option.{option_map}
-use Rattle.std.proofs.lemmas.Option.{get_or_from_slice_get, slice_get-map, slice_get-get_or, slice_get_read, slice_get_within}
+use Rattle.std.proofs.lemmas.Option.{get_or_from_slice_get, slice_get-map, slice_get-get_or, slice_get_within}
 use Rattle.std.proofs.Math.Bool.{or-true}
 use Rattle.std.proofs.lemmas.List.{map_push}
 use Rattle.std.proofs.lemmas.List.Elements.{All-push}
@@ -10,9 +10,12 @@ use Rattle.std.specs.List.{All}
 use Rattle.ovl_names.specs.Names.{PathName}
 use Rattle.ovl_names.specs.Paths.{PathNames, child_path}
 use Rattle.ovl_inode.specs.declared.inodes.Inode.{Inode}
-use Rattle.ovl_manifest.specs.Layers.{Entry, Entries, IsLayer, entry_at, is_directory_at}
-use Rattle.ovl_manifest.specs.Sheets.{path_of, path_at}
-use Rattle.ovl_manifest.proofs.SheetLemmas.{none-past, entry_at-number}
+use Rattle.ovl_inode.specs.Marks.{mark_of, is_directory}
+use Rattle.ovl_inode.specs.declared.marks.Mark.{Mark}
+use Rattle.ovl_inode.specs.declared.marks.Mark.TheVariants.{Whiteout, DirOpaque, DirMoved, DirBad, DirPlain, Meta, MetaBad, Leaf}
+use Rattle.ovl_inode.specs.declared.marks.Redirect.TheVariants.{To, Beside}
+use Rattle.ovl_manifest.specs.Layers.{Entries, entry_at, is_directory_at}
+use Rattle.ovl_manifest.specs.Sheets.{path_at}
 use Rattle.ovl_lookup.specs.declared.steps.Descent.{Descent}
 use Rattle.ovl_lookup.specs.declared.steps.Step.{Step}
 use Rattle.ovl_lookup.specs.declared.steps.Arrival.TheVariants.{Directory}
@@ -22,15 +25,11 @@ use Rattle.ovl_lookup.specs.Walk.{walk, walk_beyond, turn, is_shut, mark_at}
 use Rattle.ovl_lookup.specs.Passes.{IsDescent, IsArrival}
 use Rattle.ovl_lookup.specs.Stacks.{StackView}
 use Rattle.ovl_lookup.specs.Views.{Reached, reached, is_reached, entry_in, entered, below_entry, reached_below}
-use Rattle.ovl_lookup.proofs.ViewSteps.{arrives-directory, below-directory}
-use Rattle.ovl_inode.specs.Marks.{mark_of, is_directory}
-use Rattle.ovl_inode.specs.declared.marks.Mark.{Mark}
-use Rattle.ovl_inode.specs.declared.marks.Mark.TheVariants.{Whiteout, DirOpaque, DirMoved, DirBad, DirPlain, Meta, MetaBad, Leaf}
-use Rattle.ovl_inode.specs.declared.marks.Redirect.TheVariants.{To, Beside}
 use Rattle.ovl_lookup.specs.DirViews.{path_on, name_on, IsEntryIn, place_below, place_in, places_in, IsPlaceOver}
-use Rattle.ovl_lookup.proofs.WalkFacts.{cut, drop-head, stopped, walk-ends, walk-whole, no-directory-below, mark_at-child, turn-entered, is_shut-entered}
-use Rattle.ovl_lookup.proofs.WalkLaws.{Beyond}
+use Rattle.ovl_lookup.proofs.ViewSteps.{arrives-directory, below-directory}
+use Rattle.ovl_lookup.proofs.WalkFacts.{cut, drop-head, stopped, walk-ends}
 use Rattle.ovl_lookup.proofs.ViewLemmas.{NothingAt, FileAt, past}
+use Rattle.ovl_lookup.proofs.LawsOfWalks.{Beyond, is_shut-entered, mark_at-child, no-directory-below, turn-entered, walk-whole}
 
 same_some : {X : Type 0} (one other : X) → Some one ≡ Some other → one ≡ other
 same_some one other e = ap (λ o. unwrap_or o one) e
@@ -38,14 +37,6 @@ same_some one other e = ap (λ o. unwrap_or o one) e
 -- what stands at a name in a place, by the place's layer
 pub entry-here : (stack : StackView) (name : PathName) (place : DirPlace) (layer : Entries) → slice_get stack.layers place.layer ≡ Some layer → entry_in stack.layers name (place_in stack place) ≡ entry_at layer (child_path (path_at layer place.row) name)
 entry-here stack name place layer at = λ j. elim (at j) as (λ _. Option Inode) [ Some own ↦ entry_at own (child_path (elim (at j) as (λ _. PathNames) [ Some entries ↦ path_at entries place.row | None ↦ [] ]) name) | None ↦ None ]
-
--- an entry stands at the path of each row
-pub entry-of_row : (layer : Entries) (number : ℕ) → IsLayer layer → number < length layer → (inode : Inode) × (entry_at layer (path_at layer number) ≡ Some inode)
-entry-of_row layer number is inside = by (slice_get layer number) refl
-  where
-    by : (o : Option Entry) → slice_get layer number ≡ o → (inode : Inode) × (entry_at layer (path_at layer number) ≡ Some inode)
-    by None e = absurd (omega (arith, none-past layer number e, inside))
-    by (Some entry) e = (entry.1, ap (λ o. entry_at layer (path_of o)) e ∙ entry_at-number layer number entry is.in_order e)
 
 -- ---- where the walk of a path leads, by how far it goes through directories
 
@@ -196,11 +187,6 @@ module _ {X : Type 0} (name : PathName) (from_root : PathNames → List X) (besi
   on-none (Meta (Some (To origin))) p n = let bad : Some origin ≡ None = p in cc
 
 -- ---- the places below an entry of a place
-
--- a list of places by its number
-pub place-at : (stack : StackView) (places : List DirPlace) (k : ℕ) (own : DirPlace) → k < length places → own ≡ get_or places k own → slice_get (places_in stack places) k ≡ Some (place_in stack own)
-place-at stack places k own inside at =
-    slice_get-map (place_in stack) places k ∙ ap (option_map (place_in stack)) (slice_get_read places (length places) k own refl inside at)
 
 -- the place of a number as a slice of them is read
 abbrev pub place_read : List DirPlace → ℕ → DirPlace

@@ -10,7 +10,7 @@ use Rattle.ovl_lookup.specs.declared.steps.Step.{Step}
 use Rattle.ovl_lookup.specs.Walk.{walk, turn, is_shut}
 use Rattle.ovl_lookup.specs.Laws.{ViewsStand}
 use Rattle.ovl_lookup.specs.Views.{Reached, reached, IsPlace, EndsWhereClosed}
-use Rattle.ovl_lookup.proofs.WalkFacts.{walk-whole}
+use Rattle.ovl_lookup.proofs.LawsOfWalks.{walk-whole}
 use Rattle.ovl_lookup.proofs.ViewLemmas.{layer-here}
 
 -- a place of a view is what the walk of its path in its layer says

@@ -4,7 +4,7 @@ use Rattle.ovl_names.specs.Paths.{PathNames}
 use Rattle.ovl_inode.specs.declared.inodes.Kind.TheVariants.{File, Symlink, Char}
 use Rattle.ovl_inode.proofs.OnLiterals.{inode_on_literals}
 use Rattle.ovl_lookup.specs.declared.looks.Look.TheVariants.{Nothing, Shown, Broken}
-use Rattle.ovl_lookup.specs.Walk.{walk, nothing_found, found_at_end, open_natural_path}
+use Rattle.ovl_lookup.specs.Walk.{walk, nothing_found, found_at_end, natural_path}
 use Rattle.ovl_lookup.specs.Stacks.{StackView, from_layer}
 use Rattle.ovl_lookup.specs.Merged.{look}
 use Rattle.ovl_lookup.specs.Passes.{kids_along, looks_from}
@@ -175,17 +175,13 @@ walk-metacopy_relative_in_opaque : walk redirects (path (codes "/n/g")) ≡ foun
 unfolding inode_on_literals
 walk-metacopy_relative_in_opaque = refl
 
-natural-root : open_natural_path top_of_moved_in_opaque [] ≡ Some []
+natural-root : natural_path top_of_moved_in_opaque [] ≡ []
 unfolding inode_on_literals
 natural-root = refl
 
-natural-moved : open_natural_path top_of_moved_in_opaque (path (codes "/n/d/k")) ≡ Some (path (codes "/x/k"))
+natural-moved : natural_path top_of_moved_in_opaque (path (codes "/n/d/k")) ≡ path (codes "/x/k")
 unfolding inode_on_literals
 natural-moved = refl
-
-natural-opaque : open_natural_path top_of_moved_in_opaque (path (codes "/n/z")) ≡ None
-unfolding inode_on_literals
-natural-opaque = refl
 
 opaque_redirect-directory : look opaque_with_redirect (path (codes "/d")) ≡ Shown directory
 unfolding inode_on_literals

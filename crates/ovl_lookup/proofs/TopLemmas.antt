@@ -21,9 +21,9 @@ use Rattle.ovl_lookup.specs.Merged.{look, shown_of, is_nothing}
 use Rattle.ovl_lookup.specs.Laws.{ViewsLook}
 use Rattle.ovl_lookup.specs.Views.{Reached, reached, entry_in, found_below}
 use Rattle.ovl_lookup.specs.ViewPasses.{First, first_in, AreInOrder, AreTops, AreMerged, looks_from_tops, AreLooks}
-use Rattle.ovl_lookup.proofs.ChildLemmas.{any_found, shown-any, names_below-has}
-use Rattle.ovl_lookup.proofs.KidLemmas.{any-filter}
-use Rattle.ovl_lookup.proofs.KidNames.{kid-names-ascend}
+use Rattle.ovl_lookup.proofs.LawsOfFound.{any_found, shown-any}
+use Rattle.ovl_lookup.proofs.LawsOfWalks.{names_below-has}
+use Rattle.ovl_lookup.proofs.LawsOfKids.{any-filter, kid-names-ascend}
 use Rattle.ovl_lookup.proofs.TopMerge.{at, names_of, is_before, each-own, merge, are-merged}
 use Rattle.ovl_lookup.proofs.ViewLemmas.{found_below_by, views-find}
 

@@ -15,7 +15,7 @@ use Rattle.ovl_names.proofs.Ascending.{both, is_lt-Less, list_all-before, revers
 use Rattle.ovl_manifest.proofs.NodeLemmas.{name_eq-cmp}
 use Rattle.ovl_lookup.specs.declared.tops.Top.{Top}
 use Rattle.ovl_lookup.specs.ViewPasses.{First, AreInOrder, AreMerged, top_told, tops_told}
-use Rattle.ovl_lookup.proofs.FoundLemmas.{drop_past}
+use Rattle.ovl_lookup.proofs.LawsOfPaths.{drop_past}
 use Rattle.ovl_lookup.proofs.WalkFacts.{take-rest}
 
 abbrev pub names_of : List (PathName × First) → List PathName

@@ -1,20 +1,15 @@
 -- Views of directories: how they go on with one more name, and what they show.
 use Rattle.std.proofs.Common.{◌≡◌, ℕ, zero, suc, Bool, true, false, cond, Option, Some, None, is_some, List, [], ◌∷◌, ◌++◌, drop, refl, sym, ap, ◌∙◌, append_assoc, inl, inr, ◌⊎◌}
-use Rattle.std.specs.Prelude.{◌||◌, ◌&&◌, ◌==◌, slice_get}
+use Rattle.std.specs.Prelude.{◌||◌, ◌&&◌, slice_get}
 use Rattle.std.specs.List.{cons_option, All}
 use Rattle.std.proofs.Math.Bool.{or-true, or-false}
 use Rattle.ovl_names.specs.Names.{PathName}
 use Rattle.ovl_names.specs.Paths.{PathNames, child_path}
 use Rattle.ovl_inode.specs.declared.inodes.Inode.{Inode}
-use Rattle.ovl_inode.specs.declared.inodes.Kind.{Kind}
-use Rattle.ovl_inode.specs.declared.inodes.Kind.TheVariants.{Dir, File, Char}
 use Rattle.ovl_inode.specs.declared.marks.Mark.{Mark}
 use Rattle.ovl_inode.specs.declared.marks.Mark.TheVariants.{Whiteout, DirOpaque, DirMoved, DirBad, DirPlain, Meta, MetaBad, Leaf}
 use Rattle.ovl_inode.specs.declared.marks.Redirect.TheVariants.{To, Beside}
-use Rattle.ovl_inode.specs.declared.marks.Redirect.{Redirect}
-use Rattle.ovl_inode.specs.Attributes.{attribute, redirect_name, whiteout_name}
-use Rattle.ovl_inode.specs.Redirects.{read_redirect}
-use Rattle.ovl_inode.specs.Marks.{mark_of, is_directory, is_regular, is_whiteout, has_attribute, has_opaque, has_metacopy, redirect_reading, directory_mark, metacopy_mark}
+use Rattle.ovl_inode.specs.Marks.{mark_of, is_directory, is_whiteout, has_metacopy}
 use Rattle.ovl_manifest.specs.Layers.{Entries, IsLayer, entry_at, is_directory_at}
 use Rattle.ovl_lookup.specs.declared.steps.Step.{Step}
 use Rattle.ovl_lookup.specs.Walk.{walk, walk_beyond, walk_to_file, nothing_found, turn, is_shut}
@@ -23,13 +18,11 @@ use Rattle.ovl_lookup.specs.Merged.{shown_of, is_shown_directory}
 use Rattle.ovl_lookup.specs.Laws.{ViewsGoOn, ViewsFind, ViewsShow}
 use Rattle.ovl_lookup.specs.Passes.{entered_path, entered_closed}
 use Rattle.ovl_lookup.specs.Views.{Reached, reached, is_reached, entry_in, entered, below_entry, reached_below, found_below}
-use Rattle.ovl_lookup.proofs.WalkFacts.{walk-whole, walk-stop, no-directory-below}
-use Rattle.ovl_lookup.proofs.ChildLemmas.{all-first, all-rest}
-use Rattle.ovl_lookup.proofs.WalkLaws.{directory_found, Beyond, walk-end, walk-past}
-use Rattle.ovl_lookup.proofs.EntryLaws.{directory-entry, entry-parent, entry-above}
-use Rattle.ovl_lookup.proofs.ChildLaws.{walk-child_directory, walk-child_end}
-use Rattle.ovl_lookup.proofs.LookLaws.{found_by, found-by, found-file, file-shown}
-use Rattle.ovl_lookup.proofs.FoundLemmas.{things_found-step, shown_of-full, directory-kind}
+use Rattle.ovl_lookup.proofs.LawsOfPaths.{all-first, all-rest}
+use Rattle.ovl_lookup.proofs.LawsOfInodes.{directory-kind, directory-marked, directory-no_whiteout, is_directory_mark, mark-directory}
+use Rattle.ovl_lookup.proofs.LawsOfWalks.{Beyond, directory-entry, directory_found, entry-above, entry-parent, found-file, no-directory-below, walk-child_directory, walk-child_end, walk-end, walk-past, walk-stop, walk-whole}
+use Rattle.ovl_lookup.proofs.LawsOfFound.{shown_of-full, things_found-step}
+use Rattle.ovl_lookup.proofs.LawsOfLooks.{file-shown, found-by, found_by}
 
 -- ---- the first of the layers from a number on
 
@@ -40,64 +33,6 @@ layer-here (y ∷ all) zero x xs e = let same : x ≡ y = cc in (ap Some (sym sa
 layer-here (y ∷ all) (suc i) x xs e = layer-here all i x xs e
 
 -- ---- the marks of directories
-
-abbrev pub is_directory_mark : Mark → Bool
-is_directory_mark DirOpaque = true
-is_directory_mark (DirMoved redirect) = true
-is_directory_mark DirBad = true
-is_directory_mark DirPlain = true
-is_directory_mark _ = false
-
--- however its `redirect` reads
-directory_mark-is : (inode : Inode) → is_directory_mark (directory_mark (redirect_reading inode)) ≡ true
-directory_mark-is inode = by (attribute inode.attrs redirect_name) refl
-  where
-    said : (value : List ℕ) → attribute inode.attrs redirect_name ≡ Some value → (redirect : Option Redirect) → read_redirect value ≡ redirect → is_directory_mark (directory_mark (redirect_reading inode)) ≡ true
-    said value e None f = rw (e, redirect_reading) (rw f refl)
-    said value e (Some redirect) f = rw (e, redirect_reading) (rw f refl)
-
-    by : (found : Option (List ℕ)) → attribute inode.attrs redirect_name ≡ found → is_directory_mark (directory_mark (redirect_reading inode)) ≡ true
-    by None e = rw (e, redirect_reading) refl
-    by (Some value) e = said value e (read_redirect value) refl
-
-metacopy_mark-isnt : (inode : Inode) → is_directory_mark (metacopy_mark (redirect_reading inode)) ≡ false
-metacopy_mark-isnt inode = by (attribute inode.attrs redirect_name) refl
-  where
-    said : (value : List ℕ) → attribute inode.attrs redirect_name ≡ Some value → (redirect : Option Redirect) → read_redirect value ≡ redirect → is_directory_mark (metacopy_mark (redirect_reading inode)) ≡ false
-    said value e None f = rw (e, redirect_reading) (rw f refl)
-    said value e (Some redirect) f = rw (e, redirect_reading) (rw f refl)
-
-    by : (found : Option (List ℕ)) → attribute inode.attrs redirect_name ≡ found → is_directory_mark (metacopy_mark (redirect_reading inode)) ≡ false
-    by None e = rw (e, redirect_reading) refl
-    by (Some value) e = said value e (read_redirect value) refl
-
-mark-cases : (whiteout directory opaque file : Bool) (of_directory of_file : Mark) → is_directory_mark of_directory ≡ true → is_directory_mark of_file ≡ false → whiteout ≡ false → is_directory_mark (cond whiteout Whiteout (cond (directory && opaque) DirOpaque (cond directory of_directory (cond file of_file Leaf)))) ≡ directory
-mark-cases true directory opaque file of_directory of_file marked unmarked none = let bad : true ≡ false = none in cc
-mark-cases false true true file of_directory of_file marked unmarked none = refl
-mark-cases false true false file of_directory of_file marked unmarked none = marked
-mark-cases false false opaque true of_directory of_file marked unmarked none = unmarked
-mark-cases false false opaque false of_directory of_file marked unmarked none = refl
-
-mark-directory : (inode : Inode) → is_whiteout inode ≡ false → is_directory_mark (mark_of inode) ≡ is_directory inode
-mark-directory inode none =
-    mark-cases (is_whiteout inode) (is_directory inode) (has_opaque inode) (is_regular inode && has_metacopy inode)
-    (directory_mark (redirect_reading inode)) (metacopy_mark (redirect_reading inode)) (directory_mark-is inode) (metacopy_mark-isnt inode) none
-
-abbrev whiteout_kind : Kind → Bool → Bool
-whiteout_kind kind had = elim kind as (λ _. Bool) [ Char major minor ↦ major == 0 && minor == 0 | File size blob ↦ size == 0 && had | _ ↦ false ]
-
-directory_kind : (kind : Kind) (had : Bool) → elim kind as (λ _. Bool) [ Dir ↦ true | _ ↦ false ] ≡ true → whiteout_kind kind had ≡ false
-directory_kind Dir had is = refl
-directory_kind (File size blob) had is = let bad : false ≡ true = is in cc
-directory_kind (Char major minor) had is = let bad : false ≡ true = is in cc
-directory_kind _ had is = refl
-
-pub directory-unhidden : (inode : Inode) → is_directory inode ≡ true → is_whiteout inode ≡ false
-directory-unhidden inode is = directory_kind inode.kind (has_attribute inode whiteout_name) is
-
--- the mark of a directory, and of another thing that is found
-pub directory-marked : (inode : Inode) → is_directory inode ≡ true → is_directory_mark (mark_of inode) ≡ true
-directory-marked inode is = mark-directory inode (directory-unhidden inode is) ∙ is
 
 pub file-marked : (inode : Inode) → is_whiteout inode ≡ false → is_directory inode ≡ false → is_directory_mark (mark_of inode) ≡ false
 file-marked inode none file = mark-directory inode none ∙ file
@@ -344,7 +279,7 @@ module _ (all : List Entries) (layer : Entries) (layers : List Entries) (i : ℕ
     found-entry : is_directory_at layer path ≡ true → (inode : Inode) → entry_at layer (child_path path name) ≡ Some inode → (d : Bool) → is_directory inode ≡ d → (w : Bool) → is_whiteout inode ≡ w → things_found (layer ∷ layers) (child_path path name) ≡ found_below all name (reached (layer ∷ layers) i path)
     found-entry holds inode e true d w h =
         let mark = directory-marked inode d in
-        found-inode holds inode e (directory-unhidden inode d)
+        found-inode holds inode e (directory-no_whiteout inode d)
         (found-by layer layers (child_path path name) (record { found = Some inode; next = entered_path (mark_of inode) (walk layer path).next name; closed = entered_closed (mark_of inode) (walk layer path).closed }) (walk-child_directory layer path name is inode e d)
         ∙ ap (λ found. inode ∷ found) (directory-on (things_found layers) (found_below all) (reached layers (suc i)) (λ n. refl) later (mark_of inode) (walk layer path).closed (walk layer path).next name mark))
     found-entry holds inode e false d true w =

@@ -26,14 +26,14 @@ use Rattle.ovl_lookup.specs.Passes.{data_below, shown_with}
 use Rattle.ovl_lookup.specs.Views.{Reached, entry_in, below_entry, found_below}
 use Rattle.ovl_lookup.specs.ViewPasses.{First, AreTops, top_told, tops_told, look_from_top, looks_from_tops}
 use Rattle.ovl_lookup.specs.DirViews.{place_in, places_in, path_on}
-use Rattle.ovl_lookup.proofs.FoundLemmas.{bare_file, data_of-metacopy, data_of-bad, data_below-metacopy, data_below-data, data_below-other, shown_of-full}
-use Rattle.ovl_lookup.proofs.ChildLemmas.{any_found, shown-any}
+use Rattle.ovl_lookup.proofs.LawsOfInodes.{bare_file}
+use Rattle.ovl_lookup.proofs.LawsOfFound.{data_of-metacopy, data_of-bad, data_below-metacopy, data_below-data, data_below-other, shown_of-full, any_found, shown-any}
 use Rattle.ovl_lookup.proofs.WalkFacts.{take-rest}
 use Rattle.ovl_lookup.proofs.ViewSteps.{found-whiteout, found-entry, looks-next}
 use Rattle.ovl_lookup.proofs.TopMerge.{names_of}
 use Rattle.ovl_lookup.proofs.TopLemmas.{IsFirst, all-first, names_in, StandHere, stand-more}
 use Rattle.ovl_lookup.proofs.DirViewLemmas.{entry-here}
-use Rattle.ovl_lookup.proofs.KidNames.{kid-path}
+use Rattle.ovl_lookup.proofs.LawsOfKids.{kid-path}
 
 -- ---- a file that lacks its contents
 

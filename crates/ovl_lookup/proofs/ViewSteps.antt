@@ -15,7 +15,7 @@ use Rattle.ovl_lookup.specs.Trace.{things_found}
 use Rattle.ovl_lookup.specs.Views.{Reached, reached, entry_in, entered, below_entry, reached_below, found_below}
 use Rattle.ovl_lookup.specs.Merged.{is_nothing}
 use Rattle.ovl_lookup.specs.ViewPasses.{First, look_from_top, looks_from_tops}
-use Rattle.ovl_lookup.proofs.WalkLaws.{directory_found}
+use Rattle.ovl_lookup.proofs.LawsOfWalks.{directory_found}
 use Rattle.ovl_lookup.proofs.ViewLemmas.{reached_below_by, found_below_by}
 
 -- what a list has from a place on
@@ -49,10 +49,6 @@ module _ (layers : List Entries) (i : ℕ) (layer : Entries) (here : slice_get l
 
 -- ---- the places from `k` on, of which the first is `place`
 module _ (all : List Entries) (name : PathName) (places : List Reached) (k : ℕ) (place : Reached) (here : slice_get places k ≡ Some place) where
-  -- what stands at the name in it, by its layer
-  pub entry-in : (layer : Entries) → slice_get all place.layer ≡ Some layer → entry_in all name place ≡ entry_at layer (child_path place.path name)
-  entry-in layer at = ap (λ (o : Option Entries). elim o as (λ _. Option Inode) [ Some own ↦ entry_at own (child_path place.path name) | None ↦ None ]) at
-
   below-by : (found : Option Inode) → entry_in all name place ≡ found → reached_below all name (drop k places) ≡ reached_below_by all name place (drop (k + 1) places) found
   below-by found e = ap (reached_below all name) (drop-here places k place here) ∙ ap (reached_below_by all name place (drop (k + 1) places)) e
 

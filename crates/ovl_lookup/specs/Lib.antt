@@ -12,5 +12,4 @@ pub mod DirViews
 pub mod Laws
 pub mod Equal
 pub mod EqualLaws
-pub mod Courses
 pub mod WalkLaws

@@ -105,7 +105,3 @@ walk layer path =
 -- where the layers below have an entry by its own name: the next path of its directory, and that name
 abbrev pub natural_path : Entries → PathNames → PathNames
 natural_path layer path = (walk layer (parent_path path)).next ++ drop (length (parent_path path)) path
-
--- the same, where its directory doesn't hide the layers below
-abbrev pub open_natural_path : Entries → PathNames → Option PathNames
-open_natural_path layer path = if (walk layer (parent_path path)).closed then None else Some (natural_path layer path)

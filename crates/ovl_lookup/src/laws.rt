@@ -1,5 +1,4 @@
 //! Laws of walks and of the merged tree; the contract of each is its statement.
-ghost use Rattle.ovl_lookup.specs.Courses.{CoursesJoin, TurnsByCourse, WalksSplit, AbsoluteRedirectsLead, RelativeRedirectsLead, WalksPass, FoundSplits};
 ghost use Rattle.ovl_lookup.specs.Laws.{ShowsParents, ShowsWithinDepth, ViewsGoOn, ViewsFind, ViewsShow, ViewsStand, ViewsLook};
 ghost use Rattle.ovl_lookup.specs.WalkLaws.{WalksEnter, WalksEnd, WalksPassOver, FilesClose, WalksKeepNames, WalksStayBelowRoot};
 
@@ -8,7 +7,8 @@ pub fn merged_tree_has_parents()
     ensures { ShowsParents }
 {}
 
-/// The merged tree is no deeper than 64 times the number of layers, the data-only ones not counted.
+/// The merged tree is no deeper than the most names of a layer's path times the number of layers, the data-only ones
+/// not counted.
 pub fn merged_tree_is_within_depth()
     ensures { ShowsWithinDepth }
 {}
@@ -36,41 +36,6 @@ pub fn views_find()
 /// The looks of all names in a directory, by the first place of its view that has the name.
 pub fn views_look()
     ensures { ViewsLook }
-{}
-
-/// A course splits where its path does.
-pub fn courses_join()
-    ensures { CoursesJoin }
-{}
-
-/// The turn of a directory comes from one above it by the course between.
-pub fn turns_by_course()
-    ensures { TurnsByCourse }
-{}
-
-/// A walk splits at a directory.
-pub fn walks_split()
-    ensures { WalksSplit }
-{}
-
-/// Everything under an absolute redirect goes on from there.
-pub fn absolute_redirects_lead()
-    ensures { AbsoluteRedirectsLead }
-{}
-
-/// Everything under a relative redirect goes on beside it.
-pub fn relative_redirects_lead()
-    ensures { RelativeRedirectsLead }
-{}
-
-/// Everything under what a layer passes goes on by its own names.
-pub fn walks_pass()
-    ensures { WalksPass }
-{}
-
-/// What layers find is found by the first of them and then by the others.
-pub fn found_splits()
-    ensures { FoundSplits }
 {}
 
 /// A walk goes on into a directory by the mark of that.

@@ -1,14 +1,14 @@
-ghost use Rattle.std.specs.Prelude.{◌≡◌, ◌<◌, ◌≤◌, ◌+◌, ◌↔◌, ◌⊎◌, [], false, Some, Err, length, IsTrue, IfOk, MatchOption, MatchResult, slice_get, IfSome};
+ghost use Rattle.std.specs.Prelude.{◌≡◌, ◌≢◌, ◌<◌, ◌≤◌, ◌+◌, ◌↔◌, ◌⊎◌, [], false, Some, Err, length, IsTrue, IfOk, MatchOption, MatchResult, slice_get, IfSome};
 ghost use Rattle.std.specs.Option.{option_map};
 ghost use Rattle.std.specs.List.{All};
 ghost use Rattle.ovl_manifest.specs.Layers.{IsLayer, entry_at, is_directory_at, names_below};
 ghost use Rattle.ovl_lookup.specs.Passes.{IsOwnDirectory, own_of};
-ghost use Rattle.ovl_lookup.specs.Walk.{walk as the_walk, open_natural_path};
+ghost use Rattle.ovl_lookup.specs.Walk.{walk as the_walk};
 ghost use Rattle.ovl_lookup.specs.declared.stacks.StackFault.TheVariants.{Layers, Memory, DataCount};
 ghost use Rattle.ovl_lookup.specs.Stacks.{layer_limit, all_layers, stack_with};
 
-use crate::steps::{directory_in, trail_in};
-use crate::{OwnDirectory, OwnTrail, Step, walk};
+use crate::steps::trail_in;
+use crate::{OwnTrail, Step, walk};
 use ovl_inode::Inode;
 use ovl_manifest::{Layer, Sheet};
 use ovl_names::{Name, Path};
@@ -68,6 +68,7 @@ impl Stack {
         ensures value { IfOk result (λ stack. stack.layers ≡ layers.items) }
         ensures bare { IfOk result (λ stack. stack.data_only ≡ []) }
         ensures refused { (result ≡ Err Layers) ↔ ((length layers.items ≡ 0) ⊎ (layer_limit < length layers.items)) }
+        ensures left { result ≢ Err DataCount }
     {
         if is_outside(layers.len()) {
             return Err(StackFault::Layers);
@@ -190,23 +191,8 @@ impl Stack {
     }
 
     /// The directory that layer `i` has at a path, with how its walk goes on, and `None` where it has none; `i` is below
-    /// the number of layers. Fails only for want of memory. overlayfs.rst: "renaming directories", "whiteouts and opaque
-    /// directories".
-    pub fn own_directory(
-        &self,
-        alloc: Global,
-        i: usize,
-        path: &Path,
-    ) -> Result<Option<OwnDirectory>, AllocError>
-        requires { i < length (all_layers self.now) }
-        ensures { IfSome (slice_get (all_layers self.now) i) (λ layer. IfOk result (λ found. MatchOption found
-            (is_directory_at layer path.now ≡ false)
-            (λ own. IsOwnDirectory layer path.now own))) }
-    {
-        directory_in(alloc, self.any_sheet(i), path)
-    }
-
-    /// The same with no name copied: the next path is in names that the layer holds.
+    /// the number of layers. No name is copied. Fails only for want of memory. overlayfs.rst: "renaming directories",
+    /// "whiteouts and opaque directories".
     pub fn own_trail<'a>(
         &'a self,
         alloc: Global,
@@ -219,29 +205,6 @@ impl Stack {
             (λ own. IsOwnDirectory layer path.now (own_of own)))) }
     {
         trail_in(alloc, self.any_sheet(i), path)
-    }
-
-    /// The path at which the layers below layer `i` have an entry by its own name: the next path of the walk of its
-    /// directory, and that name. `None` where that walk is closed; the root's is the root. `i` is below the number of
-    /// layers. Fails only for want of memory.
-    pub fn natural_path(
-        &self,
-        alloc: Global,
-        i: usize,
-        path: &Path,
-    ) -> Result<Option<Path>, AllocError>
-        requires { i < length (all_layers self.now) }
-        ensures { IfSome (slice_get (all_layers self.now) i) (λ layer. IfOk result (λ natural. natural ≡ open_natural_path layer path.now)) }
-    {
-        let Some(parent) = path.parent(alloc)? else {
-            return Ok(Some(Path::root(alloc)));
-        };
-        let step = self.own_walk(alloc, i, &parent)?;
-        if step.closed {
-            return Ok(None);
-        }
-        let natural = step.next.joined(alloc, &path.names()[parent.len()..])?;
-        Ok(Some(natural))
     }
 }
 

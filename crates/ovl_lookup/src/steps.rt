@@ -215,23 +215,6 @@ pub(crate) fn trail_in<'a>(
     Ok(Some(OwnTrail { row, next, closed }))
 }
 
-// The same, in a path of its own.
-pub(crate) fn directory_in(
-    alloc: Global,
-    sheet: &Sheet,
-    path: &Path,
-) -> Result<Option<OwnDirectory>, AllocError>
-    ensures { IfOk result (λ found. MatchOption found
-        (is_directory_at sheet.now path.now ≡ false)
-        (λ own. IsOwnDirectory sheet.now path.now own)) }
-{
-    let Some(OwnTrail { row, next, closed }) = trail_in(alloc, sheet, path)? else {
-        return Ok(None);
-    };
-    let next = next.path(alloc)?;
-    Ok(Some(OwnDirectory { row, next, closed }))
-}
-
 // Where the walk of a path in one layer leads: to a directory's row, past the layer, where `next` goes on, or no
 // further.
 #[derive(Drop)]

@@ -207,13 +207,6 @@ pub record AreSetFrom (number : ℕ) (old new : List SheetRow) : Type 0 where
 pub entries-count : (rows : List SheetRow) → length (entries_of_rows rows) ≡ length rows
 entries-count rows = with-length [] rows ∙ omega arith
 
-pub none-set : (rows : List SheetRow) → AreSetFrom (length rows) rows rows
-none-set rows = record {
-  count = refl;
-  before = λ k d inside. refl;
-  behind = λ k d past inside. absurd (omega (arith, past, inside));
-}
-
 pub one-set : (number : ℕ) (old new : List SheetRow) (row : SheetRow) → AreSetFrom (suc number) old new → number < length old → row ≡ get_or new number row
     → AreSetFrom number old (set new number (record row { after = after_of (entries_of_rows old) number }))
 one-set number old new row are inside is = record {

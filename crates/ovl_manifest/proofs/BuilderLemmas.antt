@@ -1,5 +1,5 @@
 -- What one more pair makes of a layer that is built.
-use Rattle.std.proofs.Common.{◌≡◌, ◌∙◌, ◌<◌, ◌≤◌, [], ◌∷◌, ◌++◌, true, false, Ok, Err, ap, length, length-append, arith, leb-true}
+use Rattle.std.proofs.Common.{◌≡◌, ◌∙◌, ◌<◌, ◌≤◌, [], ◌∷◌, ◌++◌, true, Ok, Err, ap, length, length-append, arith, leb-true}
 use Rattle.std.specs.Prelude.{nat_lt, if◌then◌else◌}
 use Rattle.std.specs.List.{list_all}
 use Rattle.std.proofs.lemmas.Bool.Decides.{nat_tests}
@@ -16,12 +16,6 @@ pair-room before pair room = ap (λ b. if b then entry_after before (stated_pair
   where
     few : nat_lt (length before) entry_limit ≡ true
     few = grind (arith, nat_tests)
-
-pub pair-full : (before : Entries) (pair : Entry) → length before ≡ entry_limit → pair_after before pair ≡ Err Count
-pair-full before pair full = ap (λ b. if b then entry_after before (stated_pair pair) else Err Count) many
-  where
-    many : nat_lt (length before) entry_limit ≡ false
-    many = grind (arith, nat_tests)
 
 -- the next entry of a layer is taken
 pub pair-taken : (before : Entries) (entry : Entry) (more : Entries) → IsLayer (before ++ entry ∷ more) → pair_after before entry ≡ Ok (before ++ entry ∷ [])

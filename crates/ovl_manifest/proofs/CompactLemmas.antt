@@ -1,5 +1,5 @@
 -- The text of a layer, put together piece by piece, and read back.
-use Rattle.std.proofs.Common.{◌≡◌, ◌∙◌, ℕ, zero, suc, ◌+◌, ◌-◌, ◌*◌, ◌/◌, ◌%◌, ◌≤◌, ◌<◌, ◌^◌, ℤ, append-nil, List, [], ◌∷◌, ◌++◌, length, length-take, take, take_all, get_or, Bool, true, false, Option, Some, None, Result, Ok, Err, refl, sym, ap, ap₂, subst, append_assoc, arith, ltb-true, eqb-true, decimal}
+use Rattle.std.proofs.Common.{◌≡◌, ◌∙◌, ℕ, zero, suc, ◌+◌, ◌-◌, ◌*◌, ◌/◌, ◌%◌, ◌≤◌, ◌<◌, ◌^◌, append-nil, List, [], ◌∷◌, ◌++◌, length, length-take, take, take_all, get_or, Bool, true, false, Option, Some, None, Result, Ok, Err, refl, sym, ap, ap₂, subst, append_assoc, arith, ltb-true, eqb-true, decimal}
 use Rattle.std.specs.Prelude.{◌==◌, not, ◌&&◌, ◌||◌, nat_eq, nat_lt, slice_index, codes, slice_get, option_and_then, if◌then◌else◌, is_some, unwrap_or, MatchOption}
 use Rattle.std.specs.List.{list_all}
 use Rattle.std.specs.Ordering.{is_lt}
@@ -33,6 +33,7 @@ use Rattle.ovl_names.specs.Order.{ascends}
 use Rattle.ovl_names.specs.Paths.{PathNames, path_text}
 use Rattle.ovl_names.proofs.Ascending.{both, reversed}
 use Rattle.ovl_inode.specs.declared.digests.Digest.{Digest}
+use Rattle.ovl_inode.specs.declared.inodes.Inode.{Inode}
 use Rattle.ovl_inode.specs.declared.inodes.Kind.{Kind}
 use Rattle.ovl_inode.specs.declared.inodes.Kind.TheVariants.{Dir, File, Symlink, Char, Block, Fifo, Socket}
 use Rattle.ovl_inode.specs.Attributes.{Attributes, attribute_cmp, all_before, is_attribute_name, with_attribute}
@@ -195,24 +196,30 @@ digest-quoted digits blob is = ap quoted (digest-spelled digits blob is) ∙ ap 
 -- ---- an entry
 
 -- the pieces of an entry's text, and what follows it
-abbrev pub in_turn : Option Digest → ℕ → List ℕ → Option (ℕ × ℕ) → ℕ → List ℕ → List ℕ → Kind → ℕ → Attributes → List ℕ → List ℕ
-in_turn blob gid word device mode seconds path kind uid attrs rest =
-    group_text blob gid ++ (codes ",\"kind\":" ++ (quoted word ++ (device_text device ++ (codes ",\"mode\":" ++ (decimal mode
-    ++ (codes ",\"mtime\":" ++ (seconds ++ (codes ",\"path\":" ++ (quoted path ++ (contents_text kind ++ (codes ",\"uid\":" ++ (decimal uid
-    ++ (codes ",\"xattrs\":" ++ (compact_text (object (attribute_members attrs)) ++ (codes "}" ++ rest)))))))))))))))
+abbrev pub in_turn : Option Digest → List ℕ → Option (ℕ × ℕ) → Inode → List ℕ → List ℕ → List ℕ → List ℕ
+in_turn blob word device inode seconds path rest =
+    group_text blob inode.gid ++ (codes ",\"kind\":" ++ (quoted word ++ (device_text device ++ (codes ",\"mode\":" ++ (decimal inode.mode
+    ++ (codes ",\"mtime\":" ++ (seconds ++ (codes ",\"path\":" ++ (quoted path ++ (contents_text inode.kind ++ (codes ",\"uid\":" ++ (decimal inode.uid
+    ++ (codes ",\"xattrs\":" ++ (compact_text (object (attribute_members inode.attrs)) ++ (codes "}" ++ rest)))))))))))))))
 
-pub entry_text : (path : PathNames) (kind : Kind) (mode uid gid : ℕ) (mtime : ℤ) (attrs : Attributes) (rest : List ℕ)
-    → in_turn (blob_of_kind kind) gid (kind_word kind) (device_of_kind kind) mode (number_text (of_integer mtime)) (path_text path) kind uid attrs rest
-    ≡ compact_text (entry_value (path, record { kind = kind; mode = mode; uid = uid; gid = gid; mtime = mtime; attrs = attrs })) ++ rest
+-- those of an entry of this kind
+abbrev pub pieces : PathNames → Inode → Kind → List ℕ → List ℕ
+pieces path inode kind rest =
+    in_turn (blob_of_kind kind) (kind_word kind) (device_of_kind kind) (record inode { kind = kind }) (number_text (of_integer inode.mtime)) (path_text path) rest
+
+kind_text : (path : PathNames) (inode : Inode) (kind : Kind) (rest : List ℕ) → pieces path inode kind rest ≡ compact_text (entry_value (path, record inode { kind = kind })) ++ rest
 unfolding escape_byte
-entry_text path Dir mode uid gid mtime attrs rest = simp append_assoc
-entry_text path (File size None) mode uid gid mtime attrs rest = simp append_assoc
-entry_text path (File size (Some blob)) mode uid gid mtime attrs rest = simp append_assoc
-entry_text path (Symlink target) mode uid gid mtime attrs rest = simp append_assoc
-entry_text path (Char major minor) mode uid gid mtime attrs rest = simp append_assoc
-entry_text path (Block major minor) mode uid gid mtime attrs rest = simp append_assoc
-entry_text path Fifo mode uid gid mtime attrs rest = simp append_assoc
-entry_text path Socket mode uid gid mtime attrs rest = simp append_assoc
+kind_text path inode Dir rest = simp append_assoc
+kind_text path inode (File size None) rest = simp append_assoc
+kind_text path inode (File size (Some blob)) rest = simp append_assoc
+kind_text path inode (Symlink target) rest = simp append_assoc
+kind_text path inode (Char major minor) rest = simp append_assoc
+kind_text path inode (Block major minor) rest = simp append_assoc
+kind_text path inode Fifo rest = simp append_assoc
+kind_text path inode Socket rest = simp append_assoc
+
+pub entry_text : (path : PathNames) (inode : Inode) (rest : List ℕ) → pieces path inode inode.kind rest ≡ compact_text (entry_value (path, inode)) ++ rest
+entry_text path inode rest = kind_text path inode inode.kind rest
 
 -- ---- attributes
 

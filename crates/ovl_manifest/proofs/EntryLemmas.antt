@@ -16,14 +16,15 @@ use Rattle.ovl_manifest.specs.Layers.{Entry, Entries, is_directory_at, is_within
 use Rattle.ovl_manifest.specs.TextPaths.{slashed}
 use Rattle.ovl_manifest.specs.Fields.{entry_of}
 use Rattle.ovl_manifest.specs.Manifest.{is_statable, stated_pair, comes_after, entry_after, entries_after, is_miscounted, layer_of_pairs, first_fault, is_of_first, IsFaultOf}
+use Rattle.ovl_manifest.specs.declared.versions.Version.{Version}
 use Rattle.ovl_manifest.specs.declared.faults.LayerFault.{LayerFault}
-use Rattle.ovl_manifest.specs.declared.faults.LayerFault.TheVariants.{NotJson, Shape, Version, Count, Entry as WrongEntry, Order, NoParent, Root, Escaped, Memory}
+use Rattle.ovl_manifest.specs.declared.faults.LayerFault.TheVariants.{NotJson, Shape, Version as WrongVersion, Count, Entry as WrongEntry, Order, NoParent, Root, Escaped, Memory}
 use Rattle.ovl_manifest.proofs.ReadLemmas.{stated, counted, is_told}
 
 -- what a value states, a manifest can state
-pub stated_statable : (value : Data) (entry : Option Entry) → entry ≡ entry_of value → IfSome entry (λ e. IsTrue (is_statable e))
-stated_statable value None is = tt
-stated_statable value (Some entry) is = let of = stated value entry (sym is) in rw (of.1, of.0) refl
+pub stated_statable : (version : Version) (value : Data) (entry : Option Entry) → entry ≡ entry_of version value → IfSome entry (λ e. IsTrue (is_statable e))
+stated_statable version value None is = tt
+stated_statable version value (Some entry) is = let of = stated version value entry (sym is) in rw (of.1, of.0) refl
 
 -- ---- the text of a path, name by name
 
@@ -137,7 +138,7 @@ told_later first before one (Escaped n) is = fails_later first before one (Escap
 told_later first before one Root is = fails_later first before one Root is
 told_later first before one NotJson is = refl
 told_later first before one Shape is = refl
-told_later first before one Version is = refl
+told_later first before one WrongVersion is = refl
 told_later first before one (Order n) is = refl
 told_later first before one (NoParent n) is = refl
 told_later first before one Memory is = refl
@@ -157,7 +158,7 @@ module _ {T : Type 0} (result : Result T LayerFault) (pairs : Entries) (later : 
       not_both Root after of = after
       not_both NotJson after of = of
       not_both Shape after of = of
-      not_both Version after of = of
+      not_both WrongVersion after of = of
       not_both (Order n) after of = of
       not_both (NoParent n) after of = of
       not_both Memory after of = of

@@ -1,10 +1,10 @@
 -- Objects of exactly some members.
-use Rattle.std.proofs.Common.{◌≡◌, ◌∙◌, ℕ, List, [], ◌∷◌, false, sym, ap, refl, Some, None, length, nat_eq, Bor, map, eq-eqb, arith}
-use Rattle.std.specs.Prelude.{is_some, unwrap_or, String}
+use Rattle.std.proofs.Common.{◌≡◌, ◌∙◌, ℕ, ◌+◌, List, [], ◌∷◌, ◌++◌, Bool, false, sym, ap, refl, Some, None, length, length-append, nat_eq, Bor, map, eq-eqb, arith}
+use Rattle.std.specs.Prelude.{◌&&◌, is_some, unwrap_or, String}
 use Rattle.std.specs.declared.alloc.Global.{Global}
 use Rattle.std.specs.List.{list_all}
 use Rattle.std.proofs.lemmas.List.{length-map}
-use Rattle.std.proofs.lemmas.List.Folds.{list_all-map}
+use Rattle.std.proofs.lemmas.List.Folds.{list_all-append, list_all-map}
 use Rattle.serde_json.specs.Data.{Data, object, Members, member}
 use Rattle.serde_json.specs.declared.value.Value.{Value}
 use Rattle.serde_json.specs.View.{members_view}
@@ -20,18 +20,31 @@ pub is_object : (d : Data) (members : Members) → Some members ≡ as_object d 
 is_object (object found) given e = ap object (sym (ap (λ o. unwrap_or o found) e))
 is_object _ given e = let bad : Some given ≡ None = e in cc
 
-module _ (names : List (Bor (List ℕ))) (d : Data) (entries : List (String Global × Value)) (is : Some (members_view entries) ≡ as_object d) where
-  abbrev pub plain : List (List ℕ)
-  plain = map (λ name. name.now) names
+-- an object has exactly these members and those where it has as many, and all of them
+module _ (own common : List (Bor (List ℕ))) (d : Data) (entries : List (String Global × Value)) (is : Some (members_view entries) ≡ as_object d) where
+  abbrev now : Bor (List ℕ) → List ℕ
+  now name = name.now
 
-  counts : has_count (length plain) d ≡ nat_eq (length entries) (length names)
-  counts = ap (has_count (length plain)) (is_object d (members_view entries) is) ∙ (λ j. nat_eq (member_count-view entries j) (length-map names (λ (name : Bor (List ℕ)). name.now) j))
+  abbrev is_there : List ℕ → Bool
+  is_there name = is_some (get name d)
 
-  pub has_exactly-counted : length entries ≡ length names → has_exactly plain d ≡ list_all (λ name. is_some (get name.now d)) names
-  has_exactly-counted same = rw (counts ∙ eq-eqb (length entries) (length names) same) (list_all-map (λ name. is_some (get name d)) (λ (name : Bor (List ℕ)). name.now) names)
+  abbrev names : List (List ℕ)
+  names = map now own ++ map now common
 
-  pub has_exactly-miscounted : nat_eq (length entries) (length names) ≡ false → has_exactly plain d ≡ false
-  has_exactly-miscounted other = rw (counts ∙ other) refl
+  count : length names ≡ length own + length common
+  count = omega (arith, length-append (map now own) (map now common), length-map own now, length-map common now)
+
+  counts : has_count (length names) d ≡ nat_eq (length entries) (length own + length common)
+  counts = ap (has_count (length names)) (is_object d (members_view entries) is) ∙ (λ j. nat_eq (member_count-view entries j) (count j))
+
+  all : list_all is_there names ≡ (list_all (λ name. is_some (get name.now d)) own && list_all (λ name. is_some (get name.now d)) common)
+  all = list_all-append is_there (map now own) (map now common) ∙ (λ j. list_all-map is_there now own j && list_all-map is_there now common j)
+
+  pub has_exactly-counted : length entries ≡ length own + length common → has_exactly names d ≡ (list_all (λ name. is_some (get name.now d)) own && list_all (λ name. is_some (get name.now d)) common)
+  has_exactly-counted same = λ j. (counts ∙ eq-eqb (length entries) (length own + length common) same) j && all j
+
+  pub has_exactly-miscounted : nat_eq (length entries) (length own + length common) ≡ false → has_exactly names d ≡ false
+  has_exactly-miscounted other = ap (λ b. b && list_all is_there names) (counts ∙ other)
 
 -- a member whose attribute can be put, and one that states none
 pub attributes_after-put : (attrs more : Attributes) (name : List ℕ) (value : Data) (others : Members) → attribute_after attrs name value ≡ Some more → attributes_after attrs (member name value others) ≡ attributes_after more others

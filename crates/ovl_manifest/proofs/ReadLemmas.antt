@@ -1,6 +1,6 @@
 -- What a stated entry is, and what one more entry makes of a layer.
-use Rattle.std.proofs.Common.{◌≡◌, ℕ, ◌<◌, ◌≤◌, ◌+◌, ◌⊎◌, zero, suc, get_or, List, [], ◌∷◌, ◌++◌, Bool, true, false, Option, Some, None, Result, Ok, Err, refl, sym, ap, ◌∙◌, subst, length, length-append, drop, take, arith}
-use Rattle.std.specs.Option.{option_and_then, option_eq}
+use Rattle.std.proofs.Common.{◌≡◌, ℕ, ◌<◌, ◌≤◌, ◌+◌, ◌⊎◌, zero, suc, get_or, List, [], ◌∷◌, ◌++◌, Bool, true, false, Option, Some, None, Result, Ok, Err, refl, sym, ap, ◌∙◌, subst, length, length-append, drop, take, arith, le-leb, leb-true}
+use Rattle.std.specs.Option.{option_and_then}
 use Rattle.std.specs.Prelude.{◌==◌, not, nat_eq, nat_lt, nat_le, is_some, is_none, if◌then◌else◌, flat_map, codes}
 use Rattle.std.specs.List.{starts_with, list_any}
 use Rattle.std.proofs.lemmas.Bool.{eqb-true}
@@ -8,7 +8,7 @@ use Rattle.std.proofs.lemmas.Bool.Decides.{nat_tests}
 use Rattle.std.proofs.lemmas.Option.{option_and_then_some}
 use Rattle.std.proofs.lemmas.Str.{IsUtf8-from_is_utf8, is_utf8-from_IsUtf8}
 use Rattle.std.specs.Str.{IsUtf8, is_utf8}
-use Rattle.serde_json.specs.Data.{Num, unsigned, negative, float, Data, null, boolean, number, string, array, object, Items}
+use Rattle.serde_json.specs.Data.{unsigned, negative, float, Data, null, boolean, number, string, array, object, Items}
 use Rattle.serde_json.specs.Find.{get, as_number, as_u64, as_array}
 use Rattle.serde_json.specs.Read.{read}
 use Rattle.serde_json.specs.View.{view, items_view}
@@ -17,12 +17,15 @@ use Rattle.ovl_names.specs.Names.{slash, name_fault}
 use Rattle.ovl_names.specs.Paths.{PathNames, parent_path, path_fault, path_text, text_parts, parts_between, depth_limit, text_limit}
 use Rattle.ovl_names.specs.declared.paths.PathFault.{PathFault}
 use Rattle.ovl_names.specs.declared.paths.PathFault.TheVariants.{NotAbsolute, EmptyPart, BadPart, TooDeep, TooLong}
-use Rattle.ovl_names.proofs.Ascending.{both, not_false}
+use Rattle.ovl_names.proofs.Ascending.{both}
 use Rattle.ovl_inode.specs.Sound.{is_sound_inode}
 use Rattle.ovl_manifest.specs.Layers.{Entry, Entries, is_directory_at, is_within_limits, entry_limit}
+use Rattle.ovl_manifest.specs.Versions.{depth_of, version_of}
+use Rattle.ovl_manifest.specs.declared.versions.Version.{Version}
+use Rattle.ovl_manifest.specs.declared.versions.Version.TheVariants.{One}
 use Rattle.ovl_manifest.specs.Manifest.{comes_after, fault_after, entry_fault, entry_after, entries_after, layer_of_entries, stated_entries, layer_of_fields, layer_of_value, read_layer, IsFaultOf}
 use Rattle.ovl_manifest.specs.declared.faults.LayerFault.{LayerFault}
-use Rattle.ovl_manifest.specs.declared.faults.LayerFault.TheVariants.{NotJson, Shape, Version, Count, Entry as WrongEntry, Order, NoParent, Root, Escaped, Memory}
+use Rattle.ovl_manifest.specs.declared.faults.LayerFault.TheVariants.{NotJson, Shape, Version as WrongVersion, Count, Entry as WrongEntry, Order, NoParent, Root, Escaped, Memory}
 use Rattle.ovl_inode.specs.Attributes.{has_escaped_name}
 use Rattle.ovl_manifest.specs.Fields.{has_exactly, entry_of, entry_with, is_entry, inode_field, path_field, path_of_text, text_field}
 
@@ -68,15 +71,17 @@ none_of true false false false false none = (refl, refl, refl)
 not_past : (limit n : ℕ) → nat_lt limit n ≡ false → nat_le n limit ≡ true
 not_past limit n past = grind (arith, nat_tests)
 
-pub path-spelled : (text : List ℕ) → path_fault depth_limit text ≡ None → path_text (text_parts text) ≡ text
-path-spelled text none =
-    text_of_parts text (none_of (starts_with nat_eq text (slash ∷ [])) (list_any (λ part. length part == 0) (text_parts text)) (list_any (λ part. is_some (name_fault part)) (text_parts text)) (nat_lt depth_limit (length (text_parts text))) (nat_lt text_limit (length text)) none).0
+-- no version has paths deeper than those of a layer
+depth-limited : (version : Version) → depth_of version ≤ depth_limit
+depth-limited One = omega arith
 
-pub within : (text : List ℕ) → path_fault depth_limit text ≡ None → is_within_limits (text_parts text) ≡ true
-within text none =
-    let tests = none_of (starts_with nat_eq text (slash ∷ [])) (list_any (λ part. length part == 0) (text_parts text)) (list_any (λ part. is_some (name_fault part)) (text_parts text)) (nat_lt depth_limit (length (text_parts text))) (nat_lt text_limit (length text)) none in
+within : (version : Version) (text : List ℕ) → path_fault (depth_of version) text ≡ None → is_within_limits (text_parts text) ≡ true
+within version text none =
+    let tests = none_of (starts_with nat_eq text (slash ∷ [])) (list_any (λ part. length part == 0) (text_parts text)) (list_any (λ part. is_some (name_fault part)) (text_parts text)) (nat_lt (depth_of version) (length (text_parts text))) (nat_lt text_limit (length text)) none in
     let short : nat_le (length (path_text (text_parts text))) text_limit ≡ true = ap (λ (t : List ℕ). nat_le (length t) text_limit) (text_of_parts text tests.0) ∙ not_past text_limit (length text) tests.2 in
-    rw (not_past depth_limit (length (text_parts text)) tests.1) short
+    let shallow : nat_le (length (text_parts text)) depth_limit ≡ true =
+    le-leb (length (text_parts text)) depth_limit (omega (arith, leb-true (length (text_parts text)) (depth_of version) (not_past (depth_of version) (length (text_parts text)) tests.1), depth-limited version)) in
+    rw shallow short
 
 -- ---- a stated entry is sound and keeps the limits
 
@@ -84,22 +89,22 @@ pub if-Some : {X : Type 0} (b : Bool) (x y : X) → (if b then Some x else None)
 if-Some true x y is = (refl, cc)
 if-Some false x y is = let bad : None ≡ Some y = is in cc
 
-pub stated : (value : Data) (entry : Entry) → entry_of value ≡ Some entry → (is_sound_inode entry.1 ≡ true) × (is_within_limits entry.0 ≡ true)
-stated value entry is =
-    option_and_then_some (λ path. option_and_then (entry_with value path) (inode_field value)) (path_field value) entry is (λ path of_path of_inode.
-    option_and_then_some (entry_with value path) (inode_field value) entry of_inode (λ inode has_inode made.
-    let parts = if-Some (is_entry value inode) (path, inode) entry made in
+pub stated : (version : Version) (value : Data) (entry : Entry) → entry_of version value ≡ Some entry → (is_sound_inode entry.1 ≡ true) × (is_within_limits entry.0 ≡ true)
+stated version value entry is =
+    option_and_then_some (λ path. option_and_then (entry_with version value path) (inode_field value)) (path_field version value) entry is (λ path of_path of_inode.
+    option_and_then_some (entry_with version value path) (inode_field value) entry of_inode (λ inode has_inode made.
+    let parts = if-Some (is_entry version value inode) (path, inode) entry made in
     let sound = (both parts.0).1 in
-    option_and_then_some path_of_text (text_field (codes "path") value) path of_path (λ text has_text read.
-    let spells = if-Some (is_none (path_fault depth_limit text)) (text_parts text) path read in (
+    option_and_then_some (path_of_text version) (text_field (codes "path") value) path of_path (λ text has_text read.
+    let spells = if-Some (is_none (path_fault (depth_of version) text)) (text_parts text) path read in (
       subst (λ (e : Entry). is_sound_inode e.1 ≡ true) parts.1 sound,
-      subst (λ (e : Entry). is_within_limits e.0 ≡ true) parts.1 (subst (λ (p : PathNames). is_within_limits p ≡ true) spells.1 (within text (nothing text spells.0))),
+      subst (λ (e : Entry). is_within_limits e.0 ≡ true) parts.1 (subst (λ (p : PathNames). is_within_limits p ≡ true) spells.1 (within version text (nothing text spells.0))),
     ))))
   where
-    nothing : (text : List ℕ) → is_none (path_fault depth_limit text) ≡ true → path_fault depth_limit text ≡ None
-    nothing text none = by (path_fault depth_limit text) refl
+    nothing : (text : List ℕ) → is_none (path_fault (depth_of version) text) ≡ true → path_fault (depth_of version) text ≡ None
+    nothing text none = by (path_fault (depth_of version) text) refl
       where
-        by : (o : Option PathFault) → path_fault depth_limit text ≡ o → path_fault depth_limit text ≡ None
+        by : (o : Option PathFault) → path_fault (depth_of version) text ≡ o → path_fault (depth_of version) text ≡ None
         by None e = e
         by (Some fault) e = let bad : false ≡ true = rw e at none in cc
 
@@ -137,7 +142,7 @@ through before mid (first ∷ one) more is = by (λ entries. through entries mid
 pub same_fault : (one other : Result Entries LayerFault) → ((fault : LayerFault) → one ≡ Err fault → other ≡ Err fault) → (fault : LayerFault) → IsFaultOf one fault → IsFaultOf other fault
 same_fault one other fails NotJson is = fails NotJson is
 same_fault one other fails Shape is = fails Shape is
-same_fault one other fails Version is = fails Version is
+same_fault one other fails WrongVersion is = fails WrongVersion is
 same_fault one other fails Count is = fails Count is
 same_fault one other fails (WrongEntry n) is = fails (WrongEntry n) is
 same_fault one other fails (Order n) is = fails (Order n) is
@@ -150,7 +155,7 @@ same_fault one other fails Memory is = tt
 pub is_told : (stated : Result Entries LayerFault) (fault : LayerFault) → stated ≡ Err fault → IsFaultOf stated fault
 is_told stated NotJson is = is
 is_told stated Shape is = is
-is_told stated Version is = is
+is_told stated WrongVersion is = is
 is_told stated Count is = is
 is_told stated (WrongEntry n) is = is
 is_told stated (Order n) is = is
@@ -161,16 +166,16 @@ is_told stated Memory is = tt
 
 -- ---- the entries of values, one after another
 
-abbrev pub stated_of : List Value → List (Option Entry)
-stated_of values = stated_entries (items_view values)
+abbrev pub stated_of : Version → List Value → List (Option Entry)
+stated_of version values = stated_entries version (items_view values)
 
-stated_of-append : (one other : List Value) → stated_of (one ++ other) ≡ stated_of one ++ stated_of other
-stated_of-append [] other = refl
-stated_of-append (value ∷ one) other = ap (λ rest. entry_of (view value) ∷ rest) (stated_of-append one other)
+stated_of-append : (version : Version) (one other : List Value) → stated_of version (one ++ other) ≡ stated_of version one ++ stated_of version other
+stated_of-append version [] other = refl
+stated_of-append version (value ∷ one) other = ap (λ rest. entry_of version (view value) ∷ rest) (stated_of-append version one other)
 
-pub length-stated_of : (values : List Value) → length (stated_of values) ≡ length values
-length-stated_of [] = refl
-length-stated_of (value ∷ values) = ap suc (length-stated_of values)
+pub length-stated_of : (version : Version) (values : List Value) → length (stated_of version values) ≡ length values
+length-stated_of version [] = refl
+length-stated_of version (value ∷ values) = ap suc (length-stated_of version values)
 
 split_here : (values : List Value) (k : ℕ) (d : Value) → k < length values → take k values ++ get_or values k d ∷ drop (suc k) values ≡ values
 split_here [] k d inside = absurd (omega arith)
@@ -185,43 +190,43 @@ take_next [] k d inside = absurd (omega arith)
 take_next (value ∷ values) zero d inside = refl
 take_next (value ∷ values) (suc k) d inside = ap (λ rest. value ∷ rest) (take_next values k d (omega arith))
 
-module _ (values : List Value) (k : ℕ) (value : Value) (inside : k < length values) (is : value ≡ get_or values k value) (before : Entries) (so_far : entries_after [] (stated_of (take k values)) ≡ Ok before) where
-  pub further : (entries : Entries) → entry_after before (entry_of (view value)) ≡ Ok entries → entries_after [] (stated_of (take (k + 1) values)) ≡ Ok entries
+module _ (version : Version) (values : List Value) (k : ℕ) (value : Value) (inside : k < length values) (is : value ≡ get_or values k value) (before : Entries) (so_far : entries_after [] (stated_of version (take k values)) ≡ Ok before) where
+  pub further : (entries : Entries) → entry_after before (entry_of version (view value)) ≡ Ok entries → entries_after [] (stated_of version (take (k + 1) values)) ≡ Ok entries
   further entries one =
       let next : take (k + 1) values ≡ take k values ++ value ∷ [] = ap (λ (n : ℕ). take n values) (plus_one k) ∙ (take_next values k value inside ∙ ap (λ (v : Value). take k values ++ v ∷ []) (sym is)) in
-      ap (λ (vs : List Value). entries_after [] (stated_of vs)) next
-      ∙ (ap (entries_after []) (stated_of-append (take k values) (value ∷ []))
-      ∙ (through [] before (stated_of (take k values)) (stated_of (value ∷ [])) so_far ∙ rw (one, entries_after) refl))
+      ap (λ (vs : List Value). entries_after [] (stated_of version vs)) next
+      ∙ (ap (entries_after []) (stated_of-append version (take k values) (value ∷ []))
+      ∙ (through [] before (stated_of version (take k values)) (stated_of version (value ∷ [])) so_far ∙ rw (one, entries_after) refl))
 
-  pub fails_here : (fault : LayerFault) → IsFaultOf (entry_after before (entry_of (view value))) fault → IsFaultOf (entries_after [] (stated_of values)) fault
-  fails_here fault told = same_fault (entry_after before (entry_of (view value))) (entries_after [] (stated_of values)) at fault told
+  pub fails_here : (fault : LayerFault) → IsFaultOf (entry_after before (entry_of version (view value))) fault → IsFaultOf (entries_after [] (stated_of version values)) fault
+  fails_here fault told = same_fault (entry_after before (entry_of version (view value))) (entries_after [] (stated_of version values)) at fault told
     where
       whole : take k values ++ value ∷ drop (suc k) values ≡ values
       whole = ap (λ (v : Value). take k values ++ v ∷ drop (suc k) values) is ∙ split_here values k value inside
 
-      at : (fault : LayerFault) → entry_after before (entry_of (view value)) ≡ Err fault → entries_after [] (stated_of values) ≡ Err fault
+      at : (fault : LayerFault) → entry_after before (entry_of version (view value)) ≡ Err fault → entries_after [] (stated_of version values) ≡ Err fault
       at fault fails =
-          ap (λ (vs : List Value). entries_after [] (stated_of vs)) (sym whole)
-          ∙ (ap (entries_after []) (stated_of-append (take k values) (value ∷ drop (suc k) values))
-          ∙ (through [] before (stated_of (take k values)) (stated_of (value ∷ drop (suc k) values)) so_far ∙ rw (fails, entries_after) refl))
+          ap (λ (vs : List Value). entries_after [] (stated_of version vs)) (sym whole)
+          ∙ (ap (entries_after []) (stated_of-append version (take k values) (value ∷ drop (suc k) values))
+          ∙ (through [] before (stated_of version (take k values)) (stated_of version (value ∷ drop (suc k) values)) so_far ∙ rw (fails, entries_after) refl))
 
 -- ---- the fields of a manifest
 
-version_one : (version : Data) → option_and_then as_u64 (as_number version) ≡ Some 1 → as_number version ≡ Some (unsigned 1)
-version_one (number (unsigned n)) is = let same : n ≡ 1 = cc in ap (λ m. Some (unsigned m)) same
-version_one (number (negative n)) is = let bad : None ≡ Some 1 = is in cc
-version_one (number (float n)) is = let bad : None ≡ Some 1 = is in cc
-version_one null is = let bad : None ≡ Some 1 = is in cc
-version_one (boolean b) is = let bad : None ≡ Some 1 = is in cc
-version_one (string s) is = let bad : None ≡ Some 1 = is in cc
-version_one (array a) is = let bad : None ≡ Some 1 = is in cc
-version_one (object o) is = let bad : None ≡ Some 1 = is in cc
+version_read : (number_of : Data) (version : Version) (items : Items) → option_and_then version_of (option_and_then as_u64 (as_number number_of)) ≡ Some version → layer_of_fields (as_number number_of) (Some items) ≡ layer_of_entries (stated_entries version items)
+version_read (number (unsigned n)) version items is = ap (λ o. elim o as (λ _. Result Entries LayerFault) [ Some own ↦ layer_of_entries (stated_entries own items) | None ↦ Err WrongVersion ]) is
+version_read (number (negative n)) version items is = let bad : None ≡ Some version = is in cc
+version_read (number (float n)) version items is = let bad : None ≡ Some version = is in cc
+version_read null version items is = let bad : None ≡ Some version = is in cc
+version_read (boolean b) version items is = let bad : None ≡ Some version = is in cc
+version_read (string s) version items is = let bad : None ≡ Some version = is in cc
+version_read (array a) version items is = let bad : None ≡ Some version = is in cc
+version_read (object o) version items is = let bad : None ≡ Some version = is in cc
 
-pub value_read : (value version entries : Data) (items : Items) → has_exactly (codes "entries" ∷ codes "overlay-layer" ∷ []) value ≡ true → get (codes "overlay-layer") value ≡ Some version → get (codes "entries") value ≡ Some entries → as_array entries ≡ Some items → option_and_then as_u64 (as_number version) ≡ Some 1 → layer_of_value value ≡ layer_of_entries (stated_entries items)
-value_read value version entries items members has_version has_entries listed one =
+pub value_read : (version : Version) (value named entries : Data) (items : Items) → has_exactly (codes "entries" ∷ codes "overlay-layer" ∷ []) value ≡ true → get (codes "overlay-layer") value ≡ Some named → get (codes "entries") value ≡ Some entries → as_array entries ≡ Some items → option_and_then version_of (option_and_then as_u64 (as_number named)) ≡ Some version → layer_of_value value ≡ layer_of_entries (stated_entries version items)
+value_read version value named entries items members has_version has_entries listed one =
     rw members (ap (λ (o : Option Data). layer_of_fields (option_and_then as_number o) (option_and_then as_array (get (codes "entries") value))) has_version
-    ∙ (ap (λ (o : Option Data). layer_of_fields (as_number version) (option_and_then as_array o)) has_entries
-    ∙ (ap (layer_of_fields (as_number version)) listed ∙ ap (λ (o : Option Num). layer_of_fields o (Some items)) (version_one version one))))
+    ∙ (ap (λ (o : Option Data). layer_of_fields (as_number named) (option_and_then as_array o)) has_entries
+    ∙ (ap (layer_of_fields (as_number named)) listed ∙ version_read named version items one)))
 
 pub counted : (stated : List (Option Entry)) → 1 ≤ length stated → length stated ≤ entry_limit → layer_of_entries stated ≡ entries_after [] stated
 counted stated some limit = rw (none, most) refl
@@ -241,10 +246,6 @@ miscounted stated count = by (length stated == 0) refl
       where
         past : nat_lt entry_limit (length stated) ≡ true
         past = grind (arith, nat_tests, count)
-
-pub same_number : (o : Option ℕ) → false ≡ not (option_eq nat_eq o (Some 1)) → o ≡ Some 1
-same_number None is = cc
-same_number (Some n) is = ap Some (eqb-true n 1 (not_false (nat_eq n 1) (sym is)))
 
 -- ---- the text of a manifest
 

@@ -88,9 +88,6 @@ last_name-child [] name = refl
 last_name-child (first ∷ []) name = refl
 last_name-child (first ∷ second ∷ path) name = last_name-child (second ∷ path) name
 
-pub child-not_root : (path : PathNames) (name : PathName) → child_path path name ≢ []
-child-not_root path name e = let bad : suc (length path) ≡ 0 = sym (length-child path name) ∙ ap length e in cc
-
 -- beside each other, two paths are in the order of their last names
 pub path_cmp-beside : (path : PathNames) (one other : PathName) → is_lt (path_cmp (child_path path one) (child_path path other)) ≡ true → is_lt (name_cmp one other) ≡ true
 path_cmp-beside [] one other before = by (name_cmp one other) refl before

@@ -1,5 +1,5 @@
 -- The tokens that are written of a layer are those of its value, and read back they state the layer.
-use Rattle.std.proofs.Common.{◌≡◌, ◌∙◌, ℕ, ℤ, pos, negsuc, List, [], ◌∷◌, ◌++◌, Some, None, refl, sym, ap, append_assoc, decimal}
+use Rattle.std.proofs.Common.{◌≡◌, ◌∙◌, ℕ, ℤ, pos, negsuc, List, [], ◌∷◌, ◌++◌, Some, None, refl, sym, ap, append_assoc}
 use Rattle.std.specs.Prelude.{codes}
 use Rattle.std.specs.Fmt.{signed_decimal}
 use Rattle.std.specs.List.{flat_map}
@@ -9,12 +9,13 @@ use Rattle.serde_json.specs.Data.{object, array}
 use Rattle.serde_json.specs.Find.{of_integer}
 use Rattle.serde_json.specs.Written.{number_text, items_outline, members_outline}
 use Rattle.ovl_names.specs.Paths.{PathNames, path_text}
+use Rattle.ovl_inode.specs.declared.inodes.Inode.{Inode}
 use Rattle.ovl_inode.specs.declared.inodes.Kind.{Kind}
 use Rattle.ovl_inode.specs.declared.inodes.Kind.TheVariants.{Dir, File, Symlink, Char, Block, Fifo, Socket}
 use Rattle.ovl_inode.specs.Attributes.{Attributes}
 use Rattle.ovl_inode.specs.Kinds.{kind_word}
 use Rattle.ovl_manifest.specs.Layers.{Entries}
-use Rattle.ovl_manifest.specs.Text.{attribute_members, entry_value, entry_items, layer_value}
+use Rattle.ovl_manifest.specs.Text.{attribute_members, entry_value, entry_items}
 use Rattle.ovl_manifest.specs.Tokens.{value_tokens, entries_tokens, number_member, text_member, attribute_tokens, blob_tokens, device_tokens, contents_tokens}
 use Rattle.ovl_manifest.proofs.TextLemmas.{attributes_in_turn}
 
@@ -34,23 +35,25 @@ seconds_text (pos n) = refl
 seconds_text (negsuc n) = refl
 
 -- the members of an entry in their order
-abbrev pub members_in_turn : PathNames → Kind → ℕ → ℕ → ℕ → List ℕ → Attributes → List Token
-members_in_turn path kind mode uid gid seconds attrs =
-    begin_object ∷ (blob_tokens kind ++ (number_member (codes "gid") gid ++ (text_member (codes "kind") (kind_word kind)
-    ++ (device_tokens kind ++ (number_member (codes "mode") mode ++ (Token.key (codes "mtime") ∷ Token.number seconds
-    ∷ (text_member (codes "path") (path_text path) ++ (contents_tokens kind ++ (number_member (codes "uid") uid
-    ++ (Token.key (codes "xattrs") ∷ (value_tokens (object (attribute_members attrs)) ++ end_object ∷ [])))))))))))
+abbrev pub members_in_turn : PathNames → Inode → List ℕ → List Token
+members_in_turn path inode seconds =
+    begin_object ∷ (blob_tokens inode.kind ++ (number_member (codes "gid") inode.gid ++ (text_member (codes "kind") (kind_word inode.kind)
+    ++ (device_tokens inode.kind ++ (number_member (codes "mode") inode.mode ++ (Token.key (codes "mtime") ∷ Token.number seconds
+    ∷ (text_member (codes "path") (path_text path) ++ (contents_tokens inode.kind ++ (number_member (codes "uid") inode.uid
+    ++ (Token.key (codes "xattrs") ∷ (value_tokens (object (attribute_members inode.attrs)) ++ end_object ∷ [])))))))))))
 
-pub entry_in_turn : (path : PathNames) (kind : Kind) (mode uid gid : ℕ) (mtime : ℤ) (attrs : Attributes)
-    → members_in_turn path kind mode uid gid (number_text (of_integer mtime)) attrs ≡ value_tokens (entry_value (path, record { kind = kind; mode = mode; uid = uid; gid = gid; mtime = mtime; attrs = attrs }))
-entry_in_turn path Dir mode uid gid mtime attrs = refl
-entry_in_turn path (File size None) mode uid gid mtime attrs = refl
-entry_in_turn path (File size (Some blob)) mode uid gid mtime attrs = refl
-entry_in_turn path (Symlink target) mode uid gid mtime attrs = refl
-entry_in_turn path (Char major minor) mode uid gid mtime attrs = refl
-entry_in_turn path (Block major minor) mode uid gid mtime attrs = refl
-entry_in_turn path Fifo mode uid gid mtime attrs = refl
-entry_in_turn path Socket mode uid gid mtime attrs = refl
+pub entry_in_turn : (path : PathNames) (inode : Inode) → members_in_turn path inode (number_text (of_integer inode.mtime)) ≡ value_tokens (entry_value (path, inode))
+entry_in_turn path inode = by inode.kind
+  where
+    by : (kind : Kind) → members_in_turn path (record inode { kind = kind }) (number_text (of_integer inode.mtime)) ≡ value_tokens (entry_value (path, record inode { kind = kind }))
+    by Dir = refl
+    by (File size None) = refl
+    by (File size (Some blob)) = refl
+    by (Symlink target) = refl
+    by (Char major minor) = refl
+    by (Block major minor) = refl
+    by Fifo = refl
+    by Socket = refl
 
 -- ---- the list of entries, and the layer
 
@@ -62,9 +65,6 @@ entries-end (entry ∷ entries) =
 
 pub entries_array : (entries : Entries) → value_tokens (array (entry_items entries)) ≡ begin_array ∷ (entries_tokens entries ++ end_array ∷ [])
 entries_array entries = ap (λ ts. begin_array ∷ ts) (entries-end entries)
-
-pub layer_object : (layer : Entries) → begin_object ∷ Token.key (codes "entries") ∷ (value_tokens (array (entry_items layer)) ++ Token.key (codes "overlay-layer") ∷ Token.number (decimal 1) ∷ end_object ∷ []) ≡ value_tokens (layer_value layer)
-layer_object layer = refl
 
 -- ---- what is written after what
 

@@ -23,6 +23,7 @@ use Rattle.ovl_inode.specs.Attributes.{Attributes, attribute_cmp, is_attribute, 
 use Rattle.ovl_inode.specs.Hexadecimal.{is_lower_digit, bytes_of_digits, digest_of_text}
 use Rattle.ovl_inode.specs.Sound.{is_word, is_seconds}
 use Rattle.ovl_manifest.specs.Layers.{is_within_limits}
+use Rattle.ovl_manifest.specs.Versions.{written}
 use Rattle.ovl_manifest.specs.Fields.{up_to, path_of_text, attribute_after, attributes_after}
 use Rattle.ovl_manifest.specs.Text.{hexadecimal, attribute_members}
 use Rattle.ovl_manifest.specs.TextPaths.{slashed}
@@ -147,7 +148,7 @@ no_fault a b c d e ea eb ec ed ee = rw (ea, eb, ec, ed, ee) refl
 within-not_past : (limit n : ℕ) → nat_le n limit ≡ true → nat_lt limit n ≡ false
 within-not_past limit n within = grind (arith, nat_tests)
 
-pub path-back : (path : PathNames) → has_names path ≡ true → is_within_limits path ≡ true → path_of_text (path_text path) ≡ Some path
+pub path-back : (path : PathNames) → has_names path ≡ true → is_within_limits path ≡ true → path_of_text written (path_text path) ≡ Some path
 path-back path named limited =
     let text : List ℕ = path_text path in
     let parts = parts-back path named in

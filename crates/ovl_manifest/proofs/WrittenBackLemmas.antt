@@ -26,9 +26,9 @@ use Rattle.ovl_inode.specs.declared.inodes.Kind.TheVariants.{Dir, File, Symlink,
 use Rattle.ovl_inode.specs.Attributes.{Attributes, attribute_cmp}
 use Rattle.ovl_inode.specs.Marks.{has_metacopy}
 use Rattle.ovl_inode.specs.Sound.{is_sound_inode, is_word, is_seconds, has_sound_blob, mode_limit, size_limit}
+use Rattle.ovl_inode.proofs.SoundLaws.{sound_values}
 use Rattle.ovl_manifest.specs.Layers.{Entries, IsLayer}
 use Rattle.ovl_manifest.specs.Text.{hexadecimal, attribute_members, entry_value, entry_items, layer_value}
-use Rattle.ovl_manifest.proofs.StatedLemmas.{facts_of}
 use Rattle.ovl_manifest.proofs.TextLemmas.{attributes_in_turn, attribute_members-in_turn}
 
 -- ---- numbers
@@ -96,25 +96,25 @@ attributes_back attrs up =
 
 -- ---- entries
 
-module _ (path : PathNames) (mode uid gid : ℕ) (mtime : ℤ) (attrs : Attributes) where
+module _ (path : PathNames) (inode : Inode) where
   abbrev of_kind : Kind → Inode
-  of_kind kind = record { kind = kind; mode = mode; uid = uid; gid = gid; mtime = mtime; attrs = attrs }
+  of_kind kind = record inode { kind = kind }
 
   module _ (kind : Kind) (sound : is_sound_inode (of_kind kind) ≡ true) where
-    mode_read : number_of (decimal mode) ≡ Some (unsigned mode)
-    mode_read = natural_back mode mode_limit (leb-true mode mode_limit (facts_of (of_kind kind) sound).mode) (omega arith)
+    mode_read : number_of (decimal inode.mode) ≡ Some (unsigned inode.mode)
+    mode_read = natural_back inode.mode mode_limit (leb-true inode.mode mode_limit (sound_values (of_kind kind) sound).mode) (omega arith)
 
-    uid_read : number_of (decimal uid) ≡ Some (unsigned uid)
-    uid_read = word_back uid (facts_of (of_kind kind) sound).uid
+    uid_read : number_of (decimal inode.uid) ≡ Some (unsigned inode.uid)
+    uid_read = word_back inode.uid (sound_values (of_kind kind) sound).uid
 
-    gid_read : number_of (decimal gid) ≡ Some (unsigned gid)
-    gid_read = word_back gid (facts_of (of_kind kind) sound).gid
+    gid_read : number_of (decimal inode.gid) ≡ Some (unsigned inode.gid)
+    gid_read = word_back inode.gid (sound_values (of_kind kind) sound).gid
 
-    mtime_read : number_of (number_text (of_integer mtime)) ≡ Some (of_integer mtime)
-    mtime_read = seconds_back mtime (facts_of (of_kind kind) sound).mtime
+    mtime_read : number_of (number_text (of_integer inode.mtime)) ≡ Some (of_integer inode.mtime)
+    mtime_read = seconds_back inode.mtime (sound_values (of_kind kind) sound).mtime
 
-    attrs_read : of_members (members_outline (attribute_members attrs)) no_members ≡ Some (attribute_members attrs)
-    attrs_read = attributes_back attrs (both (facts_of (of_kind kind) sound).attrs).1
+    attrs_read : of_members (members_outline (attribute_members inode.attrs)) no_members ≡ Some (attribute_members inode.attrs)
+    attrs_read = attributes_back inode.attrs (both (sound_values (of_kind kind) sound).attrs).1
 
   kind_back : (kind : Kind) → is_sound_inode (of_kind kind) ≡ true → of_json (outline (entry_value (path, of_kind kind))) ≡ Some (entry_value (path, of_kind kind))
   kind_back Dir sound = rw (gid_read Dir sound, mode_read Dir sound, mtime_read Dir sound, uid_read Dir sound, attrs_read Dir sound) refl
@@ -125,64 +125,64 @@ module _ (path : PathNames) (mode uid gid : ℕ) (mtime : ℤ) (attrs : Attribut
       rw (gid_read kind sound, mode_read kind sound, mtime_read kind sound, uid_read kind sound, attrs_read kind sound) refl
   kind_back (Char major minor) sound =
       let kind = Char major minor in
-      let words = both {a = is_word major} {b = is_word minor} (facts_of (of_kind kind) sound).kind in
+      let words = both {a = is_word major} {b = is_word minor} (sound_values (of_kind kind) sound).kind in
       rw (gid_read kind sound, word_back major words.0, word_back minor words.1, mode_read kind sound, mtime_read kind sound, uid_read kind sound, attrs_read kind sound) refl
   kind_back (Block major minor) sound =
       let kind = Block major minor in
-      let words = both {a = is_word major} {b = is_word minor} (facts_of (of_kind kind) sound).kind in
+      let words = both {a = is_word major} {b = is_word minor} (sound_values (of_kind kind) sound).kind in
       rw (gid_read kind sound, word_back major words.0, word_back minor words.1, mode_read kind sound, mtime_read kind sound, uid_read kind sound, attrs_read kind sound) refl
   kind_back (File size None) sound =
       let kind = File size None in
-      let small = both {a = nat_le size size_limit} {b = has_sound_blob size None (has_metacopy (of_kind kind))} (facts_of (of_kind kind) sound).kind in
+      let small = both {a = nat_le size size_limit} {b = has_sound_blob size None (has_metacopy (of_kind kind))} (sound_values (of_kind kind) sound).kind in
       rw (gid_read kind sound, mode_read kind sound, mtime_read kind sound, natural_back size size_limit (leb-true size size_limit small.0) (omega arith), uid_read kind sound, attrs_read kind sound) refl
   kind_back (File size (Some blob)) sound =
       let kind = File size (Some blob) in
-      let small = both {a = nat_le size size_limit} {b = has_sound_blob size (Some blob) (has_metacopy (of_kind kind))} (facts_of (of_kind kind) sound).kind in
+      let small = both {a = nat_le size size_limit} {b = has_sound_blob size (Some blob) (has_metacopy (of_kind kind))} (sound_values (of_kind kind) sound).kind in
       rw (gid_read kind sound, mode_read kind sound, mtime_read kind sound, natural_back size size_limit (leb-true size size_limit small.0) (omega arith), uid_read kind sound, attrs_read kind sound) refl
 
   -- its numbers are numbers of JSON
   module _ (kind : Kind) (sound : is_sound_inode (of_kind kind) ≡ true) where
-    mode_number : IsNumber (decimal mode)
-    mode_number = IsNumber-decimal mode (omega (arith, leb-true mode mode_limit (facts_of (of_kind kind) sound).mode))
+    mode_number : IsNumber (decimal inode.mode)
+    mode_number = IsNumber-decimal inode.mode (omega (arith, leb-true inode.mode mode_limit (sound_values (of_kind kind) sound).mode))
 
-    uid_number : IsNumber (decimal uid)
-    uid_number = word_number uid (facts_of (of_kind kind) sound).uid
+    uid_number : IsNumber (decimal inode.uid)
+    uid_number = word_number inode.uid (sound_values (of_kind kind) sound).uid
 
-    gid_number : IsNumber (decimal gid)
-    gid_number = word_number gid (facts_of (of_kind kind) sound).gid
+    gid_number : IsNumber (decimal inode.gid)
+    gid_number = word_number inode.gid (sound_values (of_kind kind) sound).gid
 
-    mtime_number : IsNumber (number_text (of_integer mtime))
-    mtime_number = seconds_number mtime (facts_of (of_kind kind) sound).mtime
+    mtime_number : IsNumber (number_text (of_integer inode.mtime))
+    mtime_number = seconds_number inode.mtime (sound_values (of_kind kind) sound).mtime
 
   kind_numbers : (kind : Kind) → is_sound_inode (of_kind kind) ≡ true → HasNumbers (outline (entry_value (path, of_kind kind)))
-  kind_numbers Dir sound = (gid_number Dir sound, (tt, (mode_number Dir sound, (mtime_number Dir sound, (tt, (uid_number Dir sound, (attribute_numbers attrs, tt)))))))
-  kind_numbers Fifo sound = (gid_number Fifo sound, (tt, (mode_number Fifo sound, (mtime_number Fifo sound, (tt, (uid_number Fifo sound, (attribute_numbers attrs, tt)))))))
-  kind_numbers Socket sound = (gid_number Socket sound, (tt, (mode_number Socket sound, (mtime_number Socket sound, (tt, (uid_number Socket sound, (attribute_numbers attrs, tt)))))))
+  kind_numbers Dir sound = (gid_number Dir sound, (tt, (mode_number Dir sound, (mtime_number Dir sound, (tt, (uid_number Dir sound, (attribute_numbers inode.attrs, tt)))))))
+  kind_numbers Fifo sound = (gid_number Fifo sound, (tt, (mode_number Fifo sound, (mtime_number Fifo sound, (tt, (uid_number Fifo sound, (attribute_numbers inode.attrs, tt)))))))
+  kind_numbers Socket sound = (gid_number Socket sound, (tt, (mode_number Socket sound, (mtime_number Socket sound, (tt, (uid_number Socket sound, (attribute_numbers inode.attrs, tt)))))))
   kind_numbers (Symlink target) sound =
       let kind = Symlink target in
-      (gid_number kind sound, (tt, (mode_number kind sound, (mtime_number kind sound, (tt, (tt, (uid_number kind sound, (attribute_numbers attrs, tt))))))))
+      (gid_number kind sound, (tt, (mode_number kind sound, (mtime_number kind sound, (tt, (tt, (uid_number kind sound, (attribute_numbers inode.attrs, tt))))))))
   kind_numbers (Char major minor) sound =
       let kind = Char major minor in
-      let words = both {a = is_word major} {b = is_word minor} (facts_of (of_kind kind) sound).kind in
-      (gid_number kind sound, (tt, (word_number major words.0, (word_number minor words.1, (mode_number kind sound, (mtime_number kind sound, (tt, (uid_number kind sound, (attribute_numbers attrs, tt)))))))))
+      let words = both {a = is_word major} {b = is_word minor} (sound_values (of_kind kind) sound).kind in
+      (gid_number kind sound, (tt, (word_number major words.0, (word_number minor words.1, (mode_number kind sound, (mtime_number kind sound, (tt, (uid_number kind sound, (attribute_numbers inode.attrs, tt)))))))))
   kind_numbers (Block major minor) sound =
       let kind = Block major minor in
-      let words = both {a = is_word major} {b = is_word minor} (facts_of (of_kind kind) sound).kind in
-      (gid_number kind sound, (tt, (word_number major words.0, (word_number minor words.1, (mode_number kind sound, (mtime_number kind sound, (tt, (uid_number kind sound, (attribute_numbers attrs, tt)))))))))
+      let words = both {a = is_word major} {b = is_word minor} (sound_values (of_kind kind) sound).kind in
+      (gid_number kind sound, (tt, (word_number major words.0, (word_number minor words.1, (mode_number kind sound, (mtime_number kind sound, (tt, (uid_number kind sound, (attribute_numbers inode.attrs, tt)))))))))
   kind_numbers (File size None) sound =
       let kind = File size None in
-      let small = both {a = nat_le size size_limit} {b = has_sound_blob size None (has_metacopy (of_kind kind))} (facts_of (of_kind kind) sound).kind in
-      (gid_number kind sound, (tt, (mode_number kind sound, (mtime_number kind sound, (tt, (size_number size small.0, (uid_number kind sound, (attribute_numbers attrs, tt))))))))
+      let small = both {a = nat_le size size_limit} {b = has_sound_blob size None (has_metacopy (of_kind kind))} (sound_values (of_kind kind) sound).kind in
+      (gid_number kind sound, (tt, (mode_number kind sound, (mtime_number kind sound, (tt, (size_number size small.0, (uid_number kind sound, (attribute_numbers inode.attrs, tt))))))))
   kind_numbers (File size (Some blob)) sound =
       let kind = File size (Some blob) in
-      let small = both {a = nat_le size size_limit} {b = has_sound_blob size (Some blob) (has_metacopy (of_kind kind))} (facts_of (of_kind kind) sound).kind in
-      (tt, (gid_number kind sound, (tt, (mode_number kind sound, (mtime_number kind sound, (tt, (size_number size small.0, (uid_number kind sound, (attribute_numbers attrs, tt)))))))))
+      let small = both {a = nat_le size size_limit} {b = has_sound_blob size (Some blob) (has_metacopy (of_kind kind))} (sound_values (of_kind kind) sound).kind in
+      (tt, (gid_number kind sound, (tt, (mode_number kind sound, (mtime_number kind sound, (tt, (size_number size small.0, (uid_number kind sound, (attribute_numbers inode.attrs, tt)))))))))
 
 entries_back : (entries : Entries) → list_all (λ entry. is_sound_inode entry.1) entries ≡ true → of_items (items_outline (entry_items entries)) ≡ Some (entry_items entries)
 entries_back [] sound = refl
 entries_back (entry ∷ entries) sound =
     let parts = both {a = is_sound_inode entry.1} {b = list_all (λ entry. is_sound_inode entry.1) entries} sound in
-    let own = kind_back entry.0 entry.1.mode entry.1.uid entry.1.gid entry.1.mtime entry.1.attrs entry.1.kind parts.0 in
+    let own = kind_back entry.0 entry.1 entry.1.kind parts.0 in
     ap (option_and_then (λ d. option_map (item d) (of_items (items_outline (entry_items entries))))) own
     ∙ ap (option_map (item (entry_value entry))) (entries_back entries parts.1)
 
@@ -190,7 +190,7 @@ entries_numbers : (entries : Entries) → list_all (λ entry. is_sound_inode ent
 entries_numbers [] sound = tt
 entries_numbers (entry ∷ entries) sound =
     let parts = both {a = is_sound_inode entry.1} {b = list_all (λ entry. is_sound_inode entry.1) entries} sound in
-    (kind_numbers entry.0 entry.1.mode entry.1.uid entry.1.gid entry.1.mtime entry.1.attrs entry.1.kind parts.0, entries_numbers entries parts.1)
+    (kind_numbers entry.0 entry.1 entry.1.kind parts.0, entries_numbers entries parts.1)
 
 -- ---- layers
 

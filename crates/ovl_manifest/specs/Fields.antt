@@ -1,18 +1,20 @@
 -- The members of an entry in a manifest, and the values that they state.
-use Rattle.std.specs.Prelude.{ℕ, ◌+◌, ◌^◌, ◌-◌, ℤ, Bool, false, ◌&&◌, ◌==◌, Option, Some, None, List, [], ◌∷◌, if◌then◌else◌, length, codes, nat_le, is_some, is_none, option_and_then}
+use Rattle.std.specs.Prelude.{ℕ, ◌+◌, ◌^◌, ◌-◌, ℤ, Bool, false, ◌&&◌, ◌==◌, Option, Some, None, List, [], ◌∷◌, ◌++◌, if◌then◌else◌, length, codes, nat_le, is_some, is_none, option_and_then}
 use Rattle.std.specs.Option.{option_map}
 use Rattle.std.specs.List.{list_all}
 use Rattle.std.specs.Str.{bytes_eq}
 use Rattle.serde_json.specs.Data.{Data, object, Members, no_members, member}
 use Rattle.serde_json.specs.Find.{get, as_number, as_u64, as_i64, as_str}
-use Rattle.ovl_names.specs.Paths.{PathNames, path_fault, text_parts, depth_limit}
+use Rattle.ovl_names.specs.Paths.{PathNames, path_fault, text_parts}
 use Rattle.ovl_inode.specs.declared.inodes.Inode.{Inode}
 use Rattle.ovl_inode.specs.declared.inodes.Kind.{Kind}
 use Rattle.ovl_inode.specs.declared.inodes.Kind.TheVariants.{Dir, File, Symlink, Char, Block, Fifo, Socket}
 use Rattle.ovl_inode.specs.Attributes.{Attributes, is_attribute_name, with_attribute}
 use Rattle.ovl_inode.specs.Hexadecimal.{bytes_of_digits, digest_of_text}
 use Rattle.ovl_inode.specs.Sound.{is_sound_inode, mode_limit, size_limit}
+use Rattle.ovl_manifest.specs.declared.versions.Version.{Version}
 use Rattle.ovl_manifest.specs.Layers.{Entry}
+use Rattle.ovl_manifest.specs.Versions.{depth_of, common_members}
 
 abbrev pub member_count : Members → ℕ
 member_count no_members = 0
@@ -42,11 +44,11 @@ abbrev pub seconds_field : List ℕ → Data → Option ℤ
 seconds_field name value = option_and_then as_i64 (option_and_then as_number (get name value))
 
 -- the path that a text spells
-abbrev pub path_of_text : List ℕ → Option PathNames
-path_of_text text = if is_none (path_fault depth_limit text) then Some (text_parts text) else None
+abbrev pub path_of_text : Version → List ℕ → Option PathNames
+path_of_text version text = if is_none (path_fault (depth_of version) text) then Some (text_parts text) else None
 
-abbrev pub path_field : Data → Option PathNames
-path_field value = option_and_then path_of_text (text_field (codes "path") value)
+abbrev pub path_field : Version → Data → Option PathNames
+path_field version value = option_and_then (path_of_text version) (text_field (codes "path") value)
 
 -- the attributes that an object states: for each name, a value in lower-case hexadecimal digits
 abbrev pub attribute_after : Attributes → List ℕ → Data → Option Attributes
@@ -96,20 +98,19 @@ kind_named value name =
 abbrev pub kind_field : Data → Option Kind
 kind_field value = option_and_then (kind_named value) (text_field (codes "kind") value)
 
--- the members that an entry of a kind has
-abbrev pub common_members : List (List ℕ)
-common_members =
-    codes "gid" ∷ codes "kind" ∷ codes "mode" ∷ codes "mtime" ∷ codes "path" ∷ codes "uid" ∷ codes "xattrs" ∷ []
+-- the members that only entries of a kind have, and all that they have
+abbrev pub own_members : Kind → List (List ℕ)
+own_members Dir = []
+own_members (File size None) = codes "size" ∷ []
+own_members (File size (Some blob)) = codes "blob" ∷ codes "size" ∷ []
+own_members (Symlink target) = codes "target" ∷ []
+own_members (Char major minor) = codes "major" ∷ codes "minor" ∷ []
+own_members (Block major minor) = codes "major" ∷ codes "minor" ∷ []
+own_members Fifo = []
+own_members Socket = []
 
-abbrev pub kind_members : Kind → List (List ℕ)
-kind_members Dir = common_members
-kind_members (File size None) = codes "size" ∷ common_members
-kind_members (File size (Some blob)) = codes "blob" ∷ codes "size" ∷ common_members
-kind_members (Symlink target) = codes "target" ∷ common_members
-kind_members (Char major minor) = codes "major" ∷ codes "minor" ∷ common_members
-kind_members (Block major minor) = codes "major" ∷ codes "minor" ∷ common_members
-kind_members Fifo = common_members
-kind_members Socket = common_members
+abbrev pub kind_members : Version → Kind → List (List ℕ)
+kind_members version kind = own_members kind ++ common_members version
 
 -- the inode that an object states
 abbrev pub inode_with : Kind → Attributes → Data → Option Inode
@@ -126,12 +127,13 @@ inode_field value =
     option_and_then (λ kind. option_and_then (λ attrs. inode_with kind attrs value) (attributes_field value)) (kind_field value)
 
 -- an entry's object has exactly the members of its kind, and its inode is sound
-abbrev pub is_entry : Data → Inode → Bool
-is_entry value inode = has_exactly (kind_members inode.kind) value && is_sound_inode inode
+abbrev pub is_entry : Version → Data → Inode → Bool
+is_entry version value inode = has_exactly (kind_members version inode.kind) value && is_sound_inode inode
 
-abbrev pub entry_with : Data → PathNames → Inode → Option Entry
-entry_with value path inode = if is_entry value inode then Some (path, inode) else None
+abbrev pub entry_with : Version → Data → PathNames → Inode → Option Entry
+entry_with version value path inode = if is_entry version value inode then Some (path, inode) else None
 
 -- the entry that a value states
-abbrev pub entry_of : Data → Option Entry
-entry_of value = option_and_then (λ path. option_and_then (entry_with value path) (inode_field value)) (path_field value)
+abbrev pub entry_of : Version → Data → Option Entry
+entry_of version value =
+    option_and_then (λ path. option_and_then (entry_with version value path) (inode_field value)) (path_field version value)

@@ -1,6 +1,7 @@
 pub mod Layers
 pub mod LayerTrees
 pub mod TreeFalls
+pub mod Versions
 pub mod Fields
 pub mod Manifest
 pub mod Text

@@ -4,7 +4,7 @@ use Rattle.std.specs.List.{list_all}
 use Rattle.std.specs.Ordering.{is_lt}
 use Rattle.std.specs.Result.{result_err}
 use Rattle.std.specs.Str.{is_utf8}
-use Rattle.serde_json.specs.Data.{Num, unsigned, Data, Items, no_items, item}
+use Rattle.serde_json.specs.Data.{Num, Data, Items, no_items, item}
 use Rattle.serde_json.specs.Find.{get, as_number, as_u64, as_i64, as_array}
 use Rattle.serde_json.specs.Read.{read}
 use Rattle.ovl_names.specs.Paths.{PathNames, path_cmp, parent_path, is_root}
@@ -13,8 +13,10 @@ use Rattle.ovl_inode.specs.Marks.{is_directory}
 use Rattle.ovl_inode.specs.Sound.{is_sound_inode}
 use Rattle.ovl_manifest.specs.Layers.{Entry, Entries, is_directory_at, is_within_limits, entry_limit}
 use Rattle.ovl_manifest.specs.Fields.{has_exactly, entry_of}
+use Rattle.ovl_manifest.specs.Versions.{version_of}
+use Rattle.ovl_manifest.specs.declared.versions.Version.{Version}
 use Rattle.ovl_manifest.specs.declared.faults.LayerFault.{LayerFault}
-use Rattle.ovl_manifest.specs.declared.faults.LayerFault.TheVariants.{NotJson, Shape, Version, Count, Entry as WrongEntry, Order, NoParent, Root, Escaped, Memory}
+use Rattle.ovl_manifest.specs.declared.faults.LayerFault.TheVariants.{NotJson, Shape, Version as WrongVersion, Count, Entry as WrongEntry, Order, NoParent, Root, Escaped, Memory}
 
 -- the path comes strictly after all paths before it
 abbrev pub comes_after : Entries → PathNames → Bool
@@ -58,9 +60,9 @@ abbrev pub layer_of_entries : List (Option Entry) → Result Entries LayerFault
 layer_of_entries stated = if is_miscounted (length stated) then Err Count else entries_after [] stated
 
 -- the entries that values state, one after another
-abbrev pub stated_entries : Items → List (Option Entry)
-stated_entries no_items = []
-stated_entries (item value values) = entry_of value ∷ stated_entries values
+abbrev pub stated_entries : Version → Items → List (Option Entry)
+stated_entries version no_items = []
+stated_entries version (item value values) = entry_of version value ∷ stated_entries version values
 
 -- a pair states an entry where its path keeps the limits and its inode is sound
 abbrev pub is_statable : Entry → Bool
@@ -86,13 +88,15 @@ is_of_first (Escaped n) = n == 0
 is_of_first Root = true
 is_of_first _ = false
 
--- a whole number, and the version that is read
+-- a whole number, and the layer of the version that it names
 abbrev pub is_whole : Num → Bool
 is_whole n = is_some (as_u64 n) || is_some (as_i64 n)
 
 abbrev pub layer_of_version : Num → Items → Result Entries LayerFault
-layer_of_version (unsigned n) values = if n == 1 then layer_of_entries (stated_entries values) else Err Version
-layer_of_version _ values = Err Version
+layer_of_version n values = elim (option_and_then version_of (as_u64 n)) [
+  | Some version ↦ layer_of_entries (stated_entries version values)
+  | None ↦ Err WrongVersion
+]
 
 -- a manifest is an object of a whole number and a list
 abbrev pub layer_of_fields : Option Num → Option Items → Result Entries LayerFault

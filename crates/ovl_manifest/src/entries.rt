@@ -18,8 +18,8 @@ pub const ENTRY_LIMIT: usize = 1_048_576;
 
 /// The layer of these entries. It is refused with `Count`, or with the first fault of the first entry that has one, in
 /// the order of tests that `docs/FORMATS.md` tells; `Memory` can come in place of a layer or of a later entry's fault,
-/// but `Count` and the faults of the first entry need none. `Entry` is told of a path of more than 64 names or 4,095
-/// bytes of text, and of an inode that isn't sound.
+/// but `Count` and the faults of the first entry need none. `Entry` is told of a path past the limits of its
+/// names or its text, and of an inode that isn't sound.
 pub fn from_entries(alloc: Global, entries: Vec<(Path, Inode)>) -> Result<Layer, LayerFault>
     ensures value { MatchResult result
         (λ layer. layer_of_pairs entries.items ≡ Ok layer)

@@ -1,10 +1,13 @@
-ghost use Rattle.std.specs.Prelude.{◌≡◌, ◌≤◌, false, Some, None, IfOk, IfSome, MatchBool, [], codes, map};
+ghost use Rattle.std.specs.Prelude.{◌≡◌, ◌≤◌, false, Some, None, IfOk, IfSome, MatchBool, [], ◌++◌, codes, map, is_some};
 ghost use Rattle.std.specs.Option.{option_map};
+ghost use Rattle.std.specs.List.{list_all};
 ghost use Rattle.std.specs.Str.{bytes_eq};
 ghost use Rattle.serde_json.specs.Data.{string};
+ghost use Rattle.serde_json.specs.Find.{get};
 ghost use Rattle.serde_json.specs.View.{view, members_view};
-ghost use Rattle.ovl_manifest.specs.Fields.{has_exactly, kind_members, text_field, natural_field, seconds_field, path_field, attribute_after, attributes_after, attributes_field, blob_field, file_kind, kind_named, kind_field, inode_with, inode_field, entry_of};
+ghost use Rattle.ovl_manifest.specs.Fields.{has_exactly, own_members as kind_own_members, text_field, natural_field, seconds_field, path_field, attribute_after, attributes_after, attributes_field, blob_field, file_kind, kind_named, kind_field, inode_with, inode_field, entry_of};
 
+use crate::versions::Version;
 use hex::FromHexError;
 use ovl_inode::{
     AttrFault, Attrs, Digest, Inode, Kind, MODE_LIMIT, SIZE_LIMIT, Target, are_lower_digits, sound,
@@ -14,30 +17,40 @@ use serde_json::{Map, Value};
 use std::alloc::{AllocError, Global};
 
 /// The entry that a member of `entries` states, and `None` where it states none.
-pub(crate) fn read_entry(alloc: Global, value: &Value) -> Result<Option<(Path, Inode)>, AllocError>
-    ensures { IfOk result (λ entry. entry ≡ entry_of (view value.now)) }
+pub(crate) fn read_entry(
+    alloc: Global,
+    version: Version,
+    value: &Value,
+) -> Result<Option<(Path, Inode)>, AllocError>
+    ensures { IfOk result (λ entry. entry ≡ entry_of version (view value.now)) }
 {
-    let Some(path) = read_path(alloc, value)? else {
+    let Some(path) = read_path(alloc, version, value)? else {
         return Ok(None);
     };
     let Some(inode) = read_inode(alloc, value)? else {
         return Ok(None);
     };
-    if has_members(value, &inode.kind) && sound(&inode) {
+    let own = own_members(&inode.kind);
+    if is_made_of(value, own, version.common_members()) && sound(&inode) {
         Ok(Some((path, inode)))
     } else {
         Ok(None)
     }
 }
 
-fn read_path(alloc: Global, value: &Value) -> Result<Option<Path>, AllocError>
-    ensures { IfOk result (λ path. path ≡ path_field (view value.now)) }
+fn read_path(
+    alloc: Global,
+    version: Version,
+    value: &Value,
+) -> Result<Option<Path>, AllocError>
+    ensures { IfOk result (λ path. path ≡ path_field version (view value.now)) }
 {
     let Some(text) = text(value, "path") else {
         return Ok(None);
     };
     match Path::parse(alloc, text) {
-        Ok(path) => Ok(Some(path)),
+        Ok(path) if path.len() <= version.depth() => Ok(Some(path)),
+        Ok(_) => Ok(None),
         Err(PathFault::Memory) => Err(AllocError),
         Err(_) => Ok(None),
     }
@@ -237,54 +250,35 @@ pub(crate) fn put_digits(
     }
 }
 
-// Whether the object has exactly the members of an entry of this kind.
-fn has_members(value: &Value, kind: &Kind) -> bool
-    ensures { result ≡ has_exactly (kind_members kind.now) (view value.now) }
+// The members that only entries of this kind have.
+fn own_members(kind: &Kind) -> &'static [&'static str]
+    ensures { map (λ name. name.now) result.now ≡ kind_own_members kind.now }
 {
     match kind {
-        Kind::File { blob: Some(_), .. } => is_made_of(
-            value,
-            &[
-                "blob", "size", "gid", "kind", "mode", "mtime", "path", "uid", "xattrs",
-            ],
-        ),
-        Kind::File { blob: None, .. } => {
-            is_made_of(
-                value,
-                &[
-                    "size", "gid", "kind", "mode", "mtime", "path", "uid", "xattrs",
-                ],
-            )
-        }
-        Kind::Symlink { .. } => {
-            is_made_of(
-                value,
-                &[
-                    "target", "gid", "kind", "mode", "mtime", "path", "uid", "xattrs",
-                ],
-            )
-        }
-        Kind::Char { .. } | Kind::Block { .. } => is_made_of(
-            value,
-            &[
-                "major", "minor", "gid", "kind", "mode", "mtime", "path", "uid", "xattrs",
-            ],
-        ),
-        Kind::Dir | Kind::Fifo | Kind::Socket => {
-            is_made_of(
-                value,
-                &["gid", "kind", "mode", "mtime", "path", "uid", "xattrs"],
-            )
-        }
+        Kind::File { blob: Some(_), .. } => &["blob", "size"],
+        Kind::File { blob: None, .. } => &["size"],
+        Kind::Symlink { .. } => &["target"],
+        Kind::Char { .. } | Kind::Block { .. } => &["major", "minor"],
+        Kind::Dir | Kind::Fifo | Kind::Socket => &[],
     }
 }
 
-/// Whether the value is an object of these members, each of another name, and no more.
-pub(crate) fn is_made_of(value: &Value, names: &[&str]) -> bool
-    ensures { result ≡ has_exactly (map (λ name. name.now) names.now) (view value.now) }
+/// Whether the value is an object of these members and those, each of another name, and no more.
+pub(crate) fn is_made_of(value: &Value, own: &[&str], common: &[&str]) -> bool
+    ensures { result ≡ has_exactly (map (λ name. name.now) own.now ++ map (λ name. name.now) common.now) (view value.now) }
 {
     let Some(members) = value.as_object() else {
         return false;
     };
-    members.len() == names.len() && names.iter().all(|name| value.get(*name).is_some())
+    if members.len() != own.len() + common.len() {
+        return false;
+    }
+    has_all(value, own) && has_all(value, common)
+}
+
+// Whether the value has a member of each of these names.
+fn has_all(value: &Value, names: &[&str]) -> bool
+    ensures { result ≡ list_all (λ name. is_some (get name.now (view value.now))) names.now }
+{
+    names.iter().all(|name| value.get(*name).is_some())
 }

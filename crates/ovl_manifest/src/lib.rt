@@ -1,4 +1,4 @@
-//! Layers as trees of sorted children, seen as finite maps from paths to inodes, and the manifests that state them.
+//! Layers as trees and as tables, seen as finite maps from paths to inodes, and their manifests.
 #![tactic(auto)]
 
 mod builders;
@@ -15,6 +15,7 @@ mod sheet_drafts;
 mod sheets;
 mod text_paths;
 mod trees;
+mod versions;
 mod writing;
 mod written_entries;
 

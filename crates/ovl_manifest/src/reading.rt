@@ -1,6 +1,8 @@
-ghost use Rattle.std.specs.Prelude.{◌≡◌, ◌≤◌, Ok, Err, MatchResult, [], length};
+ghost use Rattle.std.specs.Prelude.{◌≡◌, ◌≤◌, Ok, Err, MatchResult, [], length, option_and_then};
+ghost use Rattle.serde_json.specs.Find.{as_number, as_u64};
 ghost use Rattle.serde_json.specs.View.{view, items_view};
 ghost use Rattle.ovl_manifest.specs.Layers.{entry_limit};
+ghost use Rattle.ovl_manifest.specs.Versions.{version_of};
 ghost use Rattle.ovl_manifest.specs.Manifest.{entries_after, stated_entries, layer_of_value, read_layer as layer_stated, IsFaultOf};
 
 use crate::compact_layers::read_compact;
@@ -9,6 +11,7 @@ use crate::faults::LayerFault;
 use crate::fields::{is_made_of, read_entry};
 use crate::sheets::Sheet;
 use crate::trees::Layer;
+use crate::versions::Version;
 use serde_json::{Category, Value};
 use std::alloc::Global;
 
@@ -50,38 +53,45 @@ fn read_value(alloc: Global, value: &Value) -> Result<Layer, LayerFault>
         (λ layer. layer_of_value (view value.now) ≡ Ok layer)
         (λ fault. IsFaultOf (layer_of_value (view value.now)) fault) }
 {
-    if !is_made_of(value, &["entries", "overlay-layer"]) {
+    if !is_made_of(value, &[], &["entries", "overlay-layer"]) {
         return Err(LayerFault::Shape);
     }
-    let (Some(version), Some(entries)) = (value.get("overlay-layer"), value.get("entries")) else {
+    let (Some(number), Some(entries)) = (value.get("overlay-layer"), value.get("entries")) else {
         return Err(LayerFault::Shape);
     };
     let Some(entries) = entries.as_array() else {
         return Err(LayerFault::Shape);
     };
-    if !version.is_u64() && !version.is_i64() {
+    if !number.is_u64() && !number.is_i64() {
         return Err(LayerFault::Shape);
     }
-    if version.as_u64() != Some(1) {
+    let Some(version) = read_version(number) else {
         return Err(LayerFault::Version);
-    }
+    };
     if entries.is_empty() || entries.len() > ENTRY_LIMIT {
         return Err(LayerFault::Count);
     }
-    read_entries(alloc, entries)
+    read_entries(alloc, version, entries)
+}
+
+// The version that a number names, if there is one.
+fn read_version(value: &Value) -> Option<Version>
+    ensures { result ≡ option_and_then version_of (option_and_then as_u64 (as_number (view value.now))) }
+{
+    Version::of(value.as_u64()?)
 }
 
 // The layer of at least one entry and at most `ENTRY_LIMIT`.
-fn read_entries(alloc: Global, values: &[Value]) -> Result<Layer, LayerFault>
+fn read_entries(alloc: Global, version: Version, values: &[Value]) -> Result<Layer, LayerFault>
     requires some { 1 ≤ length values.now }
     requires limit { length values.now ≤ entry_limit }
     ensures { MatchResult result
-        (λ layer. entries_after [] (stated_entries (items_view values.now)) ≡ Ok layer)
-        (λ fault. IsFaultOf (entries_after [] (stated_entries (items_view values.now))) fault) }
+        (λ layer. entries_after [] (stated_entries version (items_view values.now)) ≡ Ok layer)
+        (λ fault. IsFaultOf (entries_after [] (stated_entries version (items_view values.now))) fault) }
 {
-    let mut draft = start(alloc, read_entry(alloc, &values[0])?)?;
+    let mut draft = start(alloc, read_entry(alloc, version, &values[0])?)?;
     for number in 1..values.len() {
-        let entry = read_entry(alloc, &values[number])?;
+        let entry = read_entry(alloc, version, &values[number])?;
         draft = add(alloc, draft, number as u32, entry)?;
     }
     Ok(draft.finish()?)

@@ -14,9 +14,8 @@ use Rattle.ovl_lookup.specs.declared.steps.Step.{Step}
 use Rattle.ovl_lookup.specs.Stacks.{StackView}
 use Rattle.ovl_lookup.specs.Walk.{walk, nothing_found}
 use Rattle.ovl_lookup.specs.Passes.{own_names_along, put_names}
-use Rattle.ovl_lookup.proofs.ChildLaws.{walk-child_end}
-use Rattle.ovl_lookup.proofs.ChildLemmas.{names_below-has}
-use Rattle.ovl_lookup.proofs.KidLemmas.{ascends-put, any-put, kids-ascend}
+use Rattle.ovl_lookup.proofs.LawsOfWalks.{walk-child_end, names_below-has}
+use Rattle.ovl_lookup.proofs.LawsOfKids.{ascends-put, any-put, kids-ascend}
 use Rattle.ovl_rewrite.specs.Directories.{NamedInode}
 use Rattle.ovl_merge.specs.declared.walked.Walked.{Walked}
 use Rattle.ovl_merge.specs.declared.walked.Stand.{Stand}

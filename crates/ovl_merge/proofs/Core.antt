@@ -1,8 +1,7 @@
 -- The core of the law that a merge keeps the merged tree: where the walks of the new lower layer go on.
-use Rattle.std.proofs.Common.{◌≡◌, arith, Bool, true, false, cond, Option, Some, None, is_some, List, [], ◌∷◌, ◌++◌, refl, sym, ap, ◌∙◌, subst, append_assoc, inl, inr, ◌⊎◌}
+use Rattle.std.proofs.Common.{◌≡◌, arith, Bool, true, false, cond, Option, Some, None, is_some, List, [], ◌∷◌, ◌++◌, suc, length, refl, sym, ap, ◌∙◌, subst, inl, inr, ◌⊎◌}
 use Rattle.std.specs.Prelude.{not, ◌&&◌, ◌||◌, is_none, IfSome, codes}
 use Rattle.std.specs.List.{cons_option, list_all, All}
-use Rattle.std.proofs.lemmas.List.{append-nil}
 use Rattle.std.proofs.lemmas.List.Elements.{All-cons}
 use Rattle.std.specs.Cmp.Lexicographic.{pointwise_decides, bytes_decides}
 use Rattle.ovl_names.specs.Names.{PathName, is_name}
@@ -22,20 +21,16 @@ use Rattle.ovl_lookup.specs.Trace.{things_found}
 use Rattle.ovl_lookup.specs.Merged.{look, shows, shows_directory, last_place, full_file_in}
 use Rattle.ovl_lookup.specs.Passes.{entered_path, entered_closed}
 use Rattle.ovl_lookup.specs.WalkLaws.{PassesOver}
-use Rattle.ovl_lookup.proofs.WalkFacts.{length-child, parent_path-child, lookup-all}
-use Rattle.ovl_lookup.proofs.FoundLemmas.{things_found-step, metacopy-file}
-use Rattle.ovl_lookup.proofs.ChildLemmas.{all-first, all-rest, child_found, any_found, starts_directory, walk-below, Below}
-use Rattle.ovl_lookup.proofs.KidLemmas.{shows-found}
-use Rattle.ovl_lookup.proofs.LawLemmas.{ShowsParents-holds}
-use Rattle.ovl_merge.specs.Places.{Merge, whole, two_layers, lower_path, rest_path, is_open, first_of, first_hit, passes, shows_own_directory, is_nothing_or, is_shown_regular, goes_on, reach, reach_of, shows_directory_at, shows_at, base_at, child_of, natural_below, natural, base, gets_opaque}
+use Rattle.ovl_lookup.proofs.LawsOfPaths.{length-child, parent_path-child, lookup-all, all-first, all-rest, by_child}
+use Rattle.ovl_lookup.proofs.LawsOfFound.{things_found-step, child_found, any_found, starts_directory}
+use Rattle.ovl_lookup.proofs.LawsOfInodes.{metacopy-file}
+use Rattle.ovl_lookup.proofs.LawsOfWalks.{walk-below, Below, directory_found, walk-child_directory, walk-child_end, walk-child_beyond, file-found, file-is_found, whiteout-closes, passes-over}
+use Rattle.ovl_lookup.proofs.LawsOfLooks.{shows-found, ShowsParents-holds}
+use Rattle.ovl_merge.specs.Places.{Merge, whole, two_layers, lower_path, rest_path, is_open, first_of, first_hit, passes, shows_own_directory, is_nothing_or, is_shown_regular, goes_on, reach, reach_of, shows_directory_at, shows_at, base_at, child_of, natural_below, natural, base, gets_opaque, natural_at, last_name}
 use Rattle.ovl_merge.specs.MergeDown.{with_value, last_name, redirected, redirected_from, merged_directory, merged_metacopy, unreached_metacopy, has_data_alone, kept_if_alone, kept_place, merged_inode, new_whiteout, needs_whiteout, merged_entry_of, IsMergedDown}
 use Rattle.ovl_merge.proofs.Values.{with_metacopy, mark-copied, mark-copied_moved, mark-plain, mark-opaque, mark-moved}
-use Rattle.ovl_lookup.proofs.WalkLaws.{directory_found, by_child}
-use Rattle.ovl_lookup.proofs.ChildLaws.{walk-child_directory, walk-child_end}
-use Rattle.ovl_lookup.proofs.BeyondLaws.{walk-child_beyond}
 use Rattle.ovl_merge.proofs.Redirects.{redirect-absolute, redirect-beside}
-use Rattle.ovl_lookup.proofs.NamedWalks.{walk-named, walk-below_root, last-named}
-use Rattle.ovl_lookup.proofs.PassLaws.{file-found, file-is_found, whiteout-closes, passes-over}
+use Rattle.ovl_lookup.proofs.LawsOfNames.{walk-named, walk-below_root, last-named}
 use Rattle.ovl_merge.proofs.Firsts.{first_hit-steps, first_step, found-first_hit, first_of-hits, first-none, first-cons, PassesBoth, passes-found, unshown, hit-no_whiteout}
 use Rattle.ovl_merge.proofs.Inodes.{IsOther, merged-metacopy, merged-directory, merged-is_directory, merged-is_other}
 
@@ -52,14 +47,14 @@ last_name-named (name ∷ []) named below = (both {a = is_name name} named).0
 last_name-named (name ∷ other ∷ path) named below = last_name-named (other ∷ path) (both {a = is_name name} {b = has_names (other ∷ path)} named).1 refl
 
 -- the natural place of a path with one more name
-natural_below-child : (m : Merge) (above : PathNames) (place : Option PathNames) (names : PathNames) (name : PathName) → natural_below m above place (child_path names name) ≡ child_of (base_at m (above ++ names) (natural_below m above place names)) name
-natural_below-child m above place [] name = ap (λ (p : PathNames). child_of (base_at m p place) name) (sym (append-nil above))
-natural_below-child m above place (first ∷ names) name =
-    natural_below-child m (child_path above first) (child_of (base_at m above place) first) names name
-    ∙ ap (λ (p : PathNames). child_of (base_at m p (natural_below m (child_path above first) (child_of (base_at m above place) first) names)) name) (append_assoc above (first ∷ []) names)
+deeper : (path : PathNames) (name : PathName) → length (child_path path name) ≡ suc (length path)
+deeper [] name = refl
+deeper (first ∷ path) name = ap suc (deeper path name)
 
 pub natural-child : (m : Merge) (path : PathNames) (name : PathName) → natural m (child_path path name) ≡ child_of (base m path) name
-natural-child m path name = natural_below-child m [] (Some []) path name
+natural-child m path name =
+    ap (λ depth. natural_at m depth (child_path path name)) (deeper path name)
+    ∙ (λ j. child_of (base_at m (parent_path-child path name j) (natural_at m (length path) (parent_path-child path name j))) (last_name-child path name j))
 
 -- the natural place of a name in a directory, by the directory's base
 pub natural-in : (m : Merge) (dir path : PathNames) (name : PathName) (from place : Option PathNames) → place ≡ child_of from name → from ≡ base m dir → path ≡ child_path dir name → place ≡ natural m path

@@ -17,17 +17,15 @@ use Rattle.ovl_lookup.specs.Trace.{things_found}
 use Rattle.ovl_lookup.specs.Merged.{look, shown_of, data_of, shows_directory, is_nothing, place_of_data}
 use Rattle.ovl_lookup.specs.Sound.{IsSoundStack}
 use Rattle.ovl_lookup.specs.Passes.{data_below}
-use Rattle.ovl_lookup.proofs.FoundLemmas.{directory-kind, things_found-step, metacopy-file, bare_file, data_of-metacopy, data_below-metacopy, data_below-other, shown_of-full, shown_of-contents, shown_of-broken}
-use Rattle.ovl_lookup.proofs.ChildLemmas.{all-first, all-rest}
-use Rattle.ovl_lookup.proofs.ShownLaws.{attribute-hidden}
+use Rattle.ovl_lookup.proofs.LawsOfInodes.{directory-kind, metacopy-file, bare_file, attribute-hidden}
+use Rattle.ovl_lookup.proofs.LawsOfFound.{things_found-step, data_of-metacopy, data_below-metacopy, data_below-other, shown_of-full, shown_of-contents, shown_of-broken, data-regular}
+use Rattle.ovl_lookup.proofs.LawsOfPaths.{all-first, all-rest}
 use Rattle.ovl_merge.specs.Places.{Merge, whole, two_layers, lower_path, rest_path, is_open, first_hit, passes, shows_own_directory, shows_directory_at, is_nothing_or, is_shown_regular, goes_on, reach, reach_of, base, natural, gets_opaque}
 use Rattle.ovl_merge.specs.MergeDown.{merged_inode, merged_metacopy, unreached_metacopy, kept_place, IsMergedDown}
-use Rattle.ovl_lookup.specs.Courses.{through, look_on}
+use Rattle.ovl_lookup.specs.Words.{through, look_on}
 use Rattle.ovl_merge.specs.Laws.{MergeHasCore}
-use Rattle.ovl_lookup.proofs.WalkLaws.{directory_found}
-use Rattle.ovl_lookup.proofs.PassLaws.{found-closes}
+use Rattle.ovl_lookup.proofs.LawsOfWalks.{directory_found, found-closes}
 use Rattle.ovl_merge.proofs.Firsts.{hit-no_whiteout, found-whole, hit-from}
-use Rattle.ovl_lookup.proofs.LookLaws.{data-regular}
 use Rattle.ovl_merge.proofs.Inodes.{bare-kind, merged-is_other, merged-metacopy, merged-other, with_contents-attrs}
 use Rattle.ovl_merge.proofs.Core.{root_of, kept-facts, base-none, base-reach, Core, merge-core, GoesOn, FindsNothing, GoesOnAlike, IsShownDirectory}
 use Rattle.ovl_merge.proofs.SoundHits.{sound-hit}

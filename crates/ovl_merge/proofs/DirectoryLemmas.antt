@@ -7,14 +7,16 @@ use Rattle.ovl_names.specs.Order.{ascends}
 use Rattle.ovl_names.specs.Paths.{PathNames, child_path}
 use Rattle.ovl_inode.specs.declared.inodes.Inode.{Inode}
 use Rattle.ovl_manifest.specs.Layers.{IsLayer}
+use Rattle.ovl_lookup.specs.Stacks.{StackView}
 use Rattle.ovl_lookup.specs.Passes.{own_names_along, put_names}
-use Rattle.ovl_lookup.proofs.KidLemmas.{any-put, ascends-put, kids-same}
-use Rattle.ovl_lookup.proofs.LawLemmas.{ShowsWithinDepth-holds}
-use Rattle.ovl_lookup.proofs.WalkLaws.{directory_found}
-use Rattle.ovl_rewrite.specs.NewLayers.{IsTold}
-use Rattle.ovl_merge.specs.Places.{Merge, whole, two_layers, base, child_of, shows_at}
+use Rattle.ovl_lookup.proofs.LawsOfKids.{any-put, ascends-put, kids-same}
+use Rattle.ovl_lookup.proofs.LawsOfLooks.{ShowsWithinDepth-holds}
+use Rattle.ovl_lookup.proofs.LawsOfWalks.{directory_found}
+use Rattle.ovl_rewrite.specs.NewLayers.{IsTold, TellsLayer}
+use Rattle.ovl_merge.specs.Places.{Merge, whole, two_layers, base, child_of, shows_at, merge_of}
+use Rattle.ovl_rewrite.proofs.DirectoryLemmas.{layer-told}
 use Rattle.ovl_merge.specs.MergeDown.{merged_entry}
-use Rattle.ovl_merge.specs.Directories.{base_names, candidate_names, merge_depth}
+use Rattle.ovl_merge.specs.Directories.{base_names, candidate_names, merge_kids, merge_out, merge_depth}
 use Rattle.ovl_merge.proofs.MergedEntries.{entry-directory, entry-stands, two}
 use Rattle.ovl_merge.proofs.LayerLemmas.{upper, lower, rest, own-shown}
 
@@ -63,3 +65,7 @@ module _ (m : Merge) (each : All IsLayer (whole m).layers) where
   -- its names tell the new lower layer
   pub told : IsTold (merged_entry m) (candidate_names m) merge_depth
   told = record { in_order = candidates-ascend; named = candidate; closed = new-parent; shallow = directory-limited }
+
+-- the visits of a stack's merge tell it
+pub tells : (stack : StackView) → All IsLayer (whole (merge_of stack)).layers → TellsLayer (merged_entry (merge_of stack)) (merge_kids stack) (merge_out stack)
+tells stack each = layer-told (merged_entry (merge_of stack)) (candidate_names (merge_of stack)) merge_depth (told (merge_of stack) each)

@@ -16,11 +16,9 @@ use Rattle.ovl_lookup.specs.declared.steps.Step.{Step}
 use Rattle.ovl_lookup.specs.Walk.{walk}
 use Rattle.ovl_lookup.specs.Stacks.{StackView}
 use Rattle.ovl_lookup.specs.Sound.{IsSoundStack}
-use Rattle.ovl_lookup.proofs.WalkFacts.{lookup-all, walk-whole}
-use Rattle.ovl_lookup.proofs.WalkLaws.{directory_found}
-use Rattle.ovl_lookup.proofs.EntryLaws.{directory-entry}
-use Rattle.ovl_lookup.proofs.MapLaws.{entries-unique}
-use Rattle.ovl_lookup.proofs.StatedLaws.{sound-visible, unescaped-filter}
+use Rattle.ovl_lookup.proofs.LawsOfPaths.{lookup-all, entries-unique}
+use Rattle.ovl_lookup.proofs.LawsOfWalks.{walk-whole, directory_found, directory-entry}
+use Rattle.ovl_lookup.proofs.LawsOfInodes.{sound-visible, unescaped-filter}
 use Rattle.ovl_board.specs.declared.pieces.Piece.{Piece}
 use Rattle.ovl_board.specs.Parcels.{IsPlain}
 use Rattle.ovl_rewrite.specs.Directories.{NamedInode, directories_among}

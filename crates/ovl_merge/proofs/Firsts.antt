@@ -8,9 +8,9 @@ use Rattle.ovl_inode.specs.Marks.{is_directory, is_metacopy, is_whiteout}
 use Rattle.ovl_manifest.specs.Layers.{Entries, IsLayer}
 use Rattle.ovl_lookup.specs.Walk.{walk}
 use Rattle.ovl_lookup.specs.Trace.{things_found, hits_of, leading_directories, leading_files}
-use Rattle.ovl_lookup.proofs.FoundLemmas.{things_found-step}
+use Rattle.ovl_lookup.proofs.LawsOfFound.{things_found-step}
 use Rattle.ovl_merge.specs.Places.{Merge, whole, two_layers, lower_path, rest_path, is_open, first_of, first_hit}
-use Rattle.ovl_lookup.proofs.ShownLaws.{walk-finds}
+use Rattle.ovl_lookup.proofs.LawsOfWalks.{walk-finds}
 
 pub first_of-hits : (xs : List Inode) → first_of (hits_of xs) ≡ first_of xs
 first_of-hits [] = refl

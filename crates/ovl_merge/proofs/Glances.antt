@@ -15,9 +15,8 @@ use Rattle.ovl_lookup.specs.declared.steps.Step.{Step}
 use Rattle.ovl_lookup.specs.Walk.{walk}
 use Rattle.ovl_lookup.specs.WalkLaws.{PassesOver}
 use Rattle.ovl_lookup.specs.Passes.{IsOwnDirectory}
-use Rattle.ovl_lookup.proofs.OwnLemmas.{own-missing, own-file}
-use Rattle.ovl_lookup.proofs.PassLaws.{passes-over, file-is_found}
-use Rattle.ovl_lookup.proofs.ViewLemmas.{is_directory_mark, directory-marked}
+use Rattle.ovl_lookup.proofs.LawsOfWalks.{own-missing, own-file, passes-over, file-is_found}
+use Rattle.ovl_lookup.proofs.LawsOfInodes.{is_directory_mark, directory-marked}
 use Rattle.ovl_merge.specs.declared.walked.Glance.{Glance}
 use Rattle.ovl_merge.specs.declared.walked.Glance.TheVariants.{Plain, Passed, Unsaid}
 use Rattle.ovl_merge.specs.Places.{Merge, lower_path, first_hit, is_open, shows_own_directory, shows_at, natural}

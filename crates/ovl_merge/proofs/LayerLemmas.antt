@@ -9,36 +9,30 @@ use Rattle.ovl_names.specs.Paths.{PathNames, path_text, child_path, parent_path,
 use Rattle.ovl_names.proofs.Ascending.{both, not_true}
 use Rattle.ovl_inode.specs.declared.inodes.Inode.{Inode}
 use Rattle.ovl_inode.specs.declared.inodes.Kind.{Kind}
-use Rattle.ovl_inode.specs.declared.inodes.Kind.TheVariants.{Dir, File, Symlink, Char, Block, Fifo, Socket}
 use Rattle.ovl_inode.specs.Attributes.{Attributes, attribute, is_attribute_name, are_attributes, visible_attributes, with_attribute, has_escaped_name, is_escaped_name, redirect_name, metacopy_name, opaque_name}
 use Rattle.ovl_inode.specs.Bytes.{are_bytes}
 use Rattle.ovl_inode.specs.Marks.{is_directory, is_regular, is_metacopy, has_metacopy}
 use Rattle.ovl_inode.specs.Inodes.{visible}
 use Rattle.ovl_inode.specs.Sound.{is_sound_inode, is_sound_kind}
 use Rattle.ovl_inode.proofs.AttributeLemmas.{are_attributes-visible, are_attributes-with}
+use Rattle.ovl_inode.proofs.SoundLaws.{sound_values, sound-with, kind-full}
 use Rattle.ovl_inode.proofs.OnLiterals.{inode_on_literals}
 use Rattle.ovl_manifest.specs.Layers.{Entry, Entries, IsLayer, entry_at, entry_cmp, entry_limit, is_within_limits, has_parent}
 use Rattle.ovl_lookup.specs.Trace.{things_found}
 use Rattle.ovl_lookup.specs.Merged.{look, shows, shown_of, data_of}
 use Rattle.ovl_lookup.specs.Sound.{IsSoundStack}
-use Rattle.ovl_lookup.proofs.WalkFacts.{parent_path-child}
-use Rattle.ovl_lookup.proofs.FoundLemmas.{metacopy-file, shown_of-contents}
-use Rattle.ovl_lookup.proofs.ChildLemmas.{all-first, all-rest, any_found}
-use Rattle.ovl_lookup.proofs.KidLemmas.{shows-found}
-use Rattle.ovl_lookup.proofs.EntryLaws.{directory-parent_of}
-use Rattle.ovl_lookup.proofs.PathLemmas.{last-name, all-entries}
-use Rattle.ovl_lookup.proofs.WalkLaws.{directory_found}
-use Rattle.ovl_lookup.proofs.LookLaws.{data-regular}
-use Rattle.ovl_lookup.proofs.AttributeLaws.{attribute-with}
-use Rattle.ovl_lookup.proofs.StatedLaws.{found-all, data-all, data-kind, sound-with, sound-kind, sound-visible, sound-attributes, unescaped-filter, shown-named}
+use Rattle.ovl_lookup.proofs.LawsOfPaths.{parent_path-child, all-first, all-rest, last-name, all-entries}
+use Rattle.ovl_lookup.proofs.LawsOfInodes.{metacopy-file, attribute-with, data-kind, sound-visible, unescaped-filter}
+use Rattle.ovl_lookup.proofs.LawsOfFound.{shown_of-contents, any_found, data-regular, found-all, data-all}
+use Rattle.ovl_lookup.proofs.LawsOfLooks.{shows-found, shown-named}
+use Rattle.ovl_lookup.proofs.LawsOfWalks.{directory-parent_of, directory_found}
 use Rattle.ovl_rewrite.proofs.InodeLemmas.{opaque_named, unescaped-with, directory-flag}
-use Rattle.ovl_merge.specs.Places.{Merge, whole, two_layers, lower_path, first_hit, passes, shows_own_directory, is_hidden, reach, gets_opaque, natural, base, child_of, shows_at}
-use Rattle.ovl_merge.specs.MergeDown.{with_value, last_name, with_contents, merged_directory, merged_metacopy, unreached_metacopy, kept_place, merged_inode, merged_entry, merged_entry_of, needs_whiteout, new_whiteout, IsMergedDown}
+use Rattle.ovl_merge.specs.Places.{Merge, whole, two_layers, lower_path, first_hit, passes, shows_own_directory, is_hidden, reach, gets_opaque, natural, base, child_of, shows_at, last_name}
+use Rattle.ovl_merge.specs.MergeDown.{with_value, with_contents, merged_directory, merged_metacopy, unreached_metacopy, kept_place, merged_inode, merged_entry, merged_entry_of, needs_whiteout, new_whiteout, IsMergedDown}
 use Rattle.ovl_merge.specs.Laws.{MergeGivesLayer}
-use Rattle.ovl_lookup.proofs.NameParts.{name_facts}
+use Rattle.ovl_lookup.proofs.LawsOfNames.{name_facts, walk-named}
 use Rattle.ovl_merge.proofs.ByteLemmas.{utf8-bytes}
 use Rattle.ovl_merge.proofs.Redirects.{slashed-utf8}
-use Rattle.ovl_lookup.proofs.NamedWalks.{walk-named}
 use Rattle.ovl_merge.proofs.Values.{attribute-other, with_metacopy}
 use Rattle.ovl_merge.proofs.Firsts.{whole-first, rest_of, first-cons, first_of-hits}
 use Rattle.ovl_merge.proofs.Inodes.{merged-directory, merged-metacopy, merged-other, redirected-cases}
@@ -64,17 +58,6 @@ last-bytes : (place : PathNames) → has_names place ≡ true → are_bytes (las
 last-bytes [] named = refl
 last-bytes (name ∷ []) named = utf8-bytes name (name_facts name (both {a = is_name name} named).0).utf8
 last-bytes (name ∷ other ∷ names) named = last-bytes (other ∷ names) (both {a = is_name name} {b = has_names (other ∷ names)} named).1
-
--- a kind that is sound with this flag is sound without it, where it counts for nothing
-flag-none : (kind : Kind) (had : Bool) → (elim kind as (λ _. Bool) [ File size blob ↦ true | _ ↦ false ] && had) ≡ false → is_sound_kind kind had ≡ true → is_sound_kind kind false ≡ true
-flag-none (File size blob) true full sound = let bad : true ≡ false = full in cc
-flag-none (File size blob) false full sound = sound
-flag-none Dir had full sound = refl
-flag-none (Symlink target) had full sound = sound
-flag-none (Char major minor) had full sound = sound
-flag-none (Block major minor) had full sound = sound
-flag-none Fifo had full sound = refl
-flag-none Socket had full sound = refl
 
 module _ (m : Merge) (each : All IsLayer (whole m).layers) where
   pub upper : IsLayer m.upper
@@ -165,7 +148,7 @@ module _ (m : Merge) (each : All IsLayer (whole m).layers) where
     AreFine attrs = (are_attributes attrs ≡ true) × (has_escaped_name attrs ≡ false)
 
     shown-fine : AreFine (visible_attributes inode.attrs)
-    shown-fine = (are_attributes-visible inode.attrs (sound-attributes inode well), unescaped-filter _ inode.attrs bare)
+    shown-fine = (are_attributes-visible inode.attrs (sound_values inode well).attrs, unescaped-filter _ inode.attrs bare)
 
     with-fine : (attrs : Attributes) (name value : List ℕ) → AreFine attrs → is_attribute_name name ≡ true → is_escaped_name name ≡ false → are_bytes value ≡ true → AreFine (with_attribute attrs name value)
     with-fine attrs name value fine named plain bytes = (are_attributes-with attrs name value fine.0 named bytes, unescaped-with attrs name value plain fine.1)
@@ -213,7 +196,7 @@ module _ (m : Merge) (each : All IsLayer (whole m).layers) where
       -- one with a reach stays a metacopy file
       copied-kind : (attrs : Attributes) → is_metacopy inode ≡ true → attribute attrs metacopy_name ≡ Some [] → is_sound_kind inode.kind (is_some (attribute attrs metacopy_name)) ≡ true
       copied-kind attrs meta has =
-          ap (is_sound_kind inode.kind) (ap is_some has ∙ sym (both {a = is_regular inode} {b = has_metacopy inode} (metacopy-file inode meta).1).1) ∙ sound-kind inode well
+          ap (is_sound_kind inode.kind) (ap is_some has ∙ sym (both {a = is_regular inode} {b = has_metacopy inode} (metacopy-file inode meta).1).1) ∙ (sound_values inode well).kind
 
       copied : attribute (with_metacopy inode).attrs metacopy_name ≡ Some []
       copied = attribute-with (visible_attributes inode.attrs) metacopy_name []
@@ -241,7 +224,7 @@ module _ (m : Merge) (each : All IsLayer (whole m).layers) where
       file-fine false other =
           let full = (sound-hit m upper lower sound path inode hit file).1 other in
           subst IsFine (sym (merged-other m path inode file other))
-          (sound-visible inode inode.kind well (flag-none inode.kind (has_metacopy inode) full (sound-kind inode well)), shown-fine.1)
+          (sound-visible inode inode.kind well (kind-full inode.kind (has_metacopy inode) full (sound_values inode well).kind), shown-fine.1)
 
     inode-fine : All IsLayer m.rest.data_only → IsSoundStack (whole m) → IsFine (merged_inode m path inode)
     inode-fine deep sound = by (is_directory inode) refl

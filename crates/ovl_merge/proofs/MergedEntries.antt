@@ -11,11 +11,11 @@ use Rattle.ovl_inode.specs.Marks.{is_directory}
 use Rattle.ovl_manifest.specs.Layers.{IsLayer}
 use Rattle.ovl_lookup.specs.Trace.{things_found}
 use Rattle.ovl_lookup.specs.Passes.{own_names_along}
-use Rattle.ovl_lookup.proofs.WalkFacts.{parent_path-child}
-use Rattle.ovl_lookup.proofs.ChildLemmas.{child_found, any_found, starts_directory}
+use Rattle.ovl_lookup.proofs.LawsOfPaths.{parent_path-child}
+use Rattle.ovl_lookup.proofs.LawsOfFound.{child_found, any_found, starts_directory}
 use Rattle.ovl_merge.specs.Places.{Merge, two_layers, first_of, first_hit, passes, shows_own_directory, is_hidden, natural, base, child_of, shows_at}
 use Rattle.ovl_merge.specs.MergeDown.{merged_inode, new_whiteout, needs_whiteout, merged_entry_of, merged_entry}
-use Rattle.ovl_lookup.proofs.WalkLaws.{directory_found}
+use Rattle.ovl_lookup.proofs.LawsOfWalks.{directory_found}
 use Rattle.ovl_merge.proofs.Firsts.{first_of-hits, first-cons, hit-no_whiteout}
 use Rattle.ovl_merge.proofs.Inodes.{merged-is_directory, merged-is_other}
 use Rattle.ovl_merge.proofs.Core.{natural-child, root-shown}

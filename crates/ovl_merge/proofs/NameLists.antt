@@ -13,8 +13,7 @@ use Rattle.ovl_names.specs.Order.{ascends}
 use Rattle.ovl_names.proofs.Ascending.{both, is_lt-Less, list_all-before}
 use Rattle.ovl_inode.proofs.AttributeLemmas.{name_cmp-Equal}
 use Rattle.ovl_lookup.specs.Passes.{put_names}
-use Rattle.ovl_lookup.proofs.KidLemmas.{ascends-insert, any-insert}
-use Rattle.ovl_lookup.proofs.KidLaws.{same-names}
+use Rattle.ovl_lookup.proofs.LawsOfKids.{ascends-insert, any-insert, same-names}
 use Rattle.ovl_rewrite.specs.Directories.{NamedInode}
 use Rattle.ovl_merge.specs.Candidates.{first_order, IsFirstTaken}
 

@@ -14,9 +14,10 @@ use Rattle.ovl_lookup.specs.Trace.{things_found}
 use Rattle.ovl_lookup.specs.Merged.{data_of}
 use Rattle.ovl_lookup.specs.Sound.{is_meta, is_malformed, IsSoundStack}
 use Rattle.ovl_lookup.specs.Words.{over}
-use Rattle.ovl_lookup.proofs.FoundLemmas.{things_found-step, metacopy-file}
-use Rattle.ovl_lookup.proofs.SoundLaws.{Faultless, sound-first, sound-rest}
-use Rattle.ovl_lookup.proofs.ShownLaws.{walk-finds, bare-mark, mark-file, data-there}
+use Rattle.ovl_lookup.proofs.LawsOfFound.{things_found-step}
+use Rattle.ovl_lookup.proofs.LawsOfInodes.{metacopy-file, bare-mark}
+use Rattle.ovl_lookup.proofs.LawsOfLooks.{Faultless, sound-first, sound-rest, data-there}
+use Rattle.ovl_lookup.proofs.LawsOfWalks.{walk-finds, mark-file}
 use Rattle.ovl_merge.specs.Places.{Merge, whole, lower_path, first_hit}
 use Rattle.ovl_merge.proofs.Firsts.{hit-from}
 

@@ -12,8 +12,7 @@ use Rattle.ovl_lookup.specs.Walk.{walk}
 use Rattle.ovl_lookup.specs.Stacks.{StackView}
 use Rattle.ovl_lookup.specs.Merged.{look, shows_directory}
 use Rattle.ovl_lookup.specs.Passes.{IsOwnDirectory}
-use Rattle.ovl_lookup.proofs.WalkFacts.{walk-whole}
-use Rattle.ovl_lookup.proofs.WalkLaws.{directory_found}
+use Rattle.ovl_lookup.proofs.LawsOfWalks.{walk-whole, directory_found}
 use Rattle.ovl_merge.specs.declared.walked.Walked.{Walked}
 use Rattle.ovl_merge.specs.declared.walked.Stand.{Stand}
 use Rattle.ovl_merge.specs.declared.walked.Stand.TheVariants.{Inside, Past}

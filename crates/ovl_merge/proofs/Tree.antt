@@ -18,16 +18,15 @@ use Rattle.ovl_lookup.specs.Trace.{things_found, hits_of}
 use Rattle.ovl_lookup.specs.Merged.{look, shows_directory, shown_of, data_of, last_of, last_place, place_of_data, data_at_place, without_blob}
 use Rattle.ovl_lookup.specs.Sound.{IsSoundStack}
 use Rattle.ovl_lookup.specs.Passes.{data_below}
-use Rattle.ovl_lookup.proofs.WalkFacts.{walk-whole}
-use Rattle.ovl_lookup.proofs.FoundLemmas.{directory-kind, things_found-step, metacopy-file, bare_file, data_of-metacopy, data_below-metacopy, shown_of-full, shown_of-contents, shown_of-broken}
-use Rattle.ovl_lookup.proofs.ChildLemmas.{all-first, all-rest, any_found, shown-any}
-use Rattle.ovl_lookup.proofs.ShownLaws.{attribute-hidden, visible-twice}
+use Rattle.ovl_lookup.proofs.LawsOfWalks.{walk-whole, directory_found}
+use Rattle.ovl_lookup.proofs.LawsOfInodes.{directory-kind, metacopy-file, bare_file, attribute-hidden, visible-twice}
+use Rattle.ovl_lookup.proofs.LawsOfFound.{things_found-step, data_of-metacopy, data_below-metacopy, shown_of-full, shown_of-contents, shown_of-broken, any_found, shown-any}
+use Rattle.ovl_lookup.proofs.LawsOfPaths.{all-first, all-rest}
 use Rattle.ovl_lookup.specs.Words.{over}
-use Rattle.ovl_merge.specs.Places.{Merge, whole, lower_path, rest_path, is_open, first_hit, is_nothing_or, is_shown_regular, goes_on, reach, reach_of}
-use Rattle.ovl_merge.specs.MergeDown.{with_value, last_name, redirected, with_contents, merged_metacopy, unreached_metacopy, kept_place, merged_inode, merged_entry_of, IsMergedDown}
+use Rattle.ovl_merge.specs.Places.{Merge, whole, lower_path, rest_path, is_open, first_hit, is_nothing_or, is_shown_regular, goes_on, reach, reach_of, last_name}
+use Rattle.ovl_merge.specs.MergeDown.{with_value, redirected, with_contents, merged_metacopy, unreached_metacopy, kept_place, merged_inode, merged_entry_of, IsMergedDown}
 use Rattle.ovl_merge.specs.Laws.{after_merge, MergeKeepsTree}
 use Rattle.ovl_merge.proofs.Values.{visible-value, visible-visible, with_metacopy}
-use Rattle.ovl_lookup.proofs.WalkLaws.{directory_found}
 use Rattle.ovl_merge.proofs.Firsts.{found-whole, passes-found, whole-first, rest_of, hit-from}
 use Rattle.ovl_merge.proofs.Inodes.{merged-is_directory, merged-visible, merged-metacopy, merged-other, redirected-cases}
 use Rattle.ovl_merge.proofs.Core.{Core, kept-facts, merge-core, GoesOn, FindsNothing, GoesOnAlike, open-finds}

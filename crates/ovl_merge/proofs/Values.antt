@@ -15,8 +15,7 @@ use Rattle.ovl_inode.specs.Marks.{mark_of, is_directory, is_regular, is_whiteout
 use Rattle.ovl_inode.specs.Redirects.{read_redirect}
 use Rattle.ovl_inode.specs.Inodes.{visible}
 use Rattle.ovl_manifest.proofs.NodeLemmas.{name_eq-cmp}
-use Rattle.ovl_lookup.proofs.AttributeLaws.{attribute-with, visible-with}
-use Rattle.ovl_lookup.proofs.ShownLaws.{attribute-hidden, visible-twice}
+use Rattle.ovl_lookup.proofs.LawsOfInodes.{attribute-with, visible-with, attribute-hidden, visible-twice}
 use Rattle.ovl_merge.specs.MergeDown.{with_value}
 
 -- the value that was put leaves those at other names

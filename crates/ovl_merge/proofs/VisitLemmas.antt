@@ -18,22 +18,21 @@ use Rattle.ovl_lookup.specs.declared.looks.Look.{Look}
 use Rattle.ovl_lookup.specs.declared.looks.Look.TheVariants.{Nothing}
 use Rattle.ovl_lookup.specs.declared.views.DirView.{DirView}
 use Rattle.ovl_lookup.specs.DirViews.{IsViewOf}
-use Rattle.ovl_lookup.proofs.LookLaws.{nothing-under}
+use Rattle.ovl_lookup.proofs.LawsOfLooks.{nothing-under}
 use Rattle.ovl_lookup.specs.Walk.{walk}
 use Rattle.ovl_lookup.specs.Stacks.{StackView, from_layer}
 use Rattle.ovl_lookup.specs.Passes.{own_names_along, put_names, kids_along}
 use Rattle.ovl_lookup.specs.Merged.{look, shows_directory, AreKids}
 use Rattle.ovl_lookup.specs.Words.{top_layer, lower_layers}
-use Rattle.ovl_lookup.proofs.WalkFacts.{length-child, parent_path-child}
-use Rattle.ovl_lookup.proofs.KidLemmas.{put_names-append}
-use Rattle.ovl_lookup.proofs.KidLaws.{kids-unique}
+use Rattle.ovl_lookup.proofs.LawsOfPaths.{length-child, parent_path-child}
+use Rattle.ovl_lookup.proofs.LawsOfKids.{put_names-append, kids-unique}
 use Rattle.ovl_rewrite.specs.Directories.{NamedInode}
 use Rattle.ovl_merge.specs.declared.passages.Passage.{Passage}
 use Rattle.ovl_merge.specs.declared.near.Near.{Near}
-use Rattle.ovl_merge.specs.Places.{Merge, two_layers, merge_of, lower_path, first_hit, passes, shows_own_directory, reach, reach_of, shows_directory_at, gets_opaque_at}
-use Rattle.ovl_merge.specs.MergeDown.{with_value, with_contents, last_name, redirected, redirected_from, merged_directory, merged_metacopy, unreached_metacopy, kept_place, merged_inode, merged_entry, merged_entry_of}
+use Rattle.ovl_merge.specs.Places.{Merge, two_layers, merge_of, lower_path, first_hit, passes, shows_own_directory, reach, reach_of, shows_directory_at, goes_on_at, gets_opaque_at, last_name}
+use Rattle.ovl_merge.specs.MergeDown.{with_value, with_contents, redirected, redirected_from, merged_directory, merged_metacopy, unreached_metacopy, kept_place, merged_inode, merged_entry, merged_entry_of}
 use Rattle.ovl_merge.specs.Directories.{named_inode, candidate_names, entries_in}
-use Rattle.ovl_merge.specs.Reckoned.{IsPassage, IsViewIn, IsNear, found_by, first_in, goes_on_at, name_directly_in}
+use Rattle.ovl_merge.specs.Reckoned.{IsPassage, IsViewIn, IsNear, found_by, first_in, name_directly_in}
 use Rattle.ovl_merge.proofs.Firsts.{first_step, first_hit-steps}
 use Rattle.ovl_merge.proofs.Core.{last_name-child}
 use Rattle.ovl_merge.proofs.MergedEntries.{entry-stands}

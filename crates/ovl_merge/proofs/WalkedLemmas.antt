@@ -12,10 +12,7 @@ use Rattle.ovl_lookup.specs.declared.steps.Step.{Step}
 use Rattle.ovl_lookup.specs.Stacks.{StackView}
 use Rattle.ovl_lookup.specs.Walk.{walk, walk_beyond, nothing_found}
 use Rattle.ovl_lookup.specs.Passes.{IsOwnDirectory}
-use Rattle.ovl_lookup.proofs.WalkFacts.{walk-whole}
-use Rattle.ovl_lookup.proofs.WalkLaws.{directory_found}
-use Rattle.ovl_lookup.proofs.ChildLaws.{walk-child_end}
-use Rattle.ovl_lookup.proofs.PassLaws.{file-is_found, whiteout-closes}
+use Rattle.ovl_lookup.proofs.LawsOfWalks.{walk-whole, directory_found, walk-child_end, file-is_found, whiteout-closes}
 use Rattle.ovl_merge.specs.declared.walked.Walked.{Walked}
 use Rattle.ovl_merge.specs.declared.walked.Stand.TheVariants.{Past}
 use Rattle.ovl_merge.specs.declared.near.Near.{Near}

@@ -7,8 +7,7 @@ use Rattle.ovl_manifest.specs.Layers.{Entries, IsLayer, entry_cmp, is_within_lim
 use Rattle.ovl_lookup.specs.Stacks.{StackView}
 use Rattle.ovl_lookup.specs.Sound.{IsSoundStack}
 use Rattle.ovl_lookup.specs.Merged.{look}
-use Rattle.ovl_lookup.specs.Words.{over}
-use Rattle.ovl_lookup.specs.Courses.{through, look_on}
+use Rattle.ovl_lookup.specs.Words.{over, through, look_on}
 use Rattle.ovl_merge.specs.Places.{Merge, whole, two_layers, shows_own_directory, shows_directory_at, reach}
 use Rattle.ovl_merge.specs.MergeDown.{IsMergedDown, merged_top}
 

@@ -14,17 +14,11 @@ use Rattle.ovl_lookup.specs.declared.looks.Look.{Look}
 use Rattle.ovl_lookup.specs.declared.looks.Look.TheVariants.{Nothing, Shown, Broken}
 use Rattle.ovl_lookup.specs.Trace.{things_found}
 use Rattle.ovl_lookup.specs.Merged.{look, shows, place_told, full_file_in}
-use Rattle.ovl_merge.specs.Places.{Merge, whole, first_hit, shows_own_directory, is_hidden, reach, natural, gets_opaque, shows_at}
+use Rattle.ovl_merge.specs.Places.{Merge, whole, first_hit, shows_own_directory, is_hidden, reach, last_name, natural, gets_opaque, shows_at}
 
 -- the inode with this value of an attribute
 abbrev pub with_value : Inode → List ℕ → List ℕ → Inode
 with_value inode name value = record inode { attrs = with_attribute inode.attrs name value }
-
--- the last name of a path
-abbrev pub last_name : PathNames → PathName
-last_name [] = []
-last_name (name ∷ []) = name
-last_name (name ∷ other ∷ names) = last_name (other ∷ names)
 
 -- an entry of this name that goes on at `place`, its parent's reach given: no redirect where the place is that reach
 -- followed by the name, the place's last name where it is the reach followed by another, else the whole path;

@@ -1,7 +1,7 @@
 -- Where the paths of a merge lie in the rest of the stack: the upper layer goes into the lower one, over the rest.
-use Rattle.std.specs.Prelude.{Bool, true, false, ◌&&◌, not, Option, Some, None, List, [], ◌∷◌, if◌then◌else◌, is_some, is_none}
+use Rattle.std.specs.Prelude.{ℕ, zero, suc, Bool, true, false, ◌&&◌, not, Option, Some, None, List, [], ◌∷◌, if◌then◌else◌, length, is_some, is_none}
 use Rattle.ovl_names.specs.Names.{PathName}
-use Rattle.ovl_names.specs.Paths.{PathNames, child_path, is_root}
+use Rattle.ovl_names.specs.Paths.{PathNames, child_path, parent_path, is_root}
 use Rattle.ovl_inode.specs.declared.inodes.Inode.{Inode}
 use Rattle.ovl_inode.specs.Marks.{is_directory, is_regular, is_metacopy}
 use Rattle.ovl_manifest.specs.Layers.{Entries}
@@ -71,14 +71,17 @@ is_shown_regular Nothing = false
 is_shown_regular (Shown inode) = is_regular inode
 is_shown_regular (Broken inode) = is_regular inode
 
--- an open path goes on through the lower layer to a thing of its own sort: from a shown directory to a directory of the
--- rest, from a metacopy file to a regular file; overlayfs.rst, "Directories" and "Metadata only copy up"
+-- a thing goes on at a place of the rest, where the lower layer has `passed` on the way: each is of its own sort, a
+-- directory for a directory, a regular file for a metacopy file; overlayfs.rst, "Directories" and "Metadata only copy up"
+abbrev pub goes_on_at : Merge → Inode → Option Inode → PathNames → Bool
+goes_on_at m inode passed place =
+    if is_directory inode then is_nothing_or is_directory passed && shows_directory m.rest place
+    else is_metacopy inode && is_nothing_or is_metacopy passed && is_shown_regular (look m.rest place)
+
+-- an open path goes on through the lower layer
 abbrev pub goes_on : Merge → PathNames → Inode → Bool
 goes_on m path inode =
-    let passed = (walk m.lower (lower_path m path)).found in
-    is_open m path
-    && (if is_directory inode then is_nothing_or is_directory passed && shows_directory m.rest (rest_path m path)
-    else is_metacopy inode && is_nothing_or is_metacopy passed && is_shown_regular (look m.rest (rest_path m path)))
+    is_open m path && goes_on_at m inode (walk m.lower (lower_path m path)).found (rest_path m path)
 
 -- the reach of a path: where what is shown there, a directory or a metacopy file, goes on in the rest
 abbrev pub reach_of : Merge → PathNames → Option Inode → Option PathNames
@@ -114,15 +117,21 @@ abbrev pub child_of : Option PathNames → PathName → Option PathNames
 child_of None name = None
 child_of (Some place) name = Some (child_path place name)
 
--- the natural place of `names` below `above`, whose natural place is given: its own name in the base of its parent
-abbrev pub natural_below : Merge → PathNames → Option PathNames → PathNames → Option PathNames
-natural_below m above place [] = place
-natural_below m above place (name ∷ names) =
-    natural_below m (child_path above name) (child_of (base_at m above place) name) names
+-- the last name of a path
+abbrev pub last_name : PathNames → PathName
+last_name [] = []
+last_name (name ∷ []) = name
+last_name (name ∷ other ∷ names) = last_name (other ∷ names)
 
--- the natural place of a path; the root's is the root
+-- the natural place of a path of `depth` names: the root's is the root, that of another its last name in the base of its
+-- parent
+abbrev pub natural_at : Merge → ℕ → PathNames → Option PathNames
+natural_at m zero path = Some []
+natural_at m (suc depth) path =
+    child_of (base_at m (parent_path path) (natural_at m depth (parent_path path))) (last_name path)
+
 abbrev pub natural : Merge → PathNames → Option PathNames
-natural m path = natural_below m [] (Some []) path
+natural m path = natural_at m (length path) path
 
 abbrev pub base : Merge → PathNames → Option PathNames
 base m path = base_at m path (natural m path)

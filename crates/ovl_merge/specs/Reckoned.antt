@@ -23,8 +23,8 @@ use Rattle.ovl_merge.specs.declared.walked.Glance.{Glance}
 use Rattle.ovl_merge.specs.declared.walked.Glance.TheVariants.{Plain, Passed, Unsaid}
 use Rattle.ovl_merge.specs.declared.near.Near.{Near}
 use Rattle.ovl_merge.specs.declared.directories.Directory.{Directory}
-use Rattle.ovl_merge.specs.Places.{Merge, merge_of, lower_path, first_hit, passes, shows_own_directory, is_hidden, is_nothing_or, is_shown_regular, reach, natural, base, gets_opaque}
-use Rattle.ovl_merge.specs.MergeDown.{last_name, merged_entry}
+use Rattle.ovl_merge.specs.Places.{Merge, merge_of, lower_path, first_hit, passes, shows_own_directory, is_hidden, reach, last_name, natural, base, gets_opaque}
+use Rattle.ovl_merge.specs.MergeDown.{merged_entry}
 
 -- the walks of a path: that in the upper layer, and where it is open that in the lower one
 pub record IsPassage (m : Merge) (path : PathNames) (passage : Passage) : Type 0 where
@@ -43,12 +43,6 @@ first_in passage = if is_some passage.upper.found then passage.upper.found else 
 abbrev pub next_of : Option Step → Option PathNames
 next_of None = None
 next_of (Some step) = if step.closed then None else Some step.next
-
--- a thing goes on at a place of the rest where the lower layer has this: what is shown there is of its own sort
-abbrev pub goes_on_at : Merge → Inode → Option Inode → PathNames → Bool
-goes_on_at m inode passed place =
-    if is_directory inode then is_nothing_or is_directory passed && shows_directory m.rest place
-    else is_metacopy inode && is_nothing_or is_metacopy passed && is_shown_regular (look m.rest place)
 
 -- all that a merge asks of a path
 pub record IsPlace (m : Merge) (place : Place) : Type 0 where

@@ -1,8 +1,8 @@
 ghost use Rattle.std.specs.Prelude.{◌≡◌, ◌<◌, length, IfOk};
 ghost use Rattle.std.specs.Option.{option_map};
 ghost use Rattle.ovl_inode.specs.Marks.{is_directory as directory_test, is_metacopy as metacopy_test};
-ghost use Rattle.ovl_merge.specs.Places.{merge_of, is_hidden as hidden_test, is_nothing_or, passes, is_shown_regular as regular_look, reach as the_reach};
-ghost use Rattle.ovl_merge.specs.Reckoned.{IsNear, IsPassage, first_in, next_of, goes_on_at};
+ghost use Rattle.ovl_merge.specs.Places.{merge_of, is_hidden as hidden_test, is_nothing_or, passes, is_shown_regular as regular_look, goes_on_at, reach as the_reach};
+ghost use Rattle.ovl_merge.specs.Reckoned.{IsNear, IsPassage, first_in, next_of};
 
 use crate::near::Near;
 use crate::rest::look_in_rest;

@@ -1,7 +1,9 @@
 ghost use Rattle.std.specs.Prelude.{◌≡◌, ◌↔◌, ◌<◌, Err, IfOk, IfErr, length};
+ghost use Rattle.ovl_rewrite.specs.NewLayers.{TellsLayer};
 ghost use Rattle.ovl_merge.specs.declared.faults.MergeFault.TheVariants.{NoLower};
 ghost use Rattle.ovl_merge.specs.Places.{merge_of};
-ghost use Rattle.ovl_merge.specs.Directories.{entries_in};
+ghost use Rattle.ovl_merge.specs.MergeDown.{merged_entry};
+ghost use Rattle.ovl_merge.specs.Directories.{entries_in, merge_kids, merge_out};
 ghost use Rattle.ovl_merge.specs.Reckoned.{IsVisited};
 
 use crate::MergeFault;
@@ -36,11 +38,13 @@ impl<'a> Model for MergeWork<'a> {
 }
 
 impl<'a> MergeWork<'a> {
-    /// The work of this stack; refused exactly where it has one layer beside data-only ones.
+    /// The work of this stack, whose visits tell the new lower layer; refused exactly where it has one layer beside
+    /// data-only ones.
     pub fn new(stack: &'a Stack) -> Result<MergeWork<'a>, MergeFault>
         ensures value { IfOk result (λ work. work ≡ stack.now) }
         ensures refused { (result ≡ Err NoLower) ↔ (length stack.now.layers ≡ 1) }
         ensures other { IfErr result (λ fault. fault ≡ NoLower) }
+        ensures tells { IfOk result (λ _. TellsLayer (merged_entry (merge_of stack.now)) (merge_kids stack.now) (merge_out stack.now)) }
     {
         if stack.ordinary() == 1 {
             return Err(MergeFault::NoLower);

@@ -1,5 +1,5 @@
 -- Worked values of names and paths, by computation.
-use Rattle.std.specs.Prelude.{◌≡◌, ◌==◌, ◌++◌, ℕ, List, [], ◌∷◌, codes, Some, None, refl, true, false, length, nat_lt, replicate}
+use Rattle.std.specs.Prelude.{◌≡◌, ◌==◌, ◌+◌, ◌++◌, ℕ, List, [], ◌∷◌, codes, Some, None, refl, true, false, length, nat_lt, replicate}
 use Rattle.std.specs.declared.cmp.Ordering.TheVariants.{Less, Equal, Greater}
 use Rattle.ovl_names.specs.declared.names.NameFault.TheVariants.{Empty, TooLong, Dot, Slash, Nul, Memory}
 use Rattle.ovl_names.specs.declared.paths.PathFault.TheVariants.{NotAbsolute, EmptyPart, BadPart, TooDeep, TooLong as PathTooLong, Memory as PathMemory}
@@ -129,11 +129,11 @@ part_of_256_bytes : path_fault depth_limit (slash ∷ replicate 256 97) ≡ Some
 unfolding names_on_literals
 part_of_256_bytes = refl
 
-as_deep_as_allowed : path_fault depth_limit (path_text (replicate 64 (codes "d"))) ≡ None
+as_deep_as_allowed : path_fault depth_limit (path_text (replicate depth_limit (codes "d"))) ≡ None
 unfolding names_on_literals
 as_deep_as_allowed = refl
 
-one_name_too_deep : path_fault depth_limit (path_text (replicate 65 (codes "d"))) ≡ Some TooDeep
+one_name_too_deep : path_fault depth_limit (path_text (replicate (depth_limit + 1) (codes "d"))) ≡ Some TooDeep
 unfolding names_on_literals
 one_name_too_deep = refl
 

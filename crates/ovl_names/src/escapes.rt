@@ -1,4 +1,4 @@
-ghost use Rattle.std.specs.Prelude.{◌≡◌, IsTrue, IfOk, OnOk, string_bytes, ◌++◌};
+ghost use Rattle.std.specs.Prelude.{◌≡◌, IsTrue, IfOk, OnOk, OnErr, string_bytes, ◌++◌};
 ghost use Rattle.ovl_names.specs.Escapes.{escaped as escaped_text, escaped_byte, is_plain as the_plain};
 
 use std::alloc::{AllocError, Global};
@@ -8,23 +8,25 @@ use std::alloc::{AllocError, Global};
 pub fn escaped(alloc: Global, text: &str) -> Result<String, AllocError>
     ensures { IfOk result (λ written. string_bytes written ≡ escaped_text text.now) }
 {
+    let bytes = text.as_bytes();
     let mut written = String::new(alloc);
-    push_escaped(alloc, &mut written, text)?;
+    for byte in bytes {
+        push_byte(alloc, &mut written, *byte)?;
+    }
     Ok(written)
 }
 
-/// Appends a text as [`escaped`] gives it. Fails only for want of memory; a part may be appended then.
+/// Appends a text as [`escaped`] gives it; fails, with nothing changed, only for want of memory.
 pub fn push_escaped(alloc: Global, written: &mut String, text: &str) -> Result<(), AllocError>
-    ensures { OnOk result (string_bytes written.new ≡ string_bytes written.old ++ escaped_text text.now) }
+    ensures appended { OnOk result (string_bytes written.new ≡ string_bytes written.old ++ escaped_text text.now) }
+    ensures same { OnErr result (string_bytes written.new ≡ string_bytes written.old) }
 {
     let bytes = text.as_bytes();
     if bytes.iter().all(|byte| is_plain(*byte)) {
         return written.push_str(text);
     }
-    for byte in bytes {
-        push_byte(alloc, written, *byte)?;
-    }
-    Ok(())
+    let escapes = escaped(alloc, text)?;
+    written.push_str(escapes.as_str())
 }
 
 fn is_plain(byte: u8) -> bool

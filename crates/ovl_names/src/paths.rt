@@ -1,4 +1,4 @@
-ghost use Rattle.std.specs.Prelude.{◌≡◌, ◌↔◌, ◌<◌, ◌==◌, Some, None, is_some, IsTrue, IfOk, IfSome, MatchResult, [], ◌∷◌, ◌++◌, length, take, nat_lt, string_bytes};
+ghost use Rattle.std.specs.Prelude.{◌≡◌, ◌↔◌, ◌<◌, ◌≤◌, ◌==◌, Some, None, is_some, IsTrue, IfOk, OnErr, IfSome, MatchResult, [], ◌∷◌, ◌++◌, length, take, nat_lt, string_bytes};
 ghost use Rattle.std.specs.Cmp.{partial_equiv_from_equiv, po};
 ghost use Rattle.std.specs.Cmp.Lexicographic.{nat_list_cmp_total, nat_list_eq_equiv, texts_ties, lists_total, lists_equiv, lists_ties};
 ghost use Rattle.std.proofs.Common.{refl};
@@ -91,7 +91,17 @@ impl Path {
         }
     }
 
-    /// The path that a text spells: `/`, or names of at most 64 with `/` before each, in at most 4,095 bytes.
+    /// The root, with room for so many names below it; fails only for want of memory.
+    pub fn with_room(alloc: Global, names: usize) -> Result<Path, AllocError>
+        ensures { IfOk result (λ path. path ≡ []) }
+    {
+        Ok(Path {
+            names: Vec::with_capacity(alloc, names)?,
+        })
+    }
+
+    /// The path that a text spells: `/`, or at most [`DEPTH_LIMIT`] names with `/` before each, in at most
+    /// [`TEXT_LIMIT`] bytes.
     /// Otherwise the first fault in the order of [`PathFault`], each looked for in the whole text before the next.
     pub fn parse(alloc: Global, text: &str) -> Result<Path, PathFault>
         ensures { MatchResult result
@@ -182,15 +192,18 @@ impl Path {
         Ok(())
     }
 
-    /// Goes up to the directory of the first `depth` names, and down to its entry `name`; where memory is wanted, it
-    /// stays at that directory.
+    /// Goes up to the directory of the first `depth` names, and down to its entry `name`; fails, with nothing changed,
+    /// only for want of memory, and never where it goes up.
     pub fn go_to(&mut self, depth: usize, name: Name) -> Result<(), AllocError>
-        ensures { MatchResult result
+        ensures there { MatchResult result
             (λ _. self.new ≡ child_path (take depth self.old) name)
-            (λ _. self.new ≡ take depth self.old) }
+            (λ _. self.new ≡ self.old) }
+        ensures refused { OnErr result (length self.old ≤ depth) }
     {
+        // Where that goes up, the names that are dropped leave room for this one.
         self.names.truncate(depth);
-        self.push(name)
+        self.names.push(name)?;
+        Ok(())
     }
 
     /// The path of the directory that holds this entry, and `None` for the root; fails only for want of memory.

@@ -12,7 +12,7 @@ use Rattle.ovl_lanes.specs.Accounts.{owned}
 use Rattle.ovl_lanes.specs.Lanes.{LaneId, lane_id, thief_id, account_of, IsPass, IsOfLane, IsWhole}
 use Rattle.ovl_pool.specs.declared.workers.Worker.{Worker}
 use Rattle.ovl_pool.specs.declared.workers.Other.{Other}
-use Rattle.ovl_pool.specs.Passes.{IsOther, HasPasses, Post, names_of, post_of, times_named, held_of, AreOutBut, IsCrew, AreSeated, HasNone}
+use Rattle.ovl_pool.specs.Passes.{IsOther, HasPasses, Post, names_of, post_of, times_named, held_of, AreOutBut, AreSeated, HasNone}
 
 -- a worker without passes, whose lane is new
 abbrev pub IsApart : Worker → Type 0
@@ -168,10 +168,6 @@ whole_lanes thieves workers s none k d below =
     let split = ap (λ (post : Post). post.ends.split) (get_or-map post_of workers k d (post_of d) below) in
     let joined = ap (λ (post : Post). post.ends.joined) (get_or-map post_of workers k d (post_of d) below) in
     omega (arith, s.1.1 k (post_of d) (omega (arith, below, length-map workers post_of)), none_held workers none k, split, joined)
-
--- labor keeps workers seated
-pub still_seated : (thieves : List Thief) (workers ended : List Worker) → AreSeated thieves workers → All (HasPasses thieves) ended → map post_of ended ≡ map post_of workers → AreSeated thieves ended
-still_seated thieves workers ended s passes same = (passes, subst (λ posts. IsCrew posts (map thief_id thieves)) (sym same) s.1)
 
 some_of : {X : Type 0} (xs : List X) (i : ℕ) → i < length xs → X
 some_of [] i below = absurd (omega arith)

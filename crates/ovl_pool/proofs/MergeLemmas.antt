@@ -12,11 +12,10 @@ use Rattle.ovl_board.specs.Parcels.{ParcelView, parcel_view, parcel_views, piece
 use Rattle.ovl_board.specs.declared.works.Parcel.{Parcel}
 use Rattle.ovl_board.specs.Pieces.{IsBefore, piece_cmp}
 use Rattle.ovl_board.specs.Assembly.{bare}
-use Rattle.ovl_board.proofs.Members.{In, Rises, In-cases, In-map, Rises-append, Rises-parts, Rises-AllPairs, AllPairs-Rises}
-use Rattle.ovl_board.proofs.PieceOrder.{before_trans}
-use Rattle.ovl_board.proofs.CountLemmas.{mark_cases, mark_itself, less_differs}
-use Rattle.ovl_board.proofs.SortLemmas.{IsAtMost, Rises-sorted, before_unless_same}
-use Rattle.ovl_board.proofs.OwnLemmas.{own_permuted}
+use Rattle.ovl_board.proofs.LawsOfMembers.{In, Rises, In-cases, In-map, Rises-append, Rises-parts, Rises-AllPairs, AllPairs-Rises}
+use Rattle.ovl_board.proofs.LawsOfPieces.{before_trans, less_differs, IsAtMost, Rises-sorted, before_unless_same}
+use Rattle.ovl_board.proofs.LawsOfCounts.{mark_cases, mark_itself}
+use Rattle.ovl_board.proofs.LawsOfWalks.{own_permuted}
 use Rattle.ovl_pool.specs.declared.hauls.Haul.{Haul}
 use Rattle.ovl_pool.specs.declared.workers.Worker.{Worker}
 use Rattle.ovl_pool.specs.Hauls.{IsOwnHaul, IsClean, AreInOrder, IsAtFront}

@@ -12,10 +12,10 @@ use Rattle.ovl_board.specs.Parcels.{ParcelView, parcel_view, parcel_views, own_v
 use Rattle.ovl_board.specs.Balance.{IsBalanced, AllLawful, HasKid, kids_in, times}
 use Rattle.ovl_board.specs.Assembly.{IsBoardFault, bare}
 use Rattle.ovl_board.specs.Laws.{BalancedHaveNoFault}
-use Rattle.ovl_board.proofs.Members.{In, In-map, In-map-cases, Contains-In, In-Contains, Every-All}
-use Rattle.ovl_board.proofs.PieceOrder.{length_below}
-use Rattle.ovl_board.proofs.CountLemmas.{mark_cases, mark_itself, In-times, times-In, parcel_of_kid}
-use Rattle.ovl_board.proofs.AssemblyLemmas.{reached_by}
+use Rattle.ovl_board.proofs.LawsOfMembers.{In, In-map, In-map-cases, Contains-In, In-Contains, Every-All}
+use Rattle.ovl_board.proofs.LawsOfPieces.{length_below}
+use Rattle.ovl_board.proofs.LawsOfCounts.{mark_cases, mark_itself, In-times, times-In, parcel_of_kid}
+use Rattle.ovl_board.proofs.LawsOfWalks.{reached_by}
 use Rattle.ovl_pool.specs.declared.hauls.Haul.{Haul}
 use Rattle.ovl_pool.specs.declared.workers.Worker.{Worker}
 use Rattle.ovl_lanes.specs.declared.seats.LaneFault.{LaneFault}

@@ -9,7 +9,7 @@ use Rattle.std.specs.Cmp.Lexicographic.{bytes_decides}
 use Rattle.ovl_names.specs.Names.{PathName, name_eq, name_cmp}
 use Rattle.ovl_names.specs.Order.{ascends}
 use Rattle.ovl_names.proofs.Ascending.{both, is_lt-Less}
-use Rattle.ovl_board.proofs.Members.{In, Every, Rises}
+use Rattle.ovl_board.proofs.LawsOfMembers.{In, Every, Rises}
 
 module _ {X : Type 0} (cmp : X → X → Ordering) where
   abbrev pub Before : X → X → Type 0

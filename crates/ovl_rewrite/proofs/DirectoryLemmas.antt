@@ -1,26 +1,55 @@
 -- The entries of a directory of a new layer: all that it has there, in order; those that are directories are lawful kids.
-use Rattle.std.proofs.Common.{◌≡◌, ℕ, ◌≤◌, inl, inr, Bool, true, Option, Some, None, List, [], ◌∷◌, length, map, refl, sym, ap, ◌∙◌, subst, arith}
+use Rattle.std.proofs.Common.{◌≡◌, ℕ, ◌≤◌, inl, inr, Bool, true, false, cond, Option, Some, None, List, [], ◌∷◌, length, map, refl, sym, ap, ◌∙◌, subst, arith}
 use Rattle.std.specs.Prelude.{filter}
 use Rattle.std.specs.Option.{option_map}
 use Rattle.std.specs.List.{cons_option, filter_map}
+use Rattle.std.specs.Map.{lookup}
 use Rattle.std.specs.Ordering.{ordering_then}
-use Rattle.std.specs.Cmp.Lexicographic.{nat_list_cmp_total}
+use Rattle.std.specs.Cmp.Lexicographic.{nat_list_cmp_total, bytes_decides}
 use Rattle.std.proofs.lemmas.Cmp.{tied_itself, nat_cmp_total}
-use Rattle.ovl_names.specs.Names.{PathName, name_cmp}
+use Rattle.ovl_names.specs.Names.{PathName, name_eq, name_cmp}
 use Rattle.ovl_names.specs.Paths.{PathNames, child_path, path_cmp}
 use Rattle.ovl_inode.specs.declared.inodes.Inode.{Inode}
 use Rattle.ovl_inode.specs.Marks.{is_directory}
 use Rattle.ovl_board.specs.declared.pieces.Piece.{Piece}
 use Rattle.ovl_board.specs.Pieces.{IsBefore, IsOneBelow, HasLawfulKids}
-use Rattle.ovl_board.proofs.Members.{In, Rises, All-Every, AllPairs-Rises, In-map-cases, In-filter-cases, Rises-filter}
-use Rattle.ovl_board.proofs.PieceOrder.{fork_before}
+use Rattle.ovl_board.proofs.LawsOfMembers.{In, Rises, All-Every, AllPairs-Rises, In-map-cases, In-filter-cases, Rises-filter}
+use Rattle.ovl_board.proofs.LawsOfPieces.{fork_before}
 use Rattle.ovl_rewrite.specs.Directories.{NamedInode, piece_in}
-use Rattle.ovl_rewrite.specs.Passes.{Tree, tree_kids}
-use Rattle.ovl_rewrite.specs.NewLayers.{NewLayer, is_directory_found, has_directory, named_entry, tree_by, IsTold}
-use Rattle.ovl_rewrite.proofs.Ascents.{NameBefore, rising-names, any-In}
+use Rattle.ovl_rewrite.specs.Passes.{Tree, tree_kids, tree_out}
+use Rattle.ovl_rewrite.specs.NewLayers.{NewLayer, is_directory_found, has_directory, named_entry, tree_by, IsTold, AreEntriesOf, TellsLayer}
+use Rattle.ovl_rewrite.proofs.Ascents.{NameBefore, rising-ascend, rising-names, any-In}
 
 abbrev pub EntryBefore : NamedInode → NamedInode → Type 0
 EntryBefore one other = NameBefore one.0 other.0
+
+-- ---- what is found under a name
+
+found-entry : (name : PathName) (entries : List NamedInode) (inode : Inode) → lookup (name_eq name) entries ≡ Some inode → In (name, inode) entries
+found-entry name [] inode e = let bad : None ≡ Some inode = e in cc
+found-entry name (entry ∷ entries) inode e = by (found-entry name entries inode) (name_eq name entry.0) refl e
+  where
+    by : (lookup (name_eq name) entries ≡ Some inode → In (name, inode) entries) → (b : Bool) → name_eq name entry.0 ≡ b → cond b (Some entry.1) (lookup (name_eq name) entries) ≡ Some inode → In (name, inode) (entry ∷ entries)
+    by later true s e = let own : entry.1 ≡ inode = cc in inl (λ j. ((bytes_decides name entry.0).0 s j, sym own j))
+    by later false s e = inr (later e)
+
+none-found : (name : PathName) (entries : List NamedInode) (inode : Inode) → lookup (name_eq name) entries ≡ None → In (name, inode) entries → ⊥
+none-found name [] inode e h = absurd h
+none-found name (entry ∷ entries) inode e h = by (none-found name entries inode) (name_eq name entry.0) refl e h
+  where
+    by : (lookup (name_eq name) entries ≡ None → In (name, inode) entries → ⊥) → (b : Bool) → name_eq name entry.0 ≡ b → cond b (Some entry.1) (lookup (name_eq name) entries) ≡ None → In (name, inode) (entry ∷ entries) → ⊥
+    by later true s e h = let bad : Some entry.1 ≡ None = e in cc
+    by later false s e (inl same) = let bad : false ≡ true = sym s ∙ (bytes_decides name entry.0).1 (ap (λ (n : NamedInode). n.0) same) in cc
+    by later false s e (inr h) = later e h
+
+names-rise : (entries : List NamedInode) → Rises EntryBefore entries → Rises NameBefore (map (λ entry. entry.0) entries)
+names-rise [] up = tt
+names-rise (entry ∷ entries) up = (
+  (λ name h.
+      let other = In-map-cases (λ (e : NamedInode). e.0) name entries h in
+      subst (NameBefore entry.0) (sym other.1.1) (up.0 other.0 other.1.0)),
+  names-rise entries up.1,
+)
 
 module _ (new : NewLayer) where
   -- ---- the entries of some names
@@ -73,6 +102,21 @@ module _ (new : NewLayer) where
 
     pub entries-rise : (directory : PathNames) → Rises EntryBefore (tree directory)
     entries-rise directory = listed-rise directory (names directory) (rising-names (names directory) (told.in_order directory))
+
+    entries-told : (directory : PathNames) → AreEntriesOf new directory (tree directory)
+    entries-told directory = record {
+      in_order = rising-ascend name_cmp (map (λ entry. entry.0) (tree directory)) (names-rise (tree directory) (entries-rise directory));
+      same = λ name. by name (lookup (name_eq name) (tree directory)) refl (new (child_path directory name)) refl;
+    }
+      where
+        by : (name : PathName) (found : Option Inode) → lookup (name_eq name) (tree directory) ≡ found → (here : Option Inode) → new (child_path directory name) ≡ here → lookup (name_eq name) (tree directory) ≡ new (child_path directory name)
+        by name (Some inode) e here h = e ∙ sym (entry-new directory (name, inode) (found-entry name (tree directory) inode e))
+        by name None e None h = e ∙ sym h
+        by name None e (Some inode) h = absurd (none-found name (tree directory) inode e (new-entry directory name inode h))
+
+    -- visits of these directories tell the new layer
+    pub layer-told : TellsLayer new (tree_kids tree) (tree_out tree)
+    layer-told = record { output = λ piece. entries-told piece.dir; directories = λ piece. refl }
 
     -- ---- the directories among them are lawful kids
 

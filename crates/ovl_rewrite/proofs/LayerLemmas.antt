@@ -1,8 +1,7 @@
 -- From the parcels to the new layer.
-use Rattle.std.proofs.Common.{◌≡◌, ℕ, suc, ◌+◌, ◌-◌, ◌<◌, Bool, true, false, cond, Option, Some, None, List, [], ◌∷◌, ◌++◌, length, map, get_or, drop, refl, sym, ap, ◌∙◌, subst, append_assoc, arith}
-use Rattle.std.specs.Prelude.{Vec, Result, Ok, Err}
-use Rattle.std.specs.Global.{Global}
-use Rattle.std.proofs.lemmas.List.{append-nil, drop-map, drop_more}
+use Rattle.std.proofs.Common.{◌≡◌, ℕ, suc, ◌+◌, ◌-◌, Bool, true, false, cond, Option, Some, None, List, [], ◌∷◌, ◌++◌, length, map, refl, sym, ap, ◌∙◌, subst, append_assoc, arith}
+use Rattle.std.specs.Prelude.{Result, Ok, Err}
+use Rattle.std.proofs.lemmas.List.{append-nil}
 use Rattle.ovl_names.specs.Order.{ascends}
 use Rattle.ovl_inode.specs.declared.inodes.Inode.{Inode}
 use Rattle.ovl_manifest.specs.Layers.{Entry, Entries, entry_cmp, IsLayer}
@@ -12,22 +11,11 @@ use Rattle.ovl_manifest.specs.declared.faults.LayerFault.TheVariants.{NotJson, S
 use Rattle.ovl_manifest.specs.Builders.{pair_after}
 use Rattle.ovl_manifest.proofs.BackLemmas.{pairs-back}
 use Rattle.ovl_manifest.proofs.BuilderLemmas.{pair-taken}
-use Rattle.ovl_board.specs.declared.works.Parcel.{Parcel}
-use Rattle.ovl_board.specs.Parcels.{parcel_view, parcel_views, IsPlain}
-use Rattle.ovl_board.proofs.WalkLemmas.{IsPlain-from_preorder}
-use Rattle.ovl_board.proofs.LawLemmas.{HasReachedPieces-holds}
-use Rattle.ovl_rewrite.specs.Directories.{NamedInode, inodes_seen}
+use Rattle.ovl_board.specs.Parcels.{IsPlain}
+use Rattle.ovl_board.proofs.LawsOfWalks.{IsPlain-from_preorder, HasReachedPieces-holds}
 use Rattle.ovl_rewrite.specs.Passes.{Tree, IsTree, tree_kids, tree_out, entries_under, View, views_under, WalksUnder, StopsUnder}
 use Rattle.ovl_rewrite.specs.NewLayers.{NewLayer, IsOf, IsToldBy, tree_by, root_piece}
 use Rattle.ovl_rewrite.proofs.TreeLemmas.{told-ascend, told-of, is-tree}
-
--- the parcels from a place on begin with the one there
-pub first-view : (parcels : List (Parcel (Vec NamedInode Global))) (place : ℕ) (parcel : Parcel (Vec NamedInode Global)) → place < length parcels → parcel ≡ get_or parcels place parcel
-    → drop place (parcel_views inodes_seen parcels) ≡ parcel_view inodes_seen parcel ∷ drop (place + 1) (parcel_views inodes_seen parcels)
-first-view parcels place parcel inside is =
-    drop-map (parcel_view inodes_seen) place parcels
-    ∙ (ap (map (parcel_view inodes_seen)) (drop_more parcels place parcel inside)
-    ∙ (λ j. parcel_view inodes_seen (sym is j) ∷ sym (drop-map (parcel_view inodes_seen) (place + 1) parcels) j))
 
 -- ---- pairs that are a layer are its entries
 

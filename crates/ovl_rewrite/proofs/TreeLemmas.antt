@@ -8,8 +8,8 @@ use Rattle.ovl_names.specs.Paths.{PathNames, child_path, path_eq, path_cmp}
 use Rattle.ovl_inode.specs.declared.inodes.Inode.{Inode}
 use Rattle.ovl_manifest.specs.Layers.{Entries, Entry, entry_at, entry_cmp}
 use Rattle.ovl_manifest.proofs.LayerLemmas.{path_cmp-same}
-use Rattle.ovl_board.proofs.Members.{In, Rises, In-flat_map, In-flat_map-cases, Rises-flat_map, In-Contains}
-use Rattle.ovl_board.proofs.PieceOrder.{prefix_before, fork_before}
+use Rattle.ovl_board.proofs.LawsOfMembers.{In, Rises, In-flat_map, In-flat_map-cases, Rises-flat_map, In-Contains}
+use Rattle.ovl_board.proofs.LawsOfPieces.{prefix_before, fork_before}
 use Rattle.ovl_rewrite.specs.Directories.{NamedInode}
 use Rattle.ovl_rewrite.specs.Passes.{Tree, IsTree, entries_under}
 use Rattle.ovl_rewrite.specs.NewLayers.{NewLayer, IsOf, is_directory_found, has_directory, tree_by, IsTold}

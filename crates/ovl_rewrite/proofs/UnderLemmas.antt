@@ -11,8 +11,8 @@ use Rattle.ovl_manifest.specs.Layers.{Entries, IsLayer}
 use Rattle.ovl_board.specs.declared.pieces.Piece.{Piece}
 use Rattle.ovl_board.specs.Walks.{preorder}
 use Rattle.ovl_board.specs.Parcels.{own_view}
-use Rattle.ovl_board.proofs.Members.{get_or-In, Contains-In, In}
-use Rattle.ovl_board.proofs.WalkLemmas.{preorder_step}
+use Rattle.ovl_board.proofs.LawsOfMembers.{get_or-In, Contains-In, In}
+use Rattle.ovl_board.proofs.LawsOfWalks.{preorder_step}
 use Rattle.ovl_rewrite.specs.Directories.{NamedInode, piece_in, directories_among}
 use Rattle.ovl_rewrite.specs.Passes.{Tree, IsTree, tree_kids, tree_out, entries_under, View, views_under, WalksUnder, StopsUnder}
 
@@ -84,12 +84,6 @@ WalksAmong before after i old new =
     (tree : Tree) (deepest : ℕ) → IsTree tree deepest → (piece : Piece) (rest : List View) → before ≡ views_under tree deepest piece ++ rest →
     (after ≡ views_among tree deepest piece (drop i (tree piece.dir)) ++ rest)
     × (new ≡ old ++ entries_among tree deepest piece (take i (tree piece.dir)))
-
--- a tree has a parcel of its directory first
-pub walk-none : (after : List View) (old new : Entries) → WalksUnder [] after old new
-walk-none after old new tree deepest is piece rest is_under =
-    let bad : 0 ≡ length (views_under tree deepest piece ++ rest) = ap length is_under in
-    absurd (omega (arith, bad, ap (λ (views : List View). length (views ++ rest)) (views-first tree deepest is piece)))
 
 module _ (before : List View) (view : View) (later : List View) (first : before ≡ view ∷ later) where
   head : (tree : Tree) (deepest : ℕ) (is : IsTree tree deepest) (piece : Piece) (rest : List View) → before ≡ views_under tree deepest piece ++ rest

@@ -1,7 +1,8 @@
 -- What a new layer has at each path, told directory by directory.
-use Rattle.std.specs.Prelude.{◌≡◌, ◌≤◌, ℕ, Bool, true, false, Option, Some, None, List, [], length}
+use Rattle.std.specs.Prelude.{◌≡◌, ◌≤◌, ℕ, Bool, true, false, Option, Some, None, List, [], length, map}
 use Rattle.std.specs.Option.{option_map}
 use Rattle.std.specs.List.{list_any, filter_map}
+use Rattle.std.specs.Map.{lookup}
 use Rattle.ovl_names.specs.Names.{PathName, name_eq, name_cmp}
 use Rattle.ovl_names.specs.Order.{ascends}
 use Rattle.ovl_names.specs.Paths.{PathNames, child_path}
@@ -10,7 +11,7 @@ use Rattle.ovl_inode.specs.Marks.{is_directory}
 use Rattle.ovl_manifest.specs.Layers.{Entries, entry_at}
 use Rattle.ovl_board.specs.declared.pieces.Piece.{Piece}
 use Rattle.ovl_board.specs.Parcels.{IsPlain}
-use Rattle.ovl_rewrite.specs.Directories.{NamedInode}
+use Rattle.ovl_rewrite.specs.Directories.{NamedInode, directories_among}
 use Rattle.ovl_rewrite.specs.Passes.{Tree, View, tree_kids, tree_out}
 
 -- a new layer: what it has at each path
@@ -27,6 +28,17 @@ is_directory_found found = elim found [ Some inode ↦ is_directory inode | None
 
 abbrev pub has_directory : NewLayer → PathNames → Bool
 has_directory new path = is_directory_found (new path)
+
+-- the entries of a directory: each name that has an entry in it once, in order, with its inode
+pub record AreEntriesOf (new : NewLayer) (directory : PathNames) (entries : List NamedInode) : Type 0 where
+  pub in_order : ascends name_cmp (map (λ entry. entry.0) entries) ≡ true
+  pub same : (name : PathName) → lookup (name_eq name) entries ≡ new (child_path directory name)
+
+-- a work's visits tell a new layer: a piece puts out the entries of its directory, and its kids are those of them that
+-- are directories
+pub record TellsLayer (new : NewLayer) (kids : Piece → List Piece) (out : Piece → List NamedInode) : Type 0 where
+  pub output : (piece : Piece) → AreEntriesOf new piece.dir (out piece)
+  pub directories : (piece : Piece) → kids piece ≡ directories_among piece (out piece)
 
 -- its tree by the names that may have an entry in each directory
 abbrev pub named_entry : NewLayer → PathNames → PathName → Option NamedInode

@@ -13,16 +13,14 @@ use Rattle.ovl_names.specs.Paths.{PathNames, child_path, path_eq, path_cmp, dept
 use Rattle.ovl_names.proofs.Ascending.{both, is_lt-Less}
 use Rattle.ovl_inode.specs.declared.inodes.Inode.{Inode}
 use Rattle.ovl_manifest.specs.Layers.{Entries, Entry, entry_at, entry_cmp, name_below, names_below, IsLayer}
-use Rattle.ovl_lookup.proofs.ChildLemmas.{entry-limited, name_below-child}
-use Rattle.ovl_lookup.proofs.PathLemmas.{filter-all}
-use Rattle.ovl_lookup.proofs.EntryLaws.{directory-entry, entry-above}
+use Rattle.ovl_lookup.proofs.LawsOfWalks.{entry-limited, name_below-child, directory-entry, entry-above}
+use Rattle.ovl_lookup.proofs.LawsOfPaths.{filter-all}
 use Rattle.ovl_board.specs.declared.pieces.Piece.{Piece}
 use Rattle.ovl_board.specs.Pieces.{IsBefore, IsOneBelow, HasLawfulKids}
 use Rattle.ovl_board.specs.Walks.{Reached, start, next, IsWalk, ToKid, preorder}
-use Rattle.ovl_board.proofs.Members.{In, Every, Rises, All-Every, Every-All, AllPairs-Rises, Rises-AllPairs, Contains-In, In-Contains, In-map, In-map-cases, In-filter-cases, Rises-filter, rising_same}
-use Rattle.ovl_board.proofs.PieceOrder.{siblings, fork_before, before_trans}
-use Rattle.ovl_board.proofs.CountLemmas.{less_differs, piece_eq}
-use Rattle.ovl_board.proofs.WalkLemmas.{IsWalk-preorder}
+use Rattle.ovl_board.proofs.LawsOfMembers.{In, Every, Rises, All-Every, Every-All, AllPairs-Rises, Rises-AllPairs, Contains-In, In-Contains, In-map, In-map-cases, In-filter-cases, Rises-filter, rising_same}
+use Rattle.ovl_board.proofs.LawsOfPieces.{siblings, fork_before, before_trans, less_differs, piece_eq}
+use Rattle.ovl_board.proofs.LawsOfWalks.{IsWalk-preorder}
 use Rattle.ovl_vacuum.specs.Directories.{piece_in, vacuum_root}
 use Rattle.ovl_vacuum.specs.Passes.{paths_under}
 

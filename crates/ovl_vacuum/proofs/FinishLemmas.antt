@@ -13,17 +13,17 @@ use Rattle.ovl_manifest.specs.Layers.{Entries, Entry, entry_at, entry_cmp, IsLay
 use Rattle.ovl_manifest.specs.Manifest.{layer_of_pairs}
 use Rattle.ovl_manifest.proofs.BackLemmas.{pairs-back}
 use Rattle.ovl_lookup.specs.Stacks.{StackView}
-use Rattle.ovl_lookup.proofs.PathLemmas.{own-first, own-later}
+use Rattle.ovl_lookup.proofs.LawsOfPaths.{own-first, own-later}
 use Rattle.ovl_board.specs.declared.works.Parcel.{Parcel}
 use Rattle.ovl_board.specs.Parcels.{parcel_view, parcel_views}
-use Rattle.ovl_board.proofs.Members.{In, Every, Every-All, In-right}
+use Rattle.ovl_board.proofs.LawsOfMembers.{In, Every, Every-All, In-right}
 use Rattle.ovl_vacuum.specs.Vacuum.{is_idle, vacuumed_layer, removed_paths}
 use Rattle.ovl_lookup.specs.Words.{top_layer, lower_layers}
 use Rattle.ovl_vacuum.specs.Directories.{IdleName, names_seen, is_idle_at, vacuum_root, IsVacuumWalk}
 use Rattle.ovl_vacuum.specs.Passes.{View, IdlePath, idle_path, IsDirectoryView, begins_at, views_under, paths_under, WalksUnder, left_after_pass, gone_after_pass, entries_at}
 use Rattle.ovl_vacuum.proofs.VacuumLemmas.{entry-left}
 use Rattle.ovl_vacuum.proofs.KeptLemmas.{IsLayer-vacuumed}
-use Rattle.ovl_lookup.proofs.TopLaws.{top-layer}
+use Rattle.ovl_lookup.proofs.LawsOfLooks.{top-layer}
 use Rattle.ovl_vacuum.proofs.DirectoryLemmas.{all-paths}
 use Rattle.ovl_vacuum.proofs.UnderLemmas.{views-first, walk-whole}
 use Rattle.ovl_vacuum.proofs.FoldLemmas.{marks, pass-left, pass-gone}

@@ -18,13 +18,11 @@ use Rattle.ovl_lookup.specs.declared.steps.Step.{Step}
 use Rattle.ovl_lookup.specs.Walk.{turn, is_shut, walk, walk_beyond, nothing_found, natural_path}
 use Rattle.ovl_lookup.specs.Stacks.{StackView}
 use Rattle.ovl_lookup.specs.Merged.{look}
-use Rattle.ovl_lookup.proofs.WalkFacts.{walk-whole, walk-stop, lookup-all, directory-above}
+use Rattle.ovl_lookup.proofs.LawsOfWalks.{walk-whole, walk-stop, directory-above, directory-parent_of, entry-parent, entry-above, directory-entry, directory_found, same-mark, same-turn, same-walk, Beyond, walk-end, walk-past}
+use Rattle.ovl_lookup.proofs.LawsOfPaths.{lookup-all, last-name, under-child, all-imply, filter-all, all-entries}
 use Rattle.ovl_lookup.specs.Equal.{look_eq}
 use Rattle.ovl_lookup.specs.Words.{over, is_at_or_under, SameEntries}
-use Rattle.ovl_lookup.proofs.PathLemmas.{last-name, under-child, all-imply, filter-all, all-entries}
-use Rattle.ovl_lookup.proofs.EntryLaws.{directory-parent_of, entry-parent, entry-above, directory-entry}
-use Rattle.ovl_lookup.proofs.LookLaws.{look-same, look-open}
-use Rattle.ovl_lookup.proofs.WalkLaws.{directory_found, same-mark, same-turn, same-walk, Beyond, walk-end, walk-past}
+use Rattle.ovl_lookup.proofs.LawsOfLooks.{look-same, look-open}
 use Rattle.ovl_vacuum.specs.Vacuum.{may_be_idle, is_idle, is_idle_throughout, vacuumed_layer}
 use Rattle.ovl_vacuum.specs.Laws.{VacuumKeepsTree, VacuumGivesLayer, VacuumLeavesNothingIdle}
 use Rattle.ovl_vacuum.proofs.VacuumLemmas.{entry-stays, entry-goes, entry-left, idle-each, idle-at, idle-facts, idle-shown}

@@ -17,9 +17,9 @@ use Rattle.ovl_lookup.specs.Stacks.{StackView}
 use Rattle.ovl_lookup.specs.Trace.{things_found}
 use Rattle.ovl_lookup.specs.Merged.{look, is_nothing, is_shown_directory, data_of}
 use Rattle.ovl_lookup.specs.Sound.{is_malformed, is_moved, is_meta, is_plain, has_other_size, goes_on_there, is_seen_there, redirect_is_double, redirect_is_open}
-use Rattle.ovl_lookup.proofs.PathLemmas.{some-entry, any-entry}
-use Rattle.ovl_lookup.proofs.SoundLaws.{Faultless, sound-first, sound-rest, sound-whole}
-use Rattle.ovl_lookup.proofs.WalkLaws.{same-mark, same-walk, Beyond, walk-end, walk-past}
+use Rattle.ovl_lookup.proofs.LawsOfPaths.{some-entry, any-entry}
+use Rattle.ovl_lookup.proofs.LawsOfLooks.{Faultless, sound-first, sound-rest, sound-whole}
+use Rattle.ovl_lookup.proofs.LawsOfWalks.{same-mark, same-walk, Beyond, walk-end, walk-past}
 use Rattle.ovl_vacuum.specs.Vacuum.{is_idle_throughout, vacuumed_layer}
 use Rattle.ovl_vacuum.specs.Laws.{VacuumKeepsSoundness}
 use Rattle.ovl_vacuum.proofs.VacuumLemmas.{idle-each, idle-seen, entry-left}

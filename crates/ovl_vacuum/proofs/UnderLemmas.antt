@@ -9,15 +9,13 @@ use Rattle.ovl_names.specs.Names.{PathName}
 use Rattle.ovl_names.specs.Paths.{PathNames, child_path, depth_limit}
 use Rattle.ovl_manifest.specs.Layers.{is_directory_at, names_below, IsLayer}
 use Rattle.ovl_lookup.specs.Stacks.{StackView}
-use Rattle.ovl_lookup.proofs.ChildLemmas.{entry-limited}
-use Rattle.ovl_lookup.proofs.EntryLaws.{entry-parent}
+use Rattle.ovl_lookup.proofs.LawsOfWalks.{entry-limited, entry-parent}
 use Rattle.ovl_board.specs.declared.pieces.Piece.{Piece}
 use Rattle.ovl_board.specs.Walks.{Reached, start, next, ToKid, preorder}
 use Rattle.ovl_board.specs.Parcels.{own_view, pieces_of}
-use Rattle.ovl_board.proofs.Members.{In, Every, All-Every, Every-All, In-map, In-Contains}
+use Rattle.ovl_board.proofs.LawsOfMembers.{In, Every, All-Every, Every-All, In-map, In-Contains}
 use Rattle.std.proofs.Math.ListN.{drop_of_length-le}
-use Rattle.ovl_board.proofs.WalkLemmas.{preorder_step, IsPlain-from_preorder}
-use Rattle.ovl_board.proofs.LawLemmas.{HasReachedPieces-holds}
+use Rattle.ovl_board.proofs.LawsOfWalks.{preorder_step, IsPlain-from_preorder, HasReachedPieces-holds}
 use Rattle.ovl_lookup.specs.Words.{top_layer}
 use Rattle.ovl_vacuum.specs.Directories.{IdleName, is_idle_at, idle_name, piece_in, vacuum_kids, vacuum_out, vacuum_root, IsVacuumWalk}
 use Rattle.ovl_vacuum.specs.Passes.{View, IdlePath, idle_path, IsDirectoryView, begins_at, views_under, paths_under, WalksUnder}

@@ -22,13 +22,12 @@ use Rattle.ovl_lookup.specs.Walk.{mark_at, turn, is_shut, walk, walk_beyond, not
 use Rattle.ovl_lookup.specs.Stacks.{StackView}
 use Rattle.ovl_lookup.specs.Merged.{look, is_shown_directory}
 use Rattle.ovl_lookup.specs.Sound.{is_plain}
-use Rattle.ovl_lookup.proofs.WalkFacts.{walk-whole, walk-stop, lookup-all, parent_path-child}
+use Rattle.ovl_lookup.proofs.LawsOfWalks.{walk-whole, walk-stop, natural_path-child, directory_found, mark-child, turn-at, is_shut-at}
+use Rattle.ovl_lookup.proofs.LawsOfPaths.{lookup-all, parent_path-child, under-append}
 use Rattle.ovl_lookup.specs.Equal.{look_eq}
 use Rattle.ovl_lookup.specs.Words.{over, is_at_or_under}
 use Rattle.ovl_lookup.specs.EqualLaws.{look_eq-same}
-use Rattle.ovl_lookup.proofs.PathLemmas.{under-append, natural_path-child}
-use Rattle.ovl_lookup.proofs.LookLaws.{look-by, look-open, look-closed, file-walked, nothing-under}
-use Rattle.ovl_lookup.proofs.WalkLaws.{directory_found, mark-child, turn-at, is_shut-at}
+use Rattle.ovl_lookup.proofs.LawsOfLooks.{look-by, look-open, look-closed, file-walked, nothing-under}
 use Rattle.ovl_vacuum.specs.Vacuum.{may_be_idle, is_idle, is_idle_throughout, vacuumed_layer}
 
 -- ---- what an idle entry is

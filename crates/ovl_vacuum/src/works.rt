@@ -1,4 +1,5 @@
 ghost use Rattle.std.specs.Prelude.{◌≡◌};
+ghost use Rattle.ovl_vacuum.specs.Directories.{TellsIdle};
 
 use crate::directories::Directory;
 use ovl_board::{Piece, Work};
@@ -24,10 +25,13 @@ impl<'a> Model for VacuumWork<'a> {
 }
 
 impl<'a> VacuumWork<'a> {
-    /// The work of this stack.
+    /// The work of this stack; its visits tell what is idle in the topmost layer.
     pub fn new(stack: &'a Stack) -> VacuumWork<'a>
-        ensures { result ≡ stack.now }
+        ensures value { result ≡ stack.now }
+        ensures tells { TellsIdle stack.now }
     {
+        // Each layer of a stack is one.
+        let _layers = stack.ordinary();
         VacuumWork { stack }
     }
 }

@@ -1,7 +1,7 @@
 use Rattle.std.proofs.Common.{◌-◌, sym, arith, ◌∙◌}
 use Rattle.ovl_board.specs.Pieces.{IsBefore}
-use Rattle.ovl_board.proofs.Members.{AllPairs-Rises, Rises-from_adjacent}
-use Rattle.ovl_board.proofs.PieceOrder.{before_trans}
+use Rattle.ovl_board.proofs.LawsOfMembers.{AllPairs-Rises, Rises-from_adjacent}
+use Rattle.ovl_board.proofs.LawsOfPieces.{before_trans}
 use Rattle.ovl_board.proofs.SortLemmas.{double_at, ascend_more}
 use Rattle.ovl_board.proofs.CountLemmas.{same_from_eq, differ_from_eq}
 use Rattle.std.proofs.lemmas.List.{get_or_read}

@@ -7,7 +7,7 @@ use Rattle.ovl_board.specs.Assembly.{bare}
 use Rattle.ovl_board.proofs.CountLemmas.{same_from_eq}
 use Rattle.ovl_board.specs.Pieces.{IsBefore}
 use Rattle.ovl_board.specs.Parcels.{pieces_of}
-use Rattle.ovl_board.proofs.Members.{Rises, AllPairs-Rises}
+use Rattle.ovl_board.proofs.LawsOfMembers.{Rises, AllPairs-Rises}
 use Rattle.ovl_board.proofs.DescentLemmas.{Descends, opened-at, descended-at}
 use Rattle.ovl_board.proofs.assembly.is_walk.Goals as goal
 

@@ -1,4 +1,4 @@
-use Rattle.ovl_board.proofs.OwnLemmas.{balanced_plain}
+use Rattle.ovl_board.proofs.LawsOfWalks.{balanced_plain}
 use Rattle.ovl_board.proofs.laws.balanced_parcels_are_plain.Goals as goal
 
 pub returns : goal.returns

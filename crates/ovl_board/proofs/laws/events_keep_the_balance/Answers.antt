@@ -1,4 +1,4 @@
-use Rattle.ovl_board.proofs.LawLemmas.{KeepsBalance-holds}
+use Rattle.ovl_board.proofs.LawsOfWalks.{KeepsBalance-holds}
 use Rattle.ovl_board.proofs.laws.events_keep_the_balance.Goals as goal
 
 pub returns : goal.returns

@@ -1,4 +1,4 @@
-use Rattle.ovl_board.proofs.LawLemmas.{OwnAssemble-holds}
+use Rattle.ovl_board.proofs.LawsOfWalks.{OwnAssemble-holds}
 use Rattle.ovl_board.proofs.laws.own_parcels_assemble.Goals as goal
 
 pub returns : goal.returns

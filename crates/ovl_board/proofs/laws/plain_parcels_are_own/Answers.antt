@@ -1,4 +1,4 @@
-use Rattle.ovl_board.proofs.OwnLemmas.{plain_own}
+use Rattle.ovl_board.proofs.LawsOfWalks.{plain_own}
 use Rattle.ovl_board.proofs.laws.plain_parcels_are_own.Goals as goal
 
 pub returns : goal.returns

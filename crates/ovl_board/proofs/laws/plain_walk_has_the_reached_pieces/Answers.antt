@@ -1,4 +1,4 @@
-use Rattle.ovl_board.proofs.LawLemmas.{HasReachedPieces-holds}
+use Rattle.ovl_board.proofs.LawsOfWalks.{HasReachedPieces-holds}
 use Rattle.ovl_board.proofs.laws.plain_walk_has_the_reached_pieces.Goals as goal
 
 pub returns : goal.returns

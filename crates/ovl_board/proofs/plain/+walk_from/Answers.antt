@@ -1,8 +1,9 @@
 use Rattle.std.proofs.Common.{◌++◌, ◌∷◌, [], ◌-◌, length, arith, sym, ap, ◌∙◌, subst, append_assoc, inl, refl}
 use Rattle.ovl_board.specs.Walks.{preorder}
 use Rattle.ovl_board.specs.Parcels.{own_view}
-use Rattle.ovl_board.proofs.Members.{In, In-right}
-use Rattle.ovl_board.proofs.WalkLemmas.{kid_depth, kid_fuel, walk_more, walk_done}
+use Rattle.ovl_board.proofs.LawsOfMembers.{In, In-right}
+use Rattle.ovl_board.proofs.LawsOfWalks.{kid_depth, kid_fuel}
+use Rattle.ovl_board.proofs.WalkLemmas.{walk_more, walk_done}
 use Rattle.ovl_board.proofs.plain.+walk_from.Goals as goal
 
 pub walk_from-requires : goal.walk_from-requires

@@ -1,7 +1,7 @@
 use Rattle.std.proofs.Common.{◌∙◌, ap, ◌++◌, ◌-◌, map, length}
 use Rattle.ovl_board.specs.Walks.{preorder}
 use Rattle.ovl_board.specs.Parcels.{parcel_views, own_view}
-use Rattle.ovl_board.proofs.WalkLemmas.{IsPlain-from_preorder}
+use Rattle.ovl_board.proofs.LawsOfWalks.{IsPlain-from_preorder}
 use Rattle.ovl_board.proofs.plain.plain_walk.Goals as goal
 
 pub returns : goal.returns

@@ -2,8 +2,8 @@ use Rattle.std.proofs.Common.{◌≡◌, ◌<◌, ◌-◌, true, false, refl, ap
 use Rattle.std.proofs.lemmas.List.{get_or_read}
 use Rattle.std.specs.Ordering.{is_ge}
 use Rattle.ovl_board.specs.Pieces.{IsBefore, piece_cmp}
-use Rattle.ovl_board.proofs.Members.{AllPairs-Rises, Rises-from_adjacent}
-use Rattle.ovl_board.proofs.PieceOrder.{before_trans, partial_ge-piece}
+use Rattle.ovl_board.proofs.LawsOfMembers.{AllPairs-Rises, Rises-from_adjacent}
+use Rattle.ovl_board.proofs.LawsOfPieces.{before_trans, partial_ge-piece}
 use Rattle.ovl_board.proofs.works.ascends.Goals as goal
 
 pub returns : goal.returns

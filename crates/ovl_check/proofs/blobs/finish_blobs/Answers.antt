@@ -6,7 +6,7 @@ use Rattle.std.specs.Cmp.Lexicographic.{nat_list_cmp_total, nat_list_eq_equiv, t
 use Rattle.std.specs.Str.{bytes_eq}
 use Rattle.std.specs.List.{dedup}
 use Rattle.ovl_board.specs.Parcels.{parcel_views}
-use Rattle.ovl_board.proofs.Members.{In, Contains-In, In-Contains}
+use Rattle.ovl_board.proofs.LawsOfMembers.{In, Contains-In, In-Contains}
 use Rattle.ovl_check.specs.Blobs.{digest_cmp}
 use Rattle.ovl_check.proofs.Ascent.{Rises-sorted}
 use Rattle.ovl_check.proofs.Plain.{seen-flat}

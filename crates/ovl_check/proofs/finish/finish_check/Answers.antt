@@ -5,7 +5,7 @@ use Rattle.std.proofs.lemmas.List.Filters.{dedup_is}
 use Rattle.std.proofs.lemmas.List.Kept.{Contains-dedup, Contains-from_dedup, IsStrictlySortedBy-dedup}
 use Rattle.std.proofs.lemmas.List.Sorted.{Contains-permutation, IsPermutation-sym, IsPermutation-trans}
 use Rattle.ovl_board.specs.Parcels.{parcel_views}
-use Rattle.ovl_board.proofs.Members.{In, Contains-In, In-Contains}
+use Rattle.ovl_board.proofs.LawsOfMembers.{In, Contains-In, In-Contains}
 use Rattle.ovl_check.specs.declared.findings.Finding.{Finding}
 use Rattle.ovl_check.specs.Findings.{findings_from}
 use Rattle.ovl_check.specs.Checks.{check_seen}

@@ -4,7 +4,7 @@ use Rattle.ovl_names.specs.Paths.{child_path}
 use Rattle.ovl_inode.specs.declared.inodes.Inode.{Inode}
 use Rattle.ovl_inode.specs.Marks.{is_directory}
 use Rattle.ovl_manifest.specs.Layers.{is_directory_at}
-use Rattle.ovl_lookup.proofs.WalkFacts.{length-child}
+use Rattle.ovl_lookup.proofs.LawsOfPaths.{length-child}
 use Rattle.ovl_check.specs.declared.facts.KindFacts.TheVariants.{Metacopy}
 use Rattle.ovl_check.specs.Conditions.{has_origin_at}
 use Rattle.ovl_check.specs.Facts.{is_whiteout_mark}

@@ -11,5 +11,5 @@ returns-in_err-parcels-clause-fault g c =
     let fault = c.in_err-parcels.field-0.0 in
     rw (out.1, out.2) (λ blobs clean. failed Deref c.args.stack.now blobs (g.G.Gate.may_refuse c.args.gate.now) fault
     (λ e. not_beyond worker_limit c.args.workers c.requires.number.0 c.requires.number.1 (c.in_err-parcels.ensures.workers.0 (ap Err e)))
-    (λ e. inr (rw (c.new-work.ensures, c.root.ensures) at (c.in_err-parcels.ensures.gate (ap Err e))))
+    (λ e. inr (rw (c.new-work.ensures.value, c.root.ensures) at (c.in_err-parcels.ensures.gate (ap Err e))))
     c.in_err-parcels.ensures.board)

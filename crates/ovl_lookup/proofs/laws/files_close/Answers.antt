@@ -1,4 +1,4 @@
-use Rattle.ovl_lookup.proofs.PassLaws.{found-closes}
+use Rattle.ovl_lookup.proofs.LawsOfWalks.{found-closes}
 use Rattle.ovl_lookup.proofs.laws.files_close.Goals as goal
 
 pub returns : goal.returns

@@ -1,4 +1,4 @@
-use Rattle.ovl_lookup.proofs.NamedWalks.{walk-named}
+use Rattle.ovl_lookup.proofs.LawsOfNames.{walk-named}
 use Rattle.ovl_lookup.proofs.laws.walks_keep_names.Goals as goal
 
 pub returns : goal.returns

@@ -1,4 +1,4 @@
-use Rattle.ovl_lookup.proofs.PassLaws.{passes-over}
+use Rattle.ovl_lookup.proofs.LawsOfWalks.{passes-over}
 use Rattle.ovl_lookup.proofs.laws.walks_pass_over.Goals as goal
 
 pub returns : goal.returns

@@ -1,7 +1,7 @@
 use Rattle.std.proofs.Common.{List, [], ◌∷◌, sym, ap, ◌∙◌}
 use Rattle.std.specs.BTreeSet.{insert_key}
 use Rattle.ovl_names.specs.Names.{PathName, name_cmp}
-use Rattle.ovl_lookup.proofs.KidLemmas.{put_names-append}
+use Rattle.ovl_lookup.proofs.LawsOfKids.{put_names-append}
 use Rattle.ovl_lookup.proofs.lists.put_all.Goals as goal
 
 pub loop-name-preserved : goal.loop-name-preserved

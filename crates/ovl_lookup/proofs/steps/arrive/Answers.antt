@@ -8,8 +8,8 @@ use Rattle.ovl_manifest.proofs.NodeLemmas.{entry_at-under}
 use Rattle.ovl_lookup.specs.declared.steps.Descent.{Descent}
 use Rattle.ovl_lookup.specs.declared.steps.Step.{Step}
 use Rattle.ovl_lookup.specs.Walk.{turn, is_shut}
-use Rattle.ovl_lookup.proofs.WalkFacts.{walk-whole}
-use Rattle.ovl_lookup.proofs.DirViewLemmas.{entry-of_row, not-directory, ends-there, goes-past}
+use Rattle.ovl_lookup.proofs.LawsOfWalks.{walk-whole, entry-of_row}
+use Rattle.ovl_lookup.proofs.DirViewLemmas.{not-directory, ends-there, goes-past}
 use Rattle.ovl_lookup.proofs.TrailLemmas.{name-read, name-past}
 use Rattle.ovl_lookup.proofs.steps.arrive.Goals as goal
 

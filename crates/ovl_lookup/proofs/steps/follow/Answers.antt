@@ -12,7 +12,7 @@ use Rattle.ovl_lookup.specs.declared.steps.Step.{Step}
 use Rattle.ovl_lookup.specs.Passes.{step_of}
 use Rattle.ovl_lookup.specs.Walk.{walk_beyond, nothing_found}
 use Rattle.ovl_lookup.proofs.WalkFacts.{walk-ends, walk-misses, walk-ends_whole, stopped, drop-head}
-use Rattle.ovl_lookup.proofs.DirViewLemmas.{entry-of_row}
+use Rattle.ovl_lookup.proofs.LawsOfWalks.{entry-of_row}
 use Rattle.ovl_lookup.proofs.TrailLemmas.{name-read, name-past}
 use Rattle.ovl_lookup.proofs.steps.follow.Goals as goal
 

@@ -7,7 +7,7 @@ use Rattle.ovl_lookup.specs.declared.steps.Descent.{Descent}
 use Rattle.ovl_lookup.specs.declared.steps.Step.{Step}
 use Rattle.ovl_lookup.specs.Passes.{IsDescent}
 use Rattle.ovl_lookup.specs.Walk.{turn, is_shut}
-use Rattle.ovl_lookup.proofs.WalkFacts.{walk-whole}
+use Rattle.ovl_lookup.proofs.LawsOfWalks.{walk-whole}
 use Rattle.ovl_lookup.proofs.DirViewLemmas.{short-descent}
 use Rattle.ovl_lookup.proofs.steps.trail_in.Goals as goal
 

@@ -5,14 +5,12 @@ use Rattle.std.specs.Cow.{cow_str_bytes}
 use Rattle.std.specs.Fmt.{signed_decimal}
 use Rattle.json.specs.Print.{quoted}
 use Rattle.serde_json.specs.Data.{object}
-use Rattle.serde_json.specs.Written.{number_text, compact_text}
-use Rattle.serde_json.specs.Find.{of_integer}
-use Rattle.ovl_names.specs.Paths.{path_text}
-use Rattle.ovl_inode.specs.Kinds.{kind_word}
+use Rattle.serde_json.specs.Written.{compact_text}
+use Rattle.ovl_inode.specs.declared.inodes.Inode.{Inode}
 use Rattle.ovl_manifest.specs.Text.{attribute_members, entry_value}
-use Rattle.ovl_manifest.specs.Compact.{group_text, device_text, contents_text, blob_of_kind, device_of_kind}
+use Rattle.ovl_manifest.specs.Compact.{group_text, device_text, contents_text}
 use Rattle.ovl_manifest.proofs.TokenLemmas.{seconds_text}
-use Rattle.ovl_manifest.proofs.CompactLemmas.{in_turn, entry_text}
+use Rattle.ovl_manifest.proofs.CompactLemmas.{in_turn, pieces, entry_text}
 use Rattle.ovl_manifest.proofs.compact_entries.read_entry.Goals as goal
 
 -- piece after piece
@@ -32,7 +30,8 @@ returns-then-sound-clause-text c = λ path spelled.
     let uid = c.in_ok-uid.uid in
     let attrs = c.in_ok-attrs.attrs in
     let rest : List ℕ = c.take-7.new.self in
-    let taken : c.args.rest.now ≡ in_turn blob gid word device mode (signed_decimal seconds) text kind uid attrs rest =
+    let inode : Inode = record { kind = kind; mode = mode; uid = uid; gid = gid; mtime = seconds; attrs = attrs } in
+    let taken : c.args.rest.now ≡ in_turn blob word device inode (signed_decimal seconds) text rest =
     behind (group_text blob gid) c.in_ok-group.ensures
     (behind (codes ",\"kind\":") c.in_ok-take.ensures
     (behind (quoted word) c.in_ok-word.ensures
@@ -49,8 +48,8 @@ returns-then-sound-clause-text c = λ path spelled.
     (behind (codes ",\"xattrs\":") c.in_ok-take-6.ensures
     (behind (compact_text (object (attribute_members attrs))) c.in_ok-attrs.ensures c.in_ok-take-7.ensures)))))))))))))) in
     let is = c.in_ok-kind.ensures.kind in
-    let own : in_turn blob gid word device mode (signed_decimal seconds) text kind uid attrs rest ≡ in_turn (blob_of_kind kind) gid (kind_word kind) (device_of_kind kind) mode (number_text (of_integer seconds)) (path_text path) kind uid attrs rest =
-    λ j. in_turn (sym is.same_blob j) gid (sym is.same_word j) (sym is.same_device j) mode (sym (seconds_text seconds) j) (sym spelled j) kind uid attrs rest in
-    let whole = taken ∙ (own ∙ entry_text path kind mode uid gid seconds attrs rest) in
+    let own : in_turn blob word device inode (signed_decimal seconds) text rest ≡ pieces path inode kind rest =
+    λ j. in_turn (sym is.same_blob j) (sym is.same_word j) (sym is.same_device j) inode (sym (seconds_text seconds) j) (sym spelled j) rest in
+    let whole = taken ∙ (own ∙ entry_text path inode rest) in
     let fits : SFits w64 seconds = search rules in
-    subst (λ (mtime : ℤ). c.args.rest.now ≡ compact_text (entry_value (path, record { kind = kind; mode = mode; uid = uid; gid = gid; mtime = mtime; attrs = attrs })) ++ rest) (sym (to_z-of_z w64 seconds fits)) whole
+    subst (λ (mtime : ℤ). c.args.rest.now ≡ compact_text (entry_value (path, record inode { mtime = mtime })) ++ rest) (sym (to_z-of_z w64 seconds fits)) whole

@@ -1,7 +1,7 @@
 use Rattle.std.proofs.Common.{◌≡◌, ◌≤◌, ◌∙◌, ℕ, ap, arith, length, get_or, take}
 use Rattle.std.proofs.Math.Seq.{take-length}
 use Rattle.std.specs.Prelude.{nat_le}
-use Rattle.ovl_names.specs.Paths.{PathNames, text_limit}
+use Rattle.ovl_names.specs.Paths.{PathNames, depth_limit, text_limit}
 use Rattle.ovl_manifest.specs.TextPaths.{slashed}
 use Rattle.ovl_manifest.proofs.EntryLemmas.{name_length, slashed-more, limits}
 use Rattle.ovl_manifest.proofs.entries.is_within_limits.Goals as goal
@@ -11,7 +11,7 @@ short c = omega (arith, ap length c.as_str.ensures.value, name_length c.name-ite
 
 pub overflow_add-bytes-in-loop-name : goal.overflow_add-bytes-in-loop-name
 overflow_add-bytes-in-loop-name c =
-    let few : length c.names-name-items.result.now ≤ 64 = omega (arith, ap length c.names-name-items.ensures.value, c.len.ensures, c.if-len-gt-DEPTH_LIMIT.false) in
+    let few : length c.names-name-items.result.now ≤ depth_limit = omega (arith, ap length c.names-name-items.ensures.value, c.len.ensures, c.if-len-gt-DEPTH_LIMIT.false) in
     omega (arith, short c, few, c.loop-name.invariant.small, c.loop-name-test.true)
 
 pub loop-name-preserved : goal.loop-name-preserved

@@ -8,6 +8,6 @@ use Rattle.ovl_manifest.proofs.reading.read_entries.Given as goal
 abbrev pub invariant-loop-number : goal.invariant-loop-number
 invariant-loop-number l = record {
   draft : IsDraft l.draft;
-  stated : entries_after [] (stated_entries (items_view (take l.number l.fn.values))) ≡ Ok (draft_entries l.draft);
+  stated : entries_after [] (stated_entries l.version (items_view (take l.number l.fn.values))) ≡ Ok (draft_entries l.draft);
   count : length (draft_entries l.draft) ≡ l.number;
 }

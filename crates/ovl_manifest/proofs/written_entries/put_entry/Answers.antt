@@ -29,7 +29,7 @@ returns-clause-tokens c =
     let attributes : Grows c.key-2.new.self.tokens (value_tokens (object (attribute_members i.attrs))) c.put_attributes.new.out.tokens = record { is = search rules } in
     on_ok_weaker c.end_object.result (λ e path same.
     let end : Grows c.put_attributes.new.out.tokens (end_object ∷ []) c.end_object.new.self.tokens = record { is = e } in
-    let whole = ap (λ seconds. members_in_turn path i.kind i.mode i.uid i.gid seconds i.attrs) (sym (seconds_text i.mtime)) ∙ entry_in_turn path i.kind i.mode i.uid i.gid i.mtime i.attrs in
+    let whole = ap (members_in_turn path i) (sym (seconds_text i.mtime)) ∙ entry_in_turn path i in
     let named_so : Grows c.i64.new.self.tokens (text_member (codes "path") (path_text path)) c.put_text-2.new.out.tokens = subst (λ (t : List ℕ). Grows c.i64.new.self.tokens (text_member (codes "path") t) c.put_text-2.new.out.tokens) same placed in
     (onto begin (onto blob (onto gid (onto kind (onto device (onto mode (onto named (onto seconds (onto named_so (onto contents (onto uid (onto last (onto attributes end))))))))))))).is
     ∙ ap (λ ts. c.args.out.now.tokens ++ ts) whole) c.end_object.ensures.ok

@@ -3,7 +3,7 @@ use Rattle.std.specs.List.{filter_map}
 use Rattle.ovl_names.specs.Names.{name_cmp}
 use Rattle.ovl_names.specs.Order.{ascends}
 use Rattle.ovl_lookup.specs.Passes.{own_names_along}
-use Rattle.ovl_lookup.proofs.KidLemmas.{ascends-put}
+use Rattle.ovl_lookup.proofs.LawsOfKids.{ascends-put}
 use Rattle.ovl_merge.specs.Places.{merge_of, two_layers}
 use Rattle.ovl_merge.specs.Directories.{named_inode}
 use Rattle.ovl_merge.proofs.FinishLemmas.{merge-each}

@@ -6,7 +6,7 @@ use Rattle.ovl_names.specs.Names.{PathName, name_cmp}
 use Rattle.ovl_names.specs.Order.{ascends}
 use Rattle.ovl_manifest.specs.Layers.{names_below}
 use Rattle.ovl_lookup.specs.Passes.{put_names}
-use Rattle.ovl_lookup.proofs.KidNames.{kid-names-ascend}
+use Rattle.ovl_lookup.proofs.LawsOfKids.{kid-names-ascend}
 use Rattle.ovl_merge.specs.declared.walked.Walked.{Walked}
 use Rattle.ovl_merge.specs.Places.{merge_of}
 use Rattle.ovl_merge.proofs.FinishLemmas.{merge-each}

@@ -4,7 +4,7 @@ use Rattle.ovl_names.specs.Paths.{PathNames}
 use Rattle.ovl_lookup.specs.declared.views.DirView.{DirView}
 use Rattle.ovl_lookup.specs.Merged.{shows_directory}
 use Rattle.ovl_lookup.specs.DirViews.{IsViewOf}
-use Rattle.ovl_lookup.proofs.LookLaws.{nothing-under}
+use Rattle.ovl_lookup.proofs.LawsOfLooks.{nothing-under}
 use Rattle.ovl_merge.proofs.entries.look_in_whole.Goals as goal
 
 pub returns-in_default-2-clause-look : goal.returns-in_default-2-clause-look

@@ -7,7 +7,7 @@ use Rattle.ovl_merge.specs.Directories.{base_names}
 use Rattle.ovl_merge.specs.Reckoned.{IsViewIn}
 use Rattle.ovl_merge.proofs.FinishLemmas.{merge-each}
 use Rattle.ovl_merge.proofs.LayerLemmas.{rest}
-use Rattle.ovl_lookup.proofs.KidLaws.{none-along}
+use Rattle.ovl_lookup.proofs.LawsOfKids.{none-along}
 use Rattle.ovl_merge.proofs.VisitLemmas.{view-kids}
 use Rattle.ovl_merge.proofs.rest.names_at.Goals as goal
 

@@ -4,7 +4,7 @@ use Rattle.ovl_names.specs.Paths.{PathNames, child_path}
 use Rattle.ovl_inode.specs.Marks.{mark_of}
 use Rattle.ovl_manifest.specs.Layers.{Entries, entry_at}
 use Rattle.ovl_manifest.specs.Sheets.{path_at}
-use Rattle.ovl_lookup.proofs.OwnLemmas.{own-mark}
+use Rattle.ovl_lookup.proofs.LawsOfWalks.{own-mark}
 use Rattle.ovl_merge.proofs.Glances.{is_plain_mark, plain-either, glance-plain, glance-passed}
 use Rattle.ovl_merge.proofs.walked.glance_in.Goals as goal
 

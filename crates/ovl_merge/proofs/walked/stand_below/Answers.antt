@@ -6,7 +6,7 @@ use Rattle.ovl_manifest.specs.Sheets.{path_at}
 use Rattle.ovl_manifest.proofs.NodeLemmas.{entry_at-under}
 use Rattle.ovl_lookup.specs.declared.steps.OwnDirectory.{OwnDirectory}
 use Rattle.ovl_lookup.specs.Passes.{IsOwnDirectory}
-use Rattle.ovl_lookup.proofs.DirViewLemmas.{entry-of_row}
+use Rattle.ovl_lookup.proofs.LawsOfWalks.{entry-of_row}
 use Rattle.ovl_merge.specs.declared.walked.Stand.TheVariants.{Past}
 use Rattle.ovl_merge.specs.Reckoned.{IsStand}
 use Rattle.ovl_merge.proofs.VisitLemmas.{not-some}

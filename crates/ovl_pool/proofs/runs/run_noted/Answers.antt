@@ -1,6 +1,6 @@
 use Rattle.std.proofs.Common.{rules, ◌≡◌, false, sym, subst}
 use Rattle.std.proofs.lemmas.Result.{IfOk-weaker}
-use Rattle.ovl_board.proofs.OwnLemmas.{own_lawful-bare, order_plain}
+use Rattle.ovl_board.proofs.LawsOfWalks.{own_lawful-bare, order_plain}
 use Rattle.ovl_pool.specs.Flows.{HaveRoot}
 use Rattle.ovl_pool.specs.Hauls.{IsClean}
 use Rattle.ovl_pool.proofs.FlowLemmas.{gathered_balance}

@@ -1,5 +1,5 @@
 use Rattle.std.proofs.Common.{◌≡◌, false, sym, ◌∙◌, subst, IfSome}
-use Rattle.ovl_board.proofs.OwnLemmas.{own_permuted}
+use Rattle.ovl_board.proofs.LawsOfWalks.{own_permuted}
 use Rattle.ovl_pool.specs.declared.hauls.Haul.{Haul}
 use Rattle.ovl_pool.specs.Hauls.{IsClean, AreInOrder}
 use Rattle.ovl_pool.proofs.FlowLemmas.{tied_permuted, within_permuted, counted_permuted}

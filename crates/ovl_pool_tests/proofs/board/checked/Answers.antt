@@ -1,4 +1,4 @@
-use Rattle.ovl_board.proofs.OwnLemmas.{lawful_more}
+use Rattle.ovl_board.proofs.LawsOfWalks.{lawful_more}
 use Rattle.ovl_pool_tests.proofs.board.checked.Goals as goal
 
 pub loop-parcel-preserved : goal.loop-parcel-preserved

@@ -6,7 +6,7 @@ use Rattle.ovl_lookup.specs.Stacks.{StackView}
 use Rattle.ovl_board.specs.Parcels.{parcel_view, parcel_views}
 use Rattle.ovl_vacuum.specs.Directories.{names_seen}
 use Rattle.ovl_vacuum.specs.Passes.{IdlePath, WalksUnder}
-use Rattle.ovl_lookup.proofs.TopLaws.{top-layer}
+use Rattle.ovl_lookup.proofs.LawsOfLooks.{top-layer}
 use Rattle.ovl_vacuum.proofs.UnderLemmas.{walk-directories}
 use Rattle.ovl_vacuum.proofs.FinishLemmas.{parcels-some, paths-whole}
 use Rattle.ovl_vacuum.proofs.finish.idle_paths.Goals as goal

@@ -1,7 +1,7 @@
 use Rattle.ovl_board.specs.Parcels.{parcel_views}
 use Rattle.ovl_board.specs.CoreViews.{core_state}
 use Rattle.ovl_board.proofs.MachineLemmas.{idle_balance}
-use Rattle.ovl_board.proofs.OwnLemmas.{balanced_plain}
+use Rattle.ovl_board.proofs.LawsOfWalks.{balanced_plain}
 use Rattle.ovl_board.proofs.cores.Core.finish.Goals as goal
 
 pub returns-clause-plain : goal.returns-clause-plain

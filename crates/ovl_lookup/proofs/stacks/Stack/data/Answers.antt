@@ -11,7 +11,8 @@ use Rattle.ovl_lookup.specs.declared.steps.Found.{Found}
 use Rattle.ovl_manifest.specs.Layers.{Entries}
 use Rattle.ovl_lookup.specs.Trace.{things_found}
 use Rattle.ovl_lookup.specs.Passes.{data_below, step_of}
-use Rattle.ovl_lookup.proofs.FoundLemmas.{found-first, found-closed, found-open, found-first_open, found-first_closed, data_below-metacopy, data_below-data, data_below-other}
+use Rattle.ovl_lookup.proofs.FoundLemmas.{found-first, found-closed, found-open, found-first_open, found-first_closed}
+use Rattle.ovl_lookup.proofs.LawsOfFound.{data_below-metacopy, data_below-data, data_below-other}
 use Rattle.ovl_lookup.proofs.stacks.Stack.data.Goals as goal
 use Rattle.ovl_lookup.proofs.stacks.Stack.data.Goals.{in-Some+else-is_data+else-not-is_meta, in_default}
 

@@ -7,7 +7,8 @@ use Rattle.ovl_names.specs.Paths.{PathNames}
 use Rattle.ovl_lookup.specs.Merged.{data_of, place_of_data, data_at_place}
 use Rattle.ovl_lookup.specs.Passes.{data_below}
 use Rattle.ovl_lookup.specs.Passes.{found_on}
-use Rattle.ovl_lookup.proofs.FoundLemmas.{bare_file, data_of-metacopy, data_of-bad}
+use Rattle.ovl_lookup.proofs.LawsOfInodes.{bare_file}
+use Rattle.ovl_lookup.proofs.LawsOfFound.{data_of-metacopy, data_of-bad}
 use Rattle.ovl_lookup.proofs.stacks.Stack.data_of.Goals as goal
 
 pub returns-then-not-is_meta : goal.returns-then-not-is_meta

@@ -11,7 +11,8 @@ use Rattle.ovl_manifest.specs.Layers.{Entries}
 use Rattle.ovl_lookup.specs.Trace.{things_found}
 use Rattle.ovl_lookup.specs.Merged.{place_of_data}
 use Rattle.ovl_lookup.specs.Passes.{step_of}
-use Rattle.ovl_lookup.proofs.FoundLemmas.{found-first, found-closed, found-open, found-first_open, found-first_closed, place_below, place_below-metacopy, place_below-other, told-below, drop_past}
+use Rattle.ovl_lookup.proofs.FoundLemmas.{found-first, found-closed, found-open, found-first_open, found-first_closed, place_below, place_below-metacopy, place_below-other, told-below}
+use Rattle.ovl_lookup.proofs.LawsOfPaths.{drop_past}
 use Rattle.ovl_lookup.proofs.stacks.Stack.data_place.Goals as goal
 use Rattle.ovl_lookup.proofs.stacks.Stack.data_place.Goals.{in-Some+else-not-is_meta, in_default}
 

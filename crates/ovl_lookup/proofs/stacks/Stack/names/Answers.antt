@@ -9,7 +9,7 @@ use Rattle.ovl_lookup.specs.declared.views.DirView.{DirView}
 use Rattle.ovl_lookup.specs.DirViews.{IsViewOf}
 use Rattle.ovl_lookup.specs.Stacks.{StackView, from_layer}
 use Rattle.ovl_lookup.specs.Merged.{AreKids, shows_directory}
-use Rattle.ovl_lookup.proofs.KidLaws.{no-kids}
+use Rattle.ovl_lookup.proofs.LawsOfKids.{no-kids}
 use Rattle.ovl_lookup.proofs.stacks.Stack.names.Goals as goal
 
 -- what the view, or its absence, says

@@ -6,7 +6,7 @@ use Rattle.ovl_manifest.specs.Layers.{Entries, entry_at, is_directory_at}
 use Rattle.ovl_manifest.specs.Sheets.{path_at}
 use Rattle.ovl_lookup.specs.declared.steps.Entered.{Entered}
 use Rattle.ovl_lookup.specs.Passes.{IsOwnDirectory, entered_path, entered_closed}
-use Rattle.ovl_lookup.proofs.OwnLemmas.{own-child}
+use Rattle.ovl_lookup.proofs.LawsOfWalks.{own-child}
 use Rattle.ovl_lookup.proofs.steps.OwnDirectory.child.Goals as goal
 
 pub returns : goal.returns

@@ -6,7 +6,7 @@ use Rattle.ovl_lookup.specs.declared.steps.Entered.{Entered}
 use Rattle.ovl_lookup.specs.declared.steps.Step.{Step}
 use Rattle.ovl_lookup.specs.Walk.{nothing_found, walk_beyond}
 use Rattle.ovl_lookup.specs.Passes.{entered_path, entered_closed}
-use Rattle.ovl_lookup.proofs.OwnLemmas.{own-missing, own-file, own-entered}
+use Rattle.ovl_lookup.proofs.LawsOfWalks.{own-missing, own-file, own-entered}
 use Rattle.ovl_lookup.proofs.steps.OwnDirectory.step.Goals as goal
 
 pub returns-in_default : goal.returns-in_default

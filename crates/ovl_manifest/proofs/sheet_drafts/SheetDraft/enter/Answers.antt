@@ -41,7 +41,7 @@ returns-clause-draft c =
     let path : PathNames = child_path (take c.args.depth old.last) c.args.name in
     let onto : List ℕ = take (c.args.depth + 1) old.way.items ++ length old.rows.items ∷ [] in
     let named : is_name c.args.name ≡ true = subst (λ (own : List ℕ). is_name own ≡ true) c.name.view_is c.name.invariant in
-    subst (λ (last : PathNames). AreDrafted c.push.new.self.items c.push-2.new.self.items last) (sym c.in_ok-go_to.ensures)
+    subst (λ (last : PathNames). AreDrafted c.push.new.self.items c.push-2.new.self.items last) (sym c.in_ok-go_to.ensures.there)
     (subst (λ (way : List ℕ). AreDrafted c.push.new.self.items way path) (sym (onward c))
     (subst (λ (rows : List SheetRow). AreDrafted rows onto path) (sym (pushed c))
     (entered-draft old.rows.items old.way.items old.last c.requires.draft c.args.depth c.index.result.now can.within (listed c) c.args.name c.args.inode (c.len-number.result + 1) can.after can.directory named can.sound can.unescaped can.limited can.room)))

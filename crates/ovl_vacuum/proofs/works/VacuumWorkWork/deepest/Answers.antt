@@ -2,7 +2,7 @@ use Rattle.std.proofs.Common.{ℕ, ◌<◌, subst}
 use Rattle.ovl_manifest.specs.Layers.{is_directory_at}
 use Rattle.ovl_lookup.specs.Words.{top_layer}
 use Rattle.ovl_vacuum.proofs.DirectoryLemmas.{kids-lawful}
-use Rattle.ovl_lookup.proofs.TopLaws.{top-layer}
+use Rattle.ovl_lookup.proofs.LawsOfLooks.{top-layer}
 use Rattle.ovl_vacuum.proofs.works.VacuumWorkWork.deepest.Goals as goal
 
 pub returns-clause-lawful : goal.returns-clause-lawful

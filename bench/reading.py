@@ -1,0 +1,56 @@
+#!/usr/bin/env python3
+"""Counts how often the program asks for memory while it shows a manifest as the commands and the converter write it.
+
+Python 3.11, standard library, and `rt`, whose compiler builds refuse.c. Such a manifest is read piece by piece, with no
+value of JSON in between. No contract says so: a program that read each by way of a value would give the same bytes, at
+several times the cost. So the requests are counted, of a manifest of 10,000 entries, and of the same with a space in
+front, which is read the other way: the report must be the same, and the first may take at most two requests an entry.
+
+    python3 bench/reading.py --program crates/ovl_layers/out/ovl_layers
+"""
+import argparse
+import os
+import subprocess
+import sys
+import tempfile
+from pathlib import Path
+
+from generate import Generator
+from refusals import build
+
+ENTRIES, MOST = 10_000, 2
+
+
+def shown(program, library, manifest, room):
+    """The report of a manifest, and how many requests for memory were met."""
+    told = room / "told"
+    told.unlink(missing_ok=True)
+    env = {"LD_PRELOAD": library, "REFUSE": "memory", "REFUSE_TOLD": str(told)}
+    ran = subprocess.run([program, "show", "--workers", "1", manifest], env=env, stdin=subprocess.DEVNULL,
+                         capture_output=True, check=True)
+    return ran.stdout, int(told.read_text().split()[0])
+
+
+def main():
+    words = argparse.ArgumentParser(description="Counts the requests for memory of a manifest as it is written.")
+    words.add_argument("--program", required=True, help="path of the program")
+    given = words.parse_args()
+    program = os.path.abspath(given.program)
+    with tempfile.TemporaryDirectory(prefix="ovl-reading-") as folder:
+        room, counts, reports = Path(folder), {}, set()
+        library = str(room / "refuse.so")
+        build(library)
+        written = room / "written.json"
+        with open(written, "wb") as out:
+            Generator(ENTRIES).write(out)
+        (room / "other.json").write_bytes(b" " + written.read_bytes())
+        for name in ("written", "other"):
+            report, counts[name] = shown(program, library, str(room / f"{name}.json"), room)
+            reports.add(report)
+    each = {name: count / ENTRIES for name, count in counts.items()}
+    print(f"requests for memory an entry: {each['written']:.2f} as it is written, {each['other']:.2f} with a space in front")
+    sys.exit(0 if len(reports) == 1 and each["written"] <= MOST < each["other"] else 1)
+
+
+if __name__ == "__main__":
+    main()

@@ -1,0 +1,605 @@
+-- Laws of walks: how a walk goes on by one name, what it depends on, and where it ends.
+use Rattle.std.proofs.Common.{◌≡◌, ℕ, ◌+◌, ◌-◌, Bool, true, false, cond, Option, Some, None, is_some, List, [], ◌∷◌, ◌++◌, length, drop, refl, sym, ap, ◌∙◌, subst, append_assoc, arith, ◌<◌, ◌≤◌, inl, inr, ◌⊎◌}
+use Rattle.std.specs.Prelude.{◌||◌, unwrap_or, nat_le, slice_get}
+use Rattle.std.specs.Option.{option_map}
+use Rattle.std.specs.List.{cons_option, list_any}
+use Rattle.std.specs.Cmp.Lexicographic.{pointwise_decides, bytes_decides}
+use Rattle.std.proofs.Math.Seq.{drop-append_seam}
+use Rattle.std.proofs.lemmas.List.{append-nil}
+use Rattle.std.proofs.lemmas.Bool.{leb-true}
+use Rattle.std.proofs.Math.Bool.{or-true}
+use Rattle.ovl_names.specs.Names.{PathName, name_eq}
+use Rattle.ovl_names.specs.Paths.{PathNames, path_eq, child_path, parent_path, longest, is_root, path_text, depth_limit, text_limit}
+use Rattle.ovl_names.proofs.Ascending.{both}
+use Rattle.ovl_inode.specs.declared.inodes.Inode.{Inode}
+use Rattle.ovl_inode.specs.declared.marks.Mark.{Mark}
+use Rattle.ovl_inode.specs.Marks.{mark_of, is_directory, is_whiteout, is_metacopy, is_metacopy_mark}
+use Rattle.ovl_inode.specs.declared.marks.Mark.TheVariants.{Meta}
+use Rattle.ovl_inode.specs.declared.marks.Redirect.TheVariants.{To, Beside}
+use Rattle.ovl_manifest.specs.Layers.{Entries, entry_at, is_directory_at, IsLayer, has_parent, Entry, name_below, names_below, is_within_limits}
+use Rattle.ovl_manifest.proofs.NodeLemmas.{name_eq-same, entry_at-under}
+use Rattle.ovl_manifest.specs.Sheets.{path_at, path_of}
+use Rattle.ovl_manifest.specs.LayerTrees.{entries_under}
+use Rattle.ovl_manifest.proofs.SheetLemmas.{none-past, entry_at-number}
+use Rattle.ovl_lookup.specs.Walk.{mark_at, origin_path, name_in_lower, is_closing, nothing_found, turn, is_shut, walk, walk_from, walk_beyond, natural_path, walk_to_file}
+use Rattle.ovl_lookup.specs.Passes.{entered_path, entered_closed, IsOwnDirectory}
+use Rattle.ovl_lookup.specs.declared.steps.Step.{Step}
+use Rattle.ovl_lookup.specs.Words.{SameMarks, SameEntries}
+use Rattle.ovl_lookup.specs.declared.steps.OwnDirectory.{OwnDirectory}
+use Rattle.ovl_lookup.specs.WalkLaws.{is_directory_or_none, PassesOver}
+use Rattle.ovl_lookup.proofs.Turns.{turn-child, turn-moved, is_shut-child, is_shut-moved, rest-child}
+use Rattle.ovl_lookup.proofs.Longest.{longest-holds, longest-rest, longest-child}
+use Rattle.ovl_lookup.proofs.LawsOfPaths.{by_child, last-name, length-child, lookup-all, parent_path-child}
+use Rattle.ovl_lookup.proofs.LawsOfInodes.{directory-no_whiteout}
+
+longest-whole : (test : PathNames → Bool) (path : PathNames) → test path ≡ true → longest test path ≡ path
+longest-whole test [] holds = refl
+longest-whole test (name ∷ names) holds =
+    ap (λ (found : PathNames). cond (test (name ∷ found)) (name ∷ found) []) (longest-whole (λ rest. test (name ∷ rest)) names holds)
+    ∙ ap (λ b. cond b (name ∷ names) []) holds
+
+longest-stop : (test : PathNames → Bool) (path : PathNames) (name : PathName) (names : PathNames) → test path ≡ true → ((more : PathNames) → test (path ++ name ∷ more) ≡ false) → longest test (path ++ name ∷ names) ≡ path
+longest-stop test [] name names holds stops =
+    ap (λ b. cond b (name ∷ longest (λ rest. test (name ∷ rest)) names) []) (stops (longest (λ rest. test (name ∷ rest)) names))
+longest-stop test (first ∷ path) name names holds stops =
+    ap (λ (found : PathNames). cond (test (first ∷ found)) (first ∷ found) []) (longest-stop (λ rest. test (first ∷ rest)) path name names holds stops)
+    ∙ ap (λ b. cond b (first ∷ path) []) holds
+
+-- a directory's parent is a directory
+pub directory-parent : (layer : Entries) (path : PathNames) (name : PathName) → IsLayer layer → is_directory_at layer (child_path path name) ≡ true → is_directory_at layer path ≡ true
+directory-parent layer path name is below = by (entry_at layer (child_path path name)) refl below
+  where
+    by : (found : Option Inode) → entry_at layer (child_path path name) ≡ found → elim found as (λ _. Bool) [ Some inode ↦ is_directory inode | None ↦ false ] ≡ true → is_directory_at layer path ≡ true
+    by None e h = cc
+    by (Some inode) e h =
+        let has : (is_root (child_path path name) || is_directory_at layer (parent_path (child_path path name))) ≡ true =
+        lookup-all (λ entry. has_parent layer entry.0) (child_path path name) layer inode is.closed e in
+        ap (is_directory_at layer) (sym (parent_path-child path name))
+        ∙ (ap (λ b. b || is_directory_at layer (parent_path (child_path path name))) (sym (length-child path name)) ∙ has)
+
+-- below what is no directory there is none
+pub directory-above : (layer : Entries) (path more : PathNames) → IsLayer layer → is_directory_at layer (path ++ more) ≡ true → is_directory_at layer path ≡ true
+directory-above layer path [] is below = subst (λ (p : PathNames). is_directory_at layer p ≡ true) (append-nil path) below
+directory-above layer path (name ∷ more) is below =
+    directory-parent layer path name is
+    (directory-above layer (child_path path name) more is
+    (subst (λ (p : PathNames). is_directory_at layer p ≡ true) (sym (append_assoc path (name ∷ []) more)) below))
+
+pub no-directory-below : (layer : Entries) (path : PathNames) (name : PathName) → IsLayer layer → is_directory_at layer (child_path path name) ≡ false → (more : PathNames) → is_directory_at layer (path ++ name ∷ more) ≡ false
+no-directory-below layer path name is none more = by (is_directory_at layer (path ++ name ∷ more)) refl
+  where
+    by : (b : Bool) → is_directory_at layer (path ++ name ∷ more) ≡ b → b ≡ false
+    by false e = refl
+    by true e =
+        let here : is_directory_at layer (child_path path name) ≡ true = directory-above layer (child_path path name) more is (subst (λ (p : PathNames). is_directory_at layer p ≡ true) (sym (append_assoc path (name ∷ []) more)) e) in
+        cc
+
+-- the walk of a path that is a directory, and of one that ends or goes on beyond a directory
+pub walk-whole : (layer : Entries) (path : PathNames) → is_directory_at layer path ≡ true → walk layer path ≡ record { found = entry_at layer path; next = turn layer path; closed = is_shut layer path }
+walk-whole layer path holds =
+    ap (λ (d : PathNames). walk_from layer d (drop (length d) path)) (longest-whole (is_directory_at layer) path holds)
+    ∙ ap (walk_from layer path) (ap (drop (length path)) (sym (append-nil path)) ∙ drop-append_seam path [])
+
+pub walk-stop : (layer : Entries) (path : PathNames) (name : PathName) (rest : PathNames) → IsLayer layer → is_directory_at layer path ≡ true → is_directory_at layer (child_path path name) ≡ false → walk layer (path ++ name ∷ rest) ≡ walk_beyond (entry_at layer (child_path path name)) (turn layer path) (is_shut layer path) name rest
+walk-stop layer path name rest is holds none =
+    ap (λ (d : PathNames). walk_from layer d (drop (length d) (path ++ name ∷ rest))) (longest-stop (is_directory_at layer) path name rest holds (no-directory-below layer path name is none))
+    ∙ ap (walk_from layer path) (drop-append_seam path (name ∷ rest))
+
+-- the turn and the flag of a directory with one more name
+pub turn-entered : (layer : Entries) (path : PathNames) (name : PathName) (mark : Mark) → mark_at layer (child_path path name) ≡ Some mark → turn layer (child_path path name) ≡ entered_path mark (turn layer path) name
+turn-entered layer path name mark is = by (origin_path (Some mark)) refl
+  where
+    by : (origin : Option PathNames) → origin_path (Some mark) ≡ origin → turn layer (child_path path name) ≡ unwrap_or origin (child_path (turn layer path) (name_in_lower (Some mark) name))
+    by None e = turn-child layer path name (ap (λ m. is_some (origin_path m)) is ∙ ap is_some e) ∙ ap (λ m. child_path (turn layer path) (name_in_lower m name)) is
+    by (Some origin) e = turn-moved layer path name (ap (λ m. is_some (origin_path m)) is ∙ ap is_some e) ∙ (ap (λ m. unwrap_or (origin_path m) []) is ∙ ap (λ o. unwrap_or o []) e)
+
+pub is_shut-entered : (layer : Entries) (path : PathNames) (name : PathName) (mark : Mark) → mark_at layer (child_path path name) ≡ Some mark → is_shut layer (child_path path name) ≡ entered_closed mark (is_shut layer path)
+is_shut-entered layer path name mark is = by (is_some (origin_path (Some mark))) refl
+  where
+    by : (b : Bool) → is_some (origin_path (Some mark)) ≡ b → is_shut layer (child_path path name) ≡ cond b false (is_shut layer path || is_closing (Some mark))
+    by false e = is_shut-child layer path name (ap (λ m. is_some (origin_path m)) is ∙ e) ∙ ap (λ m. is_shut layer path || is_closing m) is
+    by true e = is_shut-moved layer path name (ap (λ m. is_some (origin_path m)) is ∙ e)
+
+marked : (found : Option Inode) → elim found as (λ _. Option Mark) [ Some inode ↦ Some (mark_of inode) | None ↦ None ] ≡ option_map mark_of found
+marked None = refl
+marked (Some inode) = refl
+
+-- the mark of the entry of a name
+pub mark_at-child : (layer : Entries) (path : PathNames) (name : PathName) (mark : Mark) → option_map mark_of (entry_at layer (child_path path name)) ≡ Some mark → mark_at layer (child_path path name) ≡ Some mark
+mark_at-child layer [] name mark here = marked (entry_at layer (child_path [] name)) ∙ here
+mark_at-child layer (first ∷ path) name mark here = marked (entry_at layer (child_path (first ∷ path) name)) ∙ here
+
+-- ---- a name below what is no directory
+
+-- nothing is found with one more name, and the walk is closed, or goes on as the other does with that name
+abbrev pub Below : Step → Step → PathName → Type 0
+Below outer inner name = (inner.found ≡ None) × ((inner.closed ≡ true) ⊎ ((outer.found ≡ None) × (inner.closed ≡ outer.closed) × (inner.next ≡ child_path outer.next name)))
+
+beyond-child : (found : Option Inode) (turned : PathNames) (shut : Bool) (own : PathName) (rest : PathNames) (name : PathName) → Below (walk_beyond found turned shut own rest) (walk_beyond found turned shut own (child_path rest name)) name
+beyond-child None turned shut own rest name = (refl, inr (refl, refl, sym (append_assoc turned (own ∷ rest) (name ∷ []))))
+beyond-child (Some inode) turned shut own [] name = (refl, inl refl)
+beyond-child (Some inode) turned shut own (first ∷ rest) name = (refl, inl refl)
+
+-- a directory with one more name that is no entry
+false_from : (a b : Bool) → (a ≡ true → b ≡ true) → b ≡ false → a ≡ false
+false_from true b imp e = sym (imp refl) ∙ e
+false_from false b imp e = refl
+
+module _ (layer : Entries) (path : PathNames) (name : PathName) (is : IsLayer layer) where
+  child_shut : is_directory_at layer path ≡ false → is_directory_at layer (child_path path name) ≡ false
+  child_shut none = false_from (is_directory_at layer (child_path path name)) (is_directory_at layer path) (directory-parent layer path name is) none
+
+  same_longest : is_directory_at layer path ≡ false → longest (is_directory_at layer) (child_path path name) ≡ longest (is_directory_at layer) path
+  same_longest none =
+      longest-child (is_directory_at layer) path name
+      ∙ ap (λ b. cond b (child_path path name) (longest (is_directory_at layer) path)) (child_shut none)
+
+  inner_walk : is_directory_at layer path ≡ false → walk layer (child_path path name) ≡ walk_from layer (longest (is_directory_at layer) path) (child_path (drop (length (longest (is_directory_at layer) path)) path) name)
+  inner_walk none =
+      ap (λ (d : PathNames). walk_from layer d (drop (length d) (child_path path name))) (same_longest none)
+      ∙ ap (walk_from layer (longest (is_directory_at layer) path)) (rest-child (longest (is_directory_at layer) path) path name (longest-rest (is_directory_at layer) path))
+
+  pub walk-below : is_directory_at layer path ≡ false → Below (walk layer path) (walk layer (child_path path name)) name
+  walk-below none = by (drop (length (longest (is_directory_at layer) path)) path) refl
+    where
+      by : (rest : PathNames) → drop (length (longest (is_directory_at layer) path)) path ≡ rest → Below (walk layer path) (walk layer (child_path path name)) name
+      by [] e =
+          let whole : longest (is_directory_at layer) path ≡ path = sym (append-nil (longest (is_directory_at layer) path)) ∙ (ap (λ (r : PathNames). longest (is_directory_at layer) path ++ r) (sym e) ∙ longest-rest (is_directory_at layer) path) in
+          let bad : false ≡ true = sym none ∙ (ap (is_directory_at layer) (sym whole) ∙ longest-holds (is_directory_at layer) path is.rooted) in cc
+      by (own ∷ rest) e =
+          let outer : walk layer path ≡ walk_from layer (longest (is_directory_at layer) path) (own ∷ rest) = ap (walk_from layer (longest (is_directory_at layer) path)) e in
+          let inner : walk layer (child_path path name) ≡ walk_from layer (longest (is_directory_at layer) path) (child_path (own ∷ rest) name) = inner_walk none ∙ ap (λ (r : PathNames). walk_from layer (longest (is_directory_at layer) path) (child_path r name)) e in
+          subst (λ (s : Step). Below s (walk layer (child_path path name)) name) (sym outer)
+          (subst (λ (s : Step). Below (walk_from layer (longest (is_directory_at layer) path) (own ∷ rest)) s name) (sym inner)
+          (beyond-child (entry_at layer (child_path (longest (is_directory_at layer) path) own)) (turn layer (longest (is_directory_at layer) path)) (is_shut layer (longest (is_directory_at layer) path)) own rest name))
+
+  pub walk-child_none : is_directory_at layer path ≡ true → entry_at layer (child_path path name) ≡ None → walk layer (child_path path name) ≡ nothing_found (child_path (turn layer path) name) (is_shut layer path)
+  walk-child_none holds none =
+      walk-stop layer path name [] is holds (ap (λ (o : Option Inode). elim o as (λ _. Bool) [ Some inode ↦ is_directory inode | None ↦ false ]) none)
+      ∙ ap (λ (o : Option Inode). walk_beyond o (turn layer path) (is_shut layer path) name []) none
+
+-- ---- an entry's name stands among the names below its directory
+
+pub name_below-child : (path : PathNames) (name : PathName) → name_below path (child_path path name) ≡ Some name
+name_below-child [] name = refl
+name_below-child (first ∷ path) name = ap (λ b. cond b (name_below path (child_path path name)) None) (name_eq-same first) ∙ name_below-child path name
+
+any-cons_option : (name : PathName) (own : Option PathName) (names : List PathName) → list_any (name_eq name) names ≡ true → list_any (name_eq name) (cons_option own names) ≡ true
+any-cons_option name None names has = has
+any-cons_option name (Some own) names has = ap (λ b. name_eq name own || b) has ∙ or-true (name_eq name own)
+
+pub names_below-has : (layer : Entries) (path : PathNames) (name : PathName) (inode : Inode) → entry_at layer (child_path path name) ≡ Some inode → list_any (name_eq name) (names_below layer path) ≡ true
+names_below-has [] path name inode here = let bad : None ≡ Some inode = here in cc
+names_below-has (entry ∷ layer) path name inode here = by (names_below-has layer path name inode) (path_eq (child_path path name) entry.0) refl here
+  where
+    by : (entry_at layer (child_path path name) ≡ Some inode → list_any (name_eq name) (names_below layer path) ≡ true) → (b : Bool) → path_eq (child_path path name) entry.0 ≡ b → cond b (Some entry.1) (entry_at layer (child_path path name)) ≡ Some inode → list_any (name_eq name) (names_below (entry ∷ layer) path) ≡ true
+    by later true e here =
+        let same : child_path path name ≡ entry.0 = (pointwise_decides bytes_decides (child_path path name) entry.0).0 e in
+        ap (λ (o : Option PathName). list_any (name_eq name) (cons_option o (names_below layer path))) (ap (name_below path) (sym same) ∙ name_below-child path name)
+        ∙ ap (λ b. b || list_any (name_eq name) (names_below layer path)) (name_eq-same name)
+    by later false e here = any-cons_option name (name_below path entry.0) (names_below layer path) (later here)
+
+-- ---- how deep an entry is
+
+pub entry-limited : (layer : Entries) (path : PathNames) (inode : Inode) → IsLayer layer → entry_at layer path ≡ Some inode → length path ≤ depth_limit
+entry-limited layer path inode is here =
+    let limited : is_within_limits path ≡ true = lookup-all (λ (entry : Entry). is_within_limits entry.0) path layer inode is.limited here in
+    leb-true (length path) depth_limit (both {a = nat_le (length path) depth_limit} {b = nat_le (length (path_text path)) text_limit} limited).0
+
+pub directory-limited : (layer : Entries) (path : PathNames) → IsLayer layer → is_directory_at layer path ≡ true → length path ≤ depth_limit
+directory-limited layer path is holds = by (entry_at layer path) refl holds
+  where
+    by : (found : Option Inode) → entry_at layer path ≡ found → elim found as (λ _. Bool) [ Some inode ↦ is_directory inode | None ↦ false ] ≡ true → length path ≤ depth_limit
+    by None e h = let bad : false ≡ true = h in cc
+    by (Some inode) e h = entry-limited layer path inode is e
+
+-- a prefix of a path is one of the path with one more name
+prefix-child : (front back path : PathNames) (name : PathName) → front ++ back ≡ path → front ++ child_path back name ≡ child_path path name
+prefix-child front back path name e = sym (append_assoc front back (name ∷ [])) ∙ ap (λ (p : PathNames). child_path p name) e
+
+-- ---- the turn and the flag of a path with one more name, whatever stands there
+
+turn-next : (layer : Entries) (path : PathNames) (name : PathName) → turn layer (child_path path name) ≡ unwrap_or (origin_path (mark_at layer (child_path path name))) (child_path (turn layer path) (name_in_lower (mark_at layer (child_path path name)) name))
+turn-next layer path name = by (origin_path (mark_at layer (child_path path name))) refl
+  where
+    by : (origin : Option PathNames) → origin_path (mark_at layer (child_path path name)) ≡ origin → turn layer (child_path path name) ≡ unwrap_or origin (child_path (turn layer path) (name_in_lower (mark_at layer (child_path path name)) name))
+    by None e = turn-child layer path name (ap is_some e)
+    by (Some origin) e = turn-moved layer path name (ap is_some e) ∙ ap (λ o. unwrap_or o []) e
+
+is_shut-next : (layer : Entries) (path : PathNames) (name : PathName) → is_shut layer (child_path path name) ≡ cond (is_some (origin_path (mark_at layer (child_path path name)))) false (is_shut layer path || is_closing (mark_at layer (child_path path name)))
+is_shut-next layer path name = by (is_some (origin_path (mark_at layer (child_path path name)))) refl
+  where
+    by : (b : Bool) → is_some (origin_path (mark_at layer (child_path path name))) ≡ b → is_shut layer (child_path path name) ≡ cond b false (is_shut layer path || is_closing (mark_at layer (child_path path name)))
+    by false e = is_shut-child layer path name e
+    by true e = is_shut-moved layer path name e
+
+-- the same where the mark is known
+pub turn-at : (layer : Entries) (path : PathNames) (name : PathName) (mark : Option Mark) → mark_at layer (child_path path name) ≡ mark → turn layer (child_path path name) ≡ unwrap_or (origin_path mark) (child_path (turn layer path) (name_in_lower mark name))
+turn-at layer path name mark is = turn-next layer path name ∙ ap (λ m. unwrap_or (origin_path m) (child_path (turn layer path) (name_in_lower m name))) is
+
+pub is_shut-at : (layer : Entries) (path : PathNames) (name : PathName) (mark : Option Mark) → mark_at layer (child_path path name) ≡ mark → is_shut layer (child_path path name) ≡ cond (is_some (origin_path mark)) false (is_shut layer path || is_closing mark)
+is_shut-at layer path name mark is = is_shut-next layer path name ∙ ap (λ m. cond (is_some (origin_path m)) false (is_shut layer path || is_closing m)) is
+
+-- ---- the turn and the flag depend only on the marks along the path
+
+pub same-turn : (one other : Entries) (path : PathNames) → SameMarks one other path → (turn one path ≡ turn other path) × (is_shut one path ≡ is_shut other path)
+same-turn one other = by_child (λ path. SameMarks one other path → (turn one path ≡ turn other path) × (is_shut one path ≡ is_shut other path)) (λ same. (refl, refl)) step
+  where
+    step : (path : PathNames) (name : PathName) → (SameMarks one other path → (turn one path ≡ turn other path) × (is_shut one path ≡ is_shut other path)) → SameMarks one other (child_path path name) → (turn one (child_path path name) ≡ turn other (child_path path name)) × (is_shut one (child_path path name) ≡ is_shut other (child_path path name))
+    step path name later same =
+        let both = later (λ front back e. same front (child_path back name) (prefix-child front back path name e)) in
+        let mark : mark_at one (child_path path name) ≡ mark_at other (child_path path name) = same (child_path path name) [] (append-nil (child_path path name)) in (
+          turn-next one path name ∙ ((λ j. unwrap_or (origin_path (mark j)) (child_path (both.0 j) (name_in_lower (mark j) name))) ∙ sym (turn-next other path name)),
+          is_shut-next one path name ∙ ((λ j. cond (is_some (origin_path (mark j))) false (both.1 j || is_closing (mark j))) ∙ sym (is_shut-next other path name)),
+        )
+
+-- ---- where a walk ends
+
+-- what a layer says of an entry
+abbrev pub directory_found : Option Inode → Bool
+directory_found found = elim found as (λ _. Bool) [ Some inode ↦ is_directory inode | None ↦ false ]
+
+abbrev pub mark_found : Option Inode → Option Mark
+mark_found found = elim found as (λ _. Option Mark) [ Some inode ↦ Some (mark_of inode) | None ↦ None ]
+
+pub same-mark : (one other : Entries) (path : PathNames) → entry_at one path ≡ entry_at other path → mark_at one path ≡ mark_at other path
+same-mark one other [] e = refl
+same-mark one other (name ∷ names) e = ap mark_found e
+
+pub mark-child : (layer : Entries) (path : PathNames) (name : PathName) (found : Option Inode) → entry_at layer (child_path path name) ≡ found → mark_at layer (child_path path name) ≡ mark_found found
+mark-child layer [] name found e = ap mark_found e
+mark-child layer (first ∷ path) name found e = ap mark_found e
+
+-- a walk that goes beyond its last directory: the name after that is no directory
+pub record Beyond (layer : Entries) (path : PathNames) : Type 0 where
+  pub directory : PathNames
+  pub name : PathName
+  pub rest : PathNames
+  pub whole : directory ++ name ∷ rest ≡ path
+  pub holds : is_directory_at layer directory ≡ true
+  pub stops : is_directory_at layer (child_path directory name) ≡ false
+
+end_from : (layer : Entries) (front : PathNames) → is_directory_at layer front ≡ true → (rest : PathNames) → (is_directory_at layer (front ++ rest) ≡ true) ⊎ Beyond layer (front ++ rest)
+end_from layer front holds [] = inl (ap (is_directory_at layer) (append-nil front) ∙ holds)
+end_from layer front holds (name ∷ rest) = by (λ e. end_from layer (child_path front name) e rest) (is_directory_at layer (child_path front name)) refl
+  where
+    by : (is_directory_at layer (child_path front name) ≡ true → (is_directory_at layer (child_path front name ++ rest) ≡ true) ⊎ Beyond layer (child_path front name ++ rest)) → (b : Bool) → is_directory_at layer (child_path front name) ≡ b → (is_directory_at layer (front ++ name ∷ rest) ≡ true) ⊎ Beyond layer (front ++ name ∷ rest)
+    by later true e = subst (λ (p : PathNames). (is_directory_at layer p ≡ true) ⊎ Beyond layer p) (append_assoc front (name ∷ []) rest) (later e)
+    by later false e = inr (record { directory = front; name = name; rest = rest; whole = refl; holds = holds; stops = e })
+
+pub walk-end : (layer : Entries) (path : PathNames) → IsLayer layer → (is_directory_at layer path ≡ true) ⊎ Beyond layer path
+walk-end layer path is = end_from layer [] is.rooted path
+
+pub walk-past : (layer : Entries) (path : PathNames) → IsLayer layer → (b : Beyond layer path) → walk layer path ≡ walk_beyond (entry_at layer (child_path b.directory b.name)) (turn layer b.directory) (is_shut layer b.directory) b.name b.rest
+walk-past layer path is b = ap (walk layer) (sym b.whole) ∙ walk-stop layer b.directory b.name b.rest is b.holds b.stops
+
+-- the same below a directory: where the rest of a path ends
+pub record BeyondFrom (layer : Entries) (front rest : PathNames) : Type 0 where
+  pub middle : PathNames
+  pub name : PathName
+  pub tail : PathNames
+  pub whole : middle ++ name ∷ tail ≡ rest
+  pub holds : is_directory_at layer (front ++ middle) ≡ true
+  pub stops : is_directory_at layer (child_path (front ++ middle) name) ≡ false
+
+pub end-from : (layer : Entries) (front : PathNames) → is_directory_at layer front ≡ true → (rest : PathNames) → (is_directory_at layer (front ++ rest) ≡ true) ⊎ BeyondFrom layer front rest
+end-from layer front holds [] = inl (ap (is_directory_at layer) (append-nil front) ∙ holds)
+end-from layer front holds (name ∷ rest) = by (λ e. end-from layer (child_path front name) e rest) (is_directory_at layer (child_path front name)) refl
+  where
+    further : (is_directory_at layer (child_path front name ++ rest) ≡ true) ⊎ BeyondFrom layer (child_path front name) rest → (is_directory_at layer (front ++ name ∷ rest) ≡ true) ⊎ BeyondFrom layer front (name ∷ rest)
+    further (inl holds) = inl (ap (is_directory_at layer) (sym (append_assoc front (name ∷ []) rest)) ∙ holds)
+    further (inr b) = inr (record {
+      middle = name ∷ b.middle;
+      name = b.name;
+      tail = b.tail;
+      whole = ap (λ (more : PathNames). name ∷ more) b.whole;
+      holds = ap (is_directory_at layer) (sym (append_assoc front (name ∷ []) b.middle)) ∙ b.holds;
+      stops = ap (λ (p : PathNames). is_directory_at layer (child_path p b.name)) (sym (append_assoc front (name ∷ []) b.middle)) ∙ b.stops;
+    })
+
+    by : (is_directory_at layer (child_path front name) ≡ true → (is_directory_at layer (child_path front name ++ rest) ≡ true) ⊎ BeyondFrom layer (child_path front name) rest) → (b : Bool) → is_directory_at layer (child_path front name) ≡ b → (is_directory_at layer (front ++ name ∷ rest) ≡ true) ⊎ BeyondFrom layer front (name ∷ rest)
+    by later true e = further (later e)
+    by later false e = inr (record {
+      middle = [];
+      name = name;
+      tail = rest;
+      whole = refl;
+      holds = ap (is_directory_at layer) (append-nil front) ∙ holds;
+      stops = ap (λ (p : PathNames). is_directory_at layer (child_path p name)) (append-nil front) ∙ e;
+    })
+
+-- ---- a walk depends only on the entries along its path
+
+pub same-walk : (one other : Entries) (path : PathNames) → IsLayer one → IsLayer other → SameEntries one other path → walk one path ≡ walk other path
+same-walk one other path is_one is_other same = by (walk-end one path is_one)
+  where
+    by : (is_directory_at one path ≡ true) ⊎ Beyond one path → walk one path ≡ walk other path
+    by (inl holds) =
+        let here : entry_at one path ≡ entry_at other path = same path [] (append-nil path) in
+        let turned = same-turn one other path (λ front back e. same-mark one other front (same front back e)) in
+        walk-whole one path holds
+        ∙ ((λ j. record { found = here j; next = turned.0 j; closed = turned.1 j })
+        ∙ sym (walk-whole other path (ap directory_found (sym here) ∙ holds)))
+    by (inr b) =
+        let prefix : (front back : PathNames) → front ++ back ≡ b.directory → entry_at one front ≡ entry_at other front = λ front back e. same front (back ++ b.name ∷ b.rest) (sym (append_assoc front back (b.name ∷ b.rest)) ∙ (ap (λ (p : PathNames). p ++ b.name ∷ b.rest) e ∙ b.whole)) in
+        let turned = same-turn one other b.directory (λ front back e. same-mark one other front (prefix front back e)) in
+        let here : entry_at one b.directory ≡ entry_at other b.directory = prefix b.directory [] (append-nil b.directory) in
+        let there : entry_at one (child_path b.directory b.name) ≡ entry_at other (child_path b.directory b.name) = same (child_path b.directory b.name) b.rest (append_assoc b.directory (b.name ∷ []) b.rest ∙ b.whole) in
+        walk-past one path is_one b
+        ∙ ((λ j. walk_beyond (there j) (turned.0 j) (turned.1 j) b.name b.rest)
+        ∙ (sym (walk-stop other b.directory b.name b.rest is_other (ap directory_found (sym here) ∙ b.holds) (ap directory_found (sym there) ∙ b.stops))
+        ∙ ap (walk other) b.whole))
+
+-- an entry stands in a directory of its layer
+parent-directory : (layer : Entries) (path : PathNames) (name : PathName) → has_parent layer (child_path path name) ≡ true → is_directory_at layer path ≡ true
+parent-directory layer path name has =
+    ap (is_directory_at layer) (sym (parent_path-child path name))
+    ∙ (ap (λ b. b || is_directory_at layer (parent_path (child_path path name))) (sym (length-child path name)) ∙ has)
+
+pub directory-parent_of : (layer : Entries) (path : PathNames) (name : PathName) → is_directory_at layer path ≡ true → has_parent layer (child_path path name) ≡ true
+directory-parent_of layer path name holds =
+    ap (λ b. b || is_directory_at layer (parent_path (child_path path name))) (length-child path name)
+    ∙ (ap (is_directory_at layer) (parent_path-child path name) ∙ holds)
+
+pub entry-parent : (layer : Entries) (path : PathNames) (name : PathName) (inode : Inode) → IsLayer layer → entry_at layer (child_path path name) ≡ Some inode → is_directory_at layer path ≡ true
+entry-parent layer path name inode is here = parent-directory layer path name (lookup-all (λ entry. has_parent layer entry.0) (child_path path name) layer inode is.closed here)
+
+-- so does each path on the way to it
+pub entry-above : (layer : Entries) (path : PathNames) (name : PathName) (rest : PathNames) (inode : Inode) → IsLayer layer → entry_at layer (path ++ name ∷ rest) ≡ Some inode → is_directory_at layer path ≡ true
+entry-above layer path name [] inode is here = entry-parent layer path name inode is here
+entry-above layer path name (other ∷ rest) inode is here =
+    directory-parent layer path name is
+    (entry-above layer (child_path path name) other rest inode is (ap (entry_at layer) (append_assoc path (name ∷ []) (other ∷ rest)) ∙ here))
+
+-- a directory is an entry
+pub directory-entry : (layer : Entries) (path : PathNames) → is_directory_at layer path ≡ true → (inode : Inode) × (entry_at layer path ≡ Some inode)
+directory-entry layer path holds = by (entry_at layer path) refl holds
+  where
+    by : (found : Option Inode) → entry_at layer path ≡ found → directory_found found ≡ true → (inode : Inode) × (entry_at layer path ≡ Some inode)
+    by None e h = let bad : false ≡ true = h in cc
+    by (Some inode) e h = (inode, e)
+
+-- ---- with one more name
+
+pub natural_path-child : (layer : Entries) (path : PathNames) (name : PathName) → natural_path layer (child_path path name) ≡ child_path (walk layer path).next name
+natural_path-child layer path name =
+    ap (λ (p : PathNames). (walk layer p).next ++ drop (length p) (child_path path name)) (parent_path-child path name)
+    ∙ ap (λ (rest : PathNames). (walk layer path).next ++ rest) (drop-append_seam path (name ∷ []))
+
+module _ (layer : Entries) (path : PathNames) (name : PathName) (is : IsLayer layer) where
+  -- a directory: its redirect says where the layers below have it, and whether they are closed
+  pub walk-child_directory : (inode : Inode) → entry_at layer (child_path path name) ≡ Some inode → is_directory inode ≡ true
+      → walk layer (child_path path name) ≡ record { found = Some inode; next = entered_path (mark_of inode) (walk layer path).next name; closed = entered_closed (mark_of inode) (walk layer path).closed }
+  walk-child_directory inode here directory =
+      let parent = walk-whole layer path (entry-parent layer path name inode is here) in
+      let mark = mark-child layer path name (Some inode) here in
+      walk-whole layer (child_path path name) (ap directory_found here ∙ directory)
+      ∙ (λ j. record {
+        found = here j;
+        next = (turn-entered layer path name (mark_of inode) mark ∙ ap (λ (s : Step). entered_path (mark_of inode) s.next name) (sym parent)) j;
+        closed = (is_shut-entered layer path name (mark_of inode) mark ∙ ap (λ (s : Step). entered_closed (mark_of inode) s.closed) (sym parent)) j;
+      })
+
+  -- no directory, or nothing, in a directory: the walk ends there
+  pub walk-child_end : (found : Option Inode) → is_directory_at layer path ≡ true → entry_at layer (child_path path name) ≡ found → directory_found found ≡ false
+      → (rest : PathNames) → walk layer (path ++ name ∷ rest) ≡ walk_beyond found (walk layer path).next (walk layer path).closed name rest
+  walk-child_end found holds here file rest =
+      walk-stop layer path name rest is holds (ap directory_found here ∙ file)
+      ∙ (λ j. walk_beyond (here j) (sym (walk-whole layer path holds) j).next (sym (walk-whole layer path holds) j).closed name rest)
+
+-- the mark of a row, by its inode
+pub own-mark : (inode : Inode) (mark : Mark) → Some (mark_of inode) ≡ Some mark → mark ≡ mark_of inode
+own-mark inode mark same = sym (ap (λ o. unwrap_or o mark) same)
+
+module _ (layer : Entries) (path : PathNames) (name : PathName) (is : IsLayer layer) (own : OwnDirectory) (stands : IsOwnDirectory layer path own) where
+  -- nothing is there
+  pub own-missing : entries_under (child_path path name) layer ≡ [] → nothing_found (child_path own.next name) own.closed ≡ walk layer (child_path path name)
+  own-missing none =
+      (λ j. nothing_found (child_path (stands.next j) name) (stands.closed j))
+      ∙ sym (walk-child_end layer path name is None stands.directory (entry_at-under (child_path path name) layer ∙ ap (λ (entries : Entries). entry_at entries []) none) refl [])
+
+  -- what is there, no directory and a directory
+  pub own-file : (inode : Inode) → entry_at layer (child_path path name) ≡ Some inode → is_directory inode ≡ false
+      → walk_beyond (Some inode) own.next own.closed name [] ≡ walk layer (child_path path name)
+  own-file inode here file =
+      (λ j. walk_beyond (Some inode) (stands.next j) (stands.closed j) name [])
+      ∙ sym (walk-child_end layer path name is (Some inode) stands.directory here file [])
+
+  pub own-entered : (inode : Inode) → entry_at layer (child_path path name) ≡ Some inode → is_directory inode ≡ true
+      → record { found = Some inode; next = entered_path (mark_of inode) own.next name; closed = entered_closed (mark_of inode) own.closed } ≡ walk layer (child_path path name)
+  own-entered inode here directory =
+      (λ j. record { found = Some inode; next = entered_path (mark_of inode) (stands.next j) name; closed = entered_closed (mark_of inode) (stands.closed j) })
+      ∙ sym (walk-child_directory layer path name is inode here directory)
+
+  -- a directory there, by its row
+  pub own-child : (row : ℕ) → row < length layer → path_at layer row ≡ child_path path name → is_directory_at layer (child_path path name) ≡ true
+      → (mark : Mark) → option_map mark_of (entry_at layer (child_path path name)) ≡ Some mark
+      → IsOwnDirectory layer (child_path path name) (record { row = row; next = entered_path mark own.next name; closed = entered_closed mark own.closed })
+  own-child row inside here directory mark marked =
+      let parent = walk-whole layer path stands.directory in
+      let child = walk-whole layer (child_path path name) directory in
+      let at = mark_at-child layer path name mark marked in
+      record {
+        inside = inside;
+        here = here;
+        directory = directory;
+        next =
+            ap (λ (p : PathNames). entered_path mark p name) (stands.next ∙ ap (λ (s : Step). s.next) parent)
+            ∙ (sym (turn-entered layer path name mark at) ∙ sym (ap (λ (s : Step). s.next) child));
+        closed =
+            ap (entered_closed mark) (stands.closed ∙ ap (λ (s : Step). s.closed) parent)
+            ∙ (sym (is_shut-entered layer path name mark at) ∙ sym (ap (λ (s : Step). s.closed) child));
+      }
+
+-- ---- beyond a directory
+
+-- what a walk finds that ends at a file
+pub found-file : (inode : Inode) (mark : Mark) (turned : PathNames) (shut : Bool) (name : PathName) → (walk_to_file inode mark turned shut name).found ≡ Some inode
+found-file inode (Meta None) turned shut name = refl
+found-file inode (Meta (Some (To origin))) turned shut name = refl
+found-file inode (Meta (Some (Beside origin))) turned shut name = refl
+found-file inode _ turned shut name = refl
+
+module _ (layer : Entries) (path : PathNames) (name : PathName) (is : IsLayer layer) where
+  -- a walk that finds nothing and is open goes on by one more name
+  beyond-open : (found : Option Inode) (turned : PathNames) (shut : Bool) (own : PathName) (rest : PathNames) → (walk_beyond found turned shut own rest).found ≡ None → (walk_beyond found turned shut own rest).closed ≡ false
+      → walk_beyond found turned shut own (child_path rest name) ≡ nothing_found (child_path (walk_beyond found turned shut own rest).next name) false
+  beyond-open None turned shut own rest nothing opened =
+      λ j. nothing_found (sym (append_assoc turned (own ∷ rest) (name ∷ [])) j) (opened j)
+  beyond-open (Some inode) turned shut own (first ∷ rest) nothing opened = let bad : true ≡ false = opened in cc
+  beyond-open (Some inode) turned shut own [] nothing opened = by (is_whiteout inode) refl
+    where
+      by : (b : Bool) → is_whiteout inode ≡ b → walk_beyond (Some inode) turned shut own (child_path [] name) ≡ nothing_found (child_path (walk_beyond (Some inode) turned shut own []).next name) false
+      by true e =
+          let bad : true ≡ false = sym (ap (λ b. (cond b (nothing_found (child_path turned own) true) (walk_to_file inode (mark_of inode) turned shut own)).closed) e) ∙ opened in cc
+      by false e =
+          let bad : Some inode ≡ None = sym (ap (λ b. (cond b (nothing_found (child_path turned own) true) (walk_to_file inode (mark_of inode) turned shut own)).found) e ∙ found-file inode (mark_of inode) turned shut own) ∙ nothing in cc
+
+  pub walk-child_beyond : (walk layer path).found ≡ None → (walk layer path).closed ≡ false → walk layer (child_path path name) ≡ nothing_found (child_path (walk layer path).next name) false
+  walk-child_beyond nothing opened = at (is_directory_at layer path) refl
+    where
+      found_none : (o : Option Inode) → o ≡ None → directory_found o ≡ false
+      found_none o e = ap directory_found e
+
+      no_directory : (b : Bool) → is_directory_at layer path ≡ b → b ≡ false
+      no_directory true e = sym e ∙ ap directory_found (sym (ap (λ (s : Step). s.found) (walk-whole layer path e)) ∙ nothing)
+      no_directory false e = refl
+
+      by : is_directory_at layer path ≡ false → (rest : PathNames) → drop (length (longest (is_directory_at layer) path)) path ≡ rest → walk layer (child_path path name) ≡ nothing_found (child_path (walk layer path).next name) false
+      by none [] e =
+          let whole : longest (is_directory_at layer) path ≡ path = sym (append-nil (longest (is_directory_at layer) path)) ∙ (ap (λ (r : PathNames). longest (is_directory_at layer) path ++ r) (sym e) ∙ longest-rest (is_directory_at layer) path) in
+          let bad : false ≡ true = sym none ∙ (ap (is_directory_at layer) (sym whole) ∙ longest-holds (is_directory_at layer) path is.rooted) in cc
+      by none (own ∷ rest) e =
+          let d : PathNames = longest (is_directory_at layer) path in
+          let outer : walk layer path ≡ walk_beyond (entry_at layer (child_path d own)) (turn layer d) (is_shut layer d) own rest = ap (walk_from layer d) e in
+          let inner : walk layer (child_path path name) ≡ walk_beyond (entry_at layer (child_path d own)) (turn layer d) (is_shut layer d) own (child_path rest name) = inner_walk layer path name is none ∙ ap (λ (r : PathNames). walk_from layer d (child_path r name)) e in
+          inner
+          ∙ (beyond-open (entry_at layer (child_path d own)) (turn layer d) (is_shut layer d) own rest (ap (λ (s : Step). s.found) (sym outer) ∙ nothing) (ap (λ (s : Step). s.closed) (sym outer) ∙ opened)
+          ∙ ap (λ (s : Step). nothing_found (child_path s.next name) false) (sym outer))
+
+      at : (b : Bool) → is_directory_at layer path ≡ b → walk layer (child_path path name) ≡ nothing_found (child_path (walk layer path).next name) false
+      at b e = by (e ∙ no_directory b e) (drop (length (longest (is_directory_at layer) path)) path) refl
+
+pub file-found : (inode : Inode) (turned : PathNames) (shut : Bool) (own : PathName) → is_whiteout inode ≡ false → walk_beyond (Some inode) turned shut own [] ≡ walk_to_file inode (mark_of inode) turned shut own
+file-found inode turned shut own is = ap (λ b. cond b (nothing_found (child_path turned own) true) (walk_to_file inode (mark_of inode) turned shut own)) is
+
+pub file-is_found : (inode : Inode) (turned : PathNames) (shut : Bool) (own : PathName) → is_whiteout inode ≡ false → (walk_beyond (Some inode) turned shut own []).found ≡ Some inode
+file-is_found inode turned shut own is = ap (λ (s : Step). s.found) (file-found inode turned shut own is) ∙ found-file inode (mark_of inode) turned shut own
+
+pub whiteout-closes : (inode : Inode) (turned : PathNames) (shut : Bool) (own : PathName) → is_whiteout inode ≡ true → walk_beyond (Some inode) turned shut own [] ≡ nothing_found (child_path turned own) true
+whiteout-closes inode turned shut own is = ap (λ b. cond b (nothing_found (child_path turned own) true) (walk_to_file inode (mark_of inode) turned shut own)) is
+
+pub passes-over : (layer : Entries) (path : PathNames) (name : PathName) → IsLayer layer → (walk layer (child_path path name)).found ≡ None → (walk layer (child_path path name)).closed ≡ false → PassesOver layer path name
+passes-over layer path name is nothing opened = by (is_directory_at layer path) refl
+  where
+    outside : Below (walk layer path) (walk layer (child_path path name)) name → PassesOver layer path name
+    outside (none, inl closed) = let bad : true ≡ false = sym closed ∙ opened in cc
+    outside (none, inr (found, same, next)) = record { opened = sym same ∙ opened; next = next; passed = ap (is_directory_or_none) found }
+
+    passed_directory : (o : Option Inode) → directory_found o ≡ true → is_directory_or_none o ≡ true
+    passed_directory None e = refl
+    passed_directory (Some inode) e = e
+
+    inside : is_directory_at layer path ≡ true → (found : Option Inode) → entry_at layer (child_path path name) ≡ found → (b : Bool) → directory_found found ≡ b → PassesOver layer path name
+    inside above None here b d =
+        let step : walk layer (child_path path name) ≡ nothing_found (child_path (walk layer path).next name) (walk layer path).closed = walk-child_end layer path name is None above here refl [] in
+        record {
+          opened = ap (λ (s : Step). s.closed) (sym step) ∙ opened;
+          next = ap (λ (s : Step). s.next) step;
+          passed = ap (λ (s : Step). is_directory_or_none s.found) (walk-whole layer path above) ∙ passed_directory (entry_at layer path) above;
+        }
+    inside above (Some inode) here true d =
+        let bad : Some inode ≡ None = sym (ap (λ (s : Step). s.found) (walk-child_directory layer path name is inode here d)) ∙ nothing in cc
+    inside above (Some inode) here false d = white (is_whiteout inode) refl
+      where
+        step : walk layer (child_path path name) ≡ walk_beyond (Some inode) (walk layer path).next (walk layer path).closed name []
+        step = walk-child_end layer path name is (Some inode) above here d []
+
+        white : (b : Bool) → is_whiteout inode ≡ b → PassesOver layer path name
+        white true w =
+            let bad : true ≡ false = sym (ap (λ (s : Step). s.closed) (step ∙ whiteout-closes inode (walk layer path).next (walk layer path).closed name w)) ∙ opened in cc
+        white false w =
+            let bad : Some inode ≡ None = sym (ap (λ (s : Step). s.found) step ∙ file-is_found inode (walk layer path).next (walk layer path).closed name w) ∙ nothing in cc
+
+    by : (b : Bool) → is_directory_at layer path ≡ b → PassesOver layer path name
+    by true e = inside e (entry_at layer (child_path path name)) refl (directory_found (entry_at layer (child_path path name))) refl
+    by false e = outside (walk-below layer path name is e)
+
+-- a file that is no metacopy file closes its walk
+other-closes : (inode : Inode) (mark : Mark) (turned : PathNames) (shut : Bool) (own : PathName) → is_metacopy_mark mark ≡ false → (walk_to_file inode mark turned shut own).closed ≡ true
+other-closes inode (Meta redirect) turned shut own e = let bad : true ≡ false = e in cc
+other-closes inode _ turned shut own e = refl
+
+pub found-closes : (layer : Entries) (path : PathNames) (inode : Inode) → IsLayer layer → (walk layer path).found ≡ Some inode → is_directory inode ≡ false → is_metacopy inode ≡ false → (walk layer path).closed ≡ true
+found-closes layer path inode is found none other = by (drop (length (longest (is_directory_at layer) path)) path) refl
+  where
+    beyond : (o : Option Inode) (turned : PathNames) (shut : Bool) (own : PathName) (rest : PathNames) → (walk_beyond o turned shut own rest).found ≡ Some inode → (walk_beyond o turned shut own rest).closed ≡ true
+    beyond None turned shut own rest f = let bad : None ≡ Some inode = f in cc
+    beyond (Some thing) turned shut own (first ∷ rest) f = refl
+    beyond (Some thing) turned shut own [] f = white (is_whiteout thing) refl (mark_of thing) refl
+      where
+        white : (b : Bool) → is_whiteout thing ≡ b → (mark : Mark) → mark_of thing ≡ mark → (walk_beyond (Some thing) turned shut own []).closed ≡ true
+        white true w mark k = ap (λ (s : Step). s.closed) (whiteout-closes thing turned shut own w)
+        white false w mark k =
+            let step = file-found thing turned shut own w in
+            let some : Some thing ≡ Some inode = sym (found-file thing (mark_of thing) turned shut own) ∙ (ap (λ (s : Step). s.found) (sym step) ∙ f) in
+            let same : thing ≡ inode = cc in
+            ap (λ (s : Step). s.closed) step ∙ other-closes thing (mark_of thing) turned shut own (ap is_metacopy same ∙ other)
+
+    by : (rest : PathNames) → drop (length (longest (is_directory_at layer) path)) path ≡ rest → (walk layer path).closed ≡ true
+    by [] e =
+        let whole_path : longest (is_directory_at layer) path ≡ path = sym (append-nil (longest (is_directory_at layer) path)) ∙ (ap (λ (r : PathNames). longest (is_directory_at layer) path ++ r) (sym e) ∙ longest-rest (is_directory_at layer) path) in
+        let holds : is_directory_at layer path ≡ true = ap (is_directory_at layer) (sym whole_path) ∙ longest-holds (is_directory_at layer) path is.rooted in
+        let here : entry_at layer path ≡ Some inode = sym (ap (λ (s : Step). s.found) (walk-whole layer path holds)) ∙ found in
+        let bad : true ≡ false = sym (ap directory_found (sym here) ∙ holds) ∙ none in cc
+    by (own ∷ rest) e =
+        let d : PathNames = longest (is_directory_at layer) path in
+        ap (λ (r : PathNames). (walk_from layer d r).closed) e
+        ∙ beyond (entry_at layer (child_path d own)) (turn layer d) (is_shut layer d) own rest (sym (ap (λ (r : PathNames). (walk_from layer d r).found) e) ∙ found)
+
+-- ---- what a walk finds is the entry at its path, and no whiteout
+
+pub walk-finds : (layer : Entries) (path : PathNames) (inode : Inode) → IsLayer layer → (walk layer path).found ≡ Some inode → (entry_at layer path ≡ Some inode) × (is_whiteout inode ≡ false)
+walk-finds layer path inode is found = by (walk-end layer path is)
+  where
+    by : (is_directory_at layer path ≡ true) ⊎ Beyond layer path → (entry_at layer path ≡ Some inode) × (is_whiteout inode ≡ false)
+    by (inl holds) =
+        let here : entry_at layer path ≡ Some inode = ap (λ (s : Step). s.found) (sym (walk-whole layer path holds)) ∙ found in
+        (here, directory-no_whiteout inode (ap directory_found (sym here) ∙ holds))
+    by (inr b) = ends (entry_at layer next) refl b.rest refl (ap (λ (s : Step). s.found) (sym (walk-past layer path is b)) ∙ found)
+      where
+        next : PathNames
+        next = child_path b.directory b.name
+
+        ends : (entry : Option Inode) → entry_at layer next ≡ entry → (rest : PathNames) → b.rest ≡ rest → (walk_beyond (entry_at layer next) (turn layer b.directory) (is_shut layer b.directory) b.name b.rest).found ≡ Some inode → (entry_at layer path ≡ Some inode) × (is_whiteout inode ≡ false)
+        ends None e rest r finds =
+            let bad : None ≡ Some inode = (λ j. (walk_beyond (sym e j) (turn layer b.directory) (is_shut layer b.directory) b.name b.rest).found) ∙ finds in cc
+        ends (Some i) e (other ∷ rest) r finds =
+            let bad : None ≡ Some inode = (λ j. (walk_beyond (sym e j) (turn layer b.directory) (is_shut layer b.directory) b.name (sym r j)).found) ∙ finds in cc
+        ends (Some i) e [] r finds = split (is_whiteout i) refl ((λ j. (walk_beyond (sym e j) (turn layer b.directory) (is_shut layer b.directory) b.name (sym r j)).found) ∙ finds)
+          where
+            split : (w : Bool) → is_whiteout i ≡ w → (cond w (nothing_found (child_path (turn layer b.directory) b.name) true) (walk_to_file i (mark_of i) (turn layer b.directory) (is_shut layer b.directory) b.name)).found ≡ Some inode → (entry_at layer path ≡ Some inode) × (is_whiteout inode ≡ false)
+            split true w none = let bad : None ≡ Some inode = none in cc
+            split false w some =
+                let one : Some i ≡ Some inode = sym (found-file i (mark_of i) (turn layer b.directory) (is_shut layer b.directory) b.name) ∙ some in
+                let same : i ≡ inode = cc in
+                let whole : path ≡ next = sym b.whole ∙ ap (λ (rest : PathNames). b.directory ++ b.name ∷ rest) r in
+                (ap (entry_at layer) whole ∙ (e ∙ one), ap is_whiteout (sym same) ∙ w)
+
+-- ---- entries
+
+-- an entry that is no directory isn't the root, so its mark is its inode's
+pub mark-file : (layer : Entries) (path : PathNames) (inode : Inode) → IsLayer layer → entry_at layer path ≡ Some inode → is_directory inode ≡ false → mark_at layer path ≡ Some (mark_of inode)
+mark-file layer path inode is here file = by (last-name path)
+  where
+    by : (path ≡ []) ⊎ ((directory : PathNames) × (name : PathName) × (path ≡ child_path directory name)) → mark_at layer path ≡ Some (mark_of inode)
+    by (inl e) = let bad : false ≡ true = sym file ∙ (ap directory_found (sym here) ∙ (ap (is_directory_at layer) e ∙ is.rooted)) in cc
+    by (inr (directory, name, e)) = ap (mark_at layer) e ∙ mark-child layer directory name (Some inode) (ap (entry_at layer) (sym e) ∙ here)
+
+-- an entry stands at the path of each row
+pub entry-of_row : (layer : Entries) (number : ℕ) → IsLayer layer → number < length layer → (inode : Inode) × (entry_at layer (path_at layer number) ≡ Some inode)
+entry-of_row layer number is inside = by (slice_get layer number) refl
+  where
+    by : (o : Option Entry) → slice_get layer number ≡ o → (inode : Inode) × (entry_at layer (path_at layer number) ≡ Some inode)
+    by None e = absurd (omega (arith, none-past layer number e, inside))
+    by (Some entry) e = (entry.1, ap (λ o. entry_at layer (path_of o)) e ∙ entry_at-number layer number entry is.in_order e)

@@ -1,0 +1,159 @@
+#!/usr/bin/env python3
+"""Looks whether the documents name what is there.
+
+- HEADLINE.md has every definition that is reached from the contract of `command`, beside its file.
+- PROVED.md has every public call of the crates, and none that isn't there.
+- Links of all documents lead somewhere, and files that ARCHITECTURE.md names are there.
+
+Prints what is missing; the status is 1 where something is. Says nothing of what the documents say.
+"""
+import re
+import sys
+from pathlib import Path
+
+TOP = Path(__file__).resolve().parent.parent
+CLAUSES = ["IsOutcome", "is_outside", "request_of", "makes_layers", "KeepsTree", "after", "stays_sound", "HasSoundStack"]
+TESTS = {"ovl_layer_tests", "ovl_pool_tests", "ovl_engine_tests", "ovl_program_tests"}
+
+
+def crates():
+    return [folder for folder in sorted((TOP / "crates").iterdir()) if folder.name not in TESTS]
+
+
+def words(text):
+    return set(re.split(r"[\s(){}\[\],;.]+", text))
+
+
+def definitions():
+    """The words of each definition in specs/, and what each file of them takes from the others."""
+    found, taken = {}, {}
+    for crate in crates():
+        for path in (crate / "specs").rglob("*.antt"):
+            if "declared" in path.parts or "contracts" in path.parts:
+                continue
+            file = f"{crate.name}/{'.'.join(path.relative_to(crate / 'specs').with_suffix('').parts)}"
+            taken[file], current = {}, None
+            for line in path.read_text(encoding="utf-8").splitlines():
+                use = re.match(r"(?:pub )?use Rattle\.(ovl_\w+)\.specs\.([\w.]+)\.\{(.*)\}", line)
+                head = re.match(r"(?:abbrev )?(?:pub )?(?:record |data )?(\S+)", line)
+                if use and not use[2].startswith("declared"):
+                    for name in use[3].split(","):
+                        own, _, alias = name.strip().partition(" as ")
+                        taken[file][alias or own] = (f"{use[1]}/{use[2]}", own)
+                if re.match(r"(abbrev|pub|record|data)\b", line) and head[1] not in ("mod", "use"):
+                    current = (file, head[1])
+                    found[current] = set()
+                if current and not line.startswith(("--", "use ", "pub use ")):
+                    found[current] |= words(line.split(" -- ")[0])
+    return found, taken
+
+
+def reached(found, taken):
+    todo = [key for key in found if key[0].startswith("ovl_engine/") and key[1] in CLAUSES]
+    seen = set()
+    while todo:
+        key = todo.pop()
+        if key in seen or key not in found:
+            continue
+        seen.add(key)
+        for word in found[key]:
+            other = (key[0], word)
+            while other not in found and other[1] in taken.get(other[0], {}):
+                other = taken[other[0]][other[1]]
+            todo.append(other)
+    return seen
+
+
+def headline():
+    text = (TOP / "docs/HEADLINE.md").read_text(encoding="utf-8")
+    rows = [line.split("|")[1:3] for line in text.splitlines() if line.startswith("| `")]
+    told = set()
+    for names, files in rows:
+        crate = ""
+        for file in re.findall(r"`([^`]+)`", files):
+            crate, _, name = file.rpartition("/") if "/" in file else (crate, "", file)
+            told |= {(f"{crate}/{name}", one) for one in re.findall(r"`([^`]+)`", names)}
+    found, taken = definitions()
+    needed = reached(found, taken)
+    print(f"{len(needed)} definitions are reached from the contract of command")
+    for file, name in sorted(needed - told):
+        yield f"HEADLINE.md lacks {name} of {file}"
+    known = {name for _, name in found}
+    for names, _ in rows:
+        for name in re.findall(r"`([^`]+)`", names):
+            if name not in known:
+                yield f"HEADLINE.md names {name}, which no specs/ has"
+
+
+def calls(crate):
+    """The public functions of a crate, methods as TYPE::NAME."""
+    lib = crate / "src/lib.rt"
+    if not lib.exists():
+        return set()
+    text = lib.read_text(encoding="utf-8")
+    public = {"laws"} & set(re.findall(r"pub mod (\w+);", text))
+    names = set()
+    for use in re.findall(r"pub use (?:\w+::)*(\{[^}]*\}|\w+);", text):
+        names |= set(re.findall(r"\w+", use))
+    found = set()
+    for path in (crate / "src").rglob("*.rt"):
+        owner = None
+        for line in path.read_text(encoding="utf-8").splitlines():
+            own = re.match(r"impl(?:<[^{]*?>)? (\w+)(?:<.*>)? \{", line)
+            if re.match(r"\S", line):
+                owner = own[1] if own else (owner if line.startswith("}") else None)
+            call = re.match(r"(\s*)pub fn (\w+)", line)
+            if call and not call[1] and (call[2] in names or path.stem in public):
+                found.add(call[2])
+            elif call and call[1] and owner in names:
+                found.add(f"{owner}::{call[2]}")
+    return found
+
+
+def proved():
+    text = (TOP / "docs/PROVED.md").read_text(encoding="utf-8")
+    chapters = re.split(r"^## ", text, flags=re.M)[1:]
+    for crate in crates():
+        chapter = "\n".join(one for one in chapters if crate.name in one.split("\n")[0])
+        told = set(re.findall(r"`([\w:]+)`", chapter))
+        for call in sorted(calls(crate) - told):
+            yield f"PROVED.md lacks {call} of {crate.name}"
+    every = set()
+    for path in (TOP / "crates").rglob("*.rt"):
+        every |= set(re.findall(r"\bfn (\w+)", path.read_text(encoding="utf-8")))
+    for row in re.findall(r"^\| ((?:`[\w:]+`(?:, )?)+) \|", text, flags=re.M):
+        for call in re.findall(r"`([\w:]+)`", row):
+            name = call.split("::")[-1]
+            if name not in every and name[:1].islower():
+                yield f"PROVED.md names {call}, which no crate has"
+
+
+def anchor(heading):
+    return re.sub(r"[^\w\- ]", "", heading.strip().lower()).replace(" ", "-")
+
+
+def links():
+    documents = [path for path in TOP.rglob("*.md") if "out" not in path.parts and ".git" not in path.parts]
+    for path in documents:
+        for link in re.findall(r"\]\(([^)\s]+)\)", path.read_text(encoding="utf-8")):
+            if link.startswith("http"):
+                continue
+            file, _, place = link.partition("#")
+            target = (path.parent / file).resolve() if file else path
+            name = f"{path.relative_to(TOP)}: the link {link}"
+            if not target.exists():
+                yield f"{name} leads nowhere"
+            elif place:
+                heads = re.findall(r"^#+ (.*)$", target.read_text(encoding="utf-8"), flags=re.M)
+                if place not in {anchor(head) for head in heads}:
+                    yield f"{name} has no such chapter"
+    text = (TOP / "docs/ARCHITECTURE.md").read_text(encoding="utf-8")
+    for file in sorted(set(re.findall(r"`(ovl_\w+/[\w/]+\.(?:rt|antt))`", text))):
+        if not (TOP / "crates" / file).exists():
+            yield f"ARCHITECTURE.md names crates/{file}, which isn't there"
+
+
+if __name__ == "__main__":
+    missing = [*headline(), *proved(), *links()]
+    print("\n".join(missing) or "nothing is missing")
+    sys.exit(1 if missing else 0)
