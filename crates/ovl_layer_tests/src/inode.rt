@@ -113,10 +113,7 @@ fn names_and_values_of_attributes_are_copied(rt: HostRuntime) -> Result<(), Fail
 #[test]
 fn targets_are_copied(rt: HostRuntime) -> Result<(), Fail> {
     let target = Target::from(String::from_str(rt.alloc(), "a b")?);
-    assert_eq!(rt;
-        target.copy(rt.alloc())?.as_str(),
-        target.as_str()
-    );
+    assert_eq!(rt; target.copy(rt.alloc())?.as_str(), target.as_str());
     Ok(())
 }
 
