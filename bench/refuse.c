@@ -1,6 +1,6 @@
 /* Stands before the C library (LD_PRELOAD) and refuses some of what a program asks of it. It needs no header.
 
-   REFUSE        what is refused: memory, thread (its start), open, stat, list, read or write
+   REFUSE        what is refused: memory, thread (its start), open, stat, list, empty, read or write
    REFUSE_AT     the number of the first that is refused, counted from 1; 0, or nothing: none is
    REFUSE_ON     given: all after it are refused too
    REFUSE_ERROR  the number of the error; 0: the call moves no byte
@@ -18,7 +18,7 @@ extern long syscall(long, ...);
 extern void *dlsym(void *, const char *);
 extern char **environ;
 
-enum { READ = 0, WRITE = 1, OPEN = 2, CLOSE = 3, LIST = 217, EXIT = 231, OPENAT = 257, STAT = 332 };
+enum { READ = 0, WRITE = 1, OPEN = 2, CLOSE = 3, EMPTY = 77, LIST = 217, EXIT = 231, OPENAT = 257, STAT = 332 };
 enum { NO_MEMORY = 12, TRY_AGAIN = 11, LONGEST = 60, FILES = 1024 };
 /* For writing, made where it isn't there, emptied where it is. */
 enum { ANEW = 01 | 0100 | 01000 };
@@ -121,6 +121,10 @@ int statx(int file, const char *name, int flags, unsigned mask, void *found) {
 
 long getdents64(int file, void *room, word size) {
     return is_meant_file(file) && refuses("list") ? refusal() : syscall(LIST, file, room, size);
+}
+
+int ftruncate(int file, long length) {
+    return is_meant_file(file) && refuses("empty") ? (int)refusal() : (int)syscall(EMPTY, file, length);
 }
 
 static word moved(word size) { return most && size > most ? most : size; }

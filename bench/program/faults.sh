@@ -81,6 +81,14 @@ misfits() {
     fi
 }
 
+# By the words after REASON and USAGE: status 2, nothing on standard output, and the text of `clap` with this reason and,
+# where USAGE isn't empty, this line of usage.
+explains() {
+    local text=$'error: '$1$'\n\n'${2:+"Usage: ovl_layers $2"$'\n\n'}$'For more information, try \'--help\'.\n'
+    shift 2
+    ends 2 printed "$@" && says told "$text" "$@"
+}
+
 # Counts whether the new layer in FOLDER has the bytes of FILE, or isn't there where there is no FILE.
 gives() {
     local new=$1/layer-0.json
@@ -296,8 +304,8 @@ for way in without_input from_a_folder from_zeros; do
     over=$way refuses 3 'cannot read standard input'
 done
 
-# Opens, looks, listings and reads that fail, by EIO (5), ENOMEM (12), EACCES (13) and EMFILE (24). By EINTR (4) they are
-# interrupted, and opens and reads are tried again.
+# Opens, looks, listings and reads that fail, by EIO (5), ENOMEM (12), EACCES (13) and EMFILE (24), or are interrupted, by
+# EINTR (4). Of these only opens are tried again.
 clean='faults 0 notes 0\n'
 each open k.json '5 12 13 24' refuses 3 'cannot read k.json' fsck --blobs blobs root.json k.json
 each open "/$abc" '5 12 13 24' refuses 3 "cannot read blobs/$abc" fsck --blobs blobs k.json
@@ -310,12 +318,9 @@ for error in 4 5 12; do
 done
 each stat k.json '4 5 12' prints 0 "$clean" fsck --blobs blobs root.json k.json
 most=100
-each read k.json '5 12' refuses 3 'cannot read k.json' fsck --blobs blobs root.json k.json
-each read "/$abc" '5 12' refuses 3 "cannot read blobs/$abc" fsck --blobs blobs k.json
-each read /dev/stdin '5 12' refuses 3 'cannot read standard input'
-each read k.json 4 prints 0 "$clean" fsck --blobs blobs root.json k.json
-each read "/$abc" 4 prints 0 "$clean" fsck --blobs blobs k.json
-each read /dev/stdin 4 prints 0 "$alone"
+each read k.json '4 5 12' refuses 3 'cannot read k.json' fsck --blobs blobs root.json k.json
+each read "/$abc" '4 5 12' refuses 3 "cannot read blobs/$abc" fsck --blobs blobs k.json
+each read /dev/stdin '4 5 12' refuses 3 'cannot read standard input'
 most=
 each open k.json 4 prints 0 "$clean" fsck --blobs blobs root.json k.json
 each open "/$abc" 4 prints 0 "$clean" fsck --blobs blobs k.json
@@ -353,6 +358,23 @@ misfits fsck --blobs none --out none root.json
 misfits show --unknown root.json
 misfits unknown root.json
 misfits ''
+explains "invalid value '0' for '--workers <N>': 0 is not in 1..=64" '' show --workers 0 root.json
+explains "invalid value 'x' for '--workers <N>': invalid digit found in string" '' show --workers x root.json
+explains "invalid value '128' for '--data-layers <K>': 128 is not in 0..=127" '' show --data-layers 128 root.json
+explains "a value is required for '--workers <N>' but none was supplied" '' show root.json --workers
+explains "unexpected argument '-1' found"$'\n\n'"  tip: to pass '-1' as a value, use '-- -1'" \
+    'show [OPTIONS] <LAYER>...' show --data-layers -1 root.json
+explains "unexpected argument '--out' found"$'\n\n'"  tip: to pass '--out' as a value, use '-- --out'" \
+    'fsck --blobs <DIR> <LAYER>...' fsck --blobs none --out new root.json
+wanted=$'the following required arguments were not provided:\n  '
+explains "$wanted<LAYER>..." 'show <LAYER>...' show
+explains "$wanted--blobs <DIR>" 'fsck --blobs <DIR> <LAYER>...' fsck root.json
+explains "$wanted--out <DIR>" 'vacuum --blobs <DIR> --out <DIR> <LAYER>...' vacuum --blobs none root.json
+explains "unrecognized subcommand 'mount'" '<COMMAND>' mount root.json
+for what in vacuum deref merge; do
+    explains "a value is required for '--out <DIR>' but none was supplied" '' "$what" --blobs blobs --out '' meta.json k.json
+    explains "a value is required for '--out <DIR>' but none was supplied" '' "$what" --blobs blobs --out= meta.json k.json
+done
 refuses 2 'words must be UTF-8' show $'\xff'
 
 # New layers. That of k.json over itself is a root alone.
@@ -418,7 +440,9 @@ refuses 5 'result over the limits' merge --blobs none --out new moved.json deepe
 refuses 4 'cannot write missing/layer-0.json' merge --blobs blobs --out missing meta.json k.json
 gives new
 mkdir taken/second && mkdir taken/second/layer-1.json
+cp pipes.json taken/second/layer-0.json
 refuses 4 'cannot write taken/second/layer-1.json' merge --blobs blobs --out taken/second meta.json k.json
+gives taken/second pipes.json
 prints 0 'leaf /k\nentries 2\n' merge --blobs blobs --out new meta.json k.json
 gives new root.json
 mv new/layer-1.json new/layer-0.json
@@ -459,22 +483,46 @@ rm -r places
 mkdir places && ln -s /dev/null places/layer-0.json
 prints 0 "$whole" vacuum --blobs blobs --out places k.json root.json
 rm -r places
+# Both lead to one file: by a hard link, by links to what is there and to what isn't, and to a device.
+merge=(merge --blobs blobs --out places meta.json k.json)
+for target in ../pipes.json layer-0.json ../none/made.json /dev/null; do
+    mkdir places
+    if [[ $target == layer-0.json ]]; then
+        cp pipes.json places/layer-0.json
+        ln places/layer-0.json places/layer-1.json
+    else
+        ln -s "$target" places/layer-0.json
+        ln -s "$target" places/layer-1.json
+    fi
+    cp pipes.json kept.json
+    refuses 4 'cannot write places/layer-1.json' "${merge[@]}"
+    [[ $target == *made.json || $target == /dev/* ]] || gives places kept.json
+    rm -r places
+done
+rm none/made.json
 if on_a_disk_for_reading true 2> told; then
     over=on_a_disk_for_reading refuses 4 'cannot write disk/layer-0.json' vacuum --blobs blobs --out disk k.json root.json
 fi
 
-# New layers and reports that can't be made or written: by EIO (5), ENOMEM (12), EMFILE (24), EFBIG (27), ENOSPC (28), EROFS
-# (30) and EDQUOT (122), or because a write takes nothing. What is interrupted is tried again.
+# New layers and reports that can't be opened, looked at, emptied or written: by EPERM (1), EIO (5), EAGAIN (11), ENOMEM (12),
+# EMFILE (24), EFBIG (27), ENOSPC (28), EROFS (30) and EDQUOT (122), or because a write takes nothing. Opens and writes that are
+# interrupted are tried again.
 merge=(merge --blobs blobs --out new meta.json k.json)
 for made in layer-0.json layer-1.json; do
     each open "new/$made" '5 12 24 28 30 122' refuses 4 "cannot write new/$made" "${merge[@]}"
     each open "new/$made" 4 prints 0 'leaf /k\nentries 2\n' "${merge[@]}"
+    each empty "new/$made" '1 5 28' refuses 4 "cannot write new/$made" "${merge[@]}"
     most=50
-    each write "new/$made" '0 5 27 28 122' refuses 4 "cannot write new/$made" "${merge[@]}"
+    each write "new/$made" '0 5 11 27 28 122' refuses 4 "cannot write new/$made" "${merge[@]}"
     each write "new/$made" 4 prints 0 'leaf /k\nentries 2\n' "${merge[@]}"
     most=
 done
-each write /dev/stdout '0 5 28 32' refuses 4 'cannot write standard output' "${merge[@]}"
+# (Whether the second is the first is asked of both, and then of each whether it is to be emptied.)
+over='failing stat new/layer-1.json 1 5' refuses 4 'cannot write new/layer-1.json' "${merge[@]}"
+over='failing stat new/layer-0.json 1 5' refuses 4 'cannot write new/layer-1.json' "${merge[@]}"
+over='failing stat new/layer-0.json 2 5' refuses 4 'cannot write new/layer-0.json' "${merge[@]}"
+over='failing stat new/layer-1.json 2 5' refuses 4 'cannot write new/layer-1.json' "${merge[@]}"
+each write /dev/stdout '0 5 11 28 32' refuses 4 'cannot write standard output' "${merge[@]}"
 each write /dev/stdout 4 prints 0 'leaf /k\nentries 2\n' "${merge[@]}"
 
 # Reads and writes of one byte each.

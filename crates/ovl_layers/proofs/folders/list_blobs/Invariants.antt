@@ -1,7 +1,0 @@
-use Rattle.std.proofs.Common.{All}
-use Rattle.ovl_layers.specs.Folders.{IsNamedBy}
-use Rattle.ovl_layers.proofs.folders.list_blobs.Given as goal
-
--- each name so far is one that a file's name spells
-abbrev pub invariant-loop-entry : goal.invariant-loop-entry
-invariant-loop-entry g l = All IsNamedBy l.names.keys

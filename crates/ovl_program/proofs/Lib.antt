@@ -1,0 +1,10 @@
+pub mod Accepted
+pub mod Ascending
+pub mod HandedParts
+pub mod LeftOut
+pub mod Numbers
+pub mod Options
+pub mod Outcomes
+pub mod Performed
+pub mod Taken
+pub mod Unread

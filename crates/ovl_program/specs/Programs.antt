@@ -1,0 +1,48 @@
+-- What the program does for a line of words.
+use Rattle.std.specs.Prelude.{◌≡◌, ◌⊎◌, ℕ, true, Option, Some, Result, Ok, Err, List, [], length, map, string_bytes, Contains, IfNone, String}
+use Rattle.std.specs.Global.{Global}
+use Rattle.std.specs.Io.KnownBytes.{Keeps}
+use Rattle.ovl_check.specs.Blobs.{are_in_order}
+use Rattle.ovl_engine.specs.Requests.{Request}
+use Rattle.ovl_program.specs.declared.command_line.options.Line.{Line}
+use Rattle.ovl_program.specs.declared.output.status.Ending.{Ending}
+use Rattle.ovl_program.specs.declared.faults.ProgramFault.{ProgramFault}
+use Rattle.ovl_program.specs.declared.faults.ProgramFault.TheVariants.{Usage, Words, Input, Unread, Unwritten, Output, Engine}
+use Rattle.ovl_program.specs.Faults.{IsMemory}
+use Rattle.ovl_program.specs.BlobFolders.{IsInFolder}
+use Rattle.ovl_program.specs.Reported.{IsReported}
+
+-- the line's folder of blobs, or a blob in it
+abbrev pub IsOfBlobs : Line → List ℕ → Type 0
+IsOfBlobs line path = (folder : String Global) × ((line.blobs ≡ Some folder) × IsInFolder (string_bytes folder) path)
+
+-- a path that is read for a line: a layer of it, or one of its blobs
+abbrev pub IsOfLine : Line → List ℕ → Type 0
+IsOfLine line path = Contains (map string_bytes line.layers.items) path ⊎ IsOfBlobs line path
+
+-- a request that can be read for a line: its command by its workers, a manifest for each layer, as many of them data-only
+-- as it says, and blobs in order, none where the line has no folder of them
+pub record IsRequestFor (line : Line) (request : Request) : Type 0 where
+  pub what : request.what ≡ line.what
+  pub workers : request.workers ≡ line.workers
+  pub each : length request.manifests ≡ length line.layers.items
+  pub bottom : request.bottom ≡ line.data_layers
+  pub in_order : are_in_order request.blobs ≡ true
+  pub none : IfNone line.blobs (request.blobs ≡ [])
+
+-- a request that can be read for a line is reported
+abbrev pub IsDone : Line → Option (List ℕ) → Option (List ℕ) → Result Ending ProgramFault → Type 0
+IsDone line before after result =
+    (request : Request) × (IsRequestFor line request × IsReported request line.out before after result)
+
+-- what comes of a line: it is done; or a file or a folder of it isn't read, or memory is wanting, and nothing is written
+abbrev pub IsPerformed : Line → Option (List ℕ) → Option (List ℕ) → Result Ending ProgramFault → Type 0
+IsPerformed line before after (Ok ending) = IsDone line before after (Ok ending)
+IsPerformed line before after (Err Output) = IsDone line before after (Err Output)
+IsPerformed line before after (Err (Unwritten path)) = IsDone line before after (Err (Unwritten path))
+IsPerformed line before after (Err (Engine fault)) =
+    (IsMemory fault ⊎ IsDone line before after (Err (Engine fault))) × Keeps before after
+IsPerformed line before after (Err (Unread path)) = IsOfLine line (string_bytes path) × Keeps before after
+IsPerformed line before after (Err (Usage text)) = ⊥
+IsPerformed line before after (Err Words) = ⊥
+IsPerformed line before after (Err Input) = ⊥

@@ -1,0 +1,183 @@
+ghost use Rattle.std.specs.Prelude.{◌≡◌, ◌≢◌, ◌≤◌, ◌+◌, true, Ok, None, IfOk, IfErr, IfSome, string_bytes, vec_len, map, All};
+ghost use Rattle.std.specs.BTreeSet.{IsOrdered};
+ghost use Rattle.std.specs.Fs.{dir_entry_name};
+ghost use Rattle.std.specs.Thread.{IsSync};
+ghost use Rattle.ovl_inode.specs.Hexadecimal.{digest_of_text};
+ghost use Rattle.ovl_check.specs.Blobs.{blob_views, digest_cmp, are_in_order};
+ghost use Rattle.ovl_engine.specs.Refusals.{blob_limit, blob_bytes};
+ghost use Rattle.ovl_program.specs.declared.files.reads.ReadFault.TheVariants.{TooLong};
+ghost use Rattle.ovl_program.specs.Faults.{IsUnread};
+ghost use Rattle.ovl_program.specs.BlobFolders.{blob_path as path_of_blob, IsInFolder, IsNamedBy, IsSpelt};
+
+use crate::faults::ProgramFault;
+use crate::files::held_blobs::HeldBlobs;
+use crate::files::manifests::SharedFiles;
+use crate::files::reads::{INPUT_LIMIT, ReadFault};
+use ovl_engine::{BLOB_LIMIT, Blob};
+use ovl_inode::Digest;
+use std::alloc::{AllocError, Global};
+use std::collections::BTreeSet;
+use std::fs;
+use std::fs::DirEntry;
+use std::rt::Files;
+use std::thread::{Threads, join};
+
+/// The blobs of a folder, ascending by name, each name once: its regular files whose names are digests. Other names are
+/// passed over, and so is what isn't a regular file itself, a link too. A folder whose listing fails can't be read, nor
+/// one with a name that isn't UTF-8. A blob has at most [`INPUT_LIMIT`] bytes. Where all have more than [`BLOB_LIMIT`],
+/// so that no command takes them, each is read, but those after the first that goes over it are given without bytes.
+/// At most as many threads read them as there are workers, a single one where all are said to have more than the limit.
+pub fn read_blobs<R: Files + SharedFiles + AllocGlobal + Clone + Drop + Threads + Sync>(
+    rt: &R,
+    folder: &str,
+    workers: usize,
+) -> Result<Vec<Blob>, ProgramFault>
+    ensures ordered { IfOk result (λ blobs. are_in_order (blob_views blobs.items) ≡ true) }
+    ensures within { IfOk result (λ blobs. All (λ blob. vec_len blob.bytes ≤ INPUT_LIMIT) blobs.items) }
+    ensures spelt { IfOk result (λ blobs. All (λ blob. IsSpelt blob.name) blobs.items) }
+    ensures held { IfOk result (λ blobs. blob_bytes (blob_views blobs.items) ≤ blob_limit + INPUT_LIMIT) }
+    ensures fault { IfErr result (λ fault. IsUnread (IsInFolder folder.now) fault) }
+{
+    let alloc = rt.alloc();
+    let listing = match list_blobs(rt, folder) {
+        Ok(listing) => listing,
+        Err(fault) => return Err(ProgramFault::unread(alloc, folder, fault)),
+    };
+    let threads = if listing.bytes > BLOB_LIMIT as u64 {
+        1
+    } else {
+        workers
+    };
+    let names = in_order(alloc, listing.names)?;
+    let held = blobs_of(rt, alloc, folder, &names, threads)?;
+    Ok(held.into_blobs())
+}
+
+// The blobs of these names in a folder, in their order, read by at most so many threads: each half by half of them.
+#[cycle(reading)]
+fn blobs_of<R: SharedFiles + Threads + Sync>(
+    rt: &R,
+    alloc: Global,
+    folder: &str,
+    names: &[Digest],
+    threads: usize,
+) -> Result<HeldBlobs, ProgramFault>
+    ensures same { IfOk result (λ held. map (λ blob. blob.name) held.blobs.items ≡ names.now) }
+    ensures fault { IfErr result (λ fault. IsUnread (IsInFolder folder.now) fault) }
+{
+    if threads < 2 || names.len() < 2 {
+        return read_share(rt, alloc, folder, names);
+    }
+    let (front, back) = names.split_at(names.len() / 2);
+    let (front, back) = join(
+        rt,
+        || -> Result<HeldBlobs, ProgramFault>
+            requires { IsSync R.row }
+            ensures same { IfOk result (λ held. map (λ blob. blob.name) held.blobs.items ≡ front.entry.now) }
+            ensures fault { IfErr result (λ fault. IsUnread (IsInFolder folder.entry.now) fault) }
+        { blobs_of(rt, alloc, folder, front, threads / 2) },
+        || -> Result<HeldBlobs, ProgramFault>
+            requires { IsSync R.row }
+            ensures same { IfOk result (λ held. map (λ blob. blob.name) held.blobs.items ≡ back.entry.now) }
+            ensures fault { IfErr result (λ fault. IsUnread (IsInFolder folder.entry.now) fault) }
+        { blobs_of(rt, alloc, folder, back, threads - threads / 2) },
+    );
+    let mut held = front?;
+    held.append(back?)?;
+    Ok(held)
+}
+
+// The same, by this thread.
+fn read_share<R: SharedFiles>(
+    rt: &R,
+    alloc: Global,
+    folder: &str,
+    names: &[Digest],
+) -> Result<HeldBlobs, ProgramFault>
+    ensures same { IfOk result (λ held. map (λ blob. blob.name) held.blobs.items ≡ names.now) }
+    ensures fault { IfErr result (λ fault. IsUnread (IsInFolder folder.now) fault) }
+{
+    let mut held = HeldBlobs::new(alloc);
+    for name in names {
+        let path = blob_path(alloc, folder, name)?;
+        held.push(*name, rt.read_shared(path.as_str())?)?;
+    }
+    Ok(held)
+}
+
+// The names of blobs, ascending.
+fn in_order(alloc: Global, names: BTreeSet<Digest>) -> Result<Vec<Digest>, AllocError>
+    ensures same { IfOk result (λ listed. listed.items ≡ names.keys) }
+    ensures ordered { IsOrdered digest_cmp names }
+{
+    let mut listed = Vec::with_capacity(alloc, names.len())?;
+    for name in names {
+        listed.push(name)?;
+    }
+    Ok(listed)
+}
+
+// The names of the blobs of a folder, and how many bytes they are said to have together.
+#[derive(Drop)]
+struct Listing {
+    names: BTreeSet<Digest>,
+    bytes: u64,
+}
+
+// The blobs of a folder. Its listing has no limit.
+fn list_blobs<R: Files + AllocGlobal + Clone + Drop>(
+    rt: &R,
+    folder: &str,
+) -> Result<Listing, ReadFault>
+    ensures each { IfOk result (λ listing. All IsNamedBy listing.names.keys) }
+    ensures fault { IfErr result (λ fault. fault ≢ TooLong) }
+{
+    let mut names = BTreeSet::new(rt.alloc());
+    let mut bytes: u64 = 0;
+    for entry in fs::read_dir(rt, folder)? {
+        if let Some(file) = blob_file(&entry?)? {
+            names.insert(file.name)?;
+            bytes = bytes.saturating_add(file.length);
+        }
+    }
+    Ok(Listing { names, bytes })
+}
+
+// A regular file whose name is a digest, and the length that is told of it.
+#[derive(Drop)]
+struct BlobFile {
+    name: Digest,
+    length: u64,
+}
+
+// An entry as such a file, where it is one. Only where its name is a digest is it asked what it is.
+fn blob_file<R: Files>(entry: &DirEntry<R>) -> Result<Option<BlobFile>, ReadFault>
+    ensures named { IfOk result (λ file. IfSome file (λ blob. digest_of_text (dir_entry_name entry.now) ≡ Some blob.name)) }
+    ensures passed_over { digest_of_text (dir_entry_name entry.now) ≡ None → result ≡ Ok None }
+    ensures fault { IfErr result (λ fault. fault ≢ TooLong) }
+{
+    match Digest::parse(entry.file_name()) {
+        Ok(name) => {
+            let metadata = entry.metadata()?;
+            if metadata.is_file() {
+                return Ok(Some(BlobFile {
+                    name,
+                    length: metadata.len(),
+                }));
+            }
+            Ok(None)
+        }
+        Err(_) => Ok(None),
+    }
+}
+
+// A blob's path: the folder as it is given, a slash, and the 64 digits of the blob's name.
+fn blob_path(alloc: Global, folder: &str, name: &Digest) -> Result<String, AllocError>
+    ensures path { IfOk result (λ path. string_bytes path ≡ path_of_blob folder.now name.now) }
+    ensures spelt { IfOk result (λ _. IsSpelt name.now) }
+{
+    let mut path = String::from_str(alloc, folder)?;
+    path.push('/')?;
+    path.push_str(hex::encode(alloc, name.as_bytes())?.as_str())?;
+    Ok(path)
+}

@@ -1,0 +1,123 @@
+ghost use Rattle.std.specs.Prelude.{◌≡◌, ◌≤◌, IfOk, IfErr, MatchResult, string_bytes, vec_len, length, map, All, Contains};
+ghost use Rattle.std.specs.Thread.{IsSync};
+ghost use Rattle.ovl_program.specs.Faults.{IsUnread};
+
+use crate::faults::ProgramFault;
+use crate::files::reads::{INPUT_LIMIT, ReadFault, read_expected};
+use std::alloc::Global;
+use std::fs::{self, OpenFile};
+use std::rt::Files;
+use std::thread::{Threads, join};
+
+/// The bytes of a file, at most [`INPUT_LIMIT`]. Links are followed. A folder can't be read.
+pub fn read_file<R: Files + AllocGlobal>(rt: &R, path: &str) -> Result<Vec<u8>, ProgramFault>
+    ensures { MatchResult result
+        (λ bytes. vec_len bytes ≤ INPUT_LIMIT)
+        (λ fault. IsUnread (λ told. told ≡ path.now) fault) }
+{
+    match read_bytes(rt, path) {
+        Ok(bytes) => Ok(bytes),
+        Err(fault) => Err(ProgramFault::unread(rt.alloc(), path, fault)),
+    }
+}
+
+// The same, with a fault that doesn't name the file.
+fn read_bytes<R: Files + AllocGlobal>(rt: &R, path: &str) -> Result<Vec<u8>, ReadFault>
+    ensures { IfOk result (λ bytes. vec_len bytes ≤ INPUT_LIMIT) }
+{
+    let mut file = fs::open(rt, path)?;
+    // A length that isn't told, or is wrong, as 0 is in /proc, changes only how room is made.
+    let expected = file.metadata().map_or(0, |metadata| metadata.len());
+    read_expected(rt.alloc(), &mut file, INPUT_LIMIT, expected)
+}
+
+/// A runtime whose files several threads may read: a bound by `Files` holds of one thread alone.
+pub trait SharedFiles {
+    /// What [`read_file`] gives.
+    fn read_shared(&self, path: &str) -> Result<Vec<u8>, ProgramFault>
+        ensures { MatchResult result
+            (λ bytes. vec_len bytes ≤ INPUT_LIMIT)
+            (λ fault. IsUnread (λ told. told ≡ path.now) fault) };
+}
+
+impl SharedFiles for HostRuntime {
+    fn read_shared(&self, path: &str) -> Result<Vec<u8>, ProgramFault> {
+        read_file(self, path)
+    }
+}
+
+/// The bytes of each of these files, in their order, read by at most as many threads as there are workers. Where one is
+/// no regular file they are read one after another, since what a pipe gives goes to whoever reads it first. The first that
+/// can't be read is told.
+pub fn read_files<R: Files + SharedFiles + AllocGlobal + Threads + Sync>(
+    rt: &R,
+    paths: &[String],
+    workers: usize,
+) -> Result<Vec<Vec<u8>>, ProgramFault>
+    ensures each { IfOk result (λ files. vec_len files ≡ length paths.now) }
+    ensures within { IfOk result (λ files. All (λ bytes. vec_len bytes ≤ INPUT_LIMIT) files.items) }
+    ensures fault { IfErr result (λ fault. IsUnread (Contains (map string_bytes paths.now)) fault) }
+{
+    let threads = if are_regular(rt, paths) { workers } else { 1 };
+    read_by(rt, rt.alloc(), paths, threads)
+}
+
+// Whether each of these paths leads to a regular file.
+fn are_regular<R: Files>(rt: &R, paths: &[String]) -> bool {
+    paths.iter().all(|path| {
+        fs::metadata(rt, path.as_str()).is_ok_and(|metadata| metadata.is_file())
+    })
+}
+
+// The bytes of each of these files, read by at most so many threads: each half by half of them.
+#[cycle(reading)]
+fn read_by<R: SharedFiles + Threads + Sync>(
+    rt: &R,
+    alloc: Global,
+    paths: &[String],
+    threads: usize,
+) -> Result<Vec<Vec<u8>>, ProgramFault>
+    ensures each { IfOk result (λ files. vec_len files ≡ length paths.now) }
+    ensures within { IfOk result (λ files. All (λ bytes. vec_len bytes ≤ INPUT_LIMIT) files.items) }
+    ensures fault { IfErr result (λ fault. IsUnread (Contains (map string_bytes paths.now)) fault) }
+{
+    if threads < 2 || paths.len() < 2 {
+        return read_share(rt, alloc, paths);
+    }
+    let (front, back) = paths.split_at(paths.len() / 2);
+    let (front, back) = join(
+        rt,
+        || -> Result<Vec<Vec<u8>>, ProgramFault>
+            requires { IsSync R.row }
+            ensures each { IfOk result (λ files. vec_len files ≡ length front.entry.now) }
+            ensures within { IfOk result (λ files. All (λ bytes. vec_len bytes ≤ INPUT_LIMIT) files.items) }
+            ensures fault { IfErr result (λ fault. IsUnread (Contains (map string_bytes front.entry.now)) fault) }
+        { read_by(rt, alloc, front, threads / 2) },
+        || -> Result<Vec<Vec<u8>>, ProgramFault>
+            requires { IsSync R.row }
+            ensures each { IfOk result (λ files. vec_len files ≡ length back.entry.now) }
+            ensures within { IfOk result (λ files. All (λ bytes. vec_len bytes ≤ INPUT_LIMIT) files.items) }
+            ensures fault { IfErr result (λ fault. IsUnread (Contains (map string_bytes back.entry.now)) fault) }
+        { read_by(rt, alloc, back, threads - threads / 2) },
+    );
+    let mut files = front?;
+    files.append(&mut back?)?;
+    Ok(files)
+}
+
+// The same, by this thread. Nothing is read behind the first file that can't be read.
+fn read_share<R: SharedFiles>(
+    rt: &R,
+    alloc: Global,
+    paths: &[String],
+) -> Result<Vec<Vec<u8>>, ProgramFault>
+    ensures each { IfOk result (λ files. vec_len files ≡ length paths.now) }
+    ensures within { IfOk result (λ files. All (λ bytes. vec_len bytes ≤ INPUT_LIMIT) files.items) }
+    ensures fault { IfErr result (λ fault. IsUnread (Contains (map string_bytes paths.now)) fault) }
+{
+    let mut files = Vec::new(alloc);
+    for path in paths {
+        files.push(rt.read_shared(path.as_str())?)?;
+    }
+    Ok(files)
+}

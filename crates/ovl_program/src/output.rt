@@ -1,0 +1,5 @@
+// What the program puts out: new layers, the report, and the status that it ends with.
+pub mod hand_out;
+pub mod layer_files;
+pub mod report;
+pub mod status;

@@ -1,0 +1,76 @@
+use crate::command_line::arguments;
+use crate::command_line::options::LineFault;
+use crate::command_line::parser::line;
+use crate::faults::ProgramFault;
+use crate::files::manifests::SharedFiles;
+use crate::output::status::Ending;
+use crate::runs::command::perform;
+use crate::runs::standard_input::show_input;
+use ovl_engine::{EngineFault, emit};
+use std::io;
+use std::rt::{Env, Files};
+use std::sync::Wait;
+use std::thread::Threads;
+
+/// Does what the words ask for, or without any word what standard input asks for, and gives the status that the program
+/// ends with. A fault is told on standard error; where that can't be written either, the status says it.
+pub fn run<
+    R: Env
+        + Files
+        + SharedFiles
+        + Input
+        + Print
+        + Eprint
+        + AllocGlobal
+        + Clone
+        + Drop
+        + Threads
+        + Wait
+        + Sync,
+>(rt: &R) -> u8 {
+    match obey(rt) {
+        Ok(ending) => ending.status(),
+        Err(fault) => {
+            tell(rt, &fault);
+            fault.status()
+        }
+    }
+}
+
+fn obey<
+    R: Env
+        + Files
+        + SharedFiles
+        + Input
+        + Print
+        + AllocGlobal
+        + Clone
+        + Drop
+        + Threads
+        + Wait
+        + Sync,
+>(rt: &R) -> Result<Ending, ProgramFault> {
+    let alloc = rt.alloc();
+    let mut writer = io::writer(rt);
+    if !arguments::are_there(rt) {
+        return show_input(rt, &mut rt.reader(), &mut writer);
+    }
+    let words = arguments::read(rt)?;
+    let texts: Vec<&str> = words.iter().map(|word| word.as_str()).collect(alloc)?;
+    match line(alloc, &texts) {
+        Ok(line) => perform(rt, &line, &mut writer),
+        Err(LineFault::Help(text)) => match emit(&mut writer, text.as_bytes()) {
+            Ok(()) => Ok(Ending::Clean),
+            Err(_) => Err(ProgramFault::Output),
+        },
+        Err(LineFault::Usage(text)) => Err(ProgramFault::Usage(text)),
+        Err(LineFault::Memory) => Err(ProgramFault::Engine(EngineFault::Memory)),
+    }
+}
+
+fn tell(rt: &impl Eprint, fault: &ProgramFault) {
+    let _ = match fault {
+        ProgramFault::Usage(text) => eprint!(rt; "{text}"),
+        _ => eprintln!(rt; "ovl_layers: {fault}"),
+    };
+}

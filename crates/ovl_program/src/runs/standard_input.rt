@@ -1,0 +1,42 @@
+ghost use Rattle.std.specs.Prelude.{◌≡◌, ◌≢◌, ◌⊎◌, None, Err, IfErr, IfSome};
+ghost use Rattle.std.specs.Io.KnownBytes.{Keeps};
+ghost use Rattle.ovl_engine.specs.declared.faults.EngineFault.TheVariants.{Memory};
+ghost use Rattle.ovl_program.specs.declared.faults.ProgramFault.TheVariants.{Input, Output, Engine};
+ghost use Rattle.ovl_program.specs.Reported.{IsReported, input_request};
+
+use crate::command_line::commands::DEFAULT_WORKERS;
+use crate::faults::ProgramFault;
+use crate::files::reads::{INPUT_LIMIT, read_all};
+use crate::output::report::write_report;
+use crate::output::status::Ending;
+use ovl_engine::Command;
+use std::io::{Read, Write};
+use std::rt::Files;
+use std::sync::Wait;
+use std::thread::Threads;
+
+/// Writes the report of `show` over the one layer that a reader's manifest states, by [`DEFAULT_WORKERS`].
+/// Nothing is written where the input isn't read or the layer has no report.
+pub fn show_input<H: Threads + Wait + Sync + Files + AllocGlobal, R: Read, W: Write>(
+    rt: &H,
+    reader: &mut R,
+    writer: &mut W,
+) -> Result<Ending, ProgramFault>
+    ensures shown { IfSome (R.remaining reader.old) (λ manifest. (result ≡ Err Input) ⊎ ((result ≡ Err (Engine Memory))
+        ⊎ IsReported (input_request manifest) None (W.contents writer.old) (W.contents writer.new) result)) }
+    ensures silent { IfErr result (λ fault. fault ≢ Output → Keeps (W.contents writer.old) (W.contents writer.new)) }
+{
+    let manifest = read_all(rt.alloc(), reader, INPUT_LIMIT)?;
+    let mut manifests = Vec::new(rt.alloc());
+    manifests.push(manifest)?;
+    write_report(
+        rt,
+        Command::Show,
+        manifests,
+        0,
+        &[],
+        DEFAULT_WORKERS,
+        &None,
+        writer,
+    )
+}
