@@ -30,6 +30,7 @@ impl Write for Narrow {
     }
 }
 
+/// A writer with room for so many bytes; past it a write fails, or takes nothing.
 pub fn of_room(alloc: Global, room: usize, fails: bool) -> Narrow {
     Narrow {
         room,
