@@ -80,19 +80,9 @@ fn put_out<R: Files, W: Write>(
         (λ _. Appends (W.contents writer.old) (W.contents writer.new) answer.now.report.items)
         (λ fault. IsLeftOut answer.now (W.contents writer.old) (W.contents writer.new) fault) }
 {
-    // Where standard input or output is closed, these get its number, and not a new layer: the report would go into that.
-    let _input = hold_number(rt);
-    let _output = hold_number(rt);
     open_all(rt, paths, files)?;
     empty_all(files.as_slice())?;
     hand_out(answer, files.as_mut_slice(), writer)
-}
-
-// Takes the least number of a file that is free, for something that can't be written.
-fn hold_number<R: Files>(rt: &R) -> Option<R::File> {
-    let mut options = OpenOptions::new();
-    options.read(true);
-    options.open(rt, "/dev/null").ok()
 }
 
 // Opens the files of these paths, in their order, and makes those that aren't there. What is in them stays.
