@@ -132,6 +132,15 @@ impl OpenFile for Opened {
     fn sync_data(&self) -> io::Result<()> {
         Err(unsupported())
     }
+
+    fn try_clone(&self) -> io::Result<Opened> {
+        Ok(Opened {
+            spaces: self.spaces,
+            left: self.left,
+            is_torn: self.is_torn,
+            thing: self.thing,
+        })
+    }
 }
 
 /// A reader of so many spaces and then these bytes, of which a read behind them fails where it is torn.

@@ -108,11 +108,12 @@ fn open_all<R: Files>(rt: &R, paths: &[String], files: &mut Vec<R::File>) -> Res
     Ok(())
 }
 
-// Opens a file for writing, where it is none of the others, of which there are few.
+// Opens a file for writing, where it is none of the others, of which there are few. Where standard output is closed, a file
+// that is opened gets its descriptor, and the report with it; a copy of a descriptor is none of the standard ones.
 fn open_apart<R: Files>(rt: &R, path: &str, others: &[R::File]) -> Option<R::File> {
     let mut options = OpenOptions::new();
     options.write(true).create(true);
-    let file = options.open(rt, path).ok()?;
+    let file = options.open(rt, path).ok()?.try_clone().ok()?;
     for other in others {
         if is_same(&file.metadata().ok()?, &other.metadata().ok()?) {
             return None;
