@@ -3,8 +3,8 @@ ghost use Rattle.ovl_board.specs.Balance.{AllLawful};
 ghost use Rattle.ovl_board.specs.Assembly.{bare};
 
 use ovl_board::{
-    BoardFault, Core, CoreFault, Event, Parcel, Piece, Tree, TreeFault, Work, assemble,
-    kids_lawful, plain_walk,
+    BoardFault, Core, CoreFault, Event, Parcel, Piece, Tree, TreeFault, assemble, kids_lawful,
+    plain_walk,
 };
 use ovl_names::Path;
 use std::alloc::Global;
@@ -65,33 +65,14 @@ fn tree(alloc: Global, texts: &str) -> Result<Result<Tree, TreeFault>, Fail> {
     Ok(Tree::of(paths))
 }
 
-#[test]
-fn pieces_are_ordered_by_space_and_then_by_path(rt: HostRuntime) -> Result<(), Fail> {
-    let low = piece(rt.alloc(), "/b")?;
-    let mut high = piece(rt.alloc(), "/a")?;
-    assert!(rt; high < low);
-    high.space = 1;
-    assert!(rt; low < high);
-    assert_eq!(rt; low.copy(rt.alloc())?, low);
-    Ok(())
-}
-
-#[test]
-fn a_kid_lies_one_name_below_in_the_same_space(rt: HostRuntime) -> Result<(), Fail> {
-    let parent = piece(rt.alloc(), "/b")?;
-    for (text, is_kid) in [
-        ("/b/c", true),
-        ("/b/c/d", false),
-        ("/b", false),
-        ("/a/c", false),
-    ] {
-        let kid = piece(rt.alloc(), text)?;
-        assert_eq!(rt; parent.is_parent_of(&kid), is_kid, "at {text:?}");
+// The paths of the parcels' pieces, with a space after each.
+fn shown(alloc: Global, parcels: &[Parcel<()>]) -> Result<String, Fail> {
+    let mut text = String::new(alloc);
+    for parcel in parcels {
+        text.push_str(parcel.piece.dir.shown(alloc)?.as_str())?;
+        text.push_str(" ")?;
     }
-    let mut elsewhere = piece(rt.alloc(), "/b/c")?;
-    elsewhere.space = 1;
-    assert!(rt; !parent.is_parent_of(&elsewhere));
-    Ok(())
+    Ok(text)
 }
 
 #[test]
@@ -111,107 +92,60 @@ fn kids_are_lawful_one_name_below_and_ascending(rt: HostRuntime) -> Result<(), F
     Ok(())
 }
 
-#[test]
-fn trees_are_lists_with_every_parent(rt: HostRuntime) -> Result<(), Fail> {
-    for (texts, fault) in [
-        ("/ /a /b", None),
-        ("/ /a /a/b", None),
-        ("/ /a /a-b", None),
-        ("", Some(TreeFault::Shape)),
-        ("/ /a/b", Some(TreeFault::Shape)),
-        ("/a /a/b", Some(TreeFault::Shape)),
-        ("/ /b /a", Some(TreeFault::Shape)),
-        ("/ /a /a", Some(TreeFault::Shape)),
-        ("/ /a /b/c", Some(TreeFault::Shape)),
-    ] {
-        let answer = tree(rt.alloc(), texts)?;
-        assert_eq!(rt; answer.err(), fault, "at {texts:?}");
+// The plain walk over a tree, where the list is one.
+fn walked(alloc: Global, texts: &str) -> Result<String, Fail> {
+    match tree(alloc, texts)? {
+        Ok(tree) => shown(alloc, &plain_walk(alloc, &tree, piece(alloc, "/")?)?),
+        Err(fault) => Ok(fault.to_string(alloc)?),
     }
-    Ok(())
-}
-
-#[test]
-fn a_tree_gives_the_listed_kids_of_its_own_space(rt: HostRuntime) -> Result<(), Fail> {
-    let work = tree(rt.alloc(), "/ /a /a/c /a/d /a/d/e /b")??;
-    for (text, kids) in [
-        ("/", "/a /b"),
-        ("/a", "/a/c /a/d"),
-        ("/a/d", "/a/d/e"),
-        ("/b", ""),
-        ("/z", ""),
-    ] {
-        let parent = piece(rt.alloc(), text)?;
-        let (found, _) = work.visit(rt.alloc(), &parent)?;
-        let listed = pieces(rt.alloc(), kids)?;
-        assert_eq!(rt; found, listed, "at {text:?}");
-    }
-    let mut elsewhere = piece(rt.alloc(), "/")?;
-    elsewhere.space = 1;
-    let (found, _) = work.visit(rt.alloc(), &elsewhere)?;
-    assert!(rt; found.is_empty());
-    assert_eq!(rt; work.deepest(), 3);
-    Ok(())
-}
-
-#[test]
-fn the_plain_walk_goes_down_from_the_root_in_order(rt: HostRuntime) -> Result<(), Fail> {
-    let small = tree(rt.alloc(), "/ /a /b")??;
-    let walk = plain_walk(rt.alloc(), &small, piece(rt.alloc(), "/")?)?;
-    let wanted = small_parcels(rt.alloc(), "/ /a /b")?;
-    assert_eq!(rt; walk, wanted);
-    Ok(())
 }
 
 #[test]
 fn the_plain_walk_goes_below_a_kid_before_the_next(rt: HostRuntime) -> Result<(), Fail> {
-    let work = tree(rt.alloc(), "/ /a /a/c /a-b /b")??;
-    let mut order = Vec::new(rt.alloc());
-    for parcel in plain_walk(rt.alloc(), &work, piece(rt.alloc(), "/")?)? {
-        order.push(parcel.piece)?;
+    let alloc = rt.alloc();
+    let shape = TreeFault::Shape.to_string(alloc)?;
+    for (texts, walk) in [
+        ("/ /a /b", "/ /a /b "),
+        ("/ /a /a/c /a-b /b", "/ /a /a/c /a-b /b "),
+        ("", shape.as_str()),
+        ("/ /a/b", shape.as_str()),
+        ("/a /a/b", shape.as_str()),
+        ("/ /b /a", shape.as_str()),
+        ("/ /a /a", shape.as_str()),
+        ("/ /a /b/c", shape.as_str()),
+    ] {
+        assert_eq!(rt; walked(alloc, texts)?.as_str(), walk, "of {texts:?}");
     }
-    let wanted = pieces(rt.alloc(), "/ /a /a/c /a-b /b")?;
-    assert_eq!(rt; order, wanted);
     Ok(())
 }
 
-fn assembled(alloc: Global, texts: &str) -> Result<Result<Vec<Parcel<()>>, BoardFault>, Fail> {
+// The order in which parcels of the tree of `/`, `/a` and `/b` are assembled, or the fault with its piece.
+fn assembled(alloc: Global, parcels: Vec<Parcel<()>>) -> Result<String, Fail> {
     let root = piece(alloc, "/")?;
-    let parcels = checked(alloc, small_parcels(alloc, texts)?)?;
-    Ok(assemble(alloc, &root, parcels))
-}
-
-fn fault_of(alloc: Global, texts: &str) -> Result<Option<BoardFault>, Fail> {
-    Ok(assembled(alloc, texts)?.err())
-}
-
-#[test]
-fn a_double_piece_is_the_first_fault(rt: HostRuntime) -> Result<(), Fail> {
-    let fault = BoardFault::Double(piece(rt.alloc(), "/a")?);
-    assert_eq!(rt; fault_of(rt.alloc(), "/ /a /a /z")?, Some(fault));
-    Ok(())
+    let (word, piece) = match assemble(alloc, &root, checked(alloc, parcels)?) {
+        Ok(parcels) => return shown(alloc, &parcels),
+        Err(BoardFault::Double(piece)) => ("double", piece),
+        Err(BoardFault::Stranger(piece)) => ("stranger", piece),
+        Err(BoardFault::Missing(piece)) => ("missing", piece),
+        Err(BoardFault::Memory) => return Err(Fail::from("out of memory")),
+    };
+    let path = piece.dir.shown(alloc)?;
+    Ok(format!(in alloc; "{word} {path}")?)
 }
 
 #[test]
-fn a_stranger_is_a_fault_before_a_missing_piece(rt: HostRuntime) -> Result<(), Fail> {
-    let fault = BoardFault::Stranger(piece(rt.alloc(), "/z")?);
-    assert_eq!(rt; fault_of(rt.alloc(), "/ /a /z")?, Some(fault));
-    Ok(())
-}
-
-#[test]
-fn a_missing_piece_is_the_last_fault(rt: HostRuntime) -> Result<(), Fail> {
-    for (texts, missing) in [("/ /a", "/b"), ("", "/")] {
-        let fault = BoardFault::Missing(piece(rt.alloc(), missing)?);
-        assert_eq!(rt; fault_of(rt.alloc(), texts)?, Some(fault), "at {texts:?}");
+fn assembly_puts_parcels_in_order_or_tells_the_first_fault(rt: HostRuntime) -> Result<(), Fail> {
+    let alloc = rt.alloc();
+    for (texts, wanted) in [
+        ("/b / /a", "/ /a /b "),
+        ("/ /a /a /z", "double /a"),
+        ("/ /a /z", "stranger /z"),
+        ("/ /a", "missing /b"),
+        ("", "missing /"),
+    ] {
+        let told = assembled(alloc, small_parcels(alloc, texts)?)?;
+        assert_eq!(rt; told.as_str(), wanted, "of {texts:?}");
     }
-    Ok(())
-}
-
-#[test]
-fn assembly_puts_parcels_in_order(rt: HostRuntime) -> Result<(), Fail> {
-    let mixed = assembled(rt.alloc(), "/b / /a")??;
-    let wanted = small_parcels(rt.alloc(), "/ /a /b")?;
-    assert_eq!(rt; mixed, wanted);
     Ok(())
 }
 
@@ -220,7 +154,6 @@ fn a_core_has_1_to_64_workers(rt: HostRuntime) -> Result<(), Fail> {
     let small = tree(rt.alloc(), "/ /a /b")??;
     for (workers, fault) in [
         (0, Some(CoreFault::NotPossible)),
-        (1, None),
         (64, None),
         (65, Some(CoreFault::NotPossible)),
     ] {
@@ -228,34 +161,6 @@ fn a_core_has_1_to_64_workers(rt: HostRuntime) -> Result<(), Fail> {
         assert_eq!(rt; core.err(), fault, "at {workers}");
     }
     Ok(())
-}
-
-#[test]
-fn a_new_core_refuses_all_but_a_take_from_its_first_lane(rt: HostRuntime) -> Result<(), Fail> {
-    let small = tree(rt.alloc(), "/ /a /b")??;
-    let mut core = Core::start(rt.alloc(), &small, piece(rt.alloc(), "/")?, 2)?;
-    for event in [
-        Event::Pop(1),
-        Event::Steal(0, 0),
-        Event::Steal(2, 0),
-        Event::Work(0),
-        Event::Push(0),
-    ] {
-        let answer = core.step(rt.alloc(), event);
-        assert_eq!(rt; answer, Err(CoreFault::NotPossible), "at {event:?}");
-    }
-    assert_eq!(rt; core.step(rt.alloc(), Event::Steal(1, 0)), Ok(()));
-    Ok(())
-}
-
-// The parcels of two workers' core after these steps of the small tree, in the order in which they came.
-fn finished(alloc: Global, steps: &[Event]) -> Result<Vec<Parcel<()>>, Fail> {
-    let small = tree(alloc, "/ /a /b")??;
-    let mut core = Core::start(alloc, &small, piece(alloc, "/")?, 2)?;
-    for step in steps {
-        core.step(alloc, *step)?;
-    }
-    core.finish().map_err(|_| Fail::from("open"))
 }
 
 const STEPS: [Event; 8] = [
@@ -271,30 +176,30 @@ const STEPS: [Event; 8] = [
 
 #[test]
 fn a_core_gives_its_parcels_in_the_order_of_the_steps(rt: HostRuntime) -> Result<(), Fail> {
-    let arrived = small_parcels(rt.alloc(), "/ /b /a")?;
-    assert_eq!(rt; finished(rt.alloc(), &STEPS)?, arrived);
-    Ok(())
-}
-
-#[test]
-fn the_parcels_of_a_core_are_assembled_in_their_order(rt: HostRuntime) -> Result<(), Fail> {
-    let root = piece(rt.alloc(), "/")?;
-    let parcels = checked(rt.alloc(), finished(rt.alloc(), &STEPS)?)?;
-    let ordered = small_parcels(rt.alloc(), "/ /a /b")?;
-    assert_eq!(rt; assemble(rt.alloc(), &root, parcels), Ok(ordered));
-    Ok(())
-}
-
-#[test]
-fn a_core_with_open_pieces_comes_back(rt: HostRuntime) -> Result<(), Fail> {
-    let small = tree(rt.alloc(), "/ /a /b")??;
-    let mut core = Core::start(rt.alloc(), &small, piece(rt.alloc(), "/")?, 1)?;
-    core.step(rt.alloc(), Event::Pop(0))?;
+    let alloc = rt.alloc();
+    let small = tree(alloc, "/ /a /b")??;
+    let mut core = Core::start(alloc, &small, piece(alloc, "/")?, 2)?;
+    for event in [
+        Event::Pop(1),
+        Event::Steal(0, 0),
+        Event::Steal(2, 0),
+        Event::Work(0),
+        Event::Push(0),
+    ] {
+        let answer = core.step(alloc, event);
+        assert_eq!(rt; answer, Err(CoreFault::NotPossible), "at {event:?}");
+    }
     assert!(rt; !core.idle());
     let Err(mut core) = core.finish() else {
         return Err(Fail::from("finished"));
     };
-    core.step(rt.alloc(), Event::Work(0))?;
-    assert_eq!(rt; core.step(rt.alloc(), Event::Push(0)), Ok(()));
+    for step in STEPS {
+        core.step(alloc, step)?;
+    }
+    let Ok(parcels) = core.finish() else {
+        return Err(Fail::from("open"));
+    };
+    assert_eq!(rt; shown(alloc, &parcels)?.as_str(), "/ /b /a ");
+    assert_eq!(rt; assembled(alloc, parcels)?.as_str(), "/ /a /b ");
     Ok(())
 }

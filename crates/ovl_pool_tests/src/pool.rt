@@ -1,34 +1,21 @@
 ghost use Rattle.std.specs.Prelude.{◌≡◌, []};
 ghost use Rattle.ovl_board.specs.Trees.{tree_kids, deepest_path};
 
-use ovl_board::{Parcel, Piece, Tree, Work};
+use ovl_board::{Piece, Tree, Work};
 use ovl_names::Path;
-use ovl_pool::{Gate, OpenGate, RunCount, RunFault, Tally, run};
+use ovl_pool::{Gate, OpenGate, RunFault, Tally, run};
 use std::alloc::{AllocError, Global};
 use std::marker::Brand;
+use std::sync::Wait;
 use std::sync::atomic::{AtomicBool, AtomicU64, Ordering};
 use std::sync::ledger::{Blank, Ledger};
-use std::sync::{Mutex, Wait};
 use std::test::Fail;
 use std::thread::{self, Threads};
 
 const SMALL: &str = "/ /a /b";
 
-const WIDE: &str = "/ /a /b /c /d";
-
-const WIDEST: &str = "/ /a /b /c /d /e /f /g";
-
-const CROWDED: &str = "/ /a /b /c /d /e /f /g /h /i /j /k /l /m /n /o /p";
-
 const DEEP: &str =
     "/ /a /b /b/c /b/c/d /b/c/d/e /b/c/d/e/f /b/c/d/e/f/g /b/c/d/e/f/g/h /b/c/d/e/f/g/h/i /b/c/d/e/f/g/h/i/j";
-
-type Answer = Result<(Vec<Parcel<()>>, RunCount), RunFault>;
-
-const LOOKS_OF_A_GATE: u32 = 20_000_000;
-
-// How often it looks where many workers can't meet: each of them looks so often, under one lock.
-const LOOKS_IN_VAIN: u32 = 100_000;
 
 const LOOKS_OF_A_VISIT: u32 = 400_000_000;
 
@@ -51,39 +38,6 @@ fn tree(alloc: Global, texts: &str) -> Result<Tree, Fail> {
         paths.push(Path::parse(alloc, text)?)?;
     }
     Ok(Tree::of(paths)?)
-}
-
-// The listed pieces but the root.
-fn below_root(alloc: Global, texts: &str) -> Result<Vec<Piece>, Fail> {
-    let mut pieces = Vec::new(alloc);
-    for text in texts.split_whitespace() {
-        if text != "/" {
-            pieces.push(piece(alloc, text)?)?;
-        }
-    }
-    Ok(pieces)
-}
-
-// What a run gives of a root and the kids that it lists: their parcels, and as many pieces known, delivered and taken.
-fn whole(alloc: Global, texts: &str) -> Result<Answer, Fail> {
-    let mut parcels = Vec::new(alloc);
-    for text in texts.split_whitespace() {
-        let kids = below_root(alloc, if text == "/" { texts } else { "" })?;
-        let piece = piece(alloc, text)?;
-        parcels.push(Parcel {
-            piece,
-            kids,
-            out: (),
-        })?;
-    }
-    let pieces = parcels.len() as u64;
-    let count = RunCount {
-        known: pieces,
-        delivered: pieces,
-        taken: pieces,
-        left: 0,
-    };
-    Ok(Ok((parcels, count)))
 }
 
 // What a tally answers where pieces with so many kids are delivered one after another by one worker, and how many pieces
@@ -112,70 +66,43 @@ fn deliver_all(alloc: Global, pieces: &[u64]) -> Result<(Vec<bool>, u64, u64), A
 }
 
 #[test]
-fn a_tally_notes_each_known_piece_once(rt: HostRuntime) -> Result<(), Fail> {
+fn a_tally_notes_each_known_piece_once_and_no_more_than_it_can_count(
+    rt: HostRuntime,
+) -> Result<(), Fail> {
     let (answers, known, delivered) = deliver_all(rt.alloc(), &[2, 0, 0, 0])?;
     assert_eq!(rt; answers.as_slice(), [true, true, true, false].as_slice());
     assert_eq!(rt; (known, delivered), (3, 3));
-    Ok(())
-}
-
-#[test]
-fn a_tally_refuses_more_than_it_can_count(rt: HostRuntime) -> Result<(), Fail> {
     let (answers, known, delivered) = deliver_all(rt.alloc(), &[u64::MAX, u64::MAX - 1, 1])?;
     assert_eq!(rt; answers.as_slice(), [false, true, false].as_slice());
     assert_eq!(rt; (known, delivered), (u64::MAX, 1));
     Ok(())
 }
 
-#[test]
-fn an_open_gate_lets_a_piece_pass(rt: HostRuntime) -> Result<(), Fail> {
-    assert!(rt; OpenGate.pass(&piece(rt.alloc(), "/a")?));
-    Ok(())
+// The number of parcels of a run over the small tree, and its own numbers; or what is told of its fault.
+fn counted<R: Threads + Wait + Sync>(
+    rt: &R,
+    alloc: Global,
+    workers: usize,
+) -> Result<String, Fail> {
+    let root = piece(alloc, "/")?;
+    match run(rt, alloc, &tree(alloc, SMALL)?, root, workers, &OpenGate) {
+        Ok((parcels, count)) => Ok(format!(in alloc; "{} {count:?}", parcels.len())?),
+        Err(fault) => Ok(fault.to_string(alloc)?),
+    }
 }
 
 #[test]
-fn there_are_1_to_64_workers(rt: HostRuntime) -> Result<(), Fail> {
-    let work = tree(rt.alloc(), SMALL)?;
-    for (workers, fault) in [
-        (0, Some(RunFault::Workers)),
-        (1, None),
-        (64, None),
-        (65, Some(RunFault::Workers)),
+fn a_run_gives_the_plain_walk_by_1_to_64_workers(rt: HostRuntime) -> Result<(), Fail> {
+    let refused = RunFault::Workers.to_string(rt.alloc())?;
+    let whole = "3 RunCount { known: 3, delivered: 3, taken: 3, left: 0 }";
+    for (workers, wanted) in [
+        (0, refused.as_str()),
+        (1, whole),
+        (64, whole),
+        (65, refused.as_str()),
     ] {
-        let root = piece(rt.alloc(), "/")?;
-        let answer = run(&rt, rt.alloc(), &work, root, workers, &OpenGate);
-        assert_eq!(rt; answer.err(), fault, "at {workers}");
-    }
-    Ok(())
-}
-
-#[test]
-fn a_run_gives_the_plain_walk_and_its_counts(rt: HostRuntime) -> Result<(), Fail> {
-    let work = tree(rt.alloc(), SMALL)?;
-    let root = piece(rt.alloc(), "/")?;
-    let wanted = whole(rt.alloc(), SMALL)?;
-    assert_eq!(rt; run(&rt, rt.alloc(), &work, root, 1, &OpenGate), wanted);
-    Ok(())
-}
-
-// Refuses `/` alone.
-struct Shut;
-
-impl Gate for Shut {
-    ghost may_refuse = { λ _ p. p.dir ≡ [] };
-
-    fn pass(&self, piece: &Piece) -> bool {
-        !piece.dir.is_empty()
-    }
-}
-
-#[test]
-fn a_run_is_refused_where_the_gate_refuses_the_root(rt: HostRuntime) -> Result<(), Fail> {
-    for workers in [1, 2] {
-        let work = tree(rt.alloc(), SMALL)?;
-        let root = piece(rt.alloc(), "/")?;
-        let answer = run(&rt, rt.alloc(), &work, root, workers, &Shut);
-        assert_eq!(rt; answer, Err(RunFault::Gate), "at {workers}");
+        let counted = counted(&rt, rt.alloc(), workers)?;
+        assert_eq!(rt; counted.as_str(), wanted, "by {workers}");
     }
     Ok(())
 }
@@ -267,95 +194,6 @@ fn the_gate_is_asked_once_for_each_piece_before_its_visit(rt: HostRuntime) -> Re
         let root = piece(rt.alloc(), "/")?;
         run(&rt, rt.alloc(), &watched, root, workers, &watched)?;
         assert!(rt; watched.was_in_turn(), "at {workers}");
-    }
-    Ok(())
-}
-
-// Lets `/` pass, and another directory where each other one was asked for as often while it looked.
-#[derive(Drop)]
-struct Meeting<'a, R: Wait> {
-    rt: &'a R,
-    asked: Mutex<Vec<(Piece, u64)>>,
-    looks: u32,
-}
-
-impl<R: Wait> Meeting<'_, R> {
-    // Notes that the piece was asked for, and tells how often by now.
-    fn note(&self, piece: &Piece) -> u64 {
-        let mut asked = self.asked.lock(self.rt);
-        for (known, times) in asked.iter_mut() {
-            if *known == *piece {
-                *times = times.saturating_add(1);
-                return *times;
-            }
-        }
-        0
-    }
-
-    fn was_met(&self, times: u64) -> bool {
-        let asked = self.asked.lock(self.rt);
-        asked.iter().all(|(_, other)| *other >= times)
-    }
-}
-
-impl<R: Wait> Gate for Meeting<'_, R> {
-    ghost may_refuse = { λ _ p. ¬ (p.dir ≡ []) };
-
-    fn pass(&self, piece: &Piece) -> bool {
-        if piece.dir.is_empty() {
-            return true;
-        }
-        let times = self.note(piece);
-        for _ in 0..self.looks {
-            if self.was_met(times) {
-                return true;
-            }
-        }
-        false
-    }
-}
-
-// A run of the tree through the gate above.
-fn gated<R: Threads + Wait + Sync>(
-    rt: &R,
-    alloc: Global,
-    texts: &str,
-    workers: usize,
-    looks: u32,
-) -> Result<Answer, Fail> {
-    let work = tree(alloc, texts)?;
-    let mut asked = Vec::new(alloc);
-    for piece in below_root(alloc, texts)? {
-        asked.push((piece, 0))?;
-    }
-    let gate = Meeting {
-        rt,
-        asked: Mutex::new(asked),
-        looks,
-    };
-    let root = piece(alloc, "/")?;
-    Ok(run(rt, alloc, &work, root, workers, &gate))
-}
-
-#[test]
-fn as_many_workers_as_pieces_meet_at_the_gate(rt: HostRuntime) -> Result<(), Fail> {
-    for (texts, workers) in [(SMALL, 2), (WIDE, 4), (WIDEST, 7), (CROWDED, 16)] {
-        let wanted = whole(rt.alloc(), texts)?;
-        let answer = gated(&rt, rt.alloc(), texts, workers, LOOKS_OF_A_GATE)?;
-        assert_eq!(rt; answer, wanted, "at {workers}");
-    }
-    Ok(())
-}
-
-#[test]
-fn fewer_workers_than_pieces_are_refused_at_the_gate(rt: HostRuntime) -> Result<(), Fail> {
-    for (texts, workers, looks) in [
-        (SMALL, 1, LOOKS_OF_A_GATE),
-        (WIDE, 3, LOOKS_OF_A_GATE),
-        (WIDEST, 6, LOOKS_IN_VAIN),
-    ] {
-        let answer = gated(&rt, rt.alloc(), texts, workers, looks)?;
-        assert_eq!(rt; answer, Err(RunFault::Gate), "at {workers}");
     }
     Ok(())
 }
