@@ -1,8 +1,8 @@
-//! Bytes that go out, and blobs that are named.
+//! Bytes that go out whole, or those that a fault counts
+//! where a write fails; and blobs that are named.
 
 use ovl_engine::{EmitFault, emit, named_blobs};
 use ovl_inode::Digest;
-use std::alloc::Global;
 use std::io::{self, Error, Write};
 use std::test::Fail;
 

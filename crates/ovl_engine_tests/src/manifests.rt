@@ -1,8 +1,8 @@
 //! Layers and sheets of manifests, and manifests of layers.
 
 use crate::samples::{layer_of, manifest_of};
-use ovl_manifest::{Layer, LayerFault, Sheet, from_entries, read_layer, read_sheet, write_layer};
-use ovl_names::{Name, Path};
+use ovl_manifest::{LayerFault, Sheet, from_entries, read_layer, read_sheet, write_layer};
+use ovl_names::Path;
 use std::alloc::{AllocError, Global};
 use std::test::Fail;
 
