@@ -4,7 +4,7 @@
 Python 3.11, standard library, and `rt`, whose compiler builds refuse.c. Such a manifest is read piece by piece, with no
 value of JSON in between. No contract says so: a program that read each by way of a value would give the same bytes, at
 several times the cost. So the requests are counted, of a manifest of 10,000 entries, and of the same with a space in
-front, which is read the other way: the report must be the same, and the first may take at most two requests an entry.
+front, which is read the other way: the report must be the same, and the first may take at most four requests an entry.
 
     python3 bench/reading.py --program crates/ovl_layers/out/ovl_layers
 """
@@ -18,7 +18,7 @@ from pathlib import Path
 from generate import Generator
 from refusals import build
 
-ENTRIES, MOST = 10_000, 2
+ENTRIES, MOST = 10_000, 4
 
 
 def shown(program, library, manifest, room):

@@ -38,11 +38,7 @@ pub(crate) fn read_entry(
     }
 }
 
-fn read_path(
-    alloc: Global,
-    version: Version,
-    value: &Value,
-) -> Result<Option<Path>, AllocError>
+fn read_path(alloc: Global, version: Version, value: &Value) -> Result<Option<Path>, AllocError>
     ensures { IfOk result (λ path. path ≡ path_field version (view value.now)) }
 {
     let Some(text) = text(value, "path") else {

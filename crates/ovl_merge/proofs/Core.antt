@@ -1,5 +1,5 @@
 -- The core of the law that a merge keeps the merged tree: where the walks of the new lower layer go on.
-use Rattle.std.proofs.Common.{◌≡◌, arith, Bool, true, false, cond, Option, Some, None, is_some, List, [], ◌∷◌, ◌++◌, suc, length, refl, sym, ap, ◌∙◌, subst, inl, inr, ◌⊎◌}
+use Rattle.std.proofs.Common.{◌≡◌, arith, Bool, true, false, cond, Option, Some, None, is_some, List, [], ◌∷◌, suc, length, refl, sym, ap, ◌∙◌, subst, inl, inr, ◌⊎◌}
 use Rattle.std.specs.Prelude.{not, ◌&&◌, ◌||◌, is_none, IfSome, codes}
 use Rattle.std.specs.List.{cons_option, list_all, All}
 use Rattle.std.proofs.lemmas.List.Elements.{All-cons}
@@ -26,8 +26,8 @@ use Rattle.ovl_lookup.proofs.LawsOfFound.{things_found-step, child_found, any_fo
 use Rattle.ovl_lookup.proofs.LawsOfInodes.{metacopy-file}
 use Rattle.ovl_lookup.proofs.LawsOfWalks.{walk-below, Below, directory_found, walk-child_directory, walk-child_end, walk-child_beyond, file-found, file-is_found, whiteout-closes, passes-over}
 use Rattle.ovl_lookup.proofs.LawsOfLooks.{shows-found, ShowsParents-holds}
-use Rattle.ovl_merge.specs.Places.{Merge, whole, two_layers, lower_path, rest_path, is_open, first_of, first_hit, passes, shows_own_directory, is_nothing_or, is_shown_regular, goes_on, reach, reach_of, shows_directory_at, shows_at, base_at, child_of, natural_below, natural, base, gets_opaque, natural_at, last_name}
-use Rattle.ovl_merge.specs.MergeDown.{with_value, last_name, redirected, redirected_from, merged_directory, merged_metacopy, unreached_metacopy, has_data_alone, kept_if_alone, kept_place, merged_inode, new_whiteout, needs_whiteout, merged_entry_of, IsMergedDown}
+use Rattle.ovl_merge.specs.Places.{Merge, whole, two_layers, lower_path, rest_path, is_open, first_of, first_hit, passes, shows_own_directory, is_nothing_or, is_shown_regular, goes_on, reach, reach_of, shows_directory_at, shows_at, base_at, child_of, natural, base, gets_opaque, natural_at, last_name}
+use Rattle.ovl_merge.specs.MergeDown.{with_value, redirected, redirected_from, merged_directory, merged_metacopy, unreached_metacopy, has_data_alone, kept_if_alone, kept_place, merged_inode, new_whiteout, needs_whiteout, merged_entry_of, IsMergedDown}
 use Rattle.ovl_merge.proofs.Values.{with_metacopy, mark-copied, mark-copied_moved, mark-plain, mark-opaque, mark-moved}
 use Rattle.ovl_merge.proofs.Redirects.{redirect-absolute, redirect-beside}
 use Rattle.ovl_lookup.proofs.LawsOfNames.{walk-named, walk-below_root, last-named}

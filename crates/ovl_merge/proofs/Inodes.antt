@@ -18,7 +18,7 @@ use Rattle.ovl_lookup.specs.Merged.{look, shown_of, data_of, without_blob}
 use Rattle.ovl_lookup.proofs.LawsOfFound.{data-regular, shown_of-contents, shown_of-broken}
 use Rattle.ovl_lookup.proofs.LawsOfInodes.{metacopy-file, attribute-hidden}
 use Rattle.ovl_merge.specs.Places.{Merge, whole, reach, first_hit, gets_opaque, last_name}
-use Rattle.ovl_merge.specs.MergeDown.{with_value, last_name, redirected, redirected_from, with_contents, merged_directory, merged_metacopy, unreached_metacopy, kept_place, merged_inode}
+use Rattle.ovl_merge.specs.MergeDown.{with_value, redirected, redirected_from, with_contents, merged_directory, merged_metacopy, unreached_metacopy, kept_place, merged_inode}
 use Rattle.ovl_merge.proofs.Values.{attribute-other, visible-value, visible-visible, with_metacopy, whiteout-visible, whiteout-regular, directory-regular}
 use Rattle.ovl_merge.proofs.Firsts.{whole-first, rest_of}
 

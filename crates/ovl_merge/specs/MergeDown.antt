@@ -1,5 +1,5 @@
 -- The layers that a merge makes: what they have at each path.
-use Rattle.std.specs.Prelude.{◌≡◌, ℕ, pos, Bool, ◌&&◌, not, Option, Some, None, List, [], ◌∷◌, if◌then◌else◌, codes, is_some}
+use Rattle.std.specs.Prelude.{◌≡◌, ℕ, pos, Bool, ◌&&◌, not, Option, Some, None, List, [], if◌then◌else◌, codes, is_some}
 use Rattle.std.specs.Option.{option_map}
 use Rattle.std.specs.List.{cons_option}
 use Rattle.ovl_names.specs.Names.{PathName}

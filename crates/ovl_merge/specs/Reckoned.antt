@@ -13,7 +13,7 @@ use Rattle.ovl_lookup.specs.Stacks.{StackView, from_layer}
 use Rattle.ovl_lookup.specs.DirViews.{IsViewOf}
 use Rattle.ovl_lookup.specs.Walk.{walk, nothing_found}
 use Rattle.ovl_lookup.specs.Passes.{IsOwnDirectory}
-use Rattle.ovl_lookup.specs.Merged.{look, shows_directory}
+use Rattle.ovl_lookup.specs.Merged.{shows_directory}
 use Rattle.ovl_merge.specs.declared.passages.Passage.{Passage}
 use Rattle.ovl_merge.specs.declared.places.Place.{Place}
 use Rattle.ovl_merge.specs.declared.walked.Walked.{Walked}
