@@ -236,16 +236,16 @@ fn command_of_word(word: &str) -> Result<Command, Fail> {
 fn commands_answer_what_is_written(rt: HostRuntime) -> Result<(), Fail> {
     let alloc = rt.alloc();
     let mut blobs = Vec::new(alloc);
-    let mut stack = "";
+    let mut stack = String::new(alloc);
     for line in ROWS.lines() {
         if let Some((word, wanted)) = line.split_once(": ") {
             let what = command_of_word(word)?;
-            let found = told(&rt, alloc, what, stack, &blobs)?;
+            let found = told(&rt, alloc, what, stack.as_str(), &blobs)?;
             assert_eq!(rt; found, in_full(alloc, wanted)?, "{word} of {stack:?}");
         } else if let Some(words) = line.strip_prefix("blobs ") {
             blobs = blobs_of(alloc, words)?;
         } else {
-            stack = line;
+            stack = String::from_str(alloc, line)?;
         }
     }
     Ok(())
