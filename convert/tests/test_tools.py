@@ -111,8 +111,10 @@ class Trees(ToolTest):
         if os.geteuid() != 0:
             self.skipTest("needs root")
         store = ["buildah", "--root", self.path("store"), "--runroot", self.path("run"), "--storage-driver", "vfs"]
-        image = f"oci:{self.path('image')}:t"
-        made = subprocess.run([*store, "from", "--quiet", image], capture_output=True, text=True, check=False)
+        # The image gets its folder's name in the store, where not every path can be one.
+        made = subprocess.run(
+            [*store, "from", "--quiet", "oci:image:t"], cwd=self.folder, capture_output=True, text=True, check=False,
+        )
         if made.returncode != 0:
             self.skipTest(f"buildah can't work here: {made.stderr.strip()[-200:]}")
         container = made.stdout.strip()

@@ -23,7 +23,7 @@ use Rattle.ovl_lookup.specs.Sound.{is_moved, is_malformed, is_meta, is_seen_ther
 use Rattle.ovl_check.specs.declared.findings.Code.{Code}
 use Rattle.ovl_check.specs.declared.findings.Code.TheVariants.{RedirectForm, RedirectLost, RedirectKind, RedirectDouble, RedirectOpen, DataMissing, DataSize, BlobMissing, BlobSize, BlobDigest, OrphanWhiteout, WhiteoutInOpaque as InOpaqueCode, WhiteoutUnmarked, ImpureMissing, MarkIgnored}
 use Rattle.ovl_check.specs.declared.findings.Finding.{Finding}
-use Rattle.ovl_check.specs.declared.facts.Content.TheVariants.{Directory as DirectoryShown, Other as OtherShown}
+use Rattle.ovl_check.specs.declared.facts.ThingShown.TheVariants.{Directory as DirectoryShown, Other as OtherShown}
 use Rattle.ovl_check.specs.declared.facts.KindFacts.{KindFacts}
 use Rattle.ovl_check.specs.declared.facts.KindFacts.TheVariants.{WhiteoutInOpaque, Whiteout, Moved, Metacopy}
 use Rattle.ovl_check.specs.declared.facts.OldPlace.TheVariants.{Hidden, Open}
@@ -31,12 +31,12 @@ use Rattle.ovl_check.specs.declared.facts.NamedBlob.{NamedBlob}
 use Rattle.ovl_check.specs.declared.facts.NamedBlob.TheVariants.{Unnamed}
 use Rattle.ovl_check.specs.declared.facts.Facts.{Facts}
 use Rattle.ovl_check.specs.Codes.{all_codes, is_double}
-use Rattle.ovl_check.specs.Conditions.{holds}
 use Rattle.ovl_check.specs.Findings.{finding}
-use Rattle.ovl_check.specs.Blobs.{BlobView, is_wrong as is_wrong_blob}
+use Rattle.ovl_check.specs.declared.contents.Content.{Content}
+use Rattle.ovl_check.specs.Contents.{holds_of_contents as holds, find_content, has_content, content_is_missing, content_is_of_other_size, content_is_wrong}
 use Rattle.ovl_check.specs.Checks.{CheckView, sought_in, layer_at, layers_below, holds_alone, findings_alone, findings_at_path}
-use Rattle.ovl_check.specs.Conditions.{find_blob, has_blob, is_in_opaque as is_in_opaque_at, is_in_marked, whiteout_is_orphan, whiteout_is_in_opaque, whiteout_is_unmarked, blob_is_missing, blob_is_of_other_size, blob_is_wrong, opaque_is_ignored, redirect_is_ignored, metacopy_is_ignored, whiteout_is_ignored}
-use Rattle.ovl_check.specs.Facts.{AreFacts, tells, found_at_child, content_of, kind_at, blob_found, blob_named, is_whiteout_mark, is_lost, is_of_wrong_kind, is_open, lacks_data, has_data_of_other_size, is_missing, is_of_other_length, is_wrong, is_orphan, is_in_opaque, is_outside_marked, is_unmarked, mark_says_nothing}
+use Rattle.ovl_check.specs.Conditions.{is_in_opaque as is_in_opaque_at, is_in_marked, whiteout_is_orphan, whiteout_is_in_opaque, whiteout_is_unmarked, opaque_is_ignored, redirect_is_ignored, metacopy_is_ignored, whiteout_is_ignored}
+use Rattle.ovl_check.specs.Facts.{AreFacts, tells, found_at_child, thing_shown, kind_at, blob_found, blob_named, is_whiteout_mark, is_lost, is_of_wrong_kind, is_open, lacks_data, has_data_of_other_size, is_missing, is_of_other_length, is_wrong, is_orphan, is_in_opaque, is_outside_marked, is_unmarked, mark_says_nothing}
 
 -- a test that fails for both kinds of whiteouts
 never-whiteout : (test : KindFacts → Bool) (opaque marked hides : Bool) → test WhiteoutInOpaque ≡ false → test (Whiteout marked hides) ≡ false → test (cond opaque WhiteoutInOpaque (Whiteout marked hides)) ≡ false
@@ -67,7 +67,7 @@ module _ (layer : Entries) (below : StackView) (path : PathNames) (inode : Inode
   lost : is_lost (kind mark) ≡ redirect_is_lost layer below path
   lost = by mark ∙ sym (ap (λ m. is_moved m && (closed || is_nothing shown)) marked)
     where
-      content : (found : Look) (seen : Bool) → is_lost (Moved (Open (content_of found) seen)) ≡ is_nothing found
+      content : (found : Look) (seen : Bool) → is_lost (Moved (Open (thing_shown found) seen)) ≡ is_nothing found
       content NothingLook seen = refl
       content (Shown i) seen = here (is_directory i)
         where
@@ -76,7 +76,7 @@ module _ (layer : Entries) (below : StackView) (path : PathNames) (inode : Inode
           here false = refl
       content (Broken i) seen = refl
 
-      hidden : (c : Bool) → is_lost (Moved (cond c Hidden (Open (content_of shown) (is_seen_there layer next)))) ≡ (c || is_nothing shown)
+      hidden : (c : Bool) → is_lost (Moved (cond c Hidden (Open (thing_shown shown) (is_seen_there layer next)))) ≡ (c || is_nothing shown)
       hidden true = refl
       hidden false = content shown (is_seen_there layer next)
 
@@ -88,7 +88,7 @@ module _ (layer : Entries) (below : StackView) (path : PathNames) (inode : Inode
   wrong_kind : is_of_wrong_kind (kind mark) ≡ redirect_is_of_wrong_kind layer below path
   wrong_kind = by mark ∙ sym (ap (λ m. is_moved m && not closed && not (is_nothing shown) && not (is_shown_directory shown)) marked)
     where
-      content : (found : Look) (seen : Bool) → is_of_wrong_kind (Moved (Open (content_of found) seen)) ≡ (not (is_nothing found) && not (is_shown_directory found))
+      content : (found : Look) (seen : Bool) → is_of_wrong_kind (Moved (Open (thing_shown found) seen)) ≡ (not (is_nothing found) && not (is_shown_directory found))
       content NothingLook seen = refl
       content (Shown i) seen = here (is_directory i)
         where
@@ -97,7 +97,7 @@ module _ (layer : Entries) (below : StackView) (path : PathNames) (inode : Inode
           here false = refl
       content (Broken i) seen = refl
 
-      hidden : (c : Bool) → is_of_wrong_kind (Moved (cond c Hidden (Open (content_of shown) (is_seen_there layer next)))) ≡ (not c && not (is_nothing shown) && not (is_shown_directory shown))
+      hidden : (c : Bool) → is_of_wrong_kind (Moved (cond c Hidden (Open (thing_shown shown) (is_seen_there layer next)))) ≡ (not c && not (is_nothing shown) && not (is_shown_directory shown))
       hidden true = refl
       hidden false = content shown (is_seen_there layer next)
 
@@ -109,7 +109,7 @@ module _ (layer : Entries) (below : StackView) (path : PathNames) (inode : Inode
   opened : is_open (kind mark) ≡ redirect_is_open layer path
   opened = by mark ∙ sym (ap (λ m. is_moved m && not closed && is_seen_there layer next) marked)
     where
-      hidden : (c : Bool) → is_open (Moved (cond c Hidden (Open (content_of shown) (is_seen_there layer next)))) ≡ (not c && is_seen_there layer next)
+      hidden : (c : Bool) → is_open (Moved (cond c Hidden (Open (thing_shown shown) (is_seen_there layer next)))) ≡ (not c && is_seen_there layer next)
       hidden true = refl
       hidden false = refl
 
@@ -183,42 +183,42 @@ module _ (layer : Entries) (below : StackView) (path : PathNames) (inode : Inode
 
 -- ---- the blob
 
-module _ (blobs : List BlobView) (inode : Inode) where
+module _ (contents : List Content) (inode : Inode) where
   abbrev named : Option (List ℕ) → NamedBlob
-  named o = elim o as (λ _. NamedBlob) [ Some name ↦ blob_found (find_blob blobs name) | None ↦ Unnamed ]
+  named o = elim o as (λ _. NamedBlob) [ Some name ↦ blob_found (find_content contents name) | None ↦ Unnamed ]
 
-  missing_blob : is_missing (blob_named blobs inode) ≡ blob_is_missing blobs inode
+  missing_blob : is_missing (blob_named contents inode) ≡ content_is_missing contents inode
   missing_blob = by (blob_of inode)
     where
-      found : (o : Option BlobView) → is_missing (blob_found o) ≡ is_none o
+      found : (o : Option Content) → is_missing (blob_found o) ≡ is_none o
       found None = refl
       found (Some blob) = refl
 
-      by : (o : Option (List ℕ)) → is_missing (named o) ≡ elim o as (λ _. Bool) [ Some name ↦ is_none (find_blob blobs name) | None ↦ false ]
+      by : (o : Option (List ℕ)) → is_missing (named o) ≡ elim o as (λ _. Bool) [ Some name ↦ is_none (find_content contents name) | None ↦ false ]
       by None = refl
-      by (Some name) = found (find_blob blobs name)
+      by (Some name) = found (find_content contents name)
 
-  blob_size : is_of_other_length (blob_named blobs inode) (size_of inode) ≡ blob_is_of_other_size blobs inode
+  blob_size : is_of_other_length (blob_named contents inode) (size_of inode) ≡ content_is_of_other_size contents inode
   blob_size = by (blob_of inode)
     where
-      found : (o : Option BlobView) → is_of_other_length (blob_found o) (size_of inode) ≡ has_blob (λ blob. not (length blob.bytes == size_of inode)) o
+      found : (o : Option Content) → is_of_other_length (blob_found o) (size_of inode) ≡ has_content (λ content. not (content.size == size_of inode)) o
       found None = refl
       found (Some blob) = refl
 
-      by : (o : Option (List ℕ)) → is_of_other_length (named o) (size_of inode) ≡ elim o as (λ _. Bool) [ Some name ↦ has_blob (λ blob. not (length blob.bytes == size_of inode)) (find_blob blobs name) | None ↦ false ]
+      by : (o : Option (List ℕ)) → is_of_other_length (named o) (size_of inode) ≡ elim o as (λ _. Bool) [ Some name ↦ has_content (λ content. not (content.size == size_of inode)) (find_content contents name) | None ↦ false ]
       by None = refl
-      by (Some name) = found (find_blob blobs name)
+      by (Some name) = found (find_content contents name)
 
-  wrong_blob : is_wrong (blob_named blobs inode) ≡ blob_is_wrong blobs inode
+  wrong_blob : is_wrong (blob_named contents inode) ≡ content_is_wrong contents inode
   wrong_blob = by (blob_of inode)
     where
-      found : (o : Option BlobView) → is_wrong (blob_found o) ≡ has_blob is_wrong_blob o
+      found : (o : Option Content) → is_wrong (blob_found o) ≡ has_content (λ content. not content.is_right) o
       found None = refl
       found (Some blob) = refl
 
-      by : (o : Option (List ℕ)) → is_wrong (named o) ≡ elim o as (λ _. Bool) [ Some name ↦ has_blob is_wrong_blob (find_blob blobs name) | None ↦ false ]
+      by : (o : Option (List ℕ)) → is_wrong (named o) ≡ elim o as (λ _. Bool) [ Some name ↦ has_content (λ content. not content.is_right) (find_content contents name) | None ↦ false ]
       by None = refl
-      by (Some name) = found (find_blob blobs name)
+      by (Some name) = found (find_content contents name)
 
 -- ---- all codes
 
@@ -235,7 +235,7 @@ module _ (work : CheckView) (i : ℕ) (path : PathNames) (facts : Facts) (are : 
   abbrev mark : Mark
   mark = facts.mark.now
 
-  told : (code : Code) → tells facts code ≡ (not (is_double code) && holds work.blobs layer lower (path, inode) code)
+  told : (code : Code) → tells facts code ≡ (not (is_double code) && holds work.contents layer lower (path, inode) code)
   told RedirectForm = ap is_malformed (sym are.mark)
   told RedirectLost = ap is_lost are.kind ∙ lost layer lower path inode mark are.mark
   told RedirectKind = ap is_of_wrong_kind are.kind ∙ wrong_kind layer lower path inode mark are.mark
@@ -243,9 +243,9 @@ module _ (work : CheckView) (i : ℕ) (path : PathNames) (facts : Facts) (are : 
   told RedirectOpen = ap is_open are.kind ∙ opened layer lower path inode mark are.mark
   told DataMissing = ap lacks_data are.kind ∙ missing layer lower path inode mark are.mark
   told DataSize = ap (λ k. has_data_of_other_size k (size_of inode)) are.kind ∙ other_size layer lower path inode mark are.mark
-  told BlobMissing = ap is_missing are.blob ∙ missing_blob work.blobs inode
-  told BlobSize = ap (λ b. is_of_other_length b (size_of inode)) are.blob ∙ blob_size work.blobs inode
-  told BlobDigest = ap is_wrong are.blob ∙ wrong_blob work.blobs inode
+  told BlobMissing = ap is_missing are.blob ∙ missing_blob work.contents inode
+  told BlobSize = ap (λ b. is_of_other_length b (size_of inode)) are.blob ∙ blob_size work.contents inode
+  told BlobDigest = ap is_wrong are.blob ∙ wrong_blob work.contents inode
   told OrphanWhiteout = ap is_orphan are.kind ∙ orphan layer lower path inode mark are.mark are.whiteout
   told InOpaqueCode = ap is_in_opaque are.kind ∙ in_opaque layer lower path inode mark are.mark are.whiteout
   told WhiteoutUnmarked = ap (λ k. is_unmarked k inode) are.kind ∙ unmarked layer lower path inode mark are.mark are.whiteout
@@ -256,7 +256,7 @@ module _ (work : CheckView) (i : ℕ) (path : PathNames) (facts : Facts) (are : 
 
   -- the codes that the facts tell are those whose conditions hold
   pub codes-told : filter (λ code. sought_in work.stack i code && tells facts code) all_codes ≡ filter (holds_alone work i (path, inode)) all_codes
-  codes-told = λ j. filter (λ code. (ap (λ b. sought_in work.stack i code && b) (told code) ∙ turned (sought_in work.stack i code) (not (is_double code)) (holds work.blobs layer lower (path, inode) code)) j) all_codes
+  codes-told = λ j. filter (λ code. (ap (λ b. sought_in work.stack i code && b) (told code) ∙ turned (sought_in work.stack i code) (not (is_double code)) (holds work.contents layer lower (path, inode) code)) j) all_codes
     where
       turned : (a b c : Bool) → (a && (b && c)) ≡ (b && (a && c))
       turned true b c = refl

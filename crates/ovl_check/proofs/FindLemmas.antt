@@ -19,6 +19,8 @@ use Rattle.ovl_check.specs.Blobs.{BlobView, digest_cmp, blob_cmp, are_in_order, 
 use Rattle.std.specs.Result.{is_ok}
 use Rattle.std.specs.Prelude.{IsTrue, Contains, ◌↔◌}
 use Rattle.ovl_check.specs.Conditions.{find_blob, has_blob}
+use Rattle.ovl_check.specs.declared.contents.Content.{Content}
+use Rattle.ovl_check.specs.Contents.{content_cmp, contents_ascend, find_content}
 use Rattle.ovl_check.proofs.Ascent.{Rises-ascends, ascends-Rises, In-filter, less_never}
 use Rattle.ovl_check.proofs.BlobLemmas.{names-rise, blobs-rise}
 
@@ -142,3 +144,39 @@ wrong-among blobs name blob r up is told = by r (is_wrong blob) refl told ∙ sy
     by true w e told = sym (In-wrong blobs up blob here (In-Contains blob.name (wrong_names blobs) (told.0 refl)))
     by false true e told = told.1 (Contains-In blob.name (wrong_names blobs) (wrong-In blobs up blob here e)) ∙ sym e
     by false false e told = sym e
+
+-- ---- the content of a name
+
+content-In : (contents : List Content) (name : List ℕ) (content : Content) → Rises (λ a b. content_cmp a b ≡ Less) contents → In content contents → content.name ≡ name → find_content contents name ≡ Some content
+content-In [] name content up h is = absurd h
+content-In (first ∷ contents) name content up (inl e) is =
+    ap (λ b. cond b (Some first) (find_content contents name)) ((bytes_decides first.name name).1 (ap (λ (b : Content). b.name) (sym e) ∙ is)) ∙ ap Some (sym e)
+content-In (first ∷ contents) name content up (inr h) is = by (content-In contents name content up.1 h is) (bytes_eq first.name name) refl
+  where
+    by : find_content contents name ≡ Some content → (b : Bool) → bytes_eq first.name name ≡ b → cond b (Some first) (find_content contents name) ≡ Some content
+    by later true e =
+        let same : first.name ≡ content.name = (bytes_decides first.name name).0 e ∙ sym is in
+        absurd (less_never nat_list_cmp_total content.name (subst (λ n. digest_cmp n content.name ≡ Less) same (up.0 content h)))
+    by later false e = later
+
+content-none : (contents : List Content) (name : List ℕ) → Every (λ b. bytes_eq b.name name ≡ false) contents → find_content contents name ≡ None
+content-none [] name each = refl
+content-none (first ∷ contents) name each =
+    ap (λ b. cond b (Some first) (find_content contents name)) (each first (inl refl)) ∙ content-none contents name (λ b h. each b (inr h))
+
+pub found-content : (contents : List Content) (spot : ℕ) (name : List ℕ) (content : Content) → contents_ascend contents ≡ true → spot < length contents → IsBinarySearchResult (λ (b : Content). digest_cmp b.name name) contents (Ok spot) → content ≡ get_or contents spot content → Some content ≡ find_content contents name
+found-content contents spot name content up inside answer is =
+    let same : content.name ≡ name = (bytes_decides content.name name).0 (name_eq-cmp content.name name Equal (ap (λ (b : Content). digest_cmp b.name name) is ∙ answer content)) in
+    sym (content-In contents name content (Rises-ascends content_cmp contents up)
+    (subst (λ (b : Content). In b contents) (sym is) (get_or-In contents spot content inside)) same)
+
+pub missing-content : (contents : List Content) (spot : ℕ) (name : List ℕ) → contents_ascend contents ≡ true → IsBinarySearchResult (λ (b : Content). digest_cmp b.name name) contents (Err spot) → None ≡ find_content contents name
+missing-content contents spot name up answer =
+    let parts = answer (keyed-searchable (λ (b : Content). b.name) contents name up) in
+    sym (content-none contents name (λ b h.
+    let at = place b contents h in
+    subst (λ (x : Content). bytes_eq x.name name ≡ false) (at.2 b)
+    (elim (cases_lt at.0 spot) [
+      | inr after ↦ differ (get_or contents at.0 b).name name Greater (parts.1 at.0 b after at.1) (λ e. cc)
+      | inl before ↦ differ (get_or contents at.0 b).name name Less (parts.0 at.0 b (omega (arith, at.1)) before) (λ e. cc)
+    ])))

@@ -18,7 +18,8 @@ use Rattle.ovl_board.proofs.LawsOfMembers.{In, In-left, In-right, In-cases}
 use Rattle.ovl_check.specs.declared.findings.Finding.{Finding}
 use Rattle.ovl_check.specs.declared.findings.Code.TheVariants.{RedirectDouble}
 use Rattle.ovl_check.specs.declared.subjects.CheckOut.{CheckOut}
-use Rattle.ovl_check.specs.Findings.{finding, any_code, findings_in, data_findings_from, findings_from}
+use Rattle.ovl_check.specs.Findings.{finding, any_code}
+use Rattle.ovl_check.specs.Contents.{findings_of_contents_in as findings_in, data_findings_of_contents_from as data_findings_from, findings_of_contents_from as findings_from}
 use Rattle.ovl_check.specs.Codes.{is_blob_fault}
 use Rattle.ovl_check.specs.Checks.{CheckView, check_seen, first_below, is_ordinary, sought_in, layer_at, layers_below}
 use Rattle.ovl_check.proofs.LayerFacts.{layer_at-is}
@@ -68,11 +69,11 @@ front-each work each = (front work.stack.layers each, back work.stack.layers eac
 
 module _ (work : CheckView) (each : All IsLayer (all_layers work.stack)) where
   abbrev FoundHere : ℕ → List Finding
-  FoundHere i = findings_in (sought_in work.stack i) work.blobs i (layer_at work.stack i) (layers_below work.stack i)
+  FoundHere i = findings_in (sought_in work.stack i) work.contents i (layer_at work.stack i) (layers_below work.stack i)
 
   -- a layer that isn't data-only
   abbrev FoundIn : ℕ → Entries → List Entries → List Finding
-  FoundIn i layer rest = findings_in any_code work.blobs i layer (record work.stack { layers = rest })
+  FoundIn i layer rest = findings_in any_code work.contents i layer (record work.stack { layers = rest })
 
   front-is : (i : ℕ) (layer : Entries) (rest : List Entries) → drop i work.stack.layers ≡ layer ∷ rest → (FoundHere i ≡ FoundIn i layer rest) × (IsLayer (layer_at work.stack i) × (drop (i + 1) work.stack.layers ≡ rest))
   front-is i layer rest is =
@@ -80,13 +81,13 @@ module _ (work : CheckView) (each : All IsLayer (all_layers work.stack)) where
       let under : drop (i + 1) work.stack.layers ≡ rest = rw add-one (drop-more work.stack.layers i layer rest is) in
       let below : drop (first_below work.stack i) work.stack.layers ≡ rest = ap (λ n. drop n work.stack.layers) (min-eq_left (omega (arith, at.1))) ∙ under in
       let own : is_ordinary work.stack i ≡ true = lt-ltb i (length work.stack.layers) at.1 in (
-        (λ j. findings_in (cond (own j) any_code is_blob_fault) work.blobs i (at.0 j) (record work.stack { layers = below j })),
+        (λ j. findings_in (cond (own j) any_code is_blob_fault) work.contents i (at.0 j) (record work.stack { layers = below j })),
         (layer_at-is (all_layers work.stack) each i (omega (arith, at.1, length-append work.stack.layers work.stack.data_only)), under),
       )
 
   -- a data-only layer
   abbrev FoundDeep : ℕ → Entries → List Finding
-  FoundDeep i layer = findings_in is_blob_fault work.blobs i layer (record work.stack { layers = [] })
+  FoundDeep i layer = findings_in is_blob_fault work.contents i layer (record work.stack { layers = [] })
 
   back-is : (i k : ℕ) (layer : Entries) (rest : List Entries) → i ≡ length work.stack.layers + k → drop k work.stack.data_only ≡ layer ∷ rest → (FoundHere i ≡ FoundDeep i layer) × (IsLayer (layer_at work.stack i) × (drop (k + 1) work.stack.data_only ≡ rest))
   back-is i k layer rest place is =
@@ -97,47 +98,47 @@ module _ (work : CheckView) (each : All IsLayer (all_layers work.stack)) where
       ∙ (ap (λ (xs : List Entries). unwrap_or (slice_get xs k) []) (sym (append-nil work.stack.data_only)) ∙ at.0)) in
       let own : is_ordinary work.stack i ≡ false = le-ltb i (length work.stack.layers) (omega (arith, place)) in
       let below : drop (first_below work.stack i) work.stack.layers ≡ [] = ap (λ n. drop n work.stack.layers) (min-eq_right (omega (arith, place))) ∙ drop_past work.stack.layers (length work.stack.layers) (omega arith) in (
-        (λ j. findings_in (cond (own j) any_code is_blob_fault) work.blobs i (same j) (record work.stack { layers = below j })),
+        (λ j. findings_in (cond (own j) any_code is_blob_fault) work.contents i (same j) (record work.stack { layers = below j })),
         (layer_at-is (all_layers work.stack) each i (omega (arith, place, at.1, length-append work.stack.layers work.stack.data_only)), rw add-one (drop-more work.stack.data_only k layer rest is)),
       )
 
-  deep-sound : (i k : ℕ) (layers : List Entries) (lists : List (List View)) → i ≡ length work.stack.layers + k → drop k work.stack.data_only ≡ layers → length lists ≡ length layers → AreLayerWalks work i lists → (f : Finding) → In f (flat_map found_along lists) → In f (data_findings_from work.blobs work.stack i layers)
+  deep-sound : (i k : ℕ) (layers : List Entries) (lists : List (List View)) → i ≡ length work.stack.layers + k → drop k work.stack.data_only ≡ layers → length lists ≡ length layers → AreLayerWalks work i lists → (f : Finding) → In f (flat_map found_along lists) → In f (data_findings_from work.contents work.stack i layers)
   deep-sound i k [] [] place is count walks f h = absurd h
   deep-sound i k [] (views ∷ lists) place is count walks f h = absurd (omega (arith, count))
   deep-sound i k (layer ∷ layers) [] place is count walks f h = absurd h
   deep-sound i k (layer ∷ layers) (views ∷ lists) place is count walks f h =
       let at = back-is i k layer layers place is in
       elim (In-cases f (found_along views) (flat_map found_along lists) h) [
-        | inl own ↦ In-left f (FoundDeep i layer) (data_findings_from work.blobs work.stack (i + 1) layers) (subst (In f) at.0 (along-sound work each i at.1.0 views walks.0 f own))
-        | inr more ↦ In-right f (FoundDeep i layer) (data_findings_from work.blobs work.stack (i + 1) layers) (deep-sound (i + 1) (k + 1) layers lists (omega (arith, place)) at.1.1 (omega (arith, count)) walks.1 f more)
+        | inl own ↦ In-left f (FoundDeep i layer) (data_findings_from work.contents work.stack (i + 1) layers) (subst (In f) at.0 (along-sound work each i at.1.0 views walks.0 f own))
+        | inr more ↦ In-right f (FoundDeep i layer) (data_findings_from work.contents work.stack (i + 1) layers) (deep-sound (i + 1) (k + 1) layers lists (omega (arith, place)) at.1.1 (omega (arith, count)) walks.1 f more)
       ]
 
-  deep-whole : (i k : ℕ) (layers : List Entries) (lists : List (List View)) → i ≡ length work.stack.layers + k → drop k work.stack.data_only ≡ layers → length lists ≡ length layers → AreLayerWalks work i lists → (f : Finding) → In f (data_findings_from work.blobs work.stack i layers) → In f (flat_map found_along lists)
+  deep-whole : (i k : ℕ) (layers : List Entries) (lists : List (List View)) → i ≡ length work.stack.layers + k → drop k work.stack.data_only ≡ layers → length lists ≡ length layers → AreLayerWalks work i lists → (f : Finding) → In f (data_findings_from work.contents work.stack i layers) → In f (flat_map found_along lists)
   deep-whole i k [] lists place is count walks f h = absurd h
   deep-whole i k (layer ∷ layers) [] place is count walks f h = absurd (omega (arith, count))
   deep-whole i k (layer ∷ layers) (views ∷ lists) place is count walks f h =
       let at = back-is i k layer layers place is in
-      elim (In-cases f (FoundDeep i layer) (data_findings_from work.blobs work.stack (i + 1) layers) h) [
+      elim (In-cases f (FoundDeep i layer) (data_findings_from work.contents work.stack (i + 1) layers) h) [
         | inl own ↦ In-left f (found_along views) (flat_map found_along lists) (along-whole work each i at.1.0 views walks.0 f (subst (In f) (sym at.0) own))
         | inr more ↦ In-right f (found_along views) (flat_map found_along lists) (deep-whole (i + 1) (k + 1) layers lists (omega (arith, place)) at.1.1 (omega (arith, count)) walks.1 f more)
       ]
 
-  pub all-sound : (i : ℕ) (layers : List Entries) (lists : List (List View)) → drop i work.stack.layers ≡ layers → i + length layers ≡ length work.stack.layers → length lists ≡ length layers + length work.stack.data_only → AreLayerWalks work i lists → (f : Finding) → In f (flat_map found_along lists) → In f (findings_from work.blobs work.stack i layers)
+  pub all-sound : (i : ℕ) (layers : List Entries) (lists : List (List View)) → drop i work.stack.layers ≡ layers → i + length layers ≡ length work.stack.layers → length lists ≡ length layers + length work.stack.data_only → AreLayerWalks work i lists → (f : Finding) → In f (flat_map found_along lists) → In f (findings_from work.contents work.stack i layers)
   all-sound i [] lists is place count walks f h = deep-sound i 0 work.stack.data_only lists (omega (arith, place)) refl (omega (arith, count)) walks f h
   all-sound i (layer ∷ layers) [] is place count walks f h = absurd h
   all-sound i (layer ∷ layers) (views ∷ lists) is place count walks f h =
       let at = front-is i layer layers is in
       elim (In-cases f (found_along views) (flat_map found_along lists) h) [
-        | inl own ↦ In-left f (FoundIn i layer layers) (findings_from work.blobs work.stack (i + 1) layers) (subst (In f) at.0 (along-sound work each i at.1.0 views walks.0 f own))
-        | inr more ↦ In-right f (FoundIn i layer layers) (findings_from work.blobs work.stack (i + 1) layers) (all-sound (i + 1) layers lists at.1.1 (omega (arith, place)) (omega (arith, count)) walks.1 f more)
+        | inl own ↦ In-left f (FoundIn i layer layers) (findings_from work.contents work.stack (i + 1) layers) (subst (In f) at.0 (along-sound work each i at.1.0 views walks.0 f own))
+        | inr more ↦ In-right f (FoundIn i layer layers) (findings_from work.contents work.stack (i + 1) layers) (all-sound (i + 1) layers lists at.1.1 (omega (arith, place)) (omega (arith, count)) walks.1 f more)
       ]
 
-  pub all-whole : (i : ℕ) (layers : List Entries) (lists : List (List View)) → drop i work.stack.layers ≡ layers → i + length layers ≡ length work.stack.layers → length lists ≡ length layers + length work.stack.data_only → AreLayerWalks work i lists → (f : Finding) → In f (findings_from work.blobs work.stack i layers) → In f (flat_map found_along lists)
+  pub all-whole : (i : ℕ) (layers : List Entries) (lists : List (List View)) → drop i work.stack.layers ≡ layers → i + length layers ≡ length work.stack.layers → length lists ≡ length layers + length work.stack.data_only → AreLayerWalks work i lists → (f : Finding) → In f (findings_from work.contents work.stack i layers) → In f (flat_map found_along lists)
   all-whole i [] lists is place count walks f h = deep-whole i 0 work.stack.data_only lists (omega (arith, place)) refl (omega (arith, count)) walks f h
   all-whole i (layer ∷ layers) [] is place count walks f h = absurd (omega (arith, count))
   all-whole i (layer ∷ layers) (views ∷ lists) is place count walks f h =
       let at = front-is i layer layers is in
-      elim (In-cases f (FoundIn i layer layers) (findings_from work.blobs work.stack (i + 1) layers) h) [
+      elim (In-cases f (FoundIn i layer layers) (findings_from work.contents work.stack (i + 1) layers) h) [
         | inl own ↦ In-left f (found_along views) (flat_map found_along lists) (along-whole work each i at.1.0 views walks.0 f (subst (In f) (sym at.0) own))
         | inr more ↦ In-right f (found_along views) (flat_map found_along lists) (all-whole (i + 1) layers lists at.1.1 (omega (arith, place)) (omega (arith, count)) walks.1 f more)
       ]

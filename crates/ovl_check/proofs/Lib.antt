@@ -18,6 +18,9 @@ mod MemberLemmas
 mod FinishLemmas
 mod OrderLemmas
 mod SoundLemmas
+mod ContentLemmas
+mod ContentOrder
+mod StatedLemmas
 pub mod WalkLists
 mod Digests
 mod Rows

@@ -33,8 +33,8 @@ use Rattle.ovl_check.specs.declared.findings.Finding.{Finding}
 use Rattle.ovl_check.specs.declared.findings.Code.{Code}
 use Rattle.ovl_check.specs.declared.findings.Code.TheVariants.{RedirectDouble}
 use Rattle.ovl_check.specs.Codes.{all_codes, is_double, is_blob_fault}
-use Rattle.ovl_check.specs.Conditions.{holds}
-use Rattle.ovl_check.specs.Findings.{finding, any_code, findings_at, findings_in}
+use Rattle.ovl_check.specs.Findings.{finding, any_code}
+use Rattle.ovl_check.specs.Contents.{holds_of_contents as holds, findings_of_contents_at as findings_at, findings_of_contents_in as findings_in}
 use Rattle.ovl_check.specs.Checks.{CheckView, CheckSeen, is_ordinary, sought_in, layer_at, layers_below, directory_piece, check_kids, check_out, holds_alone, findings_alone, findings_at_path, directory_findings, no_seen}
 use Rattle.ovl_check.specs.Walks.{View, doubles_after, found_along}
 use Rattle.ovl_check.proofs.Ascent.{In-filter, less_never, list_all-Every}
@@ -129,10 +129,10 @@ module _ (work : CheckView) (each : All IsLayer (all_layers work.stack)) (i : �
 
   -- a code is sought in the layer, and its condition holds
   abbrev stands : Entry → Code → Bool
-  stands entry code = sought code && holds work.blobs layer (layers_below work.stack i) entry code
+  stands entry code = sought code && holds work.contents layer (layers_below work.stack i) entry code
 
   abbrev found_here : List Finding
-  found_here = findings_in sought work.blobs i layer (layers_below work.stack i)
+  found_here = findings_in sought work.contents i layer (layers_below work.stack i)
 
   -- doubles are sought in layers alone that aren't data-only
   double-sought : sought RedirectDouble ≡ true → ordinary ≡ true
@@ -177,8 +177,8 @@ module _ (work : CheckView) (each : All IsLayer (all_layers work.stack)) (i : �
           let one = In-map-cases (finding i path) f (filter (holds_alone work i (path, inode)) all_codes) k in
           let passes = In-filter-cases (holds_alone work i (path, inode)) one.0 all_codes one.1.0 in
           let parts = both {a = not (is_double one.0)} {b = stands (path, inode) one.0} passes.1 in
-          In-flat_map (findings_at sought work.blobs i layer (layers_below work.stack i)) f (path, inode) layer (entry-In layer path inode e)
-          (subst (λ (x : Finding). In x (findings_at sought work.blobs i layer (layers_below work.stack i) (path, inode))) (sym one.1.1)
+          In-flat_map (findings_at sought work.contents i layer (layers_below work.stack i)) f (path, inode) layer (entry-In layer path inode e)
+          (subst (λ (x : Finding). In x (findings_at sought work.contents i layer (layers_below work.stack i) (path, inode))) (sym one.1.1)
           (In-map (finding i path) one.0 (filter (stands (path, inode)) all_codes)
           (In-filter (stands (path, inode)) one.0 all_codes passes.0 parts.1)))
 
@@ -275,7 +275,7 @@ module _ (work : CheckView) (each : All IsLayer (all_layers work.stack)) (i : �
         let any : list_any (goes_on_there layer d) layer ≡ true = some-any (goes_on_there layer d) (e, earlier.0) layer (entry-In layer e earlier.0 earlier.1.0) there in
         let is_moved_there : is_moved (mark_at layer d) ≡ true = sym mine.1.1.1.0 ∙ (sym (ap (λ (s : CheckSeen). s.moved) (seen-at v h)) ∙ moved) in
         let is : stands (d, own.0) RedirectDouble ≡ true = (λ j. (cond (mine.1.1.1.1 j) any_code is_blob_fault) RedirectDouble && ((is_moved_there j && not (mine.1.0 j)) && any j)) in
-        let f : In (finding i d RedirectDouble) found_here = In-flat_map (findings_at sought work.blobs i layer (layers_below work.stack i)) (finding i d RedirectDouble) (d, own.0) layer (entry-In layer d own.0 own.1.0)
+        let f : In (finding i d RedirectDouble) found_here = In-flat_map (findings_at sought work.contents i layer (layers_below work.stack i)) (finding i d RedirectDouble) (d, own.0) layer (entry-In layer d own.0 own.1.0)
         (In-map (finding i d) RedirectDouble (filter (stands (d, own.0)) all_codes)
         (In-filter (stands (d, own.0)) RedirectDouble all_codes double-listed is)) in
         subst (λ (s : ℕ). In (finding s d RedirectDouble) found_here) (sym (view-space v h)) f
@@ -330,7 +330,7 @@ module _ (work : CheckView) (each : All IsLayer (all_layers work.stack)) (i : �
 
     pub along-whole : (f : Finding) → In f found_here → In f (found_along views)
     along-whole f h =
-        let e = In-flat_map-cases (findings_at sought work.blobs i layer (layers_below work.stack i)) f layer h in
+        let e = In-flat_map-cases (findings_at sought work.contents i layer (layers_below work.stack i)) f layer h in
         let path = e.0.0 in
         let inode = e.0.1 in
         let code = In-map-cases (finding i path) f (filter (stands e.0) all_codes) e.2 in

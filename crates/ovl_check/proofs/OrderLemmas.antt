@@ -24,9 +24,9 @@ use Rattle.ovl_check.specs.contracts.findings.CodeOrd.TheImpl.Laws as code_laws
 use Rattle.ovl_check.specs.contracts.findings.FindingPartialEq.TheImpl as finding_partial_eq
 use Rattle.ovl_check.specs.contracts.findings.FindingEq.TheImpl.Laws as finding_eq_laws
 use Rattle.ovl_check.specs.Codes.{all_codes, is_blob_fault}
-use Rattle.ovl_check.specs.Blobs.{BlobView}
-use Rattle.ovl_check.specs.Conditions.{holds}
-use Rattle.ovl_check.specs.Findings.{finding, any_code, findings_at, findings_in, data_findings_from, findings_from}
+use Rattle.ovl_check.specs.declared.contents.Content.{Content}
+use Rattle.ovl_check.specs.Findings.{finding, any_code}
+use Rattle.ovl_check.specs.Contents.{holds_of_contents as holds, findings_of_contents_at as findings_at, findings_of_contents_in as findings_in, data_findings_of_contents_from as data_findings_from, findings_of_contents_from as findings_from}
 use Rattle.ovl_check.proofs.Ascent.{Rises-ascends}
 use Rattle.ovl_check.proofs.DoubleLemmas.{same_path, equal}
 
@@ -109,15 +109,15 @@ codes-map i path (code ∷ codes) up = (
   codes-map i path codes up.1,
 )
 
-module _ (sought : Code → Bool) (blobs : List BlobView) where
+module _ (sought : Code → Bool) (contents : List Content) where
   abbrev stands : Entries → StackView → Entry → Code → Bool
-  stands layer below entry code = sought code && holds blobs layer below entry code
+  stands layer below entry code = sought code && holds contents layer below entry code
 
-  in-rise : (i : ℕ) (layer : Entries) (below : StackView) → Rises (λ a b. entry_cmp a b ≡ Less) layer → Rises FindingBefore (findings_in sought blobs i layer below)
+  in-rise : (i : ℕ) (layer : Entries) (below : StackView) → Rises (λ a b. entry_cmp a b ≡ Less) layer → Rises FindingBefore (findings_in sought contents i layer below)
   in-rise i layer below up =
-      Rises-flat_map (findings_at sought blobs i layer below) FindingBefore layer
+      Rises-flat_map (findings_at sought contents i layer below) FindingBefore layer
       (λ e h. codes-map i e.0 (filter (stands layer below e) all_codes) (Rises-filter (λ a b. code_cmp a b ≡ Less) (stands layer below e) all_codes codes-rise))
-      (Rises-weaker (λ a b. entry_cmp a b ≡ Less) (λ a b. (y z : Finding) → In y (findings_at sought blobs i layer below a) → In z (findings_at sought blobs i layer below b) → FindingBefore y z)
+      (Rises-weaker (λ a b. entry_cmp a b ≡ Less) (λ a b. (y z : Finding) → In y (findings_at sought contents i layer below a) → In z (findings_at sought contents i layer below b) → FindingBefore y z)
       (λ a b less y z h k.
       let one = In-map-cases (finding i a.0) y (filter (stands layer below a) all_codes) h in
       let other = In-map-cases (finding i b.0) z (filter (stands layer below b) all_codes) k in
@@ -125,9 +125,9 @@ module _ (sought : Code → Bool) (blobs : List BlobView) where
       (λ j. ordering_then (same_number i j) (ordering_then (less j) (code_cmp one.0 other.0)))))
       layer up)
 
-  in-layer : (i : ℕ) (layer : Entries) (below : StackView) (f : Finding) → In f (findings_in sought blobs i layer below) → f.layer ≡ i
+  in-layer : (i : ℕ) (layer : Entries) (below : StackView) (f : Finding) → In f (findings_in sought contents i layer below) → f.layer ≡ i
   in-layer i layer below f h =
-      let e = In-flat_map-cases (findings_at sought blobs i layer below) f layer h in
+      let e = In-flat_map-cases (findings_at sought contents i layer below) f layer h in
       let one = In-map-cases (finding i e.0.0) f (filter (stands layer below e.0) all_codes) e.2 in
       ap (λ (x : Finding). x.layer) one.1.1
 
@@ -146,36 +146,36 @@ joined i own more up later here there =
     (λ f g h k. ap (λ o. ordering_then o (ordering_then (path_cmp f.path g.path) (code_cmp f.code g.code)))
     (less_number f.layer g.layer (omega (arith, here f h, there g k))))
 
-module _ (blobs : List BlobView) (stack : StackView) where
-  from-deep : (i : ℕ) (layers : List Entries) (f : Finding) → In f (data_findings_from blobs stack i layers) → i ≤ f.layer
+module _ (contents : List Content) (stack : StackView) where
+  from-deep : (i : ℕ) (layers : List Entries) (f : Finding) → In f (data_findings_from contents stack i layers) → i ≤ f.layer
   from-deep i [] f h = absurd h
-  from-deep i (layer ∷ layers) f h = elim (In-cases f (findings_in is_blob_fault blobs i layer (record stack { layers = [] })) (data_findings_from blobs stack (i + 1) layers) h) [
-    | inl own ↦ omega (arith, in-layer is_blob_fault blobs i layer (record stack { layers = [] }) f own)
+  from-deep i (layer ∷ layers) f h = elim (In-cases f (findings_in is_blob_fault contents i layer (record stack { layers = [] })) (data_findings_from contents stack (i + 1) layers) h) [
+    | inl own ↦ omega (arith, in-layer is_blob_fault contents i layer (record stack { layers = [] }) f own)
     | inr more ↦ omega (arith, from-deep (i + 1) layers f more)
   ]
 
-  from-layer : (i : ℕ) (layers : List Entries) (f : Finding) → In f (findings_from blobs stack i layers) → i ≤ f.layer
+  from-layer : (i : ℕ) (layers : List Entries) (f : Finding) → In f (findings_from contents stack i layers) → i ≤ f.layer
   from-layer i [] f h = from-deep i stack.data_only f h
-  from-layer i (layer ∷ layers) f h = elim (In-cases f (findings_in any_code blobs i layer (record stack { layers = layers })) (findings_from blobs stack (i + 1) layers) h) [
-    | inl own ↦ omega (arith, in-layer any_code blobs i layer (record stack { layers = layers }) f own)
+  from-layer i (layer ∷ layers) f h = elim (In-cases f (findings_in any_code contents i layer (record stack { layers = layers })) (findings_from contents stack (i + 1) layers) h) [
+    | inl own ↦ omega (arith, in-layer any_code contents i layer (record stack { layers = layers }) f own)
     | inr more ↦ omega (arith, from-layer (i + 1) layers f more)
   ]
 
-  deep-rise : (i : ℕ) (layers : List Entries) → All IsLayer layers → Rises FindingBefore (data_findings_from blobs stack i layers)
+  deep-rise : (i : ℕ) (layers : List Entries) → All IsLayer layers → Rises FindingBefore (data_findings_from contents stack i layers)
   deep-rise i [] each = tt
   deep-rise i (layer ∷ layers) each =
-      joined i (findings_in is_blob_fault blobs i layer (record stack { layers = [] })) (data_findings_from blobs stack (i + 1) layers)
-      (in-rise is_blob_fault blobs i layer (record stack { layers = [] }) (Rises-ascends entry_cmp layer (all-first IsLayer layer layers each).in_order))
+      joined i (findings_in is_blob_fault contents i layer (record stack { layers = [] })) (data_findings_from contents stack (i + 1) layers)
+      (in-rise is_blob_fault contents i layer (record stack { layers = [] }) (Rises-ascends entry_cmp layer (all-first IsLayer layer layers each).in_order))
       (deep-rise (i + 1) layers (all-rest IsLayer layer layers each))
-      (in-layer is_blob_fault blobs i layer (record stack { layers = [] })) (from-deep (i + 1) layers)
+      (in-layer is_blob_fault contents i layer (record stack { layers = [] })) (from-deep (i + 1) layers)
 
-  pub from-rise : (i : ℕ) (layers : List Entries) → All IsLayer layers → All IsLayer stack.data_only → Rises FindingBefore (findings_from blobs stack i layers)
+  pub from-rise : (i : ℕ) (layers : List Entries) → All IsLayer layers → All IsLayer stack.data_only → Rises FindingBefore (findings_from contents stack i layers)
   from-rise i [] each deep = deep-rise i stack.data_only deep
   from-rise i (layer ∷ layers) each deep =
-      joined i (findings_in any_code blobs i layer (record stack { layers = layers })) (findings_from blobs stack (i + 1) layers)
-      (in-rise any_code blobs i layer (record stack { layers = layers }) (Rises-ascends entry_cmp layer (all-first IsLayer layer layers each).in_order))
+      joined i (findings_in any_code contents i layer (record stack { layers = layers })) (findings_from contents stack (i + 1) layers)
+      (in-rise any_code contents i layer (record stack { layers = layers }) (Rises-ascends entry_cmp layer (all-first IsLayer layer layers each).in_order))
       (from-rise (i + 1) layers (all-rest IsLayer layer layers each) deep)
-      (in-layer any_code blobs i layer (record stack { layers = layers })) (from-layer (i + 1) layers)
+      (in-layer any_code contents i layer (record stack { layers = layers })) (from-layer (i + 1) layers)
 
 -- ---- the test of equality goes by the order
 

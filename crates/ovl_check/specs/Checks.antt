@@ -19,14 +19,14 @@ use Rattle.ovl_check.specs.declared.findings.Code.{Code}
 use Rattle.ovl_check.specs.declared.findings.Finding.{Finding}
 use Rattle.ovl_check.specs.declared.subjects.CheckOut.{CheckOut}
 use Rattle.ovl_check.specs.Codes.{all_codes, is_double, is_blob_fault}
-use Rattle.ovl_check.specs.Blobs.{BlobView}
-use Rattle.ovl_check.specs.Conditions.{holds}
+use Rattle.ovl_check.specs.declared.contents.Content.{Content}
+use Rattle.ovl_check.specs.Contents.{holds_of_contents}
 use Rattle.ovl_check.specs.Findings.{finding, any_code}
 
--- what is checked: a stack and its blobs
+-- what is checked: a stack and the contents of its blobs
 pub record CheckView : Type 0 where
   pub stack : StackView
-  pub blobs : List BlobView
+  pub contents : List Content
 
 -- what is seen of the output of a directory: its findings, its next path where its walk is open, and whether it is moved
 pub record CheckSeen : Type 0 where
@@ -75,7 +75,7 @@ sought_in stack i = if is_ordinary stack i then any_code else is_blob_fault
 abbrev pub holds_alone : CheckView → ℕ → Entry → Code → Bool
 holds_alone work i entry code =
     not (is_double code)
-    && (sought_in work.stack i code && holds work.blobs (layer_at work.stack i) (layers_below work.stack i) entry code)
+    && (sought_in work.stack i code && holds_of_contents work.contents (layer_at work.stack i) (layers_below work.stack i) entry code)
 
 -- the findings at an entry, redirect-double apart
 abbrev pub findings_alone : CheckView → ℕ → Entry → List Finding

@@ -26,8 +26,8 @@ use Rattle.ovl_lookup.specs.Sound.{is_malformed, is_seen_there, data_at}
 use Rattle.ovl_check.specs.declared.findings.Code.{Code}
 use Rattle.ovl_check.specs.declared.findings.Code.TheVariants.{RedirectForm, RedirectLost, RedirectKind, RedirectDouble, RedirectOpen, DataMissing, DataSize, BlobMissing, BlobSize, BlobDigest, OrphanWhiteout, WhiteoutInOpaque as InOpaqueCode, WhiteoutUnmarked, ImpureMissing, MarkIgnored}
 use Rattle.ovl_check.specs.declared.findings.Finding.{Finding}
-use Rattle.ovl_check.specs.declared.facts.Content.{Content}
-use Rattle.ovl_check.specs.declared.facts.Content.TheVariants.{Nothing, Directory as DirectoryShown, Other as OtherShown}
+use Rattle.ovl_check.specs.declared.facts.ThingShown.{ThingShown}
+use Rattle.ovl_check.specs.declared.facts.ThingShown.TheVariants.{Nothing, Directory as DirectoryShown, Other as OtherShown}
 use Rattle.ovl_check.specs.declared.facts.OldPlace.{OldPlace}
 use Rattle.ovl_check.specs.declared.facts.OldPlace.TheVariants.{Hidden, Open}
 use Rattle.ovl_check.specs.declared.facts.KindFacts.{KindFacts}
@@ -39,9 +39,10 @@ use Rattle.ovl_check.specs.declared.checks.EntryPlace.{EntryPlace}
 use Rattle.ovl_check.specs.declared.checks.EntryPlace.TheVariants.{At, In}
 use Rattle.ovl_check.specs.declared.directories.Child.{Child}
 use Rattle.ovl_check.specs.declared.directories.Directory.{Directory}
-use Rattle.ovl_check.specs.Blobs.{BlobView, is_wrong as is_wrong_blob}
+use Rattle.ovl_check.specs.declared.contents.Content.{Content}
+use Rattle.ovl_check.specs.Contents.{find_content}
 use Rattle.ovl_check.specs.Checks.{CheckView, layer_at, first_below, layers_below, findings_alone}
-use Rattle.ovl_check.specs.Conditions.{find_blob, has_origin_at, is_opaque, is_any_meta, is_in_opaque as is_in_opaque_at, is_in_marked, metacopy_is_ignored, whiteout_is_ignored}
+use Rattle.ovl_check.specs.Conditions.{has_origin_at, is_opaque, is_any_meta, is_in_opaque as is_in_opaque_at, is_in_marked, metacopy_is_ignored, whiteout_is_ignored}
 
 -- ---- a directory of a layer, gathered once for all that is in it
 
@@ -96,12 +97,12 @@ IsBelowOf stack i directory =
 -- ---- the facts of an entry of a layer, by its mark
 
 -- what is shown, in a word
-abbrev pub content_of : Look → Content
-content_of found = if is_nothing found then Nothing else if is_shown_directory found then DirectoryShown else OtherShown
+abbrev pub thing_shown : Look → ThingShown
+thing_shown found = if is_nothing found then Nothing else if is_shown_directory found then DirectoryShown else OtherShown
 
 -- the old place of a moved directory, by where its walk goes on
 abbrev pub old_place : Entries → StackView → PathNames → Bool → OldPlace
-old_place layer below next closed = if closed then Hidden else Open (content_of (look below next)) (is_seen_there layer next)
+old_place layer below next closed = if closed then Hidden else Open (thing_shown (look below next)) (is_seen_there layer next)
 
 -- the size of the data that a stack has at a path, below a metacopy file that says where data-only layers have it
 abbrev pub data_size : StackView → Option PathNames → PathNames → Option ℕ
@@ -132,12 +133,12 @@ kind_at layer below path inode (Meta redirect) = Metacopy (option_map size_of (d
 kind_at layer below path inode _ = Other
 
 -- the blob that an inode names
-abbrev pub blob_found : Option BlobView → NamedBlob
+abbrev pub blob_found : Option Content → NamedBlob
 blob_found None = Missing
-blob_found (Some blob) = Found (length blob.bytes) (is_wrong_blob blob)
+blob_found (Some content) = Found content.size (not content.is_right)
 
-abbrev pub blob_named : List BlobView → Inode → NamedBlob
-blob_named blobs inode = elim (blob_of inode) [ Some name ↦ blob_found (find_blob blobs name) | None ↦ Unnamed ]
+abbrev pub blob_named : List Content → Inode → NamedBlob
+blob_named contents inode = elim (blob_of inode) [ Some name ↦ blob_found (find_content contents name) | None ↦ Unnamed ]
 
 abbrev pub is_whiteout_mark : Mark → Bool
 is_whiteout_mark WhiteoutMark = true
@@ -150,7 +151,7 @@ pub record AreFacts (work : CheckView) (i : ℕ) (path : PathNames) (facts : Fac
   pub whiteout : is_whiteout facts.inode.now ≡ is_whiteout_mark facts.mark.now
   pub root : facts.is_root ≡ is_root path
   pub kind : facts.kind ≡ kind_at (layer_at work.stack i) (layers_below work.stack i) path facts.inode.now facts.mark.now
-  pub blob : facts.blob ≡ blob_named work.blobs facts.inode.now
+  pub blob : facts.blob ≡ blob_named work.contents facts.inode.now
   pub origin : facts.holds_origin ≡ list_any (λ name. has_origin_at (layer_at work.stack i) (child_path path name)) (names_below (layer_at work.stack i) path)
 
 -- the path of an entry by its place

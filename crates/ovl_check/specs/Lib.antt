@@ -1,6 +1,9 @@
 pub mod Blobs
 pub mod Codes
 pub mod Conditions
+pub mod Contents
+pub mod Stated
+pub mod Told
 pub mod Findings
 pub mod Laws
 pub mod Checks

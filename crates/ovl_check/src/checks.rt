@@ -7,17 +7,20 @@ ghost use Rattle.ovl_lookup.specs.Sound.{is_moved as moved_test};
 ghost use Rattle.ovl_check.specs.Codes.{all_codes, is_blob_fault};
 ghost use Rattle.ovl_check.specs.Findings.{finding, any_code};
 ghost use Rattle.ovl_check.specs.Blobs.{blob_views, are_in_order, wrong_names};
+ghost use Rattle.ovl_check.specs.Contents.{contents_of, contents_ascend};
 ghost use Rattle.ovl_check.specs.Checks.{check_seen, no_seen, is_ordinary as ordinary_test, sought_in, layer_at, directory_piece, findings_at_path, check_out};
 ghost use Rattle.ovl_check.specs.CheckViews.{check_view};
 ghost use Rattle.ovl_check.specs.Facts.{IsGathered, IsBelow, IsBelowOf, IsMarked, asks, child_seen, entry_path, found_at_child, tells};
 
 use crate::blobs::Blob;
+use crate::contents::Content;
 use crate::directories::{Child, Directory, directory_at, kids_of};
 use crate::facts::{CODES, Facts};
 use crate::findings::{Code, Finding};
 use crate::gathering::{facts_of_child, facts_of_directory};
 use crate::marks::is_moved;
-use crate::subjects::{CheckOut, CheckWork};
+use crate::sources::{HeldBlobs, ToldContents};
+use crate::subjects::{CheckOut, CheckWork, ToldBlobs};
 use ovl_board::{Piece, Work};
 use ovl_inode::{Digest, Mark, is_directory};
 use ovl_lookup::{Stack, Trail};
@@ -31,12 +34,22 @@ impl<'a> CheckWork<'a> {
     pub fn new(stack: &'a Stack, blobs: &'a [Blob], wrong: &'a [Digest]) -> CheckWork<'a>
         requires ascend { are_in_order (blob_views blobs.now) ≡ true }
         requires all_wrong { wrong.now ≡ wrong_names (blob_views blobs.now) }
-        ensures { check_view result ≡ record { stack = stack.now; blobs = blob_views blobs.now } }
+        ensures { check_view result ≡ record { stack = stack.now; contents = contents_of (blob_views blobs.now) } }
     {
         CheckWork {
             stack,
-            blobs,
-            wrong,
+            told: ToldBlobs::Held(HeldBlobs { blobs, wrong }),
+        }
+    }
+
+    /// The work of checking a stack with blobs of which these contents are told, whose names ascend strictly.
+    pub fn of_contents(stack: &'a Stack, contents: &'a [Content]) -> CheckWork<'a>
+        requires { contents_ascend contents.now ≡ true }
+        ensures { check_view result ≡ record { stack = stack.now; contents = contents.now } }
+    {
+        CheckWork {
+            stack,
+            told: ToldBlobs::Told(ToldContents { contents }),
         }
     }
 }

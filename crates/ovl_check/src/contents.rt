@@ -3,6 +3,7 @@ ghost use Rattle.std.specs.Option.{option_map};
 ghost use Rattle.ovl_names.specs.Order.{ascends};
 ghost use Rattle.ovl_check.specs.Blobs.{blob_view, blob_views, are_in_order, wrong_names, digest_cmp};
 ghost use Rattle.ovl_check.specs.Conditions.{find_blob as the_blob};
+ghost use Rattle.ovl_check.specs.Contents.{contents_of, contents_ascend, find_content as the_content};
 ghost use Rattle.ovl_check.specs.Facts.{blob_named as the_blob_named};
 
 use crate::blobs::Blob;
@@ -24,7 +25,7 @@ fn find_blob<'a>(blobs: &'a [Blob], name: &Digest) -> Option<&'a Blob>
 pub(crate) fn blob_named(blobs: &[Blob], wrong: &[Digest], inode: &Inode) -> NamedBlob
     requires order { are_in_order (blob_views blobs.now) ≡ true }
     requires wrong { wrong.now ≡ wrong_names (blob_views blobs.now) }
-    ensures { result ≡ the_blob_named (blob_views blobs.now) inode.now }
+    ensures { result ≡ the_blob_named (contents_of (blob_views blobs.now)) inode.now }
 {
     let Some(name) = blob_of(inode) else {
         return NamedBlob::Unnamed;
@@ -44,4 +45,55 @@ fn is_among(names: &[Digest], name: &Digest) -> bool
     ensures { IsTrue result ↔ Contains names.now name.now }
 {
     names.binary_search(name).is_ok()
+}
+
+/// What is told of a blob whose bytes needn't be held: its length, and whether its bytes are those that its name says.
+#[derive(Clone, Copy, Debug, PartialEq, Eq)]
+pub struct Content {
+    /// The SHA-256 digest that the bytes should have.
+    pub name: Digest,
+    /// How many bytes it has.
+    pub size: u64,
+    /// Whether its bytes have that digest.
+    pub is_right: bool,
+}
+
+// The content of a name, among contents whose names ascend strictly.
+fn find_content<'a>(contents: &'a [Content], name: &Digest) -> Option<&'a Content>
+    requires { contents_ascend contents.now ≡ true }
+    ensures { option_map (λ content. content.now) result ≡ the_content contents.now name.now }
+{
+    match contents.binary_search_by(|content| content.name.cmp(name)) {
+        Ok(place) => Some(&contents[place]),
+        Err(_) => None,
+    }
+}
+
+// What is told of the blob that an inode names, sought once.
+pub(crate) fn content_named(contents: &[Content], inode: &Inode) -> NamedBlob
+    requires { contents_ascend contents.now ≡ true }
+    ensures { result ≡ the_blob_named contents.now inode.now }
+{
+    let Some(name) = blob_of(inode) else {
+        return NamedBlob::Unnamed;
+    };
+    match find_content(contents, &name) {
+        Some(content) => NamedBlob::Found {
+            length: content.size,
+            is_wrong: !content.is_right,
+        },
+        None => NamedBlob::Missing,
+    }
+}
+
+/// Whether the names of the contents ascend strictly.
+pub fn contents_in_order(contents: &[Content]) -> bool
+    ensures { result ≡ contents_ascend contents.now }
+{
+    for i in 1..contents.len() {
+        if !contents[i - 1].name.cmp(&contents[i].name).is_lt() {
+            return false;
+        }
+    }
+    true
 }

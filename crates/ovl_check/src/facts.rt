@@ -26,7 +26,7 @@ pub(crate) const CODES: [Code; 15] = [
 
 // What the layers below show at a place.
 #[derive(Clone, Copy, Debug)]
-pub(crate) enum Content {
+pub(crate) enum ThingShown {
     Nothing,
     Directory,
     Other,
@@ -38,7 +38,7 @@ pub(crate) enum OldPlace {
     // The layers below are hidden there.
     Hidden,
     // What they show there, and whether the layer itself doesn't hide it.
-    Open { content: Content, is_seen: bool },
+    Open { thing: ThingShown, is_seen: bool },
 }
 
 // What the conditions ask of an entry of its kind.
@@ -114,7 +114,7 @@ fn is_lost(kind: &KindFacts) -> bool
         KindFacts::Moved(
             OldPlace::Hidden
                 | OldPlace::Open {
-                    content: Content::Nothing,
+                    thing: ThingShown::Nothing,
                     ..
                 }
         )
@@ -128,7 +128,7 @@ fn is_of_wrong_kind(kind: &KindFacts) -> bool
     matches!(
         kind,
         KindFacts::Moved(OldPlace::Open {
-            content: Content::Other,
+            thing: ThingShown::Other,
             ..
         })
     )

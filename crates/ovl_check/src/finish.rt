@@ -3,8 +3,7 @@ ghost use Rattle.std.specs.List.{flat_map, list_any};
 ghost use Rattle.std.specs.List.Sorted.{IsPermutation};
 ghost use Rattle.ovl_lookup.specs.Stacks.{all_layers};
 ghost use Rattle.ovl_board.specs.Parcels.{parcel_view, parcel_views};
-ghost use Rattle.ovl_check.specs.Blobs.{blob_views};
-ghost use Rattle.ovl_check.specs.Findings.{findings as all_findings};
+ghost use Rattle.ovl_check.specs.Contents.{findings_of_contents};
 ghost use Rattle.ovl_check.specs.Checks.{check_seen};
 ghost use Rattle.ovl_check.specs.CheckViews.{check_view};
 ghost use Rattle.ovl_check.specs.Walks.{AreLayerWalks, double_at, places_with, doubles_after, found_along, all_left};
@@ -26,7 +25,7 @@ pub fn finish_check(
 ) -> Result<Vec<Finding>, AllocError>
     requires count { length layers.items ≡ length (all_layers _work.now.stack.now) }
     requires walks { AreLayerWalks (check_view _work.now) 0 (map (λ parcels. parcel_views check_seen parcels.items) layers.items) }
-    ensures { IfOk result (λ found. found.items ≡ all_findings (blob_views _work.now.blobs.now) _work.now.stack.now) }
+    ensures { IfOk result (λ found. found.items ≡ findings_of_contents (check_view _work.now).contents _work.now.stack.now) }
 {
     // The stack keeps its layers.
     let _layers = _work.stack.layers();

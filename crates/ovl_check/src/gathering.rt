@@ -9,12 +9,11 @@ ghost use Rattle.ovl_lookup.specs.Merged.{place_of_data};
 ghost use Rattle.ovl_lookup.specs.Sound.{is_seen_there, is_plain};
 ghost use Rattle.ovl_check.specs.Checks.{layer_at, layers_below};
 ghost use Rattle.ovl_check.specs.CheckViews.{check_view};
-ghost use Rattle.ovl_check.specs.Facts.{IsGathered, IsBelow, IsMarked, AreFacts, asks, old_place as the_old_place, content_of as the_content, whiteout_in as the_whiteout, data_size_on};
+ghost use Rattle.ovl_check.specs.Facts.{IsGathered, IsBelow, IsMarked, AreFacts, asks, old_place as the_old_place, thing_shown as the_thing, whiteout_in as the_whiteout, data_size_on};
 
 use crate::below::{data_size_in, show_in};
-use crate::contents::blob_named;
 use crate::directories::{Child, Directory, hold_origin};
-use crate::facts::{Content, Facts, KindFacts, OldPlace};
+use crate::facts::{Facts, KindFacts, OldPlace, ThingShown};
 use crate::marks::attribute_is;
 use crate::places::{data_size_below, look_below, mark_at, step_of};
 use crate::subjects::CheckWork;
@@ -49,7 +48,7 @@ pub(crate) fn facts_of_directory<'a>(
         inode: directory.inode,
         mark: &directory.mark,
         kind,
-        blob: blob_named(work.blobs, work.wrong, directory.inode),
+        blob: work.told.named(directory.inode),
         holds_origin: hold_origin(&directory.children),
     })
 }
@@ -88,7 +87,7 @@ pub(crate) fn facts_of_child<'a>(
         inode: child.inode,
         mark: child.mark,
         kind,
-        blob: blob_named(work.blobs, work.wrong, child.inode),
+        blob: work.told.named(child.inode),
         holds_origin: false,
     })
 }
@@ -108,21 +107,21 @@ fn old_place(
         return Ok(OldPlace::Hidden);
     }
     let place = next.path(alloc)?;
-    let content = content_of(&look_below(alloc, stack, i, &place)?);
+    let thing = thing_shown(&look_below(alloc, stack, i, &place)?);
     let is_seen = is_seen(alloc, stack, i, &place)?;
-    Ok(OldPlace::Open { content, is_seen })
+    Ok(OldPlace::Open { thing, is_seen })
 }
 
-fn content_of(look: &Look) -> Content
-    ensures { result ≡ the_content look.now }
+fn thing_shown(look: &Look) -> ThingShown
+    ensures { result ≡ the_thing look.now }
 {
     if look.is_nothing() {
-        return Content::Nothing;
+        return ThingShown::Nothing;
     }
     if look.is_shown_directory() {
-        return Content::Directory;
+        return ThingShown::Directory;
     }
-    Content::Other
+    ThingShown::Other
 }
 
 // Whether the layer doesn't hide a place from itself.

@@ -13,9 +13,15 @@ mod gathering;
 pub mod laws;
 mod marks;
 mod places;
+mod sources;
+mod stated;
 mod subjects;
+mod tellings;
 
 pub use blobs::{BLOB_SPACE, Blob, BlobWork, blobs_in_order, finish_blobs};
+pub use contents::{Content, contents_in_order};
 pub use findings::{Code, Finding};
 pub use finish::finish_check;
+pub use stated::stated_names;
 pub use subjects::{CheckOut, CheckWork};
+pub use tellings::{PART, ReadFault, content_in};

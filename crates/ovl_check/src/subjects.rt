@@ -1,9 +1,12 @@
-ghost use Rattle.std.specs.Prelude.{◌≡◌, true};
-ghost use Rattle.ovl_check.specs.Blobs.{blob_views, are_in_order, wrong_names};
+ghost use Rattle.std.specs.Prelude.{◌≡◌};
+ghost use Rattle.ovl_check.specs.CheckViews.{told_contents};
+ghost use Rattle.ovl_check.specs.Facts.{blob_named as the_blob_named};
 
-use crate::blobs::Blob;
+use crate::contents::{blob_named, content_named};
+use crate::facts::NamedBlob;
 use crate::findings::Finding;
-use ovl_inode::Digest;
+use crate::sources::{HeldBlobs, ToldContents};
+use ovl_inode::Inode;
 use ovl_lookup::{Stack, Trail};
 
 /// What comes of checking a directory of a layer.
@@ -23,8 +26,24 @@ pub struct CheckOut<'a> {
 #[derive(Drop)]
 pub struct CheckWork<'a> {
     pub(crate) stack: &'a Stack,
-    pub(crate) blobs: &'a [Blob],
-    pub(crate) wrong: &'a [Digest],
-    ghost ascend: { are_in_order (blob_views blobs.now) ≡ true },
-    ghost all_wrong: { wrong.now ≡ wrong_names (blob_views blobs.now) },
+    pub(crate) told: ToldBlobs<'a>,
+}
+
+// What is told of the blobs.
+#[derive(Drop)]
+pub(crate) enum ToldBlobs<'a> {
+    Held(HeldBlobs<'a>),
+    Told(ToldContents<'a>),
+}
+
+impl ToldBlobs<'_> {
+    // What is told of the blob that an inode names, sought once.
+    pub(crate) fn named(&self, inode: &Inode) -> NamedBlob
+        ensures { result ≡ the_blob_named (told_contents self.now) inode.now }
+    {
+        match self {
+            ToldBlobs::Held(held) => blob_named(held.blobs, held.wrong, inode),
+            ToldBlobs::Told(told) => content_named(told.contents, inode),
+        }
+    }
 }

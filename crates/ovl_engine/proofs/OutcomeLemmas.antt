@@ -1,65 +1,99 @@
 -- What a run that fails is told as, and numbers within their limits.
-use Rattle.std.proofs.Common.{◌≡◌, ◌≢◌, ◌⊎◌, inl, inr, ℕ, ◌+◌, ◌-◌, ◌<◌, ◌≤◌, true, false, List, refl, arith}
+use Rattle.std.proofs.Common.{◌≡◌, ◌≢◌, ◌⊎◌, inl, inr, ℕ, ◌+◌, ◌-◌, ◌<◌, ◌≤◌, true, Result, Ok, Err, List, refl, arith}
 use Rattle.ovl_lookup.specs.Stacks.{StackView}
-use Rattle.ovl_board.specs.declared.pieces.Piece.{Piece}
 use Rattle.ovl_board.specs.declared.assembly.BoardFault.{BoardFault}
 use Rattle.ovl_board.specs.declared.assembly.BoardFault.TheVariants.{Double, Stranger, Missing, Memory as BoardMemory}
 use Rattle.ovl_pool.specs.declared.runs.RunFault.{RunFault}
 use Rattle.ovl_pool.specs.declared.runs.RunFault.TheVariants.{Workers, Gate, Board, Memory}
 use Rattle.ovl_pool.specs.Runs.{IsBoardMemory}
+use Rattle.ovl_check.specs.declared.findings.Finding.{Finding}
 use Rattle.ovl_engine.specs.declared.requests.Command.{Command}
-use Rattle.ovl_engine.specs.declared.requests.Command.TheVariants.{Show, Fsck, Vacuum, Deref, Merge}
+use Rattle.ovl_engine.specs.declared.requests.Answer.{Answer}
 use Rattle.ovl_engine.specs.declared.faults.EngineFault.{EngineFault}
 use Rattle.ovl_engine.specs.declared.faults.EngineFault.TheVariants.{Workers as NoWorkers, Layers, Layer, BlobOrder, BlobSize, NoLower, Faulty, LimitOut, Run, Memory as WantsMemory, DataLayers}
 use Rattle.ovl_engine.specs.Refusals.{failed_run}
-use Rattle.ovl_check.specs.Blobs.{BlobView}
-use Rattle.ovl_engine.specs.Commands.{checks, makes_layers}
-use Rattle.ovl_engine.specs.Outcomes.{MayRefuse, IsFailure}
+use Rattle.ovl_engine.specs.Commands.{makes_layers}
+use Rattle.ovl_engine.specs.Outcomes.{IsFailedRun, IsFailedWalk, IsFailure, IsUnclean, IsRun}
 
-module _ (command : Command) (stack : StackView) (blobs : List BlobView) (may_refuse : Piece → Type 0) where
-  board_failed : (fault : BoardFault) → fault ≡ BoardMemory → IsFailure command stack blobs may_refuse (failed_run (Board fault))
+module _ (refused : Type 0) where
+  board_failed : (fault : BoardFault) → fault ≡ BoardMemory → IsFailedWalk refused (failed_run (Board fault))
   board_failed (Double p) memory = let bad : Double p ≡ BoardMemory = memory in cc
   board_failed (Stranger p) memory = let bad : Stranger p ≡ BoardMemory = memory in cc
   board_failed (Missing p) memory = let bad : Missing p ≡ BoardMemory = memory in cc
   board_failed BoardMemory memory = tt
 
   -- a run that fails for another cause than its workers' number
-  pub failed : (fault : RunFault) → fault ≢ Workers → (fault ≡ Gate → MayRefuse command stack blobs may_refuse) → IsBoardMemory fault
-      → IsFailure command stack blobs may_refuse (failed_run fault)
+  pub failed : (fault : RunFault) → fault ≢ Workers → (fault ≡ Gate → refused) → IsBoardMemory fault → IsFailedWalk refused (failed_run fault)
   failed Workers workers gate board = absurd (workers refl)
   failed Gate workers gate board = gate refl
   failed (Board fault) workers gate board = board_failed fault board
   failed Memory workers gate board = tt
 
--- a command that makes layers checks
-pub checks_first : (command : Command) → makes_layers command ≡ true → checks command ≡ true
-checks_first Show makes = let bad : false ≡ true = makes in cc
-checks_first Fsck makes = refl
-checks_first Vacuum makes = refl
-checks_first Deref makes = refl
-checks_first Merge makes = refl
+  -- a walk that isn't done keeps a command from its work, whatever is found
+  pub unwalked : (command : Command) (stack : StackView) (found : List Finding) (fault : EngineFault) → IsFailedWalk refused fault → IsFailure command stack found refused fault
+  unwalked command stack found (Run fault) is = is
+  unwalked command stack found WantsMemory is = tt
+  unwalked command stack found (Faulty report) is = absurd is
+  unwalked command stack found LimitOut is = absurd is
+  unwalked command stack found NoWorkers is = is
+  unwalked command stack found Layers is = is
+  unwalked command stack found (Layer index fault) is = is
+  unwalked command stack found BlobOrder is = is
+  unwalked command stack found BlobSize is = is
+  unwalked command stack found NoLower is = is
+  unwalked command stack found DataLayers is = is
 
--- what keeps the check from being done keeps each command that checks from its work
-module _ (command : Command) (checking : checks command ≡ true) (stack : StackView) (blobs : List BlobView) (may_refuse : Piece → Type 0) where
-  refused : MayRefuse Fsck stack blobs may_refuse → MayRefuse command stack blobs may_refuse
-  refused (inl is) = inl (checking, is.1)
-  refused (inr none) = absurd none
+  -- nor is a command done that makes layers where a fault is found
+  pub unclean : (command : Command) → makes_layers command ≡ true → (stack : StackView) (found : List Finding) (fault : EngineFault) → IsUnclean found fault → IsFailure command stack found refused fault
+  unclean command makes stack found (Faulty report) is = (makes, is.0, is.1)
+  unclean command makes stack found WantsMemory is = tt
+  unclean command makes stack found LimitOut is = absurd is
+  unclean command makes stack found (Run fault) is = absurd is
+  unclean command makes stack found NoWorkers is = is
+  unclean command makes stack found Layers is = is
+  unclean command makes stack found (Layer index fault) is = is
+  unclean command makes stack found BlobOrder is = is
+  unclean command makes stack found BlobSize is = is
+  unclean command makes stack found NoLower is = is
+  unclean command makes stack found DataLayers is = is
 
-  pub unchecked : (fault : EngineFault) → IsFailure Fsck stack blobs may_refuse fault → IsFailure command stack blobs may_refuse fault
-  unchecked (Run Workers) is = is
-  unchecked (Run Gate) is = refused is
-  unchecked (Run (Board fault)) is = is
-  unchecked (Run Memory) is = is
-  unchecked WantsMemory is = tt
-  unchecked NoWorkers is = is
-  unchecked Layers is = is
-  unchecked (Layer index fault) is = is
-  unchecked BlobOrder is = is
-  unchecked BlobSize is = is
-  unchecked NoLower is = is
-  unchecked DataLayers is = is
-  unchecked (Faulty report) is = let bad : false ≡ true = is.0 in cc
-  unchecked LimitOut is = absurd is.1
+-- what a gate may refuse in a part it may refuse in the whole
+module _ (part whole : Type 0) (of_part : part → whole) where
+  run-part : (fault : RunFault) → IsFailedRun part fault → IsFailedRun whole fault
+  run-part Workers is = is
+  run-part Gate is = of_part is
+  run-part (Board fault) is = is
+  run-part Memory is = is
+
+  pub walk-part : (fault : EngineFault) → IsFailedWalk part fault → IsFailedWalk whole fault
+  walk-part (Run fault) is = run-part fault is
+  walk-part WantsMemory is = tt
+  walk-part (Faulty report) is = is
+  walk-part LimitOut is = is
+  walk-part NoWorkers is = is
+  walk-part Layers is = is
+  walk-part (Layer index fault) is = is
+  walk-part BlobOrder is = is
+  walk-part BlobSize is = is
+  walk-part NoLower is = is
+  walk-part DataLayers is = is
+
+  pub failure-part : (command : Command) (stack : StackView) (found : List Finding) (fault : EngineFault) → IsFailure command stack found part fault → IsFailure command stack found whole fault
+  failure-part command stack found (Run fault) is = run-part fault is
+  failure-part command stack found WantsMemory is = tt
+  failure-part command stack found (Faulty report) is = is
+  failure-part command stack found LimitOut is = is
+  failure-part command stack found NoWorkers is = is
+  failure-part command stack found Layers is = is
+  failure-part command stack found (Layer index fault) is = is
+  failure-part command stack found BlobOrder is = is
+  failure-part command stack found BlobSize is = is
+  failure-part command stack found NoLower is = is
+  failure-part command stack found DataLayers is = is
+
+  pub outcome-part : (command : Command) (stack : StackView) (found : List Finding) (result : Result Answer EngineFault) → IsRun command stack found part result → IsRun command stack found whole result
+  outcome-part command stack found (Ok answer) is = is
+  outcome-part command stack found (Err fault) is = failure-part command stack found fault is
 
 -- a number within a limit isn't outside of it
 pub not_beyond : (limit n : ℕ) → 0 < n → n ≤ limit → (n < 1) ⊎ (limit < n) → ⊥

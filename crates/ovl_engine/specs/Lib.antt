@@ -10,4 +10,5 @@ pub mod Refusals
 pub mod Reports
 pub mod Requests
 pub mod Shares
+pub mod Told
 pub mod VacuumReports

@@ -13,6 +13,7 @@ use Rattle.ovl_pool.specs.declared.runs.RunFault.TheVariants.{Workers as RunWork
 use Rattle.ovl_pool.specs.Runs.{MayBeRefused}
 use Rattle.ovl_check.specs.Blobs.{BlobView, blob_kids, blob_root}
 use Rattle.ovl_check.specs.Checks.{CheckView, check_kids, directory_piece}
+use Rattle.ovl_check.specs.declared.findings.Finding.{Finding}
 use Rattle.ovl_check.specs.Findings.{findings}
 use Rattle.ovl_vacuum.specs.Vacuum.{vacuumed_layer, removed_paths}
 use Rattle.ovl_vacuum.specs.Directories.{vacuum_kids, vacuum_root}
@@ -85,32 +86,43 @@ pub record IsMergedInto (stack : StackView) (answer : Answer) : Type 0 where
   pub within : PassesLimitMerged (merge_of stack) → ⊥
   pub rewritten : IsRewritten (layer_report lower) (merged_top (merge_of stack) ∷ lower ∷ []) answer
 
+-- the answer of a command over this stack, of which this is found
+abbrev pub IsAnswerOf : Command → StackView → List Finding → Answer → Type 0
+IsAnswerOf Show stack found answer = IsShowReport stack answer.report.items × (answer.layers.items ≡ []) × (answer.clean ≡ true)
+IsAnswerOf Fsck stack found answer =
+    (answer.report.items ≡ fsck_report found)
+    × (answer.layers.items ≡ [])
+    × (answer.clean ≡ is_clean found)
+IsAnswerOf Vacuum stack found answer = (is_clean found ≡ true) × IsVacuumed stack answer
+IsAnswerOf Deref stack found answer = (is_clean found ≡ true) × IsUnfolded stack answer
+IsAnswerOf Merge stack found answer = (is_clean found ≡ true) × IsMergedInto stack answer
+
 -- the answer of a command over this stack and blobs
 abbrev pub IsAnswer : Command → StackView → List BlobView → Answer → Type 0
-IsAnswer Show stack blobs answer = IsShowReport stack answer.report.items × (answer.layers.items ≡ []) × (answer.clean ≡ true)
-IsAnswer Fsck stack blobs answer =
-    (answer.report.items ≡ fsck_report (findings blobs stack))
-    × (answer.layers.items ≡ [])
-    × (answer.clean ≡ is_clean (findings blobs stack))
-IsAnswer Vacuum stack blobs answer = (is_clean (findings blobs stack) ≡ true) × IsVacuumed stack answer
-IsAnswer Deref stack blobs answer = (is_clean (findings blobs stack) ≡ true) × IsUnfolded stack answer
-IsAnswer Merge stack blobs answer = (is_clean (findings blobs stack) ≡ true) × IsMergedInto stack answer
+IsAnswer command stack blobs answer = IsAnswerOf command stack (findings blobs stack) answer
 
--- what is checked: this stack, with these blobs
-abbrev pub check_of : StackView → List BlobView → CheckView
-check_of stack blobs = record { stack = stack; blobs = blobs }
+-- what is checked: this stack; which directories that reaches has nothing to do with contents
+abbrev pub check_of : StackView → CheckView
+check_of stack = record { stack = stack; contents = [] }
+
+-- the root of a space of pieces
+abbrev pub root_of : ℕ → Piece
+root_of space = record { space = space; dir = [] }
 
 -- the gate may refuse a piece of the blobs, or a directory of a layer
 abbrev pub MayRefuseBlobs : List BlobView → (Piece → Type 0) → Type 0
 MayRefuseBlobs blobs may_refuse = MayBeRefused (blob_kids blobs) may_refuse blob_root
 
-abbrev pub MayRefuseLayer : StackView → List BlobView → (Piece → Type 0) → ℕ → Type 0
-MayRefuseLayer stack blobs may_refuse i =
-    (i < length (all_layers stack)) × MayBeRefused (check_kids (check_of stack blobs)) may_refuse (directory_piece i [])
+abbrev pub MayRefuseLayer : StackView → (Piece → Type 0) → ℕ → Type 0
+MayRefuseLayer stack may_refuse i =
+    (i < length (all_layers stack)) × MayBeRefused (check_kids (check_of stack)) may_refuse (directory_piece i [])
+
+abbrev pub MayRefuseLayers : StackView → (Piece → Type 0) → Type 0
+MayRefuseLayers stack may_refuse = (i : ℕ) × MayRefuseLayer stack may_refuse i
 
 -- the same of what is checked, and of the directories that a command's own work visits
 abbrev pub MayRefuseCheck : StackView → List BlobView → (Piece → Type 0) → Type 0
-MayRefuseCheck stack blobs may_refuse = MayRefuseBlobs blobs may_refuse ⊎ ((i : ℕ) × MayRefuseLayer stack blobs may_refuse i)
+MayRefuseCheck stack blobs may_refuse = MayRefuseBlobs blobs may_refuse ⊎ MayRefuseLayers stack may_refuse
 
 abbrev pub MayRefuseOwn : Command → StackView → (Piece → Type 0) → Type 0
 MayRefuseOwn Show stack may_refuse = MayBeRefused (show_kids stack) may_refuse show_root
@@ -124,21 +136,18 @@ abbrev pub MayRefuse : Command → StackView → List BlobView → (Piece → Ty
 MayRefuse command stack blobs may_refuse =
     ((checks command ≡ true) × MayRefuseCheck stack blobs may_refuse) ⊎ MayRefuseOwn command stack may_refuse
 
--- a run over this stack and blobs fails by its gate alone; want of memory is told apart
-abbrev pub IsFailedRun : Command → StackView → List BlobView → (Piece → Type 0) → RunFault → Type 0
-IsFailedRun command stack blobs may_refuse RunWorkers = ⊥
-IsFailedRun command stack blobs may_refuse Gate = MayRefuse command stack blobs may_refuse
-IsFailedRun command stack blobs may_refuse (Board fault) = ⊥
-IsFailedRun command stack blobs may_refuse RunMemory = ⊥
+-- a run fails by its gate alone, where that may refuse a piece; want of memory is told apart
+abbrev pub IsFailedRun : Type 0 → RunFault → Type 0
+IsFailedRun refused RunWorkers = ⊥
+IsFailedRun refused Gate = refused
+IsFailedRun refused (Board fault) = ⊥
+IsFailedRun refused RunMemory = ⊥
 
--- a command that makes layers is refused for a fault of this stack and blobs, and this is the report that tells it
-abbrev pub IsFoundFaulty : Command → StackView → List BlobView → List ℕ → Type 0
-IsFoundFaulty command stack blobs report =
-    (makes_layers command ≡ true)
-    × (is_clean (findings blobs stack) ≡ false)
-    × (report ≡ fsck_report (findings blobs stack))
+-- a command that makes layers is refused for a fault that is found, and this is the report that tells it
+abbrev pub IsFoundFaulty : Command → List Finding → List ℕ → Type 0
+IsFoundFaulty command found report = (makes_layers command ≡ true) × (is_clean found ≡ false) × (report ≡ fsck_report found)
 
--- the stack has no fault with these blobs, and a new layer passes a limit of manifests
+-- no fault is found, and a new layer passes a limit of manifests
 abbrev pub PassesNewLimit : Command → StackView → Type 0
 PassesNewLimit Show stack = ⊥
 PassesNewLimit Fsck stack = ⊥
@@ -146,27 +155,55 @@ PassesNewLimit Vacuum stack = ⊥
 PassesNewLimit Deref stack = PassesLimit stack
 PassesNewLimit Merge stack = PassesLimitMerged (merge_of stack)
 
-abbrev pub IsLimitedOut : Command → StackView → List BlobView → Type 0
-IsLimitedOut command stack blobs = (is_clean (findings blobs stack) ≡ true) × PassesNewLimit command stack
+abbrev pub IsLimitedOut : Command → StackView → List Finding → Type 0
+IsLimitedOut command stack found = (is_clean found ≡ true) × PassesNewLimit command stack
 
--- why work over this stack and blobs isn't done; want of memory may come at any time
-abbrev pub IsFailure : Command → StackView → List BlobView → (Piece → Type 0) → EngineFault → Type 0
-IsFailure command stack blobs may_refuse (Faulty report) = IsFoundFaulty command stack blobs report.items
-IsFailure command stack blobs may_refuse LimitOut = IsLimitedOut command stack blobs
-IsFailure command stack blobs may_refuse (Run fault) = IsFailedRun command stack blobs may_refuse fault
-IsFailure command stack blobs may_refuse Memory = ⊤
-IsFailure command stack blobs may_refuse Workers = ⊥
-IsFailure command stack blobs may_refuse Layers = ⊥
-IsFailure command stack blobs may_refuse (Layer index fault) = ⊥
-IsFailure command stack blobs may_refuse BlobOrder = ⊥
-IsFailure command stack blobs may_refuse BlobSize = ⊥
-IsFailure command stack blobs may_refuse NoLower = ⊥
-IsFailure command stack blobs may_refuse DataLayers = ⊥
+-- why a walk isn't done, where the gate may refuse a piece of it; want of memory may come at any time
+abbrev pub IsFailedWalk : Type 0 → EngineFault → Type 0
+IsFailedWalk refused (Run fault) = IsFailedRun refused fault
+IsFailedWalk refused Memory = ⊤
+IsFailedWalk refused (Faulty report) = ⊥
+IsFailedWalk refused LimitOut = ⊥
+IsFailedWalk refused Workers = ⊥
+IsFailedWalk refused Layers = ⊥
+IsFailedWalk refused (Layer index fault) = ⊥
+IsFailedWalk refused BlobOrder = ⊥
+IsFailedWalk refused BlobSize = ⊥
+IsFailedWalk refused NoLower = ⊥
+IsFailedWalk refused DataLayers = ⊥
 
--- what comes of a command over a stack and blobs
-abbrev pub IsRun : Command → StackView → List BlobView → (Piece → Type 0) → Result Answer EngineFault → Type 0
-IsRun command stack blobs may_refuse (Ok answer) = IsAnswer command stack blobs answer
-IsRun command stack blobs may_refuse (Err fault) = IsFailure command stack blobs may_refuse fault
+-- why work over this stack isn't done, of which this is found, where the gate may refuse a piece of it
+abbrev pub IsFailure : Command → StackView → List Finding → Type 0 → EngineFault → Type 0
+IsFailure command stack found refused (Faulty report) = IsFoundFaulty command found report.items
+IsFailure command stack found refused LimitOut = IsLimitedOut command stack found
+IsFailure command stack found refused (Run fault) = IsFailedRun refused fault
+IsFailure command stack found refused Memory = ⊤
+IsFailure command stack found refused Workers = ⊥
+IsFailure command stack found refused Layers = ⊥
+IsFailure command stack found refused (Layer index fault) = ⊥
+IsFailure command stack found refused BlobOrder = ⊥
+IsFailure command stack found refused BlobSize = ⊥
+IsFailure command stack found refused NoLower = ⊥
+IsFailure command stack found refused DataLayers = ⊥
+
+-- why new layers aren't made of a stack of which this is found, before any is; want of memory may come at any time
+abbrev pub IsUnclean : List Finding → EngineFault → Type 0
+IsUnclean found (Faulty report) = (is_clean found ≡ false) × (report.items ≡ fsck_report found)
+IsUnclean found Memory = ⊤
+IsUnclean found LimitOut = ⊥
+IsUnclean found (Run fault) = ⊥
+IsUnclean found Workers = ⊥
+IsUnclean found Layers = ⊥
+IsUnclean found (Layer index fault) = ⊥
+IsUnclean found BlobOrder = ⊥
+IsUnclean found BlobSize = ⊥
+IsUnclean found NoLower = ⊥
+IsUnclean found DataLayers = ⊥
+
+-- what comes of a command over a stack, of which this is found
+abbrev pub IsRun : Command → StackView → List Finding → Type 0 → Result Answer EngineFault → Type 0
+IsRun command stack found refused (Ok answer) = IsAnswerOf command stack found answer
+IsRun command stack found refused (Err fault) = IsFailure command stack found refused fault
 
 -- nothing refuses the request
 abbrev pub IsAccepted : Request → Type 0
@@ -190,16 +227,20 @@ IsRefusal request BlobSize = IsRefused request BlobSize
 IsRefusal request NoLower = IsRefused request NoLower
 IsRefusal request DataLayers = IsRefused request DataLayers
 
+-- what is found in a request's stack with its blobs
+abbrev pub found_in : Request → List Finding
+found_in request = findings request.blobs (stack_of request)
+
 -- what comes of a request, by a gate that may refuse these pieces; want of memory may come at any time
 abbrev pub IsOutcome : Request → (Piece → Type 0) → Result Answer EngineFault → Type 0
 IsOutcome request may_refuse (Ok answer) =
     IsAccepted request × IsAnswer request.what (stack_of request) request.blobs answer
 IsOutcome request may_refuse (Err (Faulty report)) =
-    IsAccepted request × IsFoundFaulty request.what (stack_of request) request.blobs report.items
+    IsAccepted request × IsFoundFaulty request.what (found_in request) report.items
 IsOutcome request may_refuse (Err LimitOut) =
-    IsAccepted request × IsLimitedOut request.what (stack_of request) request.blobs
+    IsAccepted request × IsLimitedOut request.what (stack_of request) (found_in request)
 IsOutcome request may_refuse (Err (Run fault)) =
-    IsAccepted request × IsFailedRun request.what (stack_of request) request.blobs may_refuse fault
+    IsAccepted request × IsFailedRun (MayRefuse request.what (stack_of request) request.blobs may_refuse) fault
 IsOutcome request may_refuse (Err Memory) = ⊤
 IsOutcome request may_refuse (Err Workers) = IsRefused request Workers
 IsOutcome request may_refuse (Err Layers) = IsRefused request Layers

@@ -7,3 +7,7 @@ pub record AreJoined {T E : Type 0} (bytes_of : T → List ℕ) (parts : List (R
   pub texts : List T
   pub all : parts ≡ map Ok texts
   pub bytes : whole ≡ flat_map bytes_of texts
+
+-- the fewest lines for which a thread is started
+abbrev pub least_share : ℕ
+least_share = 1024

@@ -1,16 +1,22 @@
-ghost use Rattle.std.specs.Prelude.{◌≡◌, ◌↔◌, ◌<◌, ◌≤◌, true, false, Err, IfOk, IfErr, OnOk, [], length, nat_lt, nat_le};
+ghost use Rattle.std.specs.Prelude.{◌≡◌, ◌↔◌, ◌<◌, ◌≤◌, true, false, Err, IfOk, IfErr, OnOk, [], List, length, nat_lt, nat_le};
 ghost use Rattle.ovl_lookup.specs.Stacks.{layer_limit};
 ghost use Rattle.ovl_board.specs.Machine.{worker_limit};
+ghost use Rattle.ovl_lookup.specs.Sound.{IsSoundStack};
+ghost use Rattle.ovl_check.specs.declared.findings.Finding.{Finding};
 ghost use Rattle.ovl_check.specs.Blobs.{blob_views, are_in_order};
+ghost use Rattle.ovl_check.specs.Findings.{findings};
+ghost use Rattle.ovl_engine.specs.FsckReports.{is_clean as clean_test};
 ghost use Rattle.ovl_engine.specs.declared.requests.Command.TheVariants.{Show, Fsck};
 ghost use Rattle.ovl_engine.specs.declared.faults.EngineFault.TheVariants.{Workers, Layers, DataLayers};
 ghost use Rattle.ovl_engine.specs.Requests.{request_of};
 ghost use Rattle.ovl_engine.specs.Refusals.{is_outside as outside_test, blob_limit, blob_bytes};
-ghost use Rattle.ovl_engine.specs.Outcomes.{IsAccepted, IsRefusal, IsOutcome, IsRun};
-ghost use Rattle.ovl_engine.specs.Commands.{makes_layers, stays_sound, wants_lower as lower_test};
+ghost use Rattle.ovl_engine.specs.Outcomes.{IsAccepted, IsRefusal, IsOutcome, IsRun, IsFailedWalk, MayRefuse, MayRefuseCheck, MayRefuseOwn};
+ghost use Rattle.ovl_engine.specs.Told.{HoldsOfFound, IsOutcomeOver, IsRunOver};
+ghost use Rattle.ovl_engine.specs.Commands.{checks as checks_test, makes_layers, stays_sound, wants_lower as lower_test};
 ghost use Rattle.ovl_engine.specs.Kept.{KeepsTree, KeepsTreeOf, KeepsSoundness, HasSoundStack, IsRequestOf, after};
 
-use crate::checks::findings_of;
+use crate::checks::{findings_by, findings_of};
+use crate::contents::{CommandFault, Contents};
 use crate::derefs::deref;
 use crate::faults::EngineFault;
 use crate::fsck_reports::{fsck_report_by, is_clean};
@@ -18,13 +24,13 @@ use crate::listings::report_by;
 use crate::merges::merge;
 use crate::requests::{Answer, Command};
 use crate::stacks::{let_go, read_stack};
+use crate::teams::Team;
 use crate::vacuums::vacuum;
 use crate::works::ShowWork;
-use ovl_board::{Piece, WORKER_LIMIT};
-use ovl_check::{Blob, blobs_in_order};
+use ovl_board::WORKER_LIMIT;
+use ovl_check::{Blob, Finding, blobs_in_order, stated_names};
 use ovl_lookup::{LAYER_LIMIT, Stack};
-use ovl_names::Path;
-use ovl_pool::{Gate, run};
+use ovl_pool::Gate;
 use std::alloc::Global;
 use std::sync::Wait;
 use std::thread::Threads;
@@ -67,7 +73,13 @@ pub fn command<G: Gate + Sync, R: Threads + Wait + Sync>(
         × (nat_le (length manifests.now) bottom ≡ true)) }
 {
     let stack = stack_for(rt, alloc, what, manifests, bottom, blobs, workers)?;
-    answer(rt, alloc, what, stack, blobs, workers, gate)
+    let team = Team {
+        rt,
+        alloc,
+        workers,
+        gate,
+    };
+    answer_of(&team, what, stack, blobs)
 }
 
 /// What [`command`] gives, of manifests that nobody needs any more: they are let go once their layers are read, so that
@@ -96,7 +108,45 @@ pub fn command_of<G: Gate + Sync, R: Threads + Wait + Sync>(
 {
     let stack = stack_for(rt, alloc, what, &manifests, bottom, blobs, workers)?;
     drop(manifests);
-    answer(rt, alloc, what, stack, blobs, workers, gate)
+    let team = Team {
+        rt,
+        alloc,
+        workers,
+        gate,
+    };
+    answer_of(&team, what, stack, blobs)
+}
+
+/// What [`command_of`] gives, with contents that needn't be held in memory in place of blobs: where the command checks the
+/// layers, [`Contents::tell`] is asked once, for the names of blobs that they state, each once, after all that is refused
+/// before any work. There is no limit of their bytes. The answer is that with blobs that may be what `tell` told of,
+/// whatever is under names that no layer states, see [`findings_need_named`](ovl_check::laws::findings_need_named); the gate
+/// is asked for directories alone. Where contents can't be told, that fault is told.
+pub fn command_over<C: Contents, G: Gate + Sync, R: Threads + Wait + Sync>(
+    rt: &R,
+    alloc: Global,
+    what: Command,
+    manifests: Vec<Vec<u8>>,
+    bottom: u16,
+    contents: &C,
+    workers: usize,
+    gate: &G,
+) -> Result<Answer, CommandFault<C::Fault>>
+    ensures outcome { IsOutcomeOver (request_of what manifests.items bottom [] workers) (C.may_be contents.now) (C.may_fail contents.now) (G.may_refuse gate.now) result }
+    ensures keeps { IfOk result (λ answer. makes_layers what ≡ true
+        → let request = request_of what manifests.items bottom [] workers in KeepsTree request (after request answer)) }
+    ensures sound { IfOk result (λ answer. stays_sound what ≡ true
+        → HasSoundStack (after (request_of what manifests.items bottom [] workers) answer)) }
+{
+    let stack = stack_for(rt, alloc, what, &manifests, bottom, &[], workers)?;
+    drop(manifests);
+    let team = Team {
+        rt,
+        alloc,
+        workers,
+        gate,
+    };
+    answer_over(&team, what, stack, contents)
 }
 
 // The stack of the layers that the manifests state, where nothing refuses the command before its work.
@@ -145,29 +195,116 @@ fn stack_for<R: Threads + Sync>(
     Ok(stack)
 }
 
-// What the command gives of a stack that it isn't refused for.
-fn answer<G: Gate + Sync, R: Threads + Wait + Sync>(
-    rt: &R,
-    alloc: Global,
+// What the command gives of a stack and blobs that it isn't refused for.
+fn answer_of<G: Gate + Sync, R: Threads + Wait + Sync>(
+    team: &Team<'_, G, R>,
     what: Command,
     stack: Stack,
     blobs: &[Blob],
-    workers: usize,
-    gate: &G,
 ) -> Result<Answer, EngineFault>
-    requires number { (0 < workers) × (workers ≤ worker_limit) }
+    requires number { (0 < team.now.workers) × (team.now.workers ≤ worker_limit) }
     requires ascend { are_in_order (blob_views blobs.now) ≡ true }
     requires several { lower_test what ≡ true → 1 < length stack.layers }
-    ensures outcome { IsRun what stack (blob_views blobs.now) (G.may_refuse gate.now) result }
+    ensures outcome { IsRun what stack (findings (blob_views blobs.now) stack) (MayRefuse what stack (blob_views blobs.now) (G.may_refuse team.now.gate.now)) result }
+    ensures keeps { IfOk result (λ answer. makes_layers what ≡ true → KeepsTreeOf stack answer) }
+    ensures sound { IfOk result (λ answer. stays_sound what ≡ true → KeepsSoundness stack answer) }
+{
+    let found = found_in(team, what, &stack, blobs)?;
+    answer(team, what, stack, found)
+}
+
+// What is found in a stack with these blobs, where the command checks it.
+fn found_in<G: Gate + Sync, R: Threads + Wait + Sync>(
+    team: &Team<'_, G, R>,
+    what: Command,
+    stack: &Stack,
+    blobs: &[Blob],
+) -> Result<Vec<Finding>, EngineFault>
+    requires number { (0 < team.now.workers) × (team.now.workers ≤ worker_limit) }
+    requires ascend { are_in_order (blob_views blobs.now) ≡ true }
+    ensures found { IfOk result (λ found. checks_test what ≡ true → found.items ≡ findings (blob_views blobs.now) stack.now) }
+    ensures sound { IfOk result (λ found. checks_test what ≡ true → clean_test found.items ≡ true → IsSoundStack stack.now) }
+    ensures fault { IfErr result (λ fault. (checks_test what ≡ true)
+        × IsFailedWalk (MayRefuseCheck stack.now (blob_views blobs.now) (G.may_refuse team.now.gate.now)) fault) }
+{
+    if !checks(what) {
+        return Ok(Vec::new(team.alloc));
+    }
+    findings_of(team, stack, blobs)
+}
+
+// What the command gives of a stack that it isn't refused for, with contents that are told.
+fn answer_over<C: Contents, G: Gate + Sync, R: Threads + Wait + Sync>(
+    team: &Team<'_, G, R>,
+    what: Command,
+    stack: Stack,
+    contents: &C,
+) -> Result<Answer, CommandFault<C::Fault>>
+    requires number { (0 < team.now.workers) × (team.now.workers ≤ worker_limit) }
+    requires several { lower_test what ≡ true → 1 < length stack.layers }
+    ensures outcome { IsRunOver what stack (C.may_be contents.now) (C.may_fail contents.now) (G.may_refuse team.now.gate.now) result }
+    ensures keeps { IfOk result (λ answer. makes_layers what ≡ true → KeepsTreeOf stack answer) }
+    ensures sound { IfOk result (λ answer. stays_sound what ≡ true → KeepsSoundness stack answer) }
+{
+    let found = found_over(team, what, &stack, contents)?;
+    Ok(answer(team, what, stack, found)?)
+}
+
+// What is found in a stack with contents that are told, where the command checks it.
+fn found_over<C: Contents, G: Gate + Sync, R: Threads + Wait + Sync>(
+    team: &Team<'_, G, R>,
+    what: Command,
+    stack: &Stack,
+    contents: &C,
+) -> Result<Vec<Finding>, CommandFault<C::Fault>>
+    requires number { (0 < team.now.workers) × (team.now.workers ≤ worker_limit) }
+    ensures found { IfOk result (λ found. HoldsOfFound (C.may_be contents.now) what stack.now (λ all. checks_test what ≡ true → found.items ≡ all)) }
+    ensures sound { IfOk result (λ found. checks_test what ≡ true → clean_test found.items ≡ true → IsSoundStack stack.now) }
+    ensures fault { IfErr result (λ fault. IsRunOver what stack.now (C.may_be contents.now) (C.may_fail contents.now) (G.may_refuse team.now.gate.now) (Err fault)) }
+{
+    if !checks(what) {
+        return Ok(Vec::new(team.alloc));
+    }
+    let names = stated_names(team.alloc, stack)?;
+    let told = match contents.tell(team.alloc, &names) {
+        Ok(told) => told,
+        Err(fault) => return Err(CommandFault::Contents(fault)),
+    };
+    drop(names);
+    Ok(findings_by(team, stack, &told)?)
+}
+
+// What the command gives of a stack that it isn't refused for, by all that is found in it where the command checks.
+fn answer<G: Gate + Sync, R: Threads + Wait + Sync>(
+    team: &Team<'_, G, R>,
+    what: Command,
+    stack: Stack,
+    found: Vec<Finding>,
+) -> Result<Answer, EngineFault>
+    requires number { (0 < team.now.workers) × (team.now.workers ≤ worker_limit) }
+    requires several { lower_test what ≡ true → 1 < length stack.layers }
+    requires sound { checks_test what ≡ true → clean_test found.items ≡ true → IsSoundStack stack }
+    ensures outcome { (all : List Finding) → (checks_test what ≡ true → found.items ≡ all)
+        → IsRun what stack all (MayRefuseOwn what stack (G.may_refuse team.now.gate.now)) result }
     ensures keeps { IfOk result (λ answer. makes_layers what ≡ true → KeepsTreeOf stack answer) }
     ensures sound { IfOk result (λ answer. stays_sound what ≡ true → KeepsSoundness stack answer) }
 {
     match what {
-        Command::Show => show(rt, alloc, stack, workers, gate),
-        Command::Fsck => fsck(rt, alloc, stack, blobs, workers, gate),
-        Command::Vacuum => vacuum(rt, alloc, stack, blobs, workers, gate),
-        Command::Deref => deref(rt, alloc, stack, blobs, workers, gate),
-        Command::Merge => merge(rt, alloc, stack, blobs, workers, gate),
+        Command::Show => show(team, stack),
+        Command::Fsck => fsck(team, stack, &found),
+        Command::Vacuum => vacuum(team, stack, found),
+        Command::Deref => deref(team, stack, found),
+        Command::Merge => merge(team, stack, found),
+    }
+}
+
+// Whether a command checks the layers with the contents of their files.
+fn checks(what: Command) -> bool
+    ensures { result ≡ checks_test what }
+{
+    match what {
+        Command::Show => false,
+        Command::Fsck | Command::Vacuum | Command::Deref | Command::Merge => true,
     }
 }
 
@@ -205,50 +342,38 @@ fn are_over_limit(blobs: &[Blob]) -> bool
     false
 }
 
-// The report of the merged tree of a stack, whatever the blobs.
+// The report of the merged tree of a stack, whatever is found in it.
 fn show<G: Gate + Sync, R: Threads + Wait + Sync>(
-    rt: &R,
-    alloc: Global,
+    team: &Team<'_, G, R>,
     stack: Stack,
-    workers: usize,
-    gate: &G,
 ) -> Result<Answer, EngineFault>
-    requires { (0 < workers) × (workers ≤ worker_limit) }
-    ensures { IsRun Show stack [] (G.may_refuse gate.now) result }
+    requires { (0 < team.now.workers) × (team.now.workers ≤ worker_limit) }
+    ensures { (found : List Finding) → IsRun Show stack found (MayRefuseOwn Show stack (G.may_refuse team.now.gate.now)) result }
 {
     let work = ShowWork::new(&stack);
-    let root = Piece {
-        space: 0,
-        dir: Path::root(alloc),
-    };
-    let (parcels, _) = run(rt, alloc, &work, root, workers, gate)?;
-    let look = work.root_look(alloc)?;
-    let_go(rt, alloc, stack, workers);
+    let parcels = team.walk(&work, 0)?;
+    let look = work.root_look(team.alloc)?;
+    let_go(team.rt, team.alloc, stack, team.workers);
     Ok(Answer {
-        report: report_by(rt, alloc, &look, &parcels, workers)?,
-        layers: Vec::new(alloc),
+        report: report_by(team.rt, team.alloc, &look, &parcels, team.workers)?,
+        layers: Vec::new(team.alloc),
         clean: true,
     })
 }
 
-// The report of what is found in a stack with these blobs.
-fn fsck<G: Gate + Sync, R: Threads + Wait + Sync>(
-    rt: &R,
-    alloc: Global,
+// The report of what is found in a stack.
+fn fsck<G, R: Threads + Sync>(
+    team: &Team<'_, G, R>,
     stack: Stack,
-    blobs: &[Blob],
-    workers: usize,
-    gate: &G,
+    found: &[Finding],
 ) -> Result<Answer, EngineFault>
-    requires number { (0 < workers) × (workers ≤ worker_limit) }
-    requires ascend { are_in_order (blob_views blobs.now) ≡ true }
-    ensures { IsRun Fsck stack (blob_views blobs.now) (G.may_refuse gate.now) result }
+    requires { 0 < team.now.workers }
+    ensures { IsRun Fsck stack found.now ⊥ result }
 {
-    let found = findings_of(rt, alloc, &stack, blobs, workers, gate)?;
-    let_go(rt, alloc, stack, workers);
+    let_go(team.rt, team.alloc, stack, team.workers);
     Ok(Answer {
-        report: fsck_report_by(rt, alloc, &found, workers)?,
-        layers: Vec::new(alloc),
-        clean: is_clean(&found),
+        report: fsck_report_by(team.rt, team.alloc, found, team.workers)?,
+        layers: Vec::new(team.alloc),
+        clean: is_clean(found),
     })
 }

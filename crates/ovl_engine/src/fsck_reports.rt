@@ -13,7 +13,7 @@ use std::thread::{Threads, map_chunks};
 
 /// The report of `fsck`: a line for each finding, in their order, and how many are faults and how many notes.
 /// Fails only for want of memory.
-pub fn fsck_report_of(alloc: Global, found: &[Finding]) -> Result<Vec<u8>, AllocError>
+pub(crate) fn fsck_report_of(alloc: Global, found: &[Finding]) -> Result<Vec<u8>, AllocError>
     ensures { IfOk result (λ report. report.items ≡ fsck_report found.now) }
 {
     let mut report = lines_of(alloc, found)?;
@@ -70,7 +70,7 @@ fn push_counts(report: &mut String, found: &[Finding]) -> Result<(), AllocError>
 }
 
 /// Whether no finding is a fault.
-pub fn is_clean(found: &[Finding]) -> bool
+pub(crate) fn is_clean(found: &[Finding]) -> bool
     ensures { result ≡ clean_test found.now }
 {
     count_of_faults(found) == 0

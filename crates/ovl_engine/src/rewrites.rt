@@ -1,49 +1,24 @@
 //! What the commands that make new layers share.
-ghost use Rattle.std.specs.Prelude.{◌≡◌, ◌<◌, ◌≤◌, true, Ok, IfOk, IfErr, map};
+ghost use Rattle.std.specs.Prelude.{◌≡◌, true, Ok, IfOk, IfErr, map};
 ghost use Rattle.ovl_manifest.specs.Manifest.{read_layer};
 ghost use Rattle.ovl_manifest.specs.Text.{manifest_text};
-ghost use Rattle.ovl_lookup.specs.Sound.{IsSoundStack};
-ghost use Rattle.ovl_board.specs.Machine.{worker_limit};
-ghost use Rattle.ovl_check.specs.Blobs.{blob_views, are_in_order};
-ghost use Rattle.ovl_check.specs.Findings.{findings};
-ghost use Rattle.ovl_engine.specs.declared.requests.Command.{Command};
-ghost use Rattle.ovl_engine.specs.Commands.{makes_layers};
 ghost use Rattle.ovl_engine.specs.FsckReports.{is_clean as clean_test};
-ghost use Rattle.ovl_engine.specs.Outcomes.{IsFailure, IsRewritten, new_manifests};
+ghost use Rattle.ovl_engine.specs.Outcomes.{IsUnclean, IsRewritten, new_manifests};
 
-use crate::checks::findings_of;
 use crate::faults::EngineFault;
 use crate::fsck_reports::{fsck_report_of, is_clean};
 use crate::requests::Answer;
 use crate::shares::side_by_side;
-use ovl_check::Blob;
-use ovl_check::laws::findings_tell_soundness;
-use ovl_lookup::Stack;
+use ovl_check::Finding;
 use ovl_manifest::{Layer, write_layer};
-use ovl_pool::Gate;
 use std::alloc::{AllocError, Global};
-use std::sync::Wait;
 use std::thread::Threads;
 
-/// Comes before new layers are made: a stack that has a fault with these blobs is refused with the report of `fsck`.
-pub(crate) fn expect_clean<G: Gate + Sync, R: Threads + Wait + Sync>(
-    rt: &R,
-    alloc: Global,
-    stack: &Stack,
-    blobs: &[Blob],
-    workers: usize,
-    gate: &G,
-) -> Result<(), EngineFault>
-    requires number { (0 < workers) × (workers ≤ worker_limit) }
-    requires ascend { are_in_order (blob_views blobs.now) ≡ true }
-    ensures clean { IfOk result (λ _. clean_test (findings (blob_views blobs.now) stack.now) ≡ true) }
-    ensures sound { IfOk result (λ _. IsSoundStack stack.now) }
-    ensures refused { IfErr result (λ fault. (what : Command) → makes_layers what ≡ true
-        → IsFailure what stack.now (blob_views blobs.now) (G.may_refuse gate.now) fault) }
+/// Comes before new layers are made: a stack in which a fault is found is refused with the report of `fsck`.
+pub(crate) fn expect_clean(alloc: Global, found: Vec<Finding>) -> Result<(), EngineFault>
+    ensures clean { IfOk result (λ _. clean_test found.items ≡ true) }
+    ensures refused { IfErr result (IsUnclean found.items) }
 {
-    // Where no fault is found, the stack is sound.
-    findings_tell_soundness();
-    let found = findings_of(rt, alloc, stack, blobs, workers, gate)?;
     if is_clean(&found) {
         return Ok(());
     }

@@ -1,6 +1,6 @@
 //! Texts of which several threads write a share each, and work of two parts that are done side by side.
-ghost use Rattle.std.specs.Prelude.{◌≡◌, ◌<◌, IfOk, Ok, map, string_bytes};
-ghost use Rattle.ovl_engine.specs.Shares.{AreJoined};
+ghost use Rattle.std.specs.Prelude.{◌≡◌, ◌<◌, ◌≤◌, ◌*◌, IfOk, Ok, map, string_bytes};
+ghost use Rattle.ovl_engine.specs.Shares.{AreJoined, least_share};
 
 use std::alloc::{AllocError, Global};
 use std::thread::{Threads, join};
@@ -10,10 +10,13 @@ const LEAST_SHARE: usize = 1024;
 
 const LAST_LINE: usize = 64;
 
-/// How many lines a thread writes, where so many lines are shared by so many workers.
+/// How many lines a thread writes, where so many lines are shared by so many workers: no more threads are needed than there
+/// are workers, and none for few lines or one worker.
 pub(crate) fn share_of(lines: usize, workers: usize) -> usize
     requires { 0 < workers }
-    ensures { 0 < result }
+    ensures some { 0 < result }
+    ensures least { least_share ≤ result }
+    ensures all { lines ≤ result * workers }
 {
     lines.div_ceil(workers).max(LEAST_SHARE)
 }

@@ -7,7 +7,7 @@ use Rattle.std.proofs.lemmas.List.Sorted.{Contains-permutation, IsPermutation-sy
 use Rattle.ovl_board.specs.Parcels.{parcel_views}
 use Rattle.ovl_board.proofs.LawsOfMembers.{In, Contains-In, In-Contains}
 use Rattle.ovl_check.specs.declared.findings.Finding.{Finding}
-use Rattle.ovl_check.specs.Findings.{findings_from}
+use Rattle.ovl_check.specs.Contents.{findings_of_contents_from as findings_from}
 use Rattle.ovl_check.specs.Checks.{check_seen}
 use Rattle.ovl_check.specs.CheckViews.{check_view}
 use Rattle.ovl_check.specs.Walks.{found_along}
@@ -33,9 +33,9 @@ returns c =
     (subst (λ (found : List Finding). IsPermutation found before) (along-lists (λ parcels. parcel_views check_seen parcels.items) c.args.layers.items) c.in_ok-found.ensures)
     c.sort.ensures.permutation in
     let count = length-lists (λ parcels. parcel_views check_seen parcels.items) c.args.layers.items ∙ (c.requires.count ∙ length-append work.stack.layers work.stack.data_only) in
-    ordered_same finding_total after (findings_from work.blobs work.stack 0 work.stack.layers)
+    ordered_same finding_total after (findings_from work.contents work.stack 0 work.stack.layers)
     (Rises-sorted finding_cmp after (rw is (IsStrictlySortedBy-dedup finding_total finding_ties sorted c.in_ok-sort.ensures.sorted)))
-    (from-rise work.blobs work.stack 0 work.stack.layers front.0 front.1)
+    (from-rise work.contents work.stack 0 work.stack.layers front.0 front.1)
     (λ f h. all-sound work each 0 work.stack.layers lists refl start count c.requires.walks f
     (In-Contains f along (Contains-permutation sorted along f (IsPermutation-sym along sorted kept) (Contains-from_dedup finding_eq sorted f (Contains-In f (dedup finding_eq sorted) (subst (In f) is h))))))
     (λ f h. subst (In f) (sym is) (In-Contains f (dedup finding_eq sorted) (Contains-dedup finding_equiv finding_eq-exact sorted f

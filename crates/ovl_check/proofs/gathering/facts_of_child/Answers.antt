@@ -37,7 +37,7 @@ returns c =
           | in-Meta+in_ok-data_size-in-Meta w ↦ w.kind-is ∙ (ap (λ size. Metacopy size) w.in_ok-data_size-in-Meta.ensures ∙ child-metacopy layer below directory gathered name inode c.requires.entry c.requires.none c.args.child.now.mark.now w.in-Meta.redirect c.requires.marked w.in-Meta.is)
           | in_default w ↦ w.kind-is ∙ child-other layer below directory gathered name inode c.requires.entry c.requires.none c.args.child.now.mark.now c.requires.marked w.in_default.not-Whiteout w.in_default.not-Meta
         ];
-        blob = c.blob_named.ensures;
+        blob = c.named.ensures;
         origin = sym (ap (list_any (λ other. has_origin_at layer (child_path path other))) (names_below-none layer path gathered.layered none));
       },
     )

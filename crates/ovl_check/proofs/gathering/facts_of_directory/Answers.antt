@@ -25,7 +25,7 @@ returns c =
           | in-DirMoved+in_ok-old_place-in-DirMoved w ↦ w.kind-is ∙ (ap (λ place. Moved place) w.in_ok-old_place-in-DirMoved.ensures ∙ directory-moved layer directory gathered (layers_below stack c.args.i) w.in-DirMoved.field-0 w.in-DirMoved.is)
           | in_default w ↦ w.kind-is ∙ directory-other layer directory gathered (layers_below stack c.args.i) w.in_default.not-DirMoved
         ];
-        blob = c.blob_named.ensures;
+        blob = c.named.ensures;
         origin = c.hold_origin.ensures ∙ (ap (list_any (λ child. has_attribute child.inode.now origin_name)) c.deref.ensures.value ∙ origin-children layer directory.path.now directory.children.items gathered.children);
       },
     )

@@ -14,7 +14,7 @@ returns g c =
     let share = c.share_of-share.result in
     let parts = c.in_ok-parts.parts in
     let count = sym parts.ok.0 ∙ c.in_ok-parts.ensures.len in
-    let covered : length found ≤ length parts.items * share = subst (λ n. length found ≤ n * share) (sym count) (div_ceil_times (length found) share c.share_of-share.ensures).0 in
+    let covered : length found ≤ length parts.items * share = subst (λ n. length found ≤ n * share) (sym count) (div_ceil_times (length found) share c.share_of-share.ensures.some).0 in
     let lines : string_bytes c.in_ok-report.report ≡ flat_map finding_line found =
     shares_told finding_line found share string_bytes parts.items (string_bytes c.in_ok-report.report) c.in_ok-report.ensures
     (λ n d inside.

@@ -13,7 +13,7 @@ returns g c stack tree =
     let count : entries ≡ length (merged_tree stack) = c.in_ok-entries.ensures ∙ sym (tree_counted stack tree.each tree.some c.args.parcels.now tree.walk) in
     let share = c.share_of-share.result in
     let shares = c.div_ceil.result in
-    let covered : entries ≤ shares * share = subst (λ n. entries ≤ n * share) (sym c.div_ceil.ensures) (div_ceil_times entries share c.share_of-share.ensures).0 in
+    let covered : entries ≤ shares * share = subst (λ n. entries ≤ n * share) (sym c.div_ceil.ensures) (div_ceil_times entries share c.share_of-share.ensures.some).0 in
     let lines = c.in_ok-report.ensures stack tree ∙ ap (flat_map show_line) (take_all (shares * share) (merged_tree stack) (subst (λ n. n ≤ shares * share) count covered)) in
     whole_report stack tree.each tree.some (string_bytes c.in_ok-report.report) c.into_bytes.result.items entries lines count
     (ap (λ v. v.items) c.into_bytes.ensures.value ∙ c.in_ok-push_count.ensures)

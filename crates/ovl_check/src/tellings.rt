@@ -1,0 +1,124 @@
+ghost use Rattle.std.specs.Prelude.{◌≡◌, ◌<◌, ◌+◌, ◌-◌, ◌^◌, ◌++◌, [], List, ℕ, Err, IfOk, IfSome, OnOk, length};
+ghost use Rattle.std.specs.Io.KnownBytes.{Consumes, IsAtEnd};
+ghost use Rattle.ovl_check.specs.declared.tellings.ReadFault.TheVariants.{TooLong};
+ghost use Rattle.ovl_check.specs.Told.{IsToldOf, HasRead, IsContentOf};
+
+use crate::contents::Content;
+use ovl_inode::Digest;
+use sha2::Sha256;
+use std::io::Read;
+
+/// How many bytes a room has that serves [`content_in`].
+pub const PART: usize = 65536;
+
+/// Why what a reader gives isn't told.
+#[derive(Clone, Copy, Debug, PartialEq, Eq)]
+pub enum ReadFault {
+    /// A read answered an error.
+    Device,
+    /// More bytes came than a length can tell.
+    TooLong,
+}
+
+// What is told of bytes that aren't held: how many they are, and their SHA-256 digest.
+#[derive(Clone, Copy, Debug)]
+struct Told {
+    length: u64,
+    digest: [u8; 32],
+}
+
+/// What is told of the blob of a name whose bytes are all that a reader gives up to its end, read in parts that fill this
+/// room at most; rooms of [`PART`] bytes serve. No read is tried again, and the first fault that is met is told. Where more
+/// than 2^64 - 1 bytes come, that is a fault. Takes no memory. FIPS 180-4.
+pub fn content_in<R: Read>(
+    name: Digest,
+    reader: &mut R,
+    room: &mut [u8],
+) -> Result<Content, ReadFault>
+    requires { 0 < length room.old }
+    ensures room { length room.new ≡ length room.old }
+    ensures taken { IfOk result (λ content. (bytes : List ℕ)
+        × (Consumes (R.remaining reader.old) (R.remaining reader.new) bytes × IsContentOf name bytes content)) }
+    ensures whole { IfOk result (λ content. IfSome (R.remaining reader.old) (λ left. IsContentOf name left content)) }
+    ensures end { OnOk result (IsAtEnd (R.remaining reader.new)) }
+    ensures lost { (bytes : List ℕ) × Consumes (R.remaining reader.old) (R.remaining reader.new) bytes }
+    ensures too_long { result ≡ Err TooLong → IfSome (R.remaining reader.old) (λ left. 2 ^ 64 - 1 < length left) }
+{
+    let told = digest_in(reader, room)?;
+    Ok(Content {
+        name,
+        size: told.length,
+        is_right: told.digest.as_slice() == name.as_bytes().as_slice(),
+    })
+}
+
+// The length and the digest of all that a reader gives up to its end.
+fn digest_in<R: Read>(reader: &mut R, room: &mut [u8]) -> Result<Told, ReadFault>
+    requires { 0 < length room.old }
+    ensures room { length room.new ≡ length room.old }
+    ensures taken { IfOk result (λ told. (bytes : List ℕ)
+        × (Consumes (R.remaining reader.old) (R.remaining reader.new) bytes × IsToldOf bytes told)) }
+    ensures whole { IfOk result (λ told. IfSome (R.remaining reader.old) (λ left. IsToldOf left told)) }
+    ensures end { OnOk result (IsAtEnd (R.remaining reader.new)) }
+    ensures lost { (bytes : List ℕ) × Consumes (R.remaining reader.old) (R.remaining reader.new) bytes }
+    ensures too_long { result ≡ Err TooLong → IfSome (R.remaining reader.old) (λ left. 2 ^ 64 - 1 < length left) }
+{
+    let mut reading = Reading::new();
+    // Each read but the last gives a byte at least.
+    loop {
+        if reading.read_part(reader, room)? == 0 {
+            return Ok(reading.told());
+        }
+    }
+}
+
+// What was read so far: how many bytes, and a hasher that holds them.
+#[derive(Drop)]
+struct Reading {
+    length: u64,
+    hasher: Sha256,
+}
+
+impl Reading {
+    fn new() -> Reading
+        ensures { HasRead [] result }
+    {
+        Reading {
+            length: 0,
+            hasher: <Sha256 as sha2::Digest>::new(),
+        }
+    }
+
+    // One read; how many bytes it gave, none at the end alone.
+    fn read_part<R: Read>(&mut self, reader: &mut R, room: &mut [u8]) -> Result<usize, ReadFault>
+        requires { 0 < length room.old }
+        ensures room { length room.new ≡ length room.old }
+        ensures grown { IfOk result (λ count. self.new.length ≡ self.old.length + count) }
+        ensures within { OnOk result (self.new.length < 2 ^ 64) }
+        ensures taken { OnOk result ((more : List ℕ) × (Consumes (R.remaining reader.old) (R.remaining reader.new) more
+            × ((bytes : List ℕ) → HasRead bytes self.old → HasRead (bytes ++ more) self.new))) }
+        ensures end { IfOk result (λ count. count ≡ 0 → IsAtEnd (R.remaining reader.new)) }
+        ensures lost { (bytes : List ℕ) × Consumes (R.remaining reader.old) (R.remaining reader.new) bytes }
+        ensures too_long { result ≡ Err TooLong
+            → IfSome (R.remaining reader.old) (λ left. 2 ^ 64 - 1 < self.old.length + length left) }
+    {
+        let Ok(count) = reader.read(room) else {
+            return Err(ReadFault::Device);
+        };
+        let Some(length) = self.length.checked_add(count as u64) else {
+            return Err(ReadFault::TooLong);
+        };
+        self.length = length;
+        sha2::Digest::update(&mut self.hasher, &room[..count]);
+        Ok(count)
+    }
+
+    fn told(self) -> Told
+        ensures { (bytes : List ℕ) → HasRead bytes self → IsToldOf bytes result }
+    {
+        Told {
+            length: self.length,
+            digest: sha2::Digest::finalize(self.hasher),
+        }
+    }
+}

@@ -1,0 +1,16 @@
+use Rattle.std.proofs.Common.{[]}
+use Rattle.std.proofs.lemmas.Result.{IfOk-weaker}
+use Rattle.ovl_engine.specs.Requests.{request_of}
+use Rattle.ovl_engine.proofs.commands.command_over.Goals as goal
+
+pub returns-clause-keeps : goal.returns-clause-keeps
+returns-clause-keeps g c =
+    let request = request_of c.args.what c.args.manifests.items c.args.bottom [] c.args.workers in
+    let read = rw c.deref.ensures.value at c.in_ok-stack.ensures.read in
+    IfOk-weaker c.answer_over.result _ _ (λ answer keeps makes. keeps makes request read) c.answer_over.ensures.keeps
+
+pub returns-clause-sound : goal.returns-clause-sound
+returns-clause-sound g c =
+    let request = request_of c.args.what c.args.manifests.items c.args.bottom [] c.args.workers in
+    let read = rw c.deref.ensures.value at c.in_ok-stack.ensures.read in
+    IfOk-weaker c.answer_over.result _ _ (λ answer sound stays. sound stays request read) c.answer_over.ensures.sound

@@ -1,0 +1,66 @@
+-- What is told of the contents of blobs that needn't be held, and what comes of a command over such.
+use Rattle.std.specs.Prelude.{◌≡◌, ◌⊎◌, ℕ, true, Option, Result, Ok, Err, List, All, Contains}
+use Rattle.std.specs.Option.{option_map}
+use Rattle.ovl_lookup.specs.Stacks.{StackView}
+use Rattle.ovl_board.specs.declared.pieces.Piece.{Piece}
+use Rattle.ovl_check.specs.declared.contents.Content.{Content}
+use Rattle.ovl_check.specs.declared.findings.Finding.{Finding}
+use Rattle.ovl_check.specs.Blobs.{BlobView}
+use Rattle.ovl_check.specs.Conditions.{find_blob}
+use Rattle.ovl_check.specs.Contents.{contents_of, contents_ascend}
+use Rattle.ovl_check.specs.Findings.{findings}
+use Rattle.ovl_check.specs.Stated.{IsStated}
+use Rattle.ovl_engine.specs.declared.requests.Command.{Command}
+use Rattle.ovl_engine.specs.declared.requests.Answer.{Answer}
+use Rattle.ovl_engine.specs.declared.faults.EngineFault.TheVariants.{Memory}
+use Rattle.ovl_engine.specs.declared.contents.CommandFault.{CommandFault}
+use Rattle.ovl_engine.specs.declared.contents.CommandFault.TheVariants.{Engine, Contents as ContentsFault}
+use Rattle.ovl_engine.specs.Commands.{checks}
+use Rattle.ovl_engine.specs.Requests.{Request}
+use Rattle.ovl_engine.specs.Outcomes.{IsAccepted, IsAnswerOf, IsFailure, IsRefusal, MayRefuseLayers, MayRefuseOwn, stack_of}
+
+-- the bytes of a name, among blobs
+abbrev pub bytes_named : List BlobView → List ℕ → Option (List ℕ)
+bytes_named blobs name = option_map (λ blob. blob.bytes) (find_blob blobs name)
+
+-- these are the contents of blobs, each under one of these names, ascending, and under each name is what may be there
+pub record AreTold (may_be : List ℕ → Option (List ℕ) → Type 0) (names : List (List ℕ)) (told : List Content) : Type 0 where
+  pub blobs : List BlobView
+  pub contents : told ≡ contents_of blobs
+  pub ascend : contents_ascend told ≡ true
+  pub asked : All (λ content. Contains names content.name) told
+  pub each : (name : List ℕ) → Contains names name → may_be name (bytes_named blobs name)
+
+-- what these blobs have under the names that a stack's layers state may be there; whatever they have under others
+abbrev pub AreBlobsOf : (List ℕ → Option (List ℕ) → Type 0) → StackView → List BlobView → Type 0
+AreBlobsOf may_be stack blobs = (name : List ℕ) → IsStated stack name → may_be name (bytes_named blobs name)
+
+-- this holds of all that is found in a stack with blobs that may be there, where the command checks it
+pub record HoldsOfFound (may_be : List ℕ → Option (List ℕ) → Type 0) (command : Command) (stack : StackView) (holds : List Finding → Type 0) : Type 0 where
+  pub blobs : List BlobView
+  pub there : checks command ≡ true → AreBlobsOf may_be stack blobs
+  pub is : holds (findings blobs stack)
+
+-- the gate may refuse a directory of a layer that is checked, or one that the command's own work visits
+abbrev pub MayRefuseTold : Command → StackView → (Piece → Type 0) → Type 0
+MayRefuseTold command stack may_refuse = ((checks command ≡ true) × MayRefuseLayers stack may_refuse) ⊎ MayRefuseOwn command stack may_refuse
+
+-- what comes of a command over a stack and contents that are told; that they aren't is told as such
+abbrev pub IsRunOver : {F : Type 0} → Command → StackView → (List ℕ → Option (List ℕ) → Type 0) → (F → Type 0) → (Piece → Type 0) → Result Answer (CommandFault F) → Type 0
+IsRunOver command stack may_be may_fail may_refuse (Ok answer) = HoldsOfFound may_be command stack (λ found. IsAnswerOf command stack found answer)
+IsRunOver command stack may_be may_fail may_refuse (Err (ContentsFault fault)) = (checks command ≡ true) × may_fail fault
+IsRunOver command stack may_be may_fail may_refuse (Err (Engine fault)) =
+    (fault ≡ Memory)
+    ⊎ HoldsOfFound may_be command stack (λ found. IsFailure command stack found (MayRefuseTold command stack may_refuse) fault)
+
+-- no work is done for a request over contents, which has no blobs
+abbrev pub IsRefusedOver : {F : Type 0} → Request → Result Answer (CommandFault F) → Type 0
+IsRefusedOver request (Ok answer) = ⊥
+IsRefusedOver request (Err (ContentsFault fault)) = ⊥
+IsRefusedOver request (Err (Engine fault)) = IsRefusal request fault
+
+-- what comes of a request over contents; want of memory may come at any time
+abbrev pub IsOutcomeOver : {F : Type 0} → Request → (List ℕ → Option (List ℕ) → Type 0) → (F → Type 0) → (Piece → Type 0) → Result Answer (CommandFault F) → Type 0
+IsOutcomeOver request may_be may_fail may_refuse result =
+    IsRefusedOver request result
+    ⊎ (IsAccepted request × IsRunOver request.what (stack_of request) may_be may_fail may_refuse result)
