@@ -335,6 +335,7 @@ refuses 3 'blobs over 268435456 bytes' fsck --blobs flood --workers 64 root.json
 refuses 3 'layer 0: wrong shape' fsck --blobs flood shape.json
 over=from_a_pipe prints 0 'dir 0755 0 0 0 - - /\nentries 1\n' show /dev/stdin
 over=from_a_pipe refuses 3 'layer 1: not JSON' show /dev/stdin /dev/stdin
+over=from_a_pipe refuses 3 'layer 1: not JSON' show --workers 2 /dev/stdin /dev/stdin
 layers=()
 for ((i = 0; i < 129; i++)); do
     layers+=(root.json)

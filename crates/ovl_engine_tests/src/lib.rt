@@ -1,24 +1,28 @@
-//! Tests of the public calls of checks and commands.
+//! Tests of the public calls of the engine and of the crates below it but for the board, the lanes and the pool.
 //! They stand apart from the crates that they test, since a crate with tests is proved twice.
 #![tactic(auto)]
 
 #[cfg(test)]
-mod check_samples;
+mod answers;
 #[cfg(test)]
 mod checks;
 #[cfg(test)]
-mod command_samples;
-#[cfg(test)]
 mod commands;
 #[cfg(test)]
-mod data_layers;
-#[cfg(test)]
-mod fsck;
+mod emits;
 #[cfg(test)]
 mod gates;
 #[cfg(test)]
-mod new_layers;
+mod inodes;
 #[cfg(test)]
-mod stacks;
+mod lookups;
+#[cfg(test)]
+mod manifests;
+#[cfg(test)]
+mod names;
+#[cfg(test)]
+mod rows;
+#[cfg(test)]
+mod samples;
 #[cfg(test)]
 mod works;

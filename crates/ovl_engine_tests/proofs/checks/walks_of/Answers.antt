@@ -5,7 +5,7 @@ use Rattle.ovl_check.specs.Checks.{check_seen, check_kids, check_out, directory_
 use Rattle.ovl_check.specs.CheckViews.{check_view}
 use Rattle.ovl_check.specs.Walks.{AreLayerWalks}
 use Rattle.ovl_check.proofs.WalkLists.{layer_walks-more}
-use Rattle.ovl_engine_tests.proofs.check_samples.walks_of.Goals as goal
+use Rattle.ovl_engine_tests.proofs.checks.walks_of.Goals as goal
 
 pub loop-i-preserved : goal.loop-i-preserved
 loop-i-preserved c =

@@ -3,7 +3,7 @@ use Rattle.ovl_board.specs.Parcels.{parcel_views}
 use Rattle.ovl_check.specs.Checks.{check_seen}
 use Rattle.ovl_check.specs.CheckViews.{check_view}
 use Rattle.ovl_check.specs.Walks.{AreLayerWalks}
-use Rattle.ovl_engine_tests.proofs.check_samples.walks_of.Given as goal
+use Rattle.ovl_engine_tests.proofs.checks.walks_of.Given as goal
 
 abbrev pub invariant-loop-i : goal.invariant-loop-i
 invariant-loop-i l = record {

@@ -1,0 +1,301 @@
+//! What stacks show, by walks, looks, names and views.
+ghost use Rattle.std.specs.Prelude.{◌<◌, ◌≤◌, length};
+ghost use Rattle.ovl_lookup.specs.Stacks.{all_layers};
+ghost use Rattle.ovl_lookup.specs.DirViews.{IsViewOver};
+
+use crate::samples::{layer_of, stack_of};
+use ovl_inode::Kind;
+use ovl_lookup::{DirView, Look, Stack, StackFault, Step, walk};
+use ovl_manifest::Layer;
+use ovl_names::{Name, Path};
+use std::alloc::{AllocError, Global};
+use std::test::Fail;
+
+// A line of a stack is of the lines behind it. Of these the words before the colon are a call, of layer 0 or from it on
+// where no other number stands there, a path, and for views names to go down by; behind the colon stands what comes of it.
+const ROWS: &str = "
+dir /n opaque=y, dir /n/d redirect=/x, whiteout /x | dir /n, file /n/z, dir /x, file /x/k
+layers /: 2
+walk /n/d/k: nothing /x/k open
+walk /n/z: nothing /n/z closed
+walk /x: nothing /x closed
+walk /x/k: nothing /x/k closed
+look /n/d/k: a
+look /n/d: directory
+look /n/z: nothing
+look-1 /n/z: a
+look-2 /n: nothing
+names /: n
+names /n: d
+names /n/d: k
+names /n/d/k:
+own-names-1 /n: z
+own-1 /n: true
+own /q: false
+list /: / directory, /n directory, /n/d directory, /n/d/k a
+view /: n directory
+view / n d: k a
+view /n: d directory
+view /n d: k a
+view /n d k: none
+view /n/d/k: none
+view /x: none
+
+bare /a metacopy= redirect=/x, bare /b metacopy= redirect=r, bare /c metacopy= redirect=a/b, dir /e redirect=a/b, dir /n opaque=y, dir /n/d redirect=r, bare /n/f metacopy= redirect=/x, bare /n/g metacopy= redirect=r | root
+walk /a: found /x open
+walk /b: found /r open
+walk /c: found /c closed
+walk /e: found /e closed
+walk /e/k: nothing /e/k closed
+walk /n/d: found /n/r closed
+walk /n/d/k: nothing /n/r/k closed
+walk /n/f: found /x open
+walk /n/g: found /n/r closed
+
+dir /p redirect=/x, dir /p/q redirect=r, whiteout /p/r, whiteout /x | dir /x, dir /x/r, file /x/r/k
+view /: p directory
+view /p q: k a
+view /p r: none
+
+whiteout /f, console /g, link /l user.k=v | file /f, file /g
+view /: g other, l other
+view /f: none
+
+bare /f metacopy= | bare /f metacopy= | file /f
+look /f: a
+
+bare /f metacopy= | bare /f metacopy= | whiteout /f
+look /f: missing
+
+bare /f metacopy= redirect=/f | root | data file /f
+list /: / directory, /f a
+view /: f a
+
+bare /f metacopy= redirect=/z | whiteout /z | file-b /z | data file /z
+list /: / directory, /f a
+view /: f a
+
+bare /f metacopy= redirect=/z | root | data bare /z metacopy= | data file /z
+list /: / directory, /f a
+view /: f a
+
+bare /f metacopy= redirect=/z | root | bare /z metacopy= | data file /z
+list /: / directory, /f missing, /z missing
+view /: f missing, z missing
+";
+
+// What is shown in a word: of a file its contents.
+fn word_of(look: &Look) -> &'static str {
+    match look {
+        Look::Nothing => "nothing",
+        Look::Broken(_) => "missing",
+        Look::Shown(inode) => match &inode.kind {
+            Kind::File {
+                blob: Some(blob),
+                ..
+            } => if blob.as_bytes()[0] == 0xca { "a" } else { "b" },
+            Kind::Dir => "directory",
+            _ => "other",
+        },
+    }
+}
+
+// A walk in one line: what is found, the next path, and whether it is closed.
+fn step_line(alloc: Global, step: &Step) -> Result<String, AllocError> {
+    let found = if step.found.is_some() {
+        "found"
+    } else {
+        "nothing"
+    };
+    let next = step.next.shown(alloc)?;
+    let end = if step.closed { "closed" } else { "open" };
+    format!(in alloc; "{found} {next} {end}")
+}
+
+// The walk of a path in the topmost layer, by both calls that give it.
+fn walked(alloc: Global, stack: &Stack, path: &Path) -> Result<String, Fail>
+    requires { 0 < length (all_layers stack.now) }
+{
+    let line = step_line(alloc, &stack.own_walk(alloc, 0, path)?)?;
+    if step_line(alloc, &walk(alloc, stack.any_sheet(0), path)?)? != line {
+        return Err(Fail::new("the walks differ"));
+    }
+    Ok(line)
+}
+
+// Names with commas between them.
+fn joined(alloc: Global, names: &[Name]) -> Result<String, AllocError> {
+    let mut text = String::new(alloc);
+    for name in names {
+        push_word(&mut text, name.as_str())?;
+    }
+    Ok(text)
+}
+
+// Adds a word, behind a comma where there is one before it.
+fn push_word(text: &mut String, word: &str) -> Result<(), AllocError> {
+    if !text.is_empty() {
+        text.push_str(", ")?;
+    }
+    text.push_str(word)
+}
+
+fn listed(alloc: Global, stack: &Stack) -> Result<String, AllocError> {
+    let mut text = String::new(alloc);
+    for (path, look) in &stack.list(alloc)? {
+        let path = path.shown(alloc)?;
+        let word = word_of(look);
+        push_word(&mut text, format!(in alloc; "{path} {word}")?.as_str())?;
+    }
+    Ok(text)
+}
+
+// What is shown in the directory of a view, by each call that tells it.
+fn shown_in(alloc: Global, stack: &Stack, view: &DirView) -> Result<String, Fail>
+    requires { IsViewOver stack.now view.now }
+{
+    let mut text = String::new(alloc);
+    for (name, look) in &view.looks(alloc, stack)? {
+        let name = name.as_str();
+        let word = word_of(look);
+        push_word(&mut text, format!(in alloc; "{name} {word}")?.as_str())?;
+    }
+    let mut same = String::new(alloc);
+    for name in &view.names(alloc, stack)? {
+        let word = word_of(&view.look(alloc, stack, name)?);
+        let name = name.as_str();
+        push_word(&mut same, format!(in alloc; "{name} {word}")?.as_str())?;
+    }
+    if text != same {
+        return Err(Fail::new("the calls tell something else"));
+    }
+    Ok(text)
+}
+
+// What is shown in the directory that two names lead to from a path's; an empty one leads no further.
+fn viewed(
+    alloc: Global,
+    stack: &Stack,
+    path: &str,
+    first: &str,
+    second: &str,
+) -> Result<Option<String>, Fail> {
+    let Some(view) = DirView::of(alloc, stack, 0, &Path::parse(alloc, path)?)? else {
+        return Ok(None);
+    };
+    if first.is_empty() {
+        return Ok(Some(shown_in(alloc, stack, &view)?));
+    }
+    let Some(view) = view.child(alloc, stack, &Name::of(alloc, first)?)? else {
+        return Ok(None);
+    };
+    if second.is_empty() {
+        return Ok(Some(shown_in(alloc, stack, &view)?));
+    }
+    let Some(view) = view.child(alloc, stack, &Name::of(alloc, second)?)? else {
+        return Ok(None);
+    };
+    Ok(Some(shown_in(alloc, stack, &view)?))
+}
+
+// What a stack shows from a layer on at a path.
+fn looked(alloc: Global, stack: &Stack, from: usize, path: &Path) -> Result<String, Fail>
+    requires { from ≤ length stack.now.layers }
+{
+    let look = stack.look(alloc, from, path)?;
+    Ok(String::from_str(alloc, word_of(&look))?)
+}
+
+// What comes of a call on a path.
+fn told(alloc: Global, stack: &Stack, call: &str, path: &Path) -> Result<String, Fail> {
+    if stack.ordinary() < 2 || stack.layers() < 2 {
+        return Err(Fail::new("the stack has not two layers"));
+    }
+    match call {
+        "layers" => Ok(format!(in alloc; "{}", stack.layers())?),
+        "walk" => walked(alloc, stack, path),
+        "look" => looked(alloc, stack, 0, path),
+        "look-1" => looked(alloc, stack, 1, path),
+        "look-2" => looked(alloc, stack, 2, path),
+        "list" => Ok(listed(alloc, stack)?),
+        "names" => Ok(joined(alloc, &stack.names(alloc, 0, path)?)?),
+        "own-names-1" => Ok(joined(alloc, &stack.own_names(alloc, 1, path)?)?),
+        "own" => Ok(format!(in alloc; "{}", stack.own_at(0, path).is_some())?),
+        "own-1" => Ok(format!(in alloc; "{}", stack.own_at(1, path).is_some())?),
+        _ => Err(Fail::new("no call has this word")),
+    }
+}
+
+// What comes of a call on a stack, as a line has it.
+fn called(alloc: Global, stack: &Stack, line: &str) -> Result<String, Fail> {
+    let mut words = line.split_whitespace();
+    let call = words.next().unwrap_or("");
+    let path = words.next().unwrap_or("");
+    if call == "view" {
+        let first = words.next().unwrap_or("");
+        let second = words.next().unwrap_or("");
+        return match viewed(alloc, stack, path, first, second)? {
+            Some(text) => Ok(text),
+            None => Ok(String::from_str(alloc, "none")?),
+        };
+    }
+    told(alloc, stack, call, &Path::parse(alloc, path)?)
+}
+
+#[test]
+fn stacks_show_what_is_written(rt: HostRuntime) -> Result<(), Fail> {
+    let alloc = rt.alloc();
+    let mut stack = stack_of(alloc, "root")?;
+    for line in ROWS.lines() {
+        if let Some((call, wanted)) = line.split_once(':') {
+            let found = called(alloc, &stack, call)?;
+            assert_eq!(rt; found.as_str(), wanted.trim_start(), "{call}");
+        } else if !line.is_empty() {
+            stack = stack_of(alloc, line)?;
+        }
+    }
+    Ok(())
+}
+
+// So many layers of a root alone.
+fn roots(alloc: Global, count: usize) -> Result<Vec<Layer>, Fail> {
+    let mut layers = Vec::new(alloc);
+    for _ in 0..count {
+        layers.push(layer_of(alloc, "root")?)?;
+    }
+    Ok(layers)
+}
+
+// How many layers a stack has, and how many that aren't data-only; or what is told of its fault.
+fn counted(alloc: Global, made: Result<Stack, StackFault>) -> Result<String, AllocError> {
+    match made {
+        Ok(stack) => format!(in alloc; "{} {}", stack.layers(), stack.ordinary()),
+        Err(fault) => fault.to_string(alloc),
+    }
+}
+
+#[test]
+fn a_stack_has_1_to_128_layers_and_one_that_is_not_data_only(rt: HostRuntime) -> Result<(), Fail> {
+    let alloc = rt.alloc();
+    for (count, bottom, wanted) in [
+        (0, 0, "layers must be 1 to 128"),
+        (1, 0, "1 1"),
+        (1, 1, "data layers must leave a layer"),
+        (128, 127, "128 1"),
+        (128, 128, "data layers must leave a layer"),
+        (129, 0, "layers must be 1 to 128"),
+        (129, 129, "layers must be 1 to 128"),
+    ] {
+        let made = Stack::with_data(alloc, roots(alloc, count)?, bottom);
+        assert_eq!(rt;
+            counted(alloc, made)?.as_str(),
+            wanted,
+            "{bottom} of {count}"
+        );
+        if bottom == 0 {
+            let made = Stack::of(alloc, roots(alloc, count)?);
+            assert_eq!(rt; counted(alloc, made)?.as_str(), wanted, "{count}");
+        }
+    }
+    Ok(())
+}

@@ -1,0 +1,252 @@
+//! Worked stacks, and what each command answers of them.
+
+use crate::answers::{blobs_of, in_full, told};
+use ovl_engine::Command;
+use std::test::Fail;
+
+// A line of blobs is of the stacks behind it, and one of a stack of the commands behind it, each with its report and, behind
+// `=>`, the new layers, or with what refuses it behind `!`. Lines of a report stand behind one another.
+const ROWS: &str = "
+blobs b a
+
+root
+show: [d] /; entries 1
+fsck: faults 0 notes 0
+vacuum: removed 0 kept 1 => root
+deref: entries 1 => root
+merge: ! no lower layer
+
+dir-old /, disk /b, dir-new /n, file-large /z
+show: dir 0755 4294967295 6 -9223372036854775808 - - /; block 0060 0 0 0 - 8:4294967295 /b; dir 0755 0 1000 1732233600 - - /n; file 4755 0 0 0 9223372036854775807 [a] /z; entries 4
+
+link /l user.b\\u0020c=\u{0}\u{7f} user.a=, fifo /p\\u0020q, socket /s, empty /\\u00e9
+show: [d] /; symlink 0777 0 0 0 - a\\x20b /l user.a= user.b\\x20c=007f; fifo 0000 0 0 0 - - /p\\x20q; socket 7777 0 0 0 - - /s; file 0644 0 0 0 0 - /\\xc3\\xa9; entries 5
+
+whiteout /f, console /g, link /l user.k=\u{1} | file /f, file /g
+show: [d] /; char 0600 0 0 0 - 0:1 /g; symlink 0777 0 0 0 - a\\x20b /l user.k=01; entries 3
+fsck: faults 0 notes 0
+
+empty /f whiteout= | file /f
+show: [d] /; entries 1
+fsck: note whiteout-unmarked 0 /f; faults 0 notes 1
+
+dir / opaque=x, empty /f whiteout= | file /f
+show: [d] /; entries 1
+fsck: faults 0 notes 0
+
+file /f whiteout= | file /f
+show: [d] /; [f] /f; entries 2
+fsck: note mark-ignored 0 /f; faults 0 notes 1
+
+dir /d opaque=y | dir /d, file /d/k
+show: [d] /; [d] /d; entries 2
+
+dir /d opaque=x | dir /d, file /d/k
+show: [d] /; [d] /d; [f] /d/k; entries 3
+
+dir /p redirect=/x, dir /p/q redirect=r, whiteout /p/r, whiteout /x | dir /x, dir /x/r, file /x/r/k
+show: [d] /; [d] /p; [d] /p/q; [f] /p/q/k; entries 4
+fsck: faults 0 notes 0
+deref: opaque /p; plain /p/q; leaf /p/q/k; whiteout /x; entries 5 => dir /p opaque=y, dir /p/q, file /p/q/k, whiteout /x
+
+dir /p redirect=/x, dir /p/q redirect=r, whiteout /x | dir /x, dir /x/r, file /x/r/k
+show: [d] /; [d] /p; [d] /p/q; [f] /p/q/k; [d] /p/r; [f] /p/r/k; entries 6
+fsck: faults 0 notes 0
+
+dir /n opaque=y, dir /n/d redirect=/x, whiteout /x | dir /n, file /n/z, dir /x, file /x/k
+show: [d] /; [d] /n; [d] /n/d; [f] /n/d/k; entries 4
+deref: opaque /n; opaque /n/d; leaf /n/d/k; whiteout /x; entries 5 => dir /n opaque=y, dir /n/d opaque=y, file /n/d/k, whiteout /x
+merge: plain /n; plain /n/d; leaf /n/d/k; entries 4 => root | dir /n, dir /n/d, file /n/d/k
+
+dir /n opaque=y, dir /n/d redirect=/x, whiteout /x | root | dir /n, file /n/z, dir /x, file /x/k
+merge: opaque /n; moved /n/d /x; whiteout /x; entries 4 => root | dir /n opaque=y, dir /n/d redirect=/x, whiteout /x
+
+dir /d opaque=y redirect=/x | dir /d, file /d/k, dir /x, file /x/k
+show: [d] /; [d] /d; [d] /x; [f] /x/k; entries 4
+fsck: note mark-ignored 0 /d; faults 0 notes 1
+
+dir /d opaque=y redirect=/x, file /k | dir /d, file /d/k, file /k, dir /x, file /x/k
+vacuum: removed /k; removed 1 kept 2 => dir /d opaque=y redirect=/x
+
+dir /a redirect=/, dir /b redirect=/a/, dir /c redirect=a/b, dir /e redirect= | root
+fsck: fault redirect-form 0 /a; fault redirect-form 0 /b; fault redirect-form 0 /c; fault redirect-form 0 /e; faults 4 notes 0
+vacuum: ! fault redirect-form 0 /a; fault redirect-form 0 /b; fault redirect-form 0 /c; fault redirect-form 0 /e; faults 4 notes 0
+deref: ! fault redirect-form 0 /a; fault redirect-form 0 /b; fault redirect-form 0 /c; fault redirect-form 0 /e; faults 4 notes 0
+merge: ! fault redirect-form 0 /a; fault redirect-form 0 /b; fault redirect-form 0 /c; fault redirect-form 0 /e; faults 4 notes 0
+
+dir /a redirect=/x, dir /b redirect=/x | dir /x
+fsck: fault redirect-open 0 /a; fault redirect-double 0 /b; fault redirect-open 0 /b; faults 3 notes 0
+
+dir /a redirect=/x | root
+fsck: fault redirect-lost 0 /a; fault redirect-open 0 /a; faults 2 notes 0
+
+dir /a redirect=/x, whiteout /x | file /x
+fsck: fault redirect-kind 0 /a; faults 1 notes 0
+
+bare /f metacopy= | bare /f metacopy= | file /f
+show: [d] /; [f] /f; entries 2
+fsck: faults 0 notes 0
+merge: meta /f; entries 2 => root | bare /f metacopy=
+deref: leaf /f; entries 2 => file /f
+
+bare /f metacopy= | bare /f metacopy= | whiteout /f
+show: [d] /; file 0644 0 0 0 1 missing /f; entries 2
+fsck: fault data-missing 0 /f; fault data-missing 1 /f; note orphan-whiteout 2 /f; faults 2 notes 1
+
+bare-2 /f metacopy= | bare /f metacopy= | file /f
+fsck: fault data-size 0 /f; faults 1 notes 0
+
+dir /d, file /d/k | dir /d, file /d/k
+vacuum: removed /d; removed /d/k; removed 2 kept 1 => root
+
+dir /d, file /d/k, whiteout /d/z | dir /d, file /d/k, file /d/z
+vacuum: removed /d/k; removed 1 kept 3 => dir /d, whiteout /d/z
+
+dir /d, file-0645 /d/k | dir /d, file /d/k
+vacuum: removed 0 kept 3 => dir /d, file-0645 /d/k
+
+dir-0700 /d | dir /d, file /d/k
+vacuum: removed 0 kept 2 => dir-0700 /d
+
+bare /m metacopy=, dir /o opaque=y, file /o/k, dir /p redirect=/x, file /p/k, whiteout /x | file /m, dir /o, file /o/k, dir /x, file /x/k
+vacuum: removed /m; removed /p/k; removed 2 kept 5 => dir /o opaque=y, file /o/k, dir /p redirect=/x, whiteout /x
+
+whiteout /a, dir /b redirect=/a | dir /a, file /a/k | dir /b, file /b/z
+show: [d] /; [d] /b; [f] /b/k; entries 3
+merge: opaque /b; leaf /b/k; entries 3 => root | dir /b opaque=y, file /b/k
+
+whiteout /a, dir /b redirect=/a | dir /a, file /a/k | root
+show: [d] /; [d] /b; [f] /b/k; entries 3
+merge: plain /b; leaf /b/k; entries 3 => root | dir /b, file /b/k
+
+whiteout /a, dir /b redirect=/a | dir /a, file /a/k | file /b
+show: [d] /; [d] /b; [f] /b/k; entries 3
+merge: plain /b; leaf /b/k; entries 3 => root | dir /b, file /b/k
+
+whiteout /a, dir /b redirect=/a | dir /a, file /a/k | dir /a
+show: [d] /; [d] /b; [f] /b/k; entries 3
+merge: whiteout /a; moved /b a; leaf /b/k; entries 4 => root | whiteout /a, dir /b redirect=a, file /b/k
+
+whiteout /a, dir /b redirect=/a | dir /a redirect=/x, whiteout /x | dir /x, file /x/k
+show: [d] /; [d] /b; [f] /b/k; entries 3
+fsck: faults 0 notes 0
+merge: moved /b x; whiteout /x; entries 3 => root | dir /b redirect=x, whiteout /x
+
+bare /f metacopy=, bare /g metacopy= | file /f, file /g
+merge: leaf /f; leaf /g; entries 3 => root | file /f, file /g
+
+dir /d, bare /f metacopy= redirect=/d/g | root | dir /d, file /d/g
+merge: plain /d; meta /f /d/g; entries 3 => root | dir /d, bare /f metacopy= redirect=/d/g
+
+bare /f metacopy= redirect=/f | root | data file /f
+show: [d] /; [f] /f; entries 2
+fsck: faults 0 notes 0
+vacuum: removed 0 kept 2 => bare /f metacopy= redirect=/f
+merge: meta /f /f; entries 2 => root | bare /f metacopy= redirect=/f
+deref: leaf /f; entries 2 => file /f
+
+bare /f metacopy= redirect=/g | root | data file /g
+show: [d] /; [f] /f; entries 2
+fsck: faults 0 notes 0
+merge: meta /f /g; entries 2 => root | bare /f metacopy= redirect=/g
+
+bare /f metacopy= redirect=/f | data root | data file /f
+merge: ! no lower layer
+
+data bare /f metacopy= redirect=/f | data root | data file /f
+merge: ! data layers must leave a layer
+
+bare /f metacopy= redirect=/z | whiteout /z | file-b /z | data file /z
+show: [d] /; [f] /f; entries 2
+fsck: faults 0 notes 0
+merge: leaf /f; whiteout /z; entries 3 => root | file /f, whiteout /z
+
+bare /f metacopy= redirect=/z | root | data bare /z metacopy= | data file /z
+show: [d] /; [f] /f; entries 2
+fsck: faults 0 notes 0
+
+bare /f metacopy= redirect=/z | root | bare /z metacopy= | data file /z
+show: [d] /; file 0644 0 0 0 1 missing /f; file 0644 0 0 0 1 missing /z; entries 3
+fsck: fault data-missing 0 /f; fault data-missing 2 /z; faults 2 notes 0
+
+root, bare /f metacopy= redirect=a/b | empty /f
+fsck: fault redirect-form 0 /f; faults 1 notes 0
+
+dir /n opaque=y, dir /n/d redirect=r | dir /n, dir /n/r
+fsck: fault redirect-lost 0 /n/d; faults 1 notes 0
+
+dir /n opaque=y, dir /n/d, whiteout /n/d/k | dir /n, dir /n/d, empty /n/d/k
+fsck: note orphan-whiteout 0 /n/d/k; faults 0 notes 1
+
+dir /p redirect=/x, whiteout /p/k, whiteout /p/z, whiteout /x | dir /p, empty /p/k, dir /x, empty /x/z
+fsck: note orphan-whiteout 0 /p/k; faults 0 notes 1
+
+dir /d opaque=y, whiteout /d/k | dir /d, empty /d/k
+fsck: note whiteout-in-opaque 0 /d/k; faults 0 notes 1
+
+dir /d, empty /d/k origin=, dir /e impure=y, empty /e/k origin= | root
+fsck: note impure-missing 0 /d; faults 0 notes 1
+
+dir / opaque=y, dir /d opaque=z, dir /e metacopy=, empty /f opaque=y, empty /g redirect=/x | dir / redirect=/x
+fsck: note mark-ignored 0 /; note mark-ignored 0 /d; note mark-ignored 0 /e; note mark-ignored 0 /f; note mark-ignored 0 /g; note mark-ignored 1 /; faults 0 notes 6
+
+blobs abc=abd ab
+
+empty /e, file-abc /k, file /m, file-ab /s
+fsck: fault blob-digest 0 /k; fault blob-missing 0 /m; fault blob-size 0 /s; faults 3 notes 0
+
+bare /f metacopy= redirect=/f | root | data file /f
+fsck: fault blob-missing 2 /f; faults 1 notes 0
+
+blobs ab abc=abd
+
+root
+show: ! blobs out of order
+fsck: ! blobs out of order
+vacuum: ! blobs out of order
+deref: ! blobs out of order
+merge: ! blobs out of order
+
+root | {\"overlay-layer\":2,\"entries\":[]} | []
+show: ! layer 1: unknown version
+
+[] | root
+fsck: ! layer 0: wrong shape
+
+merge: ! layer 0: not JSON
+
+blobs ab ab
+
+root
+show: ! blobs out of order
+";
+
+fn command_of_word(word: &str) -> Result<Command, Fail> {
+    match word {
+        "show" => Ok(Command::Show),
+        "fsck" => Ok(Command::Fsck),
+        "vacuum" => Ok(Command::Vacuum),
+        "deref" => Ok(Command::Deref),
+        "merge" => Ok(Command::Merge),
+        _ => Err(Fail::new("no command has this word")),
+    }
+}
+
+#[test]
+fn commands_answer_what_is_written(rt: HostRuntime) -> Result<(), Fail> {
+    let alloc = rt.alloc();
+    let mut blobs = Vec::new(alloc);
+    let mut stack = String::new(alloc);
+    for line in ROWS.lines() {
+        if let Some((word, wanted)) = line.split_once(": ") {
+            let what = command_of_word(word)?;
+            let found = told(&rt, alloc, what, stack.as_str(), &blobs)?;
+            assert_eq!(rt; found, in_full(alloc, wanted)?, "{word} of {stack:?}");
+        } else if let Some(words) = line.strip_prefix("blobs ") {
+            blobs = blobs_of(alloc, words)?;
+        } else {
+            stack = String::from_str(alloc, line)?;
+        }
+    }
+    Ok(())
+}

@@ -1,0 +1,123 @@
+//! Stacks as lines of text, and the manifests that these state.
+
+use ovl_lookup::Stack;
+use ovl_manifest::{Layer, read_layer};
+use std::alloc::Global;
+use std::test::Fail;
+
+// The entries that the words stand for, as new layers are written, with a path and attributes in place of `PATH` and `ATTRS`.
+// Those that are `bare` are files of which the contents lie elsewhere.
+const KINDS: &str = r#"
+dir {"gid":0,"kind":"dir","mode":493,"mtime":0,"path":"PATH","uid":0,"xattrs":{ATTRS}}
+dir-0700 {"gid":0,"kind":"dir","mode":448,"mtime":0,"path":"PATH","uid":0,"xattrs":{ATTRS}}
+dir-old {"gid":6,"kind":"dir","mode":493,"mtime":-9223372036854775808,"path":"PATH","uid":4294967295,"xattrs":{ATTRS}}
+dir-new {"gid":1000,"kind":"dir","mode":493,"mtime":1732233600,"path":"PATH","uid":0,"xattrs":{ATTRS}}
+file {"blob":"ca978112ca1bbdcafac231b39a23dc4da786eff8147c4e72b9807785afee48bb","gid":0,"kind":"file","mode":420,"mtime":0,"path":"PATH","size":1,"uid":0,"xattrs":{ATTRS}}
+file-0645 {"blob":"ca978112ca1bbdcafac231b39a23dc4da786eff8147c4e72b9807785afee48bb","gid":0,"kind":"file","mode":421,"mtime":0,"path":"PATH","size":1,"uid":0,"xattrs":{ATTRS}}
+file-large {"blob":"ca978112ca1bbdcafac231b39a23dc4da786eff8147c4e72b9807785afee48bb","gid":0,"kind":"file","mode":2541,"mtime":0,"path":"PATH","size":9223372036854775807,"uid":0,"xattrs":{ATTRS}}
+file-b {"blob":"3e23e8160039594a33894f6564e1b1348bbd7a0088d42c4acb73eeaed59c009d","gid":0,"kind":"file","mode":420,"mtime":0,"path":"PATH","size":1,"uid":0,"xattrs":{ATTRS}}
+file-ab {"blob":"fb8e20fc2e4c3f248c60c39bd652f3c1347298bb977b8b4d5903b85055620603","gid":0,"kind":"file","mode":420,"mtime":0,"path":"PATH","size":3,"uid":0,"xattrs":{ATTRS}}
+file-abc {"blob":"ba7816bf8f01cfea414140de5dae2223b00361a396177a9cb410ff61f20015ad","gid":0,"kind":"file","mode":420,"mtime":0,"path":"PATH","size":3,"uid":0,"xattrs":{ATTRS}}
+empty {"gid":0,"kind":"file","mode":420,"mtime":0,"path":"PATH","size":0,"uid":0,"xattrs":{ATTRS}}
+bare {"gid":0,"kind":"file","mode":420,"mtime":0,"path":"PATH","size":1,"uid":0,"xattrs":{ATTRS}}
+bare-2 {"gid":0,"kind":"file","mode":420,"mtime":0,"path":"PATH","size":2,"uid":0,"xattrs":{ATTRS}}
+link {"gid":0,"kind":"symlink","mode":511,"mtime":0,"path":"PATH","target":"a b","uid":0,"xattrs":{ATTRS}}
+whiteout {"gid":0,"kind":"char","major":0,"minor":0,"mode":0,"mtime":0,"path":"PATH","uid":0,"xattrs":{ATTRS}}
+console {"gid":0,"kind":"char","major":0,"minor":1,"mode":384,"mtime":0,"path":"PATH","uid":0,"xattrs":{ATTRS}}
+disk {"gid":0,"kind":"block","major":8,"minor":4294967295,"mode":48,"mtime":0,"path":"PATH","uid":0,"xattrs":{ATTRS}}
+fifo {"gid":0,"kind":"fifo","mode":0,"mtime":0,"path":"PATH","uid":0,"xattrs":{ATTRS}}
+socket {"gid":0,"kind":"socket","mode":4095,"mtime":0,"path":"PATH","uid":0,"xattrs":{ATTRS}}
+"#;
+
+fn kind_of(word: &str) -> Result<&'static str, Fail> {
+    for line in KINDS.lines() {
+        if let Some((kind, entry)) = line.split_once(' ') {
+            if kind == word {
+                return Ok(entry);
+            }
+        }
+    }
+    Err(Fail::new("no kind has this word"))
+}
+
+// Attributes, as a manifest states them, of words such as `opaque=y`; those of the overlay have no prefix in the words.
+fn attributes_of(alloc: Global, words: &str) -> Result<String, Fail> {
+    let mut text = String::new(alloc);
+    for word in words.split_whitespace() {
+        let (name, value) = word.split_once('=').unwrap_or((word, ""));
+        let before = if text.is_empty() { "" } else { "," };
+        let prefix = if name.starts_with("user.") {
+            ""
+        } else {
+            "trusted.overlay."
+        };
+        let value = hex::encode(alloc, value.as_bytes())?;
+        let stated = format!(in alloc; "{before}\"{prefix}{name}\":\"{value}\"")?;
+        text.push_str(stated.as_str())?;
+    }
+    Ok(text)
+}
+
+fn push_entry(alloc: Global, text: &mut String, entry: &str) -> Result<(), Fail> {
+    let (word, more) = entry.split_once(' ').unwrap_or((entry, ""));
+    let (path, words) = more.split_once(' ').unwrap_or((more, ""));
+    let stated = kind_of(word)?.replace(alloc, "PATH", path)?;
+    let attributes = attributes_of(alloc, words)?;
+    if text.as_str().ends_with('}') {
+        text.push_str(",")?;
+    }
+    text.push_str(
+        stated
+            .replace(alloc, "ATTRS", attributes.as_str())?
+            .as_str(),
+    )?;
+    Ok(())
+}
+
+// The manifest of these entries, with commas between them, under a root of mode 0755 where none of them is one, as new
+// layers are written: `root` is such a root alone. An entry is the word of its kind, its path and its attributes, as
+// `dir /d redirect=/x user.k=v`. A text in brackets stands for itself, and so does none.
+pub(crate) fn manifest_of(alloc: Global, entries: &str) -> Result<Vec<u8>, Fail> {
+    if entries.is_empty() || entries.starts_with('[') || entries.starts_with('{') {
+        return Ok(String::from_str(alloc, entries)?.into_bytes());
+    }
+    let mut text = String::from_str(alloc, "{\"entries\":[")?;
+    if !entries.contains(" / ") && !entries.contains(" /,") {
+        push_entry(alloc, &mut text, "dir /")?;
+    }
+    for entry in entries.split(", ") {
+        if entry != "root" {
+            push_entry(alloc, &mut text, entry)?;
+        }
+    }
+    text.push_str("],\"overlay-layer\":1}\n")?;
+    Ok(text.into_bytes())
+}
+
+// The manifests of a stack, the topmost layer first, and how many of them are data-only: a line has ` | ` between layers,
+// and `data ` before each data-only one.
+pub(crate) fn manifests_of(alloc: Global, stack: &str) -> Result<(Vec<Vec<u8>>, u16), Fail> {
+    let mut manifests = Vec::new(alloc);
+    let mut bottom: u16 = 0;
+    for layer in stack.split(" | ") {
+        let data = layer.strip_prefix("data ");
+        bottom = bottom.saturating_add(u16::from(data.is_some()));
+        manifests.push(manifest_of(alloc, data.unwrap_or(layer))?)?;
+    }
+    Ok((manifests, bottom))
+}
+
+// The layer of these entries.
+pub(crate) fn layer_of(alloc: Global, entries: &str) -> Result<Layer, Fail> {
+    Ok(read_layer(alloc, &manifest_of(alloc, entries)?)?)
+}
+
+// The stack of a line.
+pub(crate) fn stack_of(alloc: Global, stack: &str) -> Result<Stack, Fail> {
+    let (manifests, bottom) = manifests_of(alloc, stack)?;
+    let mut layers = Vec::new(alloc);
+    for manifest in &manifests {
+        layers.push(read_layer(alloc, manifest)?)?;
+    }
+    Ok(Stack::with_data(alloc, layers, bottom)?)
+}
