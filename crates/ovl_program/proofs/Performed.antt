@@ -1,5 +1,5 @@
 -- What comes of a line, by what comes of its parts.
-use Rattle.std.proofs.Common.{◌≡◌, ◌<◌, ◌≤◌, ℕ, refl, Option, None, Some, Result, Ok, Err, List, IfErr, MatchResult, inl, inr, length, map, take, sym, ap, subst, arith, String, Vec, Global, string_bytes}
+use Rattle.std.proofs.Common.{◌≡◌, ◌<◌, ◌≤◌, ℕ, refl, Option, None, Some, Result, Ok, Err, List, IfErr, MatchResult, inl, inr, length, take, sym, ap, subst, arith, String, Vec, Global, string_bytes}
 use Rattle.std.specs.Io.KnownBytes.{Appends, Keeps}
 use Rattle.std.proofs.lemmas.List.{length-map}
 use Rattle.ovl_manifest.specs.Layers.{Entries}

@@ -1,5 +1,5 @@
 -- What comes to writers of parts that are handed out in their order.
-use Rattle.std.specs.Prelude.{◌≡◌, ◌<◌, ℕ, zero, suc, ⊤, Option, List, [], ◌∷◌, length, take}
+use Rattle.std.specs.Prelude.{◌<◌, ℕ, zero, suc, ⊤, Option, List, [], ◌∷◌, length, take}
 use Rattle.std.specs.Io.KnownBytes.{Appends, Keeps}
 
 -- each writer has what it had, and then its part

@@ -1,4 +1,4 @@
-use Rattle.std.proofs.Common.{◌≡◌, ◌<◌, ◌≤◌, ℕ, All, String, arith, length, string_bytes, subst, vec_len}
+use Rattle.std.proofs.Common.{◌≡◌, ℕ, All, String, arith, length, string_bytes, subst, vec_len}
 use Rattle.std.specs.Global.{Global}
 use Rattle.ovl_program.specs.LayerFiles.{IsLayerFile}
 use Rattle.ovl_program.proofs.LeftOut.{unfinished}
