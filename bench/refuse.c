@@ -1,6 +1,6 @@
 /* Stands before the C library (LD_PRELOAD) and refuses some of what a program asks of it. It needs no header.
 
-   REFUSE        what is refused: memory, thread (its start), open, stat, list, empty, read or write
+   REFUSE        what is refused: memory, thread (its start), open, copy (of a descriptor), stat, list, empty, read or write
    REFUSE_AT     the number of the first that is refused, counted from 1; 0, or nothing: none is
    REFUSE_ON     given: all after it are refused too
    REFUSE_ERROR  the number of the error; 0: the call moves no byte
@@ -18,8 +18,8 @@ extern long syscall(long, ...);
 extern void *dlsym(void *, const char *);
 extern char **environ;
 
-enum { READ = 0, WRITE = 1, OPEN = 2, CLOSE = 3, EMPTY = 77, LIST = 217, EXIT = 231, OPENAT = 257, STAT = 332 };
-enum { NO_MEMORY = 12, TRY_AGAIN = 11, LONGEST = 60, FILES = 1024 };
+enum { READ = 0, WRITE = 1, OPEN = 2, CLOSE = 3, CONTROL = 72, EMPTY = 77, LIST = 217, EXIT = 231, OPENAT = 257, STAT = 332 };
+enum { NO_MEMORY = 12, TRY_AGAIN = 11, LONGEST = 60, FILES = 1024, COPY = 1030 };
 /* For writing, made where it isn't there, emptied where it is. */
 enum { ANEW = 01 | 0100 | 01000 };
 
@@ -112,6 +112,14 @@ static int opened(long call, long folder, const char *name, int flags, unsigned 
 }
 int open(const char *name, int flags, unsigned mode) { return opened(OPEN, 0, name, flags, mode); }
 int openat(int folder, const char *name, int flags, unsigned mode) { return opened(OPENAT, folder, name, flags, mode); }
+
+/* A copy of a descriptor is of the same file. */
+int fcntl(int file, int how, long given) {
+    if (how == COPY && is_meant_file(file) && refuses("copy")) return (int)refusal();
+    long made = syscall(CONTROL, file, how, given);
+    if (how == COPY && made >= 0 && made < FILES) meant[made] = (char)is_meant_file(file);
+    return (int)made;
+}
 
 /* Of an open file where there is no name. */
 int statx(int file, const char *name, int flags, unsigned mask, void *found) {

@@ -505,13 +505,14 @@ if on_a_disk_for_reading true 2> told; then
     over=on_a_disk_for_reading refuses 4 'cannot write disk/layer-0.json' vacuum --blobs blobs --out disk k.json root.json
 fi
 
-# New layers and reports that can't be opened, looked at, emptied or written: by EPERM (1), EIO (5), EAGAIN (11), ENOMEM (12),
+# New layers and reports that can't be opened, copied, looked at, emptied or written: by EPERM (1), EIO (5), EAGAIN (11), ENOMEM (12),
 # EMFILE (24), EFBIG (27), ENOSPC (28), EROFS (30) and EDQUOT (122), or because a write takes nothing. Opens and writes that are
 # interrupted are tried again.
 merge=(merge --blobs blobs --out new meta.json k.json)
 for made in layer-0.json layer-1.json; do
     each open "new/$made" '5 12 24 28 30 122' refuses 4 "cannot write new/$made" "${merge[@]}"
     each open "new/$made" 4 prints 0 'leaf /k\nentries 2\n' "${merge[@]}"
+    each copy "new/$made" '12 24' refuses 4 "cannot write new/$made" "${merge[@]}"
     each empty "new/$made" '1 5 28' refuses 4 "cannot write new/$made" "${merge[@]}"
     most=50
     each write "new/$made" '0 5 11 27 28 122' refuses 4 "cannot write new/$made" "${merge[@]}"
