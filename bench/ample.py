@@ -11,6 +11,9 @@ Where `fsck` finds no fault, `vacuum`, `deref` and `merge` must give new layers 
 bytes; `vacuum` once more must remove nothing, and `fsck` must find no fault after `vacuum` and `deref`. Where it finds
 one, all three must answer with its report. There is memory enough, so no command may end with `out of memory`.
 
+Before these come stacks whose new layers just keep a limit of names or of text, or just pass it: `deref` and `merge` must
+give them, or say that they are over the limits.
+
     python3 bench/ample.py --program crates/ovl_layers/out/ovl_layers
 """
 import argparse
@@ -205,6 +208,29 @@ def report(tree):
     return "\n".join([*lines, f"entries {len(lines)}", ""]).encode()
 
 
+# ---- stacks at the limits of new layers
+
+def chain(path, names):
+    """A directory, with the names in it in each other."""
+    return [entry("/".join([path, *names[:count]])) for count in range(len(names) + 1)]
+
+
+def moved_to(place):
+    """A layer that moves `/x` to a place, in a directory of the layer where that isn't the root."""
+    above = [entry(place.rpartition("/")[0])] if place.count("/") > 1 else []
+    return [*above, entry(place, attrs={REDIRECT: "/x"}), entry("/x", "char", major=0, minor=0)]
+
+
+def at_the_limits():
+    """What is said of a stack, its layers, and whether what lies in the moved directory keeps the limits there."""
+    long, deep = chain("/x", 15 * ["n" * 255]), chain("/x", 63 * ["d"])
+    yield "paths of 4,095 bytes", [moved_to("/" + "m" * 254), long], True
+    yield "paths of 4,096 bytes", [moved_to("/" + "m" * 255), long], False
+    yield "paths of 4,098 bytes below a directory", [moved_to("/a/" + "m" * 255), long], False
+    yield "paths of 64 names", [moved_to("/m"), deep], True
+    yield "paths of 65 names", [moved_to("/a/m"), deep], False
+
+
 # ---- runs
 
 class Differs(Exception):
@@ -257,6 +283,29 @@ def judge(program, blobs, stack, folder):
     return found[0] == 0
 
 
+def judge_at_limit(program, blobs, layers, within, folder):
+    """Whether `deref` and `merge` give what keeps the limits and refuse what doesn't, as what it is."""
+    files = write(folder, layers)
+    shown = ran(program, "show", *files)
+    for command in ("deref", "merge"):
+        if within:
+            new, _ = rewritten(program, blobs, files, command, folder)
+            same(f"show after {command}", ran(program, "show", *new), shown)
+        else:
+            words = [program, command, "--blobs", blobs, "--out", folder, *files]
+            done = subprocess.run(words, stdin=subprocess.DEVNULL, capture_output=True, check=False, timeout=LONGEST)
+            same(command, (done.returncode, done.stdout, done.stderr), (5, b"", b"ovl_layers: result over the limits\n"))
+
+
+def limit_case(program, blobs, what, layers, within):
+    """What isn't as it should be of a stack at the limits."""
+    with tempfile.TemporaryDirectory(prefix="ovl-ample-") as folder:
+        try:
+            return judge_at_limit(program, blobs, layers, within, folder)
+        except Differs as fault:
+            return f"{what}: {fault}"
+
+
 def case(program, blobs, seed, number):
     """Whether the stack of this number is sound, or what isn't as it should be."""
     with tempfile.TemporaryDirectory(prefix="ovl-ample-") as folder:
@@ -281,7 +330,8 @@ def main():
             with open(os.path.join(blobs, hashlib.sha256(contents).hexdigest()), "wb") as out:
                 out.write(contents)
         all_of = ([it] * given.count for it in (program, blobs, given.seed))
-        answers = list(pool.map(case, *all_of, numbers, chunksize=20))
+        at_limits = [pool.submit(limit_case, program, blobs, *it) for it in at_the_limits()]
+        answers = [it.result() for it in at_limits] + list(pool.map(case, *all_of, numbers, chunksize=20))
     differ = [it for it in answers if isinstance(it, str)]
     print(*differ[:TOLD], sep="\n", end="\n" if differ else "")
     print(f"{given.count:,} stacks of seed {given.seed}, {answers.count(True):,} of them sound, {len(differ)} not as they should be")
