@@ -22,15 +22,27 @@ pub(crate) fn make<R: Print>(teller: &Teller<'_, R>) -> Result<(), Fail> {
 fn of_attributes<R: Print>(teller: &Teller<'_, R>) -> Result<(), Fail> {
     let alloc = teller.alloc;
     let name = AttrName::of(alloc, ATTRIBUTE)?;
-    call!(teller, "AttrName::of", lent [], AttrName::of(alloc, ATTRIBUTE), AttrFault::Memory);
+    call!(
+        teller,
+        "AttrName::of",
+        [],
+        AttrName::of(alloc, ATTRIBUTE),
+        AttrFault::Memory
+    );
     call!(
         teller,
         "AttrName::copy",
-        lent[name],
+        [name],
         name.copy(alloc),
         AllocError
     );
-    call!(teller, "Bytes::copy_of", lent [], Bytes::copy_of(alloc, LONG.as_bytes()), AllocError);
+    call!(
+        teller,
+        "Bytes::copy_of",
+        [],
+        Bytes::copy_of(alloc, LONG.as_bytes()),
+        AllocError
+    );
     Ok(())
 }
 
@@ -43,14 +55,14 @@ fn of_more_attributes<R: Print>(teller: &Teller<'_, R>) -> Result<(), Fail> {
     call!(
         teller,
         "Attrs::copy",
-        lent[attrs],
+        [attrs],
         attrs.copy(alloc),
         AllocError
     );
     call!(
         teller,
         "Attrs::visible",
-        lent[attrs],
+        [attrs],
         attrs.visible(alloc),
         AllocError
     );
@@ -58,14 +70,14 @@ fn of_more_attributes<R: Print>(teller: &Teller<'_, R>) -> Result<(), Fail> {
     call!(
         teller,
         "Attrs::put",
-        lent[more],
+        [more],
         more.put(ATTRIBUTE, b"v"),
         AttrFault::Memory
     );
     call!(
         teller,
         "Attrs::put-over",
-        lent[attrs],
+        [attrs],
         attrs.put("user.k", LONG.as_bytes()),
         AttrFault::Memory
     );
@@ -81,21 +93,21 @@ fn of_inodes<R: Print>(teller: &Teller<'_, R>) -> Result<(), Fail> {
     call!(
         teller,
         "Inode::copy",
-        lent[inode],
+        [inode],
         inode.copy(alloc),
         AllocError
     );
     call!(
         teller,
         "visible",
-        lent[inode],
+        [inode],
         visible(alloc, inode),
         AllocError
     );
     call!(
         teller,
         "mark_of",
-        lent[inode],
+        [inode],
         mark_of(alloc, inode),
         AllocError
     );
@@ -112,7 +124,7 @@ fn of_marks<R: Print>(teller: &Teller<'_, R>) -> Result<(), Fail> {
     call!(
         teller,
         "Kind::copy",
-        lent[link],
+        [link],
         link.kind.copy(alloc),
         AllocError
     );
@@ -120,7 +132,7 @@ fn of_marks<R: Print>(teller: &Teller<'_, R>) -> Result<(), Fail> {
         call!(
             teller,
             "Target::copy",
-            lent[target],
+            [target],
             target.copy(alloc),
             AllocError
         );
@@ -128,10 +140,16 @@ fn of_marks<R: Print>(teller: &Teller<'_, R>) -> Result<(), Fail> {
     call!(
         teller,
         "read_redirect",
-        lent[value],
+        [value],
         read_redirect(alloc, value.as_bytes()),
         RedirectFault::Memory
     );
-    call!(teller, "read_redirect-beside", lent [], read_redirect(alloc, LONG.as_bytes()), RedirectFault::Memory);
+    call!(
+        teller,
+        "read_redirect-beside",
+        [],
+        read_redirect(alloc, LONG.as_bytes()),
+        RedirectFault::Memory
+    );
     Ok(())
 }

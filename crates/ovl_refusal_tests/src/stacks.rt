@@ -31,8 +31,24 @@ fn told(alloc: Global, made: &Result<Stack, StackFault>) -> Result<String, Fail>
 
 fn of_layers<R: Print>(teller: &Teller<'_, R>) -> Result<(), Fail> {
     let alloc = teller.alloc;
-    call!(teller, "Stack::of", lent [], given all = layers(alloc)?, Stack::of(alloc, all), StackFault::Memory, |made| &told(alloc, made)?);
-    call!(teller, "Stack::with_data", lent [], given all = layers(alloc)?, Stack::with_data(alloc, all, 1), StackFault::Memory, |made| &told(alloc, made)?);
+    call!(
+        teller,
+        "Stack::of",
+        [],
+        all = layers(alloc)?,
+        Stack::of(alloc, all),
+        StackFault::Memory,
+        |made| &told(alloc, made)?
+    );
+    call!(
+        teller,
+        "Stack::with_data",
+        [],
+        all = layers(alloc)?,
+        Stack::with_data(alloc, all, 1),
+        StackFault::Memory,
+        |made| &told(alloc, made)?
+    );
     Ok(())
 }
 
@@ -43,17 +59,11 @@ fn of_walks<R: Print>(teller: &Teller<'_, R>, stack: &Stack) -> Result<(), Fail>
     let text = format!(in alloc; "/m/{LONG}/k")?;
     let path = Path::parse(alloc, text.as_str())?;
     let top = stack.any_sheet(0);
-    call!(
-        teller,
-        "walk",
-        lent[path],
-        walk(alloc, top, &path),
-        AllocError
-    );
+    call!(teller, "walk", [path], walk(alloc, top, &path), AllocError);
     call!(
         teller,
         "Stack::own_walk",
-        lent[path],
+        [path],
         stack.own_walk(alloc, 0, &path),
         AllocError
     );
@@ -61,7 +71,7 @@ fn of_walks<R: Print>(teller: &Teller<'_, R>, stack: &Stack) -> Result<(), Fail>
     call!(
         teller,
         "Stack::own_names",
-        lent[root],
+        [root],
         stack.own_names(alloc, 1, &root),
         AllocError
     );
@@ -76,7 +86,7 @@ fn of_directories<R: Print>(teller: &Teller<'_, R>, stack: &Stack) -> Result<(),
     call!(
         teller,
         "Stack::own_trail",
-        lent[path],
+        [path],
         stack.own_trail(alloc, 0, &path),
         AllocError
     );
@@ -86,14 +96,14 @@ fn of_directories<R: Print>(teller: &Teller<'_, R>, stack: &Stack) -> Result<(),
     call!(
         teller,
         "Trail::copy",
-        lent[own],
+        [own],
         own.next.copy(alloc),
         AllocError
     );
     call!(
         teller,
         "Trail::path",
-        lent[own],
+        [own],
         own.next.path(alloc),
         AllocError
     );
@@ -103,8 +113,20 @@ fn of_directories<R: Print>(teller: &Teller<'_, R>, stack: &Stack) -> Result<(),
         closed: false,
     };
     let name = Name::of(alloc, "m")?;
-    call!(teller, "OwnDirectory::step", lent [root, name], root.step(alloc, stack.any_sheet(0), &name), AllocError);
-    call!(teller, "OwnDirectory::child", lent [root, name], root.child(alloc, stack.any_sheet(0), &name), AllocError);
+    call!(
+        teller,
+        "OwnDirectory::step",
+        [root, name],
+        root.step(alloc, stack.any_sheet(0), &name),
+        AllocError
+    );
+    call!(
+        teller,
+        "OwnDirectory::child",
+        [root, name],
+        root.child(alloc, stack.any_sheet(0), &name),
+        AllocError
+    );
     Ok(())
 }
 
@@ -118,36 +140,36 @@ fn of_looks<R: Print>(teller: &Teller<'_, R>, stack: &Stack) -> Result<(), Fail>
     call!(
         teller,
         "Stack::look",
-        lent[moved],
+        [moved],
         stack.look(alloc, 0, &moved),
         AllocError
     );
     call!(
         teller,
         "Stack::look-data",
-        lent[file],
+        [file],
         stack.look(alloc, 0, &file),
         AllocError
     );
     call!(
         teller,
         "Stack::names",
-        lent[root],
+        [root],
         stack.names(alloc, 0, &root),
         AllocError
     );
     call!(
         teller,
         "Stack::names-moved",
-        lent[moved],
+        [moved],
         stack.names(alloc, 0, &moved),
         AllocError
     );
-    call!(teller, "Stack::list", lent [], stack.list(alloc), AllocError);
+    call!(teller, "Stack::list", [], stack.list(alloc), AllocError);
     call!(
         teller,
         "Stack::data_place",
-        lent[file],
+        [file],
         stack.data_place(alloc, &file),
         AllocError
     );

@@ -15,7 +15,7 @@ pub(crate) fn make<R: Print>(teller: &Teller<'_, R>) -> Result<(), Fail> {
     call!(
         teller,
         "DirView::of",
-        lent[moved],
+        [moved],
         DirView::of(alloc, &stack, 0, &moved),
         AllocError,
         |made| &told(made)
@@ -43,7 +43,7 @@ fn of_root<R: Print>(teller: &Teller<'_, R>, stack: &Stack, view: &DirView) -> R
     call!(
         teller,
         "DirView::child",
-        lent[moved],
+        [moved],
         view.child(alloc, stack, &moved),
         AllocError,
         |made| &told(made)
@@ -51,25 +51,37 @@ fn of_root<R: Print>(teller: &Teller<'_, R>, stack: &Stack, view: &DirView) -> R
     call!(
         teller,
         "DirView::look",
-        lent[moved],
+        [moved],
         view.look(alloc, stack, &moved),
         AllocError
     );
     call!(
         teller,
         "DirView::look-data",
-        lent[file],
+        [file],
         view.look(alloc, stack, &file),
         AllocError
     );
     call!(
         teller,
         "DirView::data",
-        lent[file],
+        [file],
         view.data(alloc, stack, &file),
         AllocError
     );
-    call!(teller, "DirView::names", lent [], view.names(alloc, stack), AllocError);
-    call!(teller, "DirView::looks", lent [], view.looks(alloc, stack), AllocError);
+    call!(
+        teller,
+        "DirView::names",
+        [],
+        view.names(alloc, stack),
+        AllocError
+    );
+    call!(
+        teller,
+        "DirView::looks",
+        [],
+        view.looks(alloc, stack),
+        AllocError
+    );
     Ok(())
 }
