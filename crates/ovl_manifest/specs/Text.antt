@@ -11,7 +11,7 @@ use Rattle.ovl_inode.specs.declared.inodes.Kind.TheVariants.{Dir, File, Symlink,
 use Rattle.ovl_inode.specs.Attributes.{Attributes}
 use Rattle.ovl_inode.specs.Kinds.{kind_word}
 use Rattle.ovl_manifest.specs.Layers.{Entry, Entries}
-use Rattle.ovl_manifest.specs.Versions.{number_of, written}
+use Rattle.ovl_manifest.specs.Versions.{version_number, written}
 use Rattle.ovl_manifest.specs.declared.versions.Version.{Version}
 use Rattle.ovl_manifest.specs.declared.versions.Version.TheVariants.{One, Two}
 
@@ -72,7 +72,7 @@ entry_items version (entry ∷ entries) = item (entry_value version entry) (entr
 
 abbrev pub layer_value : Version → Entries → Data
 layer_value version layer =
-    object (put (codes "overlay-layer") (whole (number_of version)) (put (codes "entries") (array (entry_items version layer)) no_members))
+    object (put (codes "overlay-layer") (whole (version_number version)) (put (codes "entries") (array (entry_items version layer)) no_members))
 
 -- the text that is written of a layer: that of its value, and a newline
 abbrev pub manifest_text : Entries → List ℕ

@@ -6,9 +6,9 @@ use Rattle.ovl_manifest.specs.declared.versions.Version.{Version}
 use Rattle.ovl_manifest.specs.declared.versions.Version.TheVariants.{One, Two}
 
 -- the number of a version, and the version of a number
-abbrev pub number_of : Version → ℕ
-number_of One = 1
-number_of Two = 2
+abbrev pub version_number : Version → ℕ
+version_number One = 1
+version_number Two = 2
 
 abbrev pub version_of : ℕ → Option Version
 version_of number = if number == 1 then Some One else if number == 2 then Some Two else None

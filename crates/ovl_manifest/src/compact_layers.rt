@@ -35,14 +35,14 @@ pub(crate) fn read_compact(alloc: Global, bytes: &[u8]) -> Option<Sheet>
         return None;
     };
     // The first entry tells one version from the other.
-    match read_version(alloc, Version::Two, text) {
+    match read_written(alloc, Version::Two, text) {
         Some(sheet) => Some(sheet),
-        None => read_version(alloc, Version::One, text),
+        None => read_written(alloc, Version::One, text),
     }
 }
 
 // The sheet of the layer whose manifest of this version the text is.
-fn read_version(alloc: Global, version: Version, text: &str) -> Option<Sheet>
+fn read_written(alloc: Global, version: Version, text: &str) -> Option<Sheet>
     requires { IsUtf8 text.now }
     ensures { IfSome result (λ sheet. layer_stated text.now ≡ Ok sheet) }
 {
@@ -61,7 +61,8 @@ fn read_manifest(alloc: Global, version: Version, rest: &mut Rest<'_>) -> Option
     rest.take("{\"entries\":[")?;
     let sheet = read_entries(alloc, version, rest)?;
     rest.take(",\"overlay-layer\":")?;
-    if rest.take_natural(u64::MAX)? != version.number() {
+    let number = rest.take_natural(u64::MAX)?;
+    if number != version.number() {
         return None;
     }
     rest.take("}")?;

@@ -1,6 +1,6 @@
 //! The versions of a manifest's form.
 ghost use Rattle.std.specs.Prelude.{◌≡◌, map};
-ghost use Rattle.ovl_manifest.specs.Versions.{version_of, number_of, depth_of, common_members as members_of};
+ghost use Rattle.ovl_manifest.specs.Versions.{version_of, version_number, depth_of, common_members as members_of};
 
 use ovl_names::DEPTH_LIMIT;
 
@@ -30,7 +30,7 @@ impl Version {
 
     /// The number of the version.
     pub(crate) fn number(self) -> u64
-        ensures { result ≡ number_of self }
+        ensures { result ≡ version_number self }
     {
         match self {
             Version::One => 1,
