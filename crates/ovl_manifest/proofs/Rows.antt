@@ -1,9 +1,12 @@
 -- Worked examples of manifests, by computation.
-use Rattle.std.specs.Prelude.{◌≡◌, pos, Some, None, [], ◌∷◌, codes, replicate, Ok, Err, refl}
+use Rattle.std.specs.Prelude.{◌≡◌, ℕ, pos, Bool, true, false, Some, None, Result, Ok, Err, List, [], ◌∷◌, ◌++◌, codes, replicate, take, length, refl}
+use Rattle.std.specs.List.{list_all, range_with_len}
 use Rattle.serde_json.proofs.OnLiterals.{serde_json_on_literals}
 use Rattle.ovl_inode.proofs.OnLiterals.{inode_on_literals}
 use Rattle.ovl_inode.specs.declared.inodes.Inode.{Inode}
 use Rattle.ovl_inode.specs.declared.inodes.Kind.TheVariants.{Dir}
+use Rattle.ovl_manifest.specs.Layers.{Entries}
+use Rattle.ovl_manifest.specs.declared.faults.LayerFault.{LayerFault}
 use Rattle.ovl_manifest.specs.declared.faults.LayerFault.TheVariants.{NotJson, Shape, Version, Count, Entry, Order, NoParent, Root, Escaped}
 use Rattle.ovl_names.specs.Paths.{path_text}
 use Rattle.ovl_manifest.specs.Fields.{path_of_text}
@@ -33,9 +36,25 @@ no-parent : read_layer (codes "{\"entries\":[{\"gid\":0,\"kind\":\"dir\",\"mode\
 unfolding serde_json_on_literals inode_on_literals
 no-parent = refl
 
-second-version : read_layer (codes "{\"entries\":[{\"gid\":0,\"kind\":\"dir\",\"mode\":493,\"mtime\":0,\"mtime-nsec\":0,\"path\":\"/\",\"uid\":0,\"xattrs\":{}}],\"overlay-layer\":2}") ≡ Ok (([], dir) ∷ [])
+-- a root alone in the version that is written, and each cut of it
+abbrev second : List ℕ
+second = codes "{\"entries\":[{\"gid\":0,\"kind\":\"dir\",\"mode\":493,\"mtime\":0,\"mtime-nsec\":0,\"path\":\"/\",\"uid\":0,\"xattrs\":{}}],\"overlay-layer\":2}"
+
+second-version : read_layer second ≡ Ok (([], dir) ∷ [])
 unfolding serde_json_on_literals inode_on_literals
 second-version = refl
+
+with-newline : read_layer (second ++ codes "\n") ≡ Ok (([], dir) ∷ [])
+unfolding serde_json_on_literals inode_on_literals
+with-newline = refl
+
+abbrev is_no_JSON : Result Entries LayerFault → Bool
+is_no_JSON (Err NotJson) = true
+is_no_JSON _ = false
+
+cuts : (length second ≡ 121) × (list_all (λ n. is_no_JSON (read_layer (take n second))) (range_with_len 0 121) ≡ true)
+unfolding serde_json_on_literals inode_on_literals
+cuts = (refl, refl)
 
 most-nanoseconds : read_layer (codes "{\"entries\":[{\"gid\":0,\"kind\":\"dir\",\"mode\":493,\"mtime\":0,\"mtime-nsec\":999999999,\"path\":\"/\",\"uid\":0,\"xattrs\":{}}],\"overlay-layer\":2}") ≡ Ok (([], record dir { nsec = 999999999 }) ∷ [])
 unfolding serde_json_on_literals inode_on_literals

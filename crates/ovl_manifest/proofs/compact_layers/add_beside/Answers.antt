@@ -32,7 +32,7 @@ enter-requires-clause-entry c =
       directory = sym c.if-not-is_directory_above.ensures;
       sound = c.requires.sound;
       unescaped = sym c.if-has_escaped_name.ensures;
-      limited = child_limits last c.in_ok-depth.depth c.in-Ok.name c.args.text.now spelled (omega (arith, c.if-depth-ge-depth.false, c.depth.ensures, depth-limited c.args.version)) (omega (arith, c.if-text-gt-TEXT_LIMIT.false));
+      limited = child_limits last c.in_ok-depth.depth c.in-Ok.name c.args.text.now spelled (omega (arith, c.if-depth.false, c.depth.ensures, depth-limited c.args.version)) (omega (arith, c.if-text-gt-TEXT_LIMIT.false));
       room = c.requires.room;
     }
 
@@ -57,4 +57,4 @@ pub returns-in-Ok-enter-clause-depth : goal.returns-in-Ok-enter-clause-depth
 returns-in-Ok-enter-clause-depth c =
     let last : PathNames = c.args.draft.now.last in
     let deeper = length-append (take c.in_ok-depth.depth last) (c.in-Ok.name ∷ []) in
-    omega (arith, ap length (c.in-Ok-enter.ensures).last, deeper, length-take c.in_ok-depth.depth last, c.if-depth-ge-depth.false, c.depth.ensures)
+    omega (arith, ap length (c.in-Ok-enter.ensures).last, deeper, length-take c.in_ok-depth.depth last, c.if-depth.false, c.depth.ensures)

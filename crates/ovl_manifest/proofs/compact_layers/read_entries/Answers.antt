@@ -1,5 +1,7 @@
-use Rattle.std.proofs.Common.{le-leb, ◌∙◌, ◌+◌, ◌++◌, ◌∷◌, [], ℕ, List, false, sym, ap, append_assoc, arith, length, length-append}
+use Rattle.std.proofs.Common.{le-leb, ◌∙◌, ◌+◌, ◌++◌, ◌∷◌, [], ℕ, List, true, false, sym, ap, append_assoc, arith, length, length-append}
+use Rattle.std.specs.Prelude.{◌&&◌}
 use Rattle.std.specs.List.{list_all}
+use Rattle.std.proofs.lemmas.List.Folds.{list_all-append}
 use Rattle.serde_json.specs.Written.{items_text}
 use Rattle.ovl_manifest.specs.Layers.{Entry, Entries}
 use Rattle.ovl_manifest.specs.Text.{entry_items}
@@ -7,7 +9,6 @@ use Rattle.ovl_manifest.specs.SheetDrafts.{drafted}
 use Rattle.ovl_manifest.specs.Versions.{depth_of, is_stated_by}
 use Rattle.ovl_manifest.specs.Compact.{entries_text}
 use Rattle.ovl_manifest.proofs.CompactLemmas.{some-taken, none-taken, entries-onto, items-entries}
-use Rattle.ovl_manifest.proofs.LayerLemmas.{all-more}
 use Rattle.ovl_manifest.proofs.compact_layers.read_entries.Goals as goal
 
 pub entries-preserved : goal.entries-preserved
@@ -23,7 +24,9 @@ entries-preserved c =
       taken = c.entries.invariant.taken
           ∙ (ap (λ (t : List ℕ). entries_text c.args.version false before ++ t) (comma ∙ ap (λ (t : List ℕ). 44 ∷ t) own)
           ∙ (entries-onto c.args.version before entry rest (omega (arith, c.entries.invariant.count, c.entries.invariant.some)) ∙ ap (λ (all : Entries). entries_text c.args.version false all ++ rest) (sym added.entries)));
-      stated = ap (list_all (is_stated_by c.args.version)) added.entries ∙ all-more (is_stated_by c.args.version) before entry c.entries.invariant.stated (rw (le-leb (length entry.0) (depth_of c.args.version) added.depth) c.in_ok-path.ensures.stated);
+      stated = ap (list_all (is_stated_by c.args.version)) added.entries
+          ∙ (list_all-append (is_stated_by c.args.version) before (entry ∷ [])
+          ∙ (λ j. c.entries.invariant.stated j && ((le-leb (length entry.0) (depth_of c.args.version) added.depth j && c.in_ok-path.ensures.stated j) && true)));
       last = added.last ∙ c.as_str-in-entries-2.ensures.value;
       count = ap length added.entries ∙ (length-append before (entry ∷ []) ∙ ap (λ n. n + 1) c.entries.invariant.count);
       some = omega arith;
@@ -40,9 +43,6 @@ returns-in-Ok-clause-text c =
     ∙ (sym (append_assoc (entries_text c.args.version false entries) (93 ∷ []) rest)
     ∙ (ap (λ (t : List ℕ). t ++ rest) (sym (items-entries c.args.version false entries))
     ∙ ap (λ (all : Entries). items_text false (entry_items c.args.version all) ++ rest) (sym c.in-Ok.ensures))))
-
-pub entries-entry-stated : goal.entries-entry-stated
-entries-entry-stated c = ap (list_all (is_stated_by c.args.version)) c.in_ok-draft.ensures.entries ∙ rw (le-leb 0 (depth_of c.args.version) (omega arith)) (rw c.in_ok-text.ensures.stated refl)
 
 pub returns-in-Ok-clause-stated : goal.returns-in-Ok-clause-stated
 returns-in-Ok-clause-stated c = ap (list_all (is_stated_by c.args.version)) c.in-Ok.ensures ∙ c.entries.invariant.stated

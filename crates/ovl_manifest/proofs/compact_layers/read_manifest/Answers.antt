@@ -10,7 +10,7 @@ pub returns-clause-text : goal.returns-clause-text
 returns-clause-text c =
     let sheet = c.in_ok-sheet.sheet in
     let rest : List ℕ = c.take-3.new.self in
-    let number : c.in_ok-number.number ≡ version_number c.args.version = c.if-number-ne-number.false ∙ c.number.ensures in
+    let number : c.in_ok-number.number ≡ version_number c.args.version = c.if-number.false ∙ c.number.ensures in
     let ended = c.in_ok-number.ensures.text ∙ (λ j. decimal (number j) ++ c.in_ok-take-3.ensures j) in
     c.in_ok-take.ensures
     ∙ (ap (λ (t : List ℕ). codes "{\"entries\":[" ++ t)
