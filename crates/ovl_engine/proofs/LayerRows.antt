@@ -12,7 +12,7 @@ use Rattle.ovl_engine.specs.LayerReports.{layer_report}
 
 -- an entry of user, group and time 0
 abbrev entry : PathNames → Kind → Attributes → Entry
-entry path kind attrs = (path, record { kind = kind; mode = 0o644; uid = 0; gid = 0; mtime = pos 0; attrs = attrs })
+entry path kind attrs = (path, record { kind = kind; mode = 0o644; uid = 0; gid = 0; mtime = pos 0; nsec = 0; attrs = attrs })
 
 abbrev root : Entry
 root = entry [] Dir []

@@ -1,5 +1,5 @@
 -- Worked reports of `show`, computed.
-use Rattle.std.specs.Prelude.{◌≡◌, ℕ, pos, negsuc, true, false, Some, None, List, [], ◌∷◌, codes, refl}
+use Rattle.std.specs.Prelude.{◌≡◌, ℕ, ℤ, pos, negsuc, true, false, Some, None, List, [], ◌∷◌, codes, refl}
 use Rattle.std.specs.Fmt.{digits}
 use Rattle.hex.specs.Hex.{encode_with}
 use Rattle.ovl_names.specs.Paths.{PathNames}
@@ -13,7 +13,7 @@ use Rattle.ovl_engine.specs.Reports.{octal, inode_line, show_report}
 
 -- an inode of user, group and time 0
 abbrev inode : Kind → ℕ → Attributes → Inode
-inode kind mode attrs = record { kind = kind; mode = mode; uid = 0; gid = 0; mtime = pos 0; attrs = attrs }
+inode kind mode attrs = record { kind = kind; mode = mode; uid = 0; gid = 0; mtime = pos 0; nsec = 0; attrs = attrs }
 
 abbrev directory : Inode
 directory = inode Dir 0o755 []
@@ -65,7 +65,18 @@ empty_file = refl
 all_the_mode_bits : octal 0o7654 ≡ codes "7654"
 all_the_mode_bits = refl
 
-before_the_epoch : inode_line false (codes "b" ∷ []) (record { kind = Block 8 17; mode = 0o60; uid = 1000; gid = 6; mtime = negsuc 4; attrs = (codes "user.a", []) ∷ (codes "user.b c", 0 ∷ 255 ∷ []) ∷ [] })
+before_the_epoch : inode_line false (codes "b" ∷ []) (record { kind = Block 8 17; mode = 0o60; uid = 1000; gid = 6; mtime = negsuc 4; nsec = 0; attrs = (codes "user.a", []) ∷ (codes "user.b c", 0 ∷ 255 ∷ []) ∷ [] })
     ≡ codes "block 0060 1000 6 -5 - 8:17 /b user.a= user.b\\x20c=00ff\n"
 unfolding digits encode_with
 before_the_epoch = refl
+
+abbrev timed : ℤ → ℕ → List ℕ
+timed seconds nsec = inode_line false (codes "k" ∷ []) (record (inode (File 0 None) 0o644 []) { mtime = seconds; nsec = nsec })
+
+a_nanosecond_past_a_second : timed (pos 7) 1 ≡ codes "file 0644 0 0 7+000000001 0 - /k\n"
+unfolding digits encode_with
+a_nanosecond_past_a_second = refl
+
+a_nanosecond_before_the_epoch : timed (negsuc 0) 999999999 ≡ codes "file 0644 0 0 -1+999999999 0 - /k\n"
+unfolding digits encode_with
+a_nanosecond_before_the_epoch = refl

@@ -1,5 +1,5 @@
 -- The report of `show`: a line for each path of the merged tree, in path order, and their number.
-use Rattle.std.specs.Prelude.{ℕ, ◌+◌, ◌/◌, ◌%◌, Bool, true, false, Option, Some, None, List, [], ◌∷◌, ◌++◌, length, decimal, codes}
+use Rattle.std.specs.Prelude.{ℕ, ℤ, ◌+◌, ◌-◌, ◌/◌, ◌%◌, ◌==◌, Bool, true, false, if◌then◌else◌, Option, Some, None, List, [], ◌∷◌, ◌++◌, length, replicate, decimal, codes}
 use Rattle.std.specs.Fmt.{signed_decimal}
 use Rattle.std.specs.List.{flat_map}
 use Rattle.hex.specs.Hex.{encode_lower}
@@ -19,6 +19,14 @@ octal_digit number = 48 + number % 8
 
 abbrev pub octal : ℕ → List ℕ
 octal mode = octal_digit (mode / 512) ∷ octal_digit (mode / 64) ∷ octal_digit (mode / 8) ∷ octal_digit mode ∷ []
+
+-- nine digits of a number, the first ones zeros where it has fewer
+abbrev pub nine_digits : ℕ → List ℕ
+nine_digits number = replicate (9 - length (decimal number)) 48 ++ decimal number
+
+-- the seconds of a time, and where it has nanoseconds `+` and nine digits of them
+abbrev pub time_word : ℤ → ℕ → List ℕ
+time_word seconds nsec = signed_decimal seconds ++ (if nsec == 0 then [] else codes "+" ++ nine_digits nsec)
 
 -- files alone have a size
 abbrev pub size_word : Kind → List ℕ
@@ -59,7 +67,7 @@ spaced word = word ++ codes " "
 abbrev pub line_of : Bool → List ℕ → Inode → List ℕ
 line_of broken path inode =
     spaced (kind_word inode.kind) ++ spaced (octal inode.mode)
-    ++ spaced (decimal inode.uid) ++ spaced (decimal inode.gid) ++ spaced (signed_decimal inode.mtime)
+    ++ spaced (decimal inode.uid) ++ spaced (decimal inode.gid) ++ spaced (time_word inode.mtime inode.nsec)
     ++ spaced (size_word inode.kind) ++ spaced (what_word broken inode.kind)
     ++ path ++ flat_map attribute_word inode.attrs ++ codes "\n"
 

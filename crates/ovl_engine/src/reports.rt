@@ -1,10 +1,9 @@
-ghost use Rattle.std.specs.Prelude.{◌≡◌, ◌+◌, ◌%◌, ◌++◌, IfOk, OnOk, codes, decimal, string_bytes};
-ghost use Rattle.std.specs.Fmt.{signed_decimal};
+ghost use Rattle.std.specs.Prelude.{◌≡◌, ◌+◌, ◌%◌, ◌++◌, IfOk, OnOk, codes, decimal, replicate, string_bytes};
 ghost use Rattle.std.specs.List.{flat_map};
 ghost use Rattle.hex.specs.Hex.{encode_lower};
 ghost use Rattle.ovl_names.specs.Escapes.{escaped as escaped_text, shown_path};
 ghost use Rattle.ovl_inode.specs.Kinds.{kind_word};
-ghost use Rattle.ovl_engine.specs.Reports.{octal_digit as last_digit, octal, size_word, blob_word, device_word, what_word, attribute_word, spaced, inode_line, show_report};
+ghost use Rattle.ovl_engine.specs.Reports.{octal_digit as last_digit, octal, size_word, blob_word, device_word, what_word, attribute_word, nine_digits as nine_digits_of, time_word, spaced, inode_line, show_report};
 
 use ovl_inode::{Attrs, Digest, Inode, Kind};
 use ovl_lookup::Look;
@@ -58,13 +57,13 @@ fn push_line(
 pub(crate) fn push_status(report: &mut String, inode: &Inode) -> Result<(), AllocError>
     ensures { OnOk result (string_bytes report.new ≡ string_bytes report.old
         ++ (spaced (kind_word inode.now.kind) ++ spaced (octal inode.now.mode)
-        ++ spaced (decimal inode.now.uid) ++ spaced (decimal inode.now.gid) ++ spaced (signed_decimal inode.now.mtime))) }
+        ++ spaced (decimal inode.now.uid) ++ spaced (decimal inode.now.gid) ++ spaced (time_word inode.now.mtime inode.now.nsec))) }
 {
     push_word(report, inode.kind.word())?;
     push_mode(report, inode.mode)?;
     push_word(report, itoa::Buffer::new().format(inode.uid))?;
     push_word(report, itoa::Buffer::new().format(inode.gid))?;
-    push_word(report, itoa::Buffer::new().format(inode.mtime))
+    push_time(report, inode.mtime, inode.nsec)
 }
 
 pub(crate) fn push_word(report: &mut String, word: &str) -> Result<(), AllocError>
@@ -72,6 +71,37 @@ pub(crate) fn push_word(report: &mut String, word: &str) -> Result<(), AllocErro
 {
     report.push_str(word)?;
     report.push_str(" ")
+}
+
+// The seconds of a time, its nanoseconds where it has any, and a space after them.
+fn push_time(report: &mut String, seconds: i64, nsec: u32) -> Result<(), AllocError>
+    ensures { OnOk result (string_bytes report.new ≡ string_bytes report.old ++ spaced (time_word seconds nsec)) }
+{
+    report.push_str(itoa::Buffer::new().format(seconds))?;
+    if nsec != 0 {
+        report.push_str("+")?;
+        push_nine_digits(report, nsec)?;
+    }
+    report.push_str(" ")
+}
+
+// Nine digits of a number, the first ones zeros where it has fewer.
+fn push_nine_digits(report: &mut String, number: u32) -> Result<(), AllocError>
+    ensures { OnOk result (string_bytes report.new ≡ string_bytes report.old ++ nine_digits_of number) }
+{
+    let mut buffer = itoa::Buffer::new();
+    let digits = buffer.format(number);
+    push_zeros(report, 9_usize.saturating_sub(digits.len()))?;
+    report.push_str(digits)
+}
+
+fn push_zeros(report: &mut String, count: usize) -> Result<(), AllocError>
+    ensures { OnOk result (string_bytes report.new ≡ string_bytes report.old ++ replicate count 48) }
+{
+    for _ in 0..count {
+        report.push_str("0")?;
+    }
+    Ok(())
 }
 
 // The mode, and a space after it.

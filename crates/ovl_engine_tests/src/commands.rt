@@ -81,17 +81,17 @@ fn any_number_of_workers_gives_the_same_new_layer(rt: HostRuntime) -> Result<(),
     Ok(())
 }
 
-// A stack of this layer over a directory `/x` and so many of this name in each other below it.
-fn over_chain(alloc: Global, upper: &str, name: &str, directories: u32) -> Result<String, Fail> {
-    let mut stack = format!(in alloc; "{upper} | dir /x")?;
-    let mut path = String::from_str(alloc, "/x")?;
+// Further entries of a layer: so many directories of this name in each other, below this path.
+fn chain(alloc: Global, above: &str, name: &str, directories: u32) -> Result<String, Fail> {
+    let mut entries = String::new(alloc);
+    let mut path = String::from_str(alloc, above)?;
     for _ in 0..directories {
         path.push_str("/")?;
         path.push_str(name)?;
-        stack.push_str(", dir ")?;
-        stack.push_str(path.as_str())?;
+        entries.push_str(", dir ")?;
+        entries.push_str(path.as_str())?;
     }
-    Ok(stack)
+    Ok(entries)
 }
 
 #[test]
@@ -100,14 +100,18 @@ fn a_new_layer_is_within_the_limits(rt: HostRuntime) -> Result<(), Fail> {
     let deep = "dir /p, dir /p/q redirect=/x, whiteout /x";
     let name = "d".repeat(alloc, 255)?;
     let long = format!(in alloc; "dir /{name} redirect=/x, whiteout /x")?;
-    // In `/p/q` the shorter chain ends 64 names deep, the longer one 65. In the directory of the long name the shorter
+    let upper = chain(alloc, "", "d", 64)?;
+    let chained = format!(in alloc; "root{upper} redirect=/x, whiteout /x")?;
+    // In `/p/q` the longest chain ends 129 names deep, the one before it 128. In the directory of the long name the shorter
     // chain's last path has 3,840 bytes, the longer one's 4,096.
     for (what, upper, name, directories, end) in [
-        (Command::Show, deep, "d", 63, "\nentries 66\n"),
-        (Command::Deref, deep, "d", 62, "\nwhiteout /x\nentries 66\n"),
-        (Command::Deref, deep, "d", 63, "! result over the limits\n"),
-        (Command::Merge, deep, "d", 62, "\nentries 65\n"),
-        (Command::Merge, deep, "d", 63, "! result over the limits\n"),
+        (Command::Deref, deep, "d", 63, "\nwhiteout /x\nentries 67\n"),
+        (Command::Show, deep, "d", 127, "\nentries 130\n"),
+        (Command::Deref, deep, "d", 126, "\nwhiteout /x\nentries 130\n"),
+        (Command::Deref, deep, "d", 127, "! result over the limits\n"),
+        (Command::Merge, deep, "d", 126, "\nentries 129\n"),
+        (Command::Merge, deep, "d", 127, "! result over the limits\n"),
+        (Command::Merge, chained.as_str(), "d", 63, "\nentries 128\n"),
         (
             Command::Deref,
             long.as_str(),
@@ -123,7 +127,8 @@ fn a_new_layer_is_within_the_limits(rt: HostRuntime) -> Result<(), Fail> {
             "! result over the limits\n",
         ),
     ] {
-        let stack = over_chain(alloc, upper, name, directories)?;
+        let lower = chain(alloc, "/x", name, directories)?;
+        let stack = format!(in alloc; "{upper} | dir /x{lower}")?;
         let found = told(&rt, alloc, what, stack.as_str(), &[])?;
         assert!(rt;
             found.as_str().contains(end),

@@ -52,7 +52,7 @@ fn path_told(alloc: Global, text: &str) -> Result<String, AllocError> {
 #[test]
 fn paths_are_read_or_refused_by_their_first_fault(rt: HostRuntime) -> Result<(), Fail> {
     let alloc = rt.alloc();
-    let deeper = "/d".repeat(alloc, 65)?;
+    let deeper = "/d".repeat(alloc, 129)?;
     // Sixteen names have 16 slashes too: fifteen of 255 bytes and one of 254 are 4,095 bytes of text.
     let name = "n".repeat(alloc, 255)?;
     let names = format!(in alloc; "/{name}")?.as_str().repeat(alloc, 16)?;
@@ -69,7 +69,7 @@ fn paths_are_read_or_refused_by_their_first_fault(rt: HostRuntime) -> Result<(),
         ("//", "the path has an empty part"),
         ("/../", "the path has an empty part"),
         ("/a/..", "the path has a part that is no name"),
-        (deeper.as_str(), "the path has more than 64 names"),
+        (deeper.as_str(), "the path has more than 128 names"),
         (names.as_str(), "the path has more than 4095 bytes"),
     ] {
         assert_eq!(rt; path_told(alloc, text)?.as_str(), wanted, "at {text:?}");

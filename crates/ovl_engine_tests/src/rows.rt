@@ -17,7 +17,7 @@ deref: entries 1 => root
 merge: ! no lower layer
 
 dir-old /, disk /b, dir-new /n, file-large /z
-show: dir 0755 4294967295 6 -9223372036854775808 - - /; block 0060 0 0 0 - 8:4294967295 /b; dir 0755 0 1000 1732233600 - - /n; file 4755 0 0 0 9223372036854775807 [a] /z; entries 4
+show: dir 0755 4294967295 6 -9223372036854775808+999999999 - - /; block 0060 0 0 0 - 8:4294967295 /b; dir 0755 0 1000 1732233600+020304050 - - /n; file 4755 0 0 0 9223372036854775807 [a] /z; entries 4
 
 link /l user.b\\u0020c=\u{0}\u{7f} user.a=, fifo /p\\u0020q, socket /s, empty /\\u00e9
 show: [d] /; symlink 0777 0 0 0 - a\\x20b /l user.a= user.b\\x20c=007f; fifo 0000 0 0 0 - - /p\\x20q; socket 7777 0 0 0 - - /s; file 0644 0 0 0 0 - /\\xc3\\xa9; entries 5
@@ -104,6 +104,10 @@ vacuum: removed /d/k; removed 1 kept 3 => dir /d, whiteout /d/z
 
 dir /d, file-0645 /d/k | dir /d, file /d/k
 vacuum: removed 0 kept 3 => dir /d, file-0645 /d/k
+
+dir /d, file-late /d/k | dir /d, file /d/k
+show: [d] /; [d] /d; file 0644 0 0 0+000000001 1 [a] /d/k; entries 3
+vacuum: removed 0 kept 3 => dir /d, file-late /d/k
 
 dir-0700 /d | dir /d, file /d/k
 vacuum: removed 0 kept 2 => dir-0700 /d
@@ -207,7 +211,7 @@ vacuum: ! blobs out of order
 deref: ! blobs out of order
 merge: ! blobs out of order
 
-root | {\"overlay-layer\":2,\"entries\":[]} | []
+root | {\"overlay-layer\":3,\"entries\":[]} | []
 show: ! layer 1: unknown version
 
 [] | root

@@ -8,25 +8,26 @@ use std::test::Fail;
 // The entries that the words stand for, as new layers are written, with a path and attributes in place of `PATH` and `ATTRS`.
 // Those that are `bare` are files of which the contents lie elsewhere.
 const KINDS: &str = r#"
-dir {"gid":0,"kind":"dir","mode":493,"mtime":0,"path":"PATH","uid":0,"xattrs":{ATTRS}}
-dir-0700 {"gid":0,"kind":"dir","mode":448,"mtime":0,"path":"PATH","uid":0,"xattrs":{ATTRS}}
-dir-old {"gid":6,"kind":"dir","mode":493,"mtime":-9223372036854775808,"path":"PATH","uid":4294967295,"xattrs":{ATTRS}}
-dir-new {"gid":1000,"kind":"dir","mode":493,"mtime":1732233600,"path":"PATH","uid":0,"xattrs":{ATTRS}}
-file {"blob":"ca978112ca1bbdcafac231b39a23dc4da786eff8147c4e72b9807785afee48bb","gid":0,"kind":"file","mode":420,"mtime":0,"path":"PATH","size":1,"uid":0,"xattrs":{ATTRS}}
-file-0645 {"blob":"ca978112ca1bbdcafac231b39a23dc4da786eff8147c4e72b9807785afee48bb","gid":0,"kind":"file","mode":421,"mtime":0,"path":"PATH","size":1,"uid":0,"xattrs":{ATTRS}}
-file-large {"blob":"ca978112ca1bbdcafac231b39a23dc4da786eff8147c4e72b9807785afee48bb","gid":0,"kind":"file","mode":2541,"mtime":0,"path":"PATH","size":9223372036854775807,"uid":0,"xattrs":{ATTRS}}
-file-b {"blob":"3e23e8160039594a33894f6564e1b1348bbd7a0088d42c4acb73eeaed59c009d","gid":0,"kind":"file","mode":420,"mtime":0,"path":"PATH","size":1,"uid":0,"xattrs":{ATTRS}}
-file-ab {"blob":"fb8e20fc2e4c3f248c60c39bd652f3c1347298bb977b8b4d5903b85055620603","gid":0,"kind":"file","mode":420,"mtime":0,"path":"PATH","size":3,"uid":0,"xattrs":{ATTRS}}
-file-abc {"blob":"ba7816bf8f01cfea414140de5dae2223b00361a396177a9cb410ff61f20015ad","gid":0,"kind":"file","mode":420,"mtime":0,"path":"PATH","size":3,"uid":0,"xattrs":{ATTRS}}
-empty {"gid":0,"kind":"file","mode":420,"mtime":0,"path":"PATH","size":0,"uid":0,"xattrs":{ATTRS}}
-bare {"gid":0,"kind":"file","mode":420,"mtime":0,"path":"PATH","size":1,"uid":0,"xattrs":{ATTRS}}
-bare-2 {"gid":0,"kind":"file","mode":420,"mtime":0,"path":"PATH","size":2,"uid":0,"xattrs":{ATTRS}}
-link {"gid":0,"kind":"symlink","mode":511,"mtime":0,"path":"PATH","target":"a b","uid":0,"xattrs":{ATTRS}}
-whiteout {"gid":0,"kind":"char","major":0,"minor":0,"mode":0,"mtime":0,"path":"PATH","uid":0,"xattrs":{ATTRS}}
-console {"gid":0,"kind":"char","major":0,"minor":1,"mode":384,"mtime":0,"path":"PATH","uid":0,"xattrs":{ATTRS}}
-disk {"gid":0,"kind":"block","major":8,"minor":4294967295,"mode":48,"mtime":0,"path":"PATH","uid":0,"xattrs":{ATTRS}}
-fifo {"gid":0,"kind":"fifo","mode":0,"mtime":0,"path":"PATH","uid":0,"xattrs":{ATTRS}}
-socket {"gid":0,"kind":"socket","mode":4095,"mtime":0,"path":"PATH","uid":0,"xattrs":{ATTRS}}
+dir {"gid":0,"kind":"dir","mode":493,"mtime":0,"mtime-nsec":0,"path":"PATH","uid":0,"xattrs":{ATTRS}}
+dir-0700 {"gid":0,"kind":"dir","mode":448,"mtime":0,"mtime-nsec":0,"path":"PATH","uid":0,"xattrs":{ATTRS}}
+dir-old {"gid":6,"kind":"dir","mode":493,"mtime":-9223372036854775808,"mtime-nsec":999999999,"path":"PATH","uid":4294967295,"xattrs":{ATTRS}}
+dir-new {"gid":1000,"kind":"dir","mode":493,"mtime":1732233600,"mtime-nsec":20304050,"path":"PATH","uid":0,"xattrs":{ATTRS}}
+file {"blob":"ca978112ca1bbdcafac231b39a23dc4da786eff8147c4e72b9807785afee48bb","gid":0,"kind":"file","mode":420,"mtime":0,"mtime-nsec":0,"path":"PATH","size":1,"uid":0,"xattrs":{ATTRS}}
+file-late {"blob":"ca978112ca1bbdcafac231b39a23dc4da786eff8147c4e72b9807785afee48bb","gid":0,"kind":"file","mode":420,"mtime":0,"mtime-nsec":1,"path":"PATH","size":1,"uid":0,"xattrs":{ATTRS}}
+file-0645 {"blob":"ca978112ca1bbdcafac231b39a23dc4da786eff8147c4e72b9807785afee48bb","gid":0,"kind":"file","mode":421,"mtime":0,"mtime-nsec":0,"path":"PATH","size":1,"uid":0,"xattrs":{ATTRS}}
+file-large {"blob":"ca978112ca1bbdcafac231b39a23dc4da786eff8147c4e72b9807785afee48bb","gid":0,"kind":"file","mode":2541,"mtime":0,"mtime-nsec":0,"path":"PATH","size":9223372036854775807,"uid":0,"xattrs":{ATTRS}}
+file-b {"blob":"3e23e8160039594a33894f6564e1b1348bbd7a0088d42c4acb73eeaed59c009d","gid":0,"kind":"file","mode":420,"mtime":0,"mtime-nsec":0,"path":"PATH","size":1,"uid":0,"xattrs":{ATTRS}}
+file-ab {"blob":"fb8e20fc2e4c3f248c60c39bd652f3c1347298bb977b8b4d5903b85055620603","gid":0,"kind":"file","mode":420,"mtime":0,"mtime-nsec":0,"path":"PATH","size":3,"uid":0,"xattrs":{ATTRS}}
+file-abc {"blob":"ba7816bf8f01cfea414140de5dae2223b00361a396177a9cb410ff61f20015ad","gid":0,"kind":"file","mode":420,"mtime":0,"mtime-nsec":0,"path":"PATH","size":3,"uid":0,"xattrs":{ATTRS}}
+empty {"gid":0,"kind":"file","mode":420,"mtime":0,"mtime-nsec":0,"path":"PATH","size":0,"uid":0,"xattrs":{ATTRS}}
+bare {"gid":0,"kind":"file","mode":420,"mtime":0,"mtime-nsec":0,"path":"PATH","size":1,"uid":0,"xattrs":{ATTRS}}
+bare-2 {"gid":0,"kind":"file","mode":420,"mtime":0,"mtime-nsec":0,"path":"PATH","size":2,"uid":0,"xattrs":{ATTRS}}
+link {"gid":0,"kind":"symlink","mode":511,"mtime":0,"mtime-nsec":0,"path":"PATH","target":"a b","uid":0,"xattrs":{ATTRS}}
+whiteout {"gid":0,"kind":"char","major":0,"minor":0,"mode":0,"mtime":0,"mtime-nsec":0,"path":"PATH","uid":0,"xattrs":{ATTRS}}
+console {"gid":0,"kind":"char","major":0,"minor":1,"mode":384,"mtime":0,"mtime-nsec":0,"path":"PATH","uid":0,"xattrs":{ATTRS}}
+disk {"gid":0,"kind":"block","major":8,"minor":4294967295,"mode":48,"mtime":0,"mtime-nsec":0,"path":"PATH","uid":0,"xattrs":{ATTRS}}
+fifo {"gid":0,"kind":"fifo","mode":0,"mtime":0,"mtime-nsec":0,"path":"PATH","uid":0,"xattrs":{ATTRS}}
+socket {"gid":0,"kind":"socket","mode":4095,"mtime":0,"mtime-nsec":0,"path":"PATH","uid":0,"xattrs":{ATTRS}}
 "#;
 
 fn kind_of(word: &str) -> Result<&'static str, Fail> {
@@ -90,7 +91,7 @@ pub(crate) fn manifest_of(alloc: Global, entries: &str) -> Result<Vec<u8>, Fail>
             push_entry(alloc, &mut text, entry)?;
         }
     }
-    text.push_str("],\"overlay-layer\":1}\n")?;
+    text.push_str("],\"overlay-layer\":2}\n")?;
     Ok(text.into_bytes())
 }
 

@@ -23,7 +23,7 @@ use Rattle.ovl_inode.proofs.OnLiterals.{inode_on_literals}
 -- ---- inodes of owner 0 and time 0
 
 abbrev node : Kind → ℕ → Attributes → Inode
-node kind mode attrs = record { kind = kind; mode = mode; uid = 0; gid = 0; mtime = pos 0; attrs = attrs }
+node kind mode attrs = record { kind = kind; mode = mode; uid = 0; gid = 0; mtime = pos 0; nsec = 0; attrs = attrs }
 
 abbrev directory : Attributes → Inode
 directory attrs = node Dir 0o755 attrs
@@ -356,7 +356,7 @@ attributes_of_a_user_stay : visible (directory ((codes "user.overlay.opaque", co
 unfolding inode_on_literals
 attributes_of_a_user_stay = refl
 
-numbers_of_owner_and_time_stay : visible (record opaque { mode = 0o1700; uid = 7; gid = 8; mtime = negsuc 8 }) ≡ record (directory []) { mode = 0o1700; uid = 7; gid = 8; mtime = negsuc 8 }
+numbers_of_owner_and_time_stay : visible (record opaque { mode = 0o1700; uid = 7; gid = 8; mtime = negsuc 8; nsec = 9 }) ≡ record (directory []) { mode = 0o1700; uid = 7; gid = 8; mtime = negsuc 8; nsec = 9 }
 unfolding inode_on_literals
 numbers_of_owner_and_time_stay = refl
 
@@ -414,7 +414,7 @@ sound_socket : is_sound_inode (node Socket 0o644 []) ≡ true
 unfolding inode_on_literals
 sound_socket = refl
 
-largest_numbers : is_sound_inode (record (directory []) { mode = 4095; uid = 2 ^ 32 - 1; gid = 2 ^ 32 - 1; mtime = pos (2 ^ 63 - 1) }) ≡ true
+largest_numbers : is_sound_inode (record (directory []) { mode = 4095; uid = 2 ^ 32 - 1; gid = 2 ^ 32 - 1; mtime = pos (2 ^ 63 - 1); nsec = 999999999 }) ≡ true
 unfolding inode_on_literals
 largest_numbers = refl
 
@@ -451,6 +451,10 @@ mtime_past_63_bits = refl
 mtime_before_63_bits : is_sound_inode (record (directory []) { mtime = negsuc (2 ^ 63) }) ≡ false
 unfolding inode_on_literals
 mtime_before_63_bits = refl
+
+nsec_of_a_whole_second : is_sound_inode (record (directory []) { nsec = 1000000000 }) ≡ false
+unfolding inode_on_literals
+nsec_of_a_whole_second = refl
 
 size_past_63_bits : is_sound_inode (file (2 ^ 63) (Some digest_a) []) ≡ false
 unfolding inode_on_literals

@@ -33,4 +33,5 @@ inode_eq one other =
     && one.uid == other.uid
     && one.gid == other.gid
     && int_eq one.mtime other.mtime
+    && one.nsec == other.nsec
     && attributes_eq one.attrs other.attrs

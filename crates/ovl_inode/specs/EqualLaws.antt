@@ -76,8 +76,9 @@ attributes_eq_equiv = decided attributes_eq attributes_eq-decides
 
 pub inode_eq-same : (one other : Inode) → inode_eq one other ≡ true → one ≡ other
 inode_eq-same one other e =
-    let attrs = both {a = kind_eq one.kind other.kind && one.mode == other.mode && one.uid == other.uid && one.gid == other.gid && int_eq one.mtime other.mtime} {b = attributes_eq one.attrs other.attrs} e in
-    let times = both {a = kind_eq one.kind other.kind && one.mode == other.mode && one.uid == other.uid && one.gid == other.gid} {b = int_eq one.mtime other.mtime} attrs.0 in
+    let attrs = both {a = kind_eq one.kind other.kind && one.mode == other.mode && one.uid == other.uid && one.gid == other.gid && int_eq one.mtime other.mtime && one.nsec == other.nsec} {b = attributes_eq one.attrs other.attrs} e in
+    let nsecs = both {a = kind_eq one.kind other.kind && one.mode == other.mode && one.uid == other.uid && one.gid == other.gid && int_eq one.mtime other.mtime} {b = one.nsec == other.nsec} attrs.0 in
+    let times = both {a = kind_eq one.kind other.kind && one.mode == other.mode && one.uid == other.uid && one.gid == other.gid} {b = int_eq one.mtime other.mtime} nsecs.0 in
     let gids = both {a = kind_eq one.kind other.kind && one.mode == other.mode && one.uid == other.uid} {b = one.gid == other.gid} times.0 in
     let uids = both {a = kind_eq one.kind other.kind && one.mode == other.mode} {b = one.uid == other.uid} gids.0 in
     let modes = both {a = kind_eq one.kind other.kind} {b = one.mode == other.mode} uids.0 in
@@ -87,6 +88,7 @@ inode_eq-same one other e =
       uid = (unsigned_Decides one.uid other.uid).0 uids.1 j;
       gid = (unsigned_Decides one.gid other.gid).0 gids.1 j;
       mtime = (signed_Decides one.mtime other.mtime).0 times.1 j;
+      nsec = (unsigned_Decides one.nsec other.nsec).0 nsecs.1 j;
       attrs = (attributes_eq-decides one.attrs other.attrs).0 attrs.1 j;
     })
 
@@ -97,6 +99,7 @@ inode_eq-itself inode =
     && number-itself inode.uid j
     && number-itself inode.gid j
     && (signed_Decides inode.mtime inode.mtime).1 refl j
+    && number-itself inode.nsec j
     && (attributes_eq-decides inode.attrs inode.attrs).1 refl j)
 
 pub inode_eq_equiv : IsEquivalence inode_eq

@@ -10,9 +10,12 @@ use Rattle.ovl_inode.specs.Bytes.{is_digest}
 use Rattle.ovl_inode.specs.Attributes.{are_attributes}
 use Rattle.ovl_inode.specs.Marks.{has_metacopy}
 
--- the limits of a mode, of a file's size, and of a symlink's target in bytes
+-- the limits of a mode, of the nanoseconds of a time, of a file's size, and of a symlink's target in bytes
 abbrev pub mode_limit : ℕ
 mode_limit = 4095
+
+abbrev pub nsec_limit : ℕ
+nsec_limit = 999999999
 
 abbrev pub size_limit : ℕ
 size_limit = 2 ^ 63 - 1
@@ -53,4 +56,5 @@ is_sound_inode inode =
     && is_word inode.uid
     && is_word inode.gid
     && is_seconds inode.mtime
+    && nat_le inode.nsec nsec_limit
     && are_attributes inode.attrs

@@ -15,6 +15,9 @@ use std::marker::Model;
 /// The greatest mode: permission bits, set-user-ID, set-group-ID and sticky bit.
 pub const MODE_LIMIT: u16 = 4095;
 
+/// The most nanoseconds of a time past its second.
+pub const NSEC_LIMIT: u32 = 999_999_999;
+
 /// The most bytes of a file.
 pub const SIZE_LIMIT: u64 = 9_223_372_036_854_775_807;
 
@@ -177,7 +180,7 @@ impl Eq for Kind {
     ghost laws = { kind_eq_equiv };
 }
 
-/// The inode of an entry: its kind, permission bits, owner, modification time in seconds and extended attributes.
+/// The inode of an entry: its kind, permission bits, owner, modification time and extended attributes.
 #[derive(Debug, Drop)]
 pub struct Inode {
     /// What it is.
@@ -188,8 +191,10 @@ pub struct Inode {
     pub uid: u32,
     /// The owning group's number.
     pub gid: u32,
-    /// The time of the last modification, in seconds from the start of 1970 in UTC.
+    /// The time of the last modification, in whole seconds from the start of 1970 in UTC, rounded down.
     pub mtime: i64,
+    /// The nanoseconds of that time past the second; at most [`NSEC_LIMIT`] where it is sound.
+    pub nsec: u32,
     /// The extended attributes.
     pub attrs: Attrs,
 }
@@ -212,6 +217,7 @@ impl Inode {
             uid: self.uid,
             gid: self.gid,
             mtime: self.mtime,
+            nsec: self.nsec,
             attrs,
         }
     }
@@ -228,6 +234,7 @@ impl PartialEq for Inode {
             && self.uid == other.uid
             && self.gid == other.gid
             && self.mtime == other.mtime
+            && self.nsec == other.nsec
             && self.attrs == other.attrs
     }
 }
@@ -264,9 +271,9 @@ pub fn visible(alloc: Global, inode: &Inode) -> Result<Inode, AllocError>
     Ok(inode.with(inode.kind.copy(alloc)?, inode.attrs.visible(alloc)?))
 }
 
-/// Whether a manifest can state the inode: a mode of at most 4,095; a file of at most 2^63 - 1 bytes, with a blob
-/// exactly where it has a size over 0 and no attribute `metacopy`; a symlink's target of 1 to 4,095 bytes without NUL.
-/// The types keep the other limits.
+/// Whether a manifest can state the inode: a mode of at most 4,095; at most 999,999,999 nanoseconds; a file of at most
+/// 2^63 - 1 bytes, with a blob exactly where it has a size over 0 and no attribute `metacopy`; a symlink's target of 1
+/// to 4,095 bytes without NUL. The types keep the other limits.
 pub fn sound(inode: &Inode) -> bool
     ensures { result ≡ is_sound_inode inode.now }
 {
@@ -274,6 +281,7 @@ pub fn sound(inode: &Inode) -> bool
     let (_uid, _gid, _mtime) = (inode.uid, inode.gid, inode.mtime);
     let _pairs = inode.attrs.pairs();
     inode.mode <= MODE_LIMIT
+        && inode.nsec <= NSEC_LIMIT
         && is_kind_sound(&inode.kind, inode.attrs.get(overlay::METACOPY).is_some())
 }
 

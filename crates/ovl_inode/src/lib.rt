@@ -12,7 +12,8 @@ pub use attributes::{ATTR_NAME_LIMIT, AttrFault, AttrName, Attrs, Bytes};
 pub use digests::{Digest, DigestFault};
 pub use digit_lanes::are_lower_digits;
 pub use inodes::{
-    Inode, Kind, MODE_LIMIT, SIZE_LIMIT, TARGET_LIMIT, Target, blob_of, file_size, sound, visible,
+    Inode, Kind, MODE_LIMIT, NSEC_LIMIT, SIZE_LIMIT, TARGET_LIMIT, Target, blob_of, file_size,
+    sound, visible,
 };
 pub use marks::{
     Mark, Redirect, RedirectFault, is_data, is_directory, is_whiteout, mark_of, read_redirect,

@@ -9,7 +9,7 @@ use Rattle.ovl_manifest.specs.Layers.{Entries}
 
 -- an inode of this kind, mode and attributes; the rest is 0
 abbrev pub plain_inode : Kind → ℕ → Attributes → Inode
-plain_inode kind mode attrs = record { kind = kind; mode = mode; uid = 0; gid = 0; mtime = pos 0; attrs = attrs }
+plain_inode kind mode attrs = record { kind = kind; mode = mode; uid = 0; gid = 0; mtime = pos 0; nsec = 0; attrs = attrs }
 
 -- the SHA-256 digest of the text `a`
 abbrev pub digest_a : List ℕ

@@ -1,13 +1,13 @@
 -- What is written of a layer states that layer.
 use Rattle.std.proofs.Common.{◌≡◌, ◌-◌, ◌<◌, ◌≤◌, ◌∙◌, [], ◌∷◌, ◌++◌, Bool, true, false, Some, None, Ok, refl, sym, ap, subst, append_assoc, append-nil, length, map, get_or, arith, leb-true}
-use Rattle.std.specs.Prelude.{◌&&◌, ◌||◌, not, if◌then◌else◌}
+use Rattle.std.specs.Prelude.{◌&&◌, ◌||◌, not, if◌then◌else◌, nat_le}
 use Rattle.std.specs.List.{list_all}
 use Rattle.std.specs.Ordering.{is_lt}
 use Rattle.std.specs.Cmp.Lexicographic.{bytes_decides, pointwise_decides}
 use Rattle.std.proofs.lemmas.List.{length-map}
 use Rattle.ovl_names.specs.Names.{PathName}
 use Rattle.ovl_names.specs.Order.{ascends}
-use Rattle.ovl_names.specs.Paths.{PathNames, path_cmp, path_eq, parent_path, child_path, is_root}
+use Rattle.ovl_names.specs.Paths.{PathNames, path_cmp, path_eq, path_text, parent_path, child_path, is_root, depth_limit, text_limit}
 use Rattle.ovl_names.proofs.Ascending.{both, not_true, is_lt-Less, list_all-front, ascends-across, ascends-back}
 use Rattle.ovl_inode.specs.declared.inodes.Inode.{Inode}
 use Rattle.ovl_inode.specs.Attributes.{has_escaped_name}
@@ -17,6 +17,9 @@ use Rattle.ovl_inode.specs.Sound.{is_sound_inode}
 use Rattle.ovl_manifest.specs.Manifest.{comes_after, root_fault, entry_fault, entry_after, entries_after, layer_of_entries, stated_pair, layer_of_pairs, layer_of_value}
 use Rattle.ovl_manifest.specs.declared.faults.LayerFault.TheVariants.{Root, Escaped}
 use Rattle.ovl_manifest.specs.Text.{layer_value}
+use Rattle.ovl_manifest.specs.Versions.{is_stated_by, written}
+use Rattle.ovl_manifest.specs.declared.versions.Version.{Version}
+use Rattle.ovl_manifest.specs.declared.versions.Version.TheVariants.{One, Two}
 use Rattle.ovl_manifest.proofs.OpenLemmas.{path_cmp-under}
 use Rattle.ovl_manifest.proofs.LayerLemmas.{path_order, path_cmp-same, in_parent, after-some}
 use Rattle.ovl_manifest.proofs.ReadLemmas.{taken, counted}
@@ -133,8 +136,17 @@ layer-counted layer is =
 
 -- ---- the value of a layer, and its pairs
 
-pub layer-back : (layer : Entries) → IsLayer layer → layer_of_value (layer_value layer) ≡ Ok layer
-layer-back layer is = ap layer_of_entries (entries-stated layer is.named is.limited is.sound) ∙ layer-counted layer is
+pub layer-back : (version : Version) (layer : Entries) → IsLayer layer → list_all (is_stated_by version) layer ≡ true → layer_of_value (layer_value version layer) ≡ Ok layer
+layer-back One layer is stated = ap layer_of_entries (entries-stated One layer is.named is.limited stated is.sound) ∙ layer-counted layer is
+layer-back Two layer is stated = ap layer_of_entries (entries-stated Two layer is.named is.limited stated is.sound) ∙ layer-counted layer is
+
+-- what is written can state each layer
+pub written-states : (layer : Entries) → list_all (λ entry. is_within_limits entry.0) layer ≡ true → list_all (is_stated_by written) layer ≡ true
+written-states [] limited = refl
+written-states (entry ∷ entries) limited =
+    let limits = both {a = is_within_limits entry.0} {b = list_all (λ e. is_within_limits e.0) entries} limited in
+    let own = both {a = nat_le (length entry.0) depth_limit} {b = nat_le (length (path_text entry.0)) text_limit} limits.0 in
+    rw own.0 (written-states entries limits.1)
 
 pub stated-own : (entry : Entry) → is_within_limits entry.0 ≡ true → is_sound_inode entry.1 ≡ true → stated_pair entry ≡ Some entry
 stated-own entry limited sound = ap (λ b. if b && is_sound_inode entry.1 then Some entry else None) limited ∙ ap (λ b. if b then Some entry else None) sound

@@ -4,7 +4,6 @@ use Rattle.std.specs.Prelude.{◌==◌, not, ◌&&◌, ◌||◌, nat_eq, nat_lt,
 use Rattle.std.specs.List.{list_all}
 use Rattle.std.specs.Ordering.{is_lt}
 use Rattle.std.specs.Cmp.Lexicographic.{nat_list_cmp_total}
-use Rattle.std.specs.Fmt.{digits}
 use Rattle.std.specs.Str.{IsUtf8}
 use Rattle.std.proofs.lemmas.Option.{option_and_then_some}
 use Rattle.std.specs.Str.Parse.{AllDigits, digits_value}
@@ -42,8 +41,11 @@ use Rattle.ovl_inode.specs.Hexadecimal.{is_lower_digit, bytes_of_digits, digest_
 use Rattle.ovl_inode.specs.Kinds.{kind_word}
 use Rattle.ovl_manifest.specs.Layers.{Entry, Entries, IsLayer}
 use Rattle.ovl_manifest.specs.Manifest.{read_layer}
-use Rattle.ovl_manifest.specs.Text.{attribute_members, entry_value, entry_items, layer_value, manifest_text}
-use Rattle.ovl_manifest.specs.Compact.{group_text, device_text, contents_text, blob_of_kind, device_of_kind, attribute_text, attributes_text, entries_text}
+use Rattle.ovl_manifest.specs.Versions.{version_number, is_stated_by}
+use Rattle.ovl_manifest.specs.declared.versions.Version.{Version}
+use Rattle.ovl_manifest.specs.declared.versions.Version.TheVariants.{One, Two}
+use Rattle.ovl_manifest.specs.Text.{attribute_members, entry_value, entry_items, layer_value}
+use Rattle.ovl_manifest.specs.Compact.{group_text, device_text, nsec_text, contents_text, blob_of_kind, device_of_kind, attribute_text, attributes_text, entries_text}
 use Rattle.ovl_manifest.specs.Fields.{attribute_after}
 use Rattle.ovl_manifest.proofs.ReadLemmas.{if-Some, text_read}
 use Rattle.ovl_manifest.proofs.TextLemmas.{attributes_in_turn, attribute_members-in_turn, layer-shallow}
@@ -196,30 +198,39 @@ digest-quoted digits blob is = ap quoted (digest-spelled digits blob is) ∙ ap 
 -- ---- an entry
 
 -- the pieces of an entry's text, and what follows it
-abbrev pub in_turn : Option Digest → List ℕ → Option (ℕ × ℕ) → Inode → List ℕ → List ℕ → List ℕ → List ℕ
-in_turn blob word device inode seconds path rest =
+abbrev pub in_turn : Version → Option Digest → List ℕ → Option (ℕ × ℕ) → Inode → List ℕ → List ℕ → List ℕ → List ℕ
+in_turn version blob word device inode seconds path rest =
     group_text blob inode.gid ++ (codes ",\"kind\":" ++ (quoted word ++ (device_text device ++ (codes ",\"mode\":" ++ (decimal inode.mode
-    ++ (codes ",\"mtime\":" ++ (seconds ++ (codes ",\"path\":" ++ (quoted path ++ (contents_text inode.kind ++ (codes ",\"uid\":" ++ (decimal inode.uid
-    ++ (codes ",\"xattrs\":" ++ (compact_text (object (attribute_members inode.attrs)) ++ (codes "}" ++ rest)))))))))))))))
+    ++ (codes ",\"mtime\":" ++ (seconds ++ (nsec_text version inode.nsec ++ (codes ",\"path\":" ++ (quoted path ++ (contents_text inode.kind ++ (codes ",\"uid\":" ++ (decimal inode.uid
+    ++ (codes ",\"xattrs\":" ++ (compact_text (object (attribute_members inode.attrs)) ++ (codes "}" ++ rest))))))))))))))))
 
 -- those of an entry of this kind
-abbrev pub pieces : PathNames → Inode → Kind → List ℕ → List ℕ
-pieces path inode kind rest =
-    in_turn (blob_of_kind kind) (kind_word kind) (device_of_kind kind) (record inode { kind = kind }) (number_text (of_integer inode.mtime)) (path_text path) rest
+abbrev pub pieces : Version → PathNames → Inode → Kind → List ℕ → List ℕ
+pieces version path inode kind rest =
+    in_turn version (blob_of_kind kind) (kind_word kind) (device_of_kind kind) (record inode { kind = kind }) (number_text (of_integer inode.mtime)) (path_text path) rest
 
-kind_text : (path : PathNames) (inode : Inode) (kind : Kind) (rest : List ℕ) → pieces path inode kind rest ≡ compact_text (entry_value (path, record inode { kind = kind })) ++ rest
+kind_text : (version : Version) (path : PathNames) (inode : Inode) (kind : Kind) (rest : List ℕ)
+    → pieces version path inode kind rest ≡ compact_text (entry_value version (path, record inode { kind = kind })) ++ rest
 unfolding escape_byte
-kind_text path inode Dir rest = simp append_assoc
-kind_text path inode (File size None) rest = simp append_assoc
-kind_text path inode (File size (Some blob)) rest = simp append_assoc
-kind_text path inode (Symlink target) rest = simp append_assoc
-kind_text path inode (Char major minor) rest = simp append_assoc
-kind_text path inode (Block major minor) rest = simp append_assoc
-kind_text path inode Fifo rest = simp append_assoc
-kind_text path inode Socket rest = simp append_assoc
+kind_text One path inode Dir rest = simp append_assoc
+kind_text One path inode (File size None) rest = simp append_assoc
+kind_text One path inode (File size (Some blob)) rest = simp append_assoc
+kind_text One path inode (Symlink target) rest = simp append_assoc
+kind_text One path inode (Char major minor) rest = simp append_assoc
+kind_text One path inode (Block major minor) rest = simp append_assoc
+kind_text One path inode Fifo rest = simp append_assoc
+kind_text One path inode Socket rest = simp append_assoc
+kind_text Two path inode Dir rest = simp append_assoc
+kind_text Two path inode (File size None) rest = simp append_assoc
+kind_text Two path inode (File size (Some blob)) rest = simp append_assoc
+kind_text Two path inode (Symlink target) rest = simp append_assoc
+kind_text Two path inode (Char major minor) rest = simp append_assoc
+kind_text Two path inode (Block major minor) rest = simp append_assoc
+kind_text Two path inode Fifo rest = simp append_assoc
+kind_text Two path inode Socket rest = simp append_assoc
 
-pub entry_text : (path : PathNames) (inode : Inode) (rest : List ℕ) → pieces path inode inode.kind rest ≡ compact_text (entry_value (path, inode)) ++ rest
-entry_text path inode rest = kind_text path inode inode.kind rest
+pub entry_text : (version : Version) (path : PathNames) (inode : Inode) (rest : List ℕ) → pieces version path inode inode.kind rest ≡ compact_text (entry_value version (path, inode)) ++ rest
+entry_text version path inode rest = kind_text version path inode inode.kind rest
 
 -- ---- attributes
 
@@ -270,44 +281,48 @@ attributes_object attrs up = ap (λ (ms : Members). compact_text (object ms)) (a
 
 -- ---- the list of entries
 
-pub items-entries : (before : Bool) (entries : Entries) → items_text before (entry_items entries) ≡ entries_text before entries ++ 93 ∷ []
-items-entries before [] = refl
-items-entries before (entry ∷ entries) =
-    ap (λ (t : List ℕ). comma_if before ++ (compact_text (entry_value entry) ++ t)) (items-entries true entries)
-    ∙ sym (append_assoc (comma_if before) (compact_text (entry_value entry) ++ entries_text true entries) (93 ∷ []) ∙ ap (λ (t : List ℕ). comma_if before ++ t) (append_assoc (compact_text (entry_value entry)) (entries_text true entries) (93 ∷ [])))
+pub items-entries : (version : Version) (before : Bool) (entries : Entries) → items_text before (entry_items version entries) ≡ entries_text version before entries ++ 93 ∷ []
+items-entries version before [] = refl
+items-entries version before (entry ∷ entries) =
+    ap (λ (t : List ℕ). comma_if before ++ (compact_text (entry_value version entry) ++ t)) (items-entries version true entries)
+    ∙ sym (append_assoc (comma_if before) (compact_text (entry_value version entry) ++ entries_text version true entries) (93 ∷ []) ∙ ap (λ (t : List ℕ). comma_if before ++ t) (append_assoc (compact_text (entry_value version entry)) (entries_text version true entries) (93 ∷ [])))
 
 -- one entry more, behind others
-entries-more : (entries : Entries) (entry : Entry) → 0 < length entries → entries_text false (entries ++ entry ∷ []) ≡ entries_text false entries ++ 44 ∷ compact_text (entry_value entry)
-entries-more [] entry some = absurd (omega (arith, some))
-entries-more (first ∷ entries) entry some = ap (λ (t : List ℕ). compact_text (entry_value first) ++ t) (behind entries) ∙ sym (append_assoc (compact_text (entry_value first)) (entries_text true entries) (44 ∷ compact_text (entry_value entry)))
+entries-more : (version : Version) (entries : Entries) (entry : Entry) → 0 < length entries → entries_text version false (entries ++ entry ∷ []) ≡ entries_text version false entries ++ 44 ∷ compact_text (entry_value version entry)
+entries-more version [] entry some = absurd (omega (arith, some))
+entries-more version (first ∷ entries) entry some = ap (λ (t : List ℕ). compact_text (entry_value version first) ++ t) (behind entries) ∙ sym (append_assoc (compact_text (entry_value version first)) (entries_text version true entries) (44 ∷ compact_text (entry_value version entry)))
   where
-    behind : (entries : Entries) → entries_text true (entries ++ entry ∷ []) ≡ entries_text true entries ++ 44 ∷ compact_text (entry_value entry)
-    behind [] = ap (λ (t : List ℕ). 44 ∷ t) (append-nil (compact_text (entry_value entry)))
-    behind (next ∷ entries) = ap (λ (t : List ℕ). 44 ∷ (compact_text (entry_value next) ++ t)) (behind entries) ∙ ap (λ (t : List ℕ). 44 ∷ t) (sym (append_assoc (compact_text (entry_value next)) (entries_text true entries) (44 ∷ compact_text (entry_value entry))))
+    behind : (entries : Entries) → entries_text version true (entries ++ entry ∷ []) ≡ entries_text version true entries ++ 44 ∷ compact_text (entry_value version entry)
+    behind [] = ap (λ (t : List ℕ). 44 ∷ t) (append-nil (compact_text (entry_value version entry)))
+    behind (next ∷ entries) = ap (λ (t : List ℕ). 44 ∷ (compact_text (entry_value version next) ++ t)) (behind entries) ∙ ap (λ (t : List ℕ). 44 ∷ t) (sym (append_assoc (compact_text (entry_value version next)) (entries_text version true entries) (44 ∷ compact_text (entry_value version entry))))
 
 -- the same in front of what follows
-pub entries-onto : (entries : Entries) (entry : Entry) (rest : List ℕ) → 0 < length entries → entries_text false entries ++ 44 ∷ (compact_text (entry_value entry) ++ rest) ≡ entries_text false (entries ++ entry ∷ []) ++ rest
-entries-onto entries entry rest some =
-    sym (append_assoc (entries_text false entries) (44 ∷ compact_text (entry_value entry)) rest) ∙ ap (λ (t : List ℕ). t ++ rest) (sym (entries-more entries entry some))
+pub entries-onto : (version : Version) (entries : Entries) (entry : Entry) (rest : List ℕ) → 0 < length entries → entries_text version false entries ++ 44 ∷ (compact_text (entry_value version entry) ++ rest) ≡ entries_text version false (entries ++ entry ∷ []) ++ rest
+entries-onto version entries entry rest some =
+    sym (append_assoc (entries_text version false entries) (44 ∷ compact_text (entry_value version entry)) rest) ∙ ap (λ (t : List ℕ). t ++ rest) (sym (entries-more version entries entry some))
 
 -- ---- manifests
 
-in_brackets : (layer : Entries) → compact_text (layer_value layer) ≡ codes "{\"entries\":[" ++ (items_text false (entry_items layer) ++ codes ",\"overlay-layer\":1}")
-unfolding escape_byte digits
-in_brackets layer = refl
+in_brackets : (version : Version) (layer : Entries) → compact_text (layer_value version layer)
+    ≡ codes "{\"entries\":[" ++ (items_text false (entry_items version layer) ++ (codes ",\"overlay-layer\":" ++ (decimal (version_number version) ++ codes "}")))
+unfolding escape_byte
+in_brackets version layer = refl
 
 -- the list of its entries, between what begins and what ends it
-pub layer_text : (layer : Entries) (rest : List ℕ) → codes "{\"entries\":[" ++ (items_text false (entry_items layer) ++ (codes ",\"overlay-layer\":1}" ++ rest)) ≡ compact_text (layer_value layer) ++ rest
-layer_text layer rest =
+pub layer_text : (version : Version) (layer : Entries) (rest : List ℕ)
+    → codes "{\"entries\":[" ++ (items_text false (entry_items version layer) ++ (codes ",\"overlay-layer\":" ++ (decimal (version_number version) ++ (codes "}" ++ rest)))) ≡ compact_text (layer_value version layer) ++ rest
+layer_text version layer rest =
     let begin : List ℕ = codes "{\"entries\":[" in
-    let items : List ℕ = items_text false (entry_items layer) in
-    let end : List ℕ = codes ",\"overlay-layer\":1}" in
-    sym (ap (λ (t : List ℕ). t ++ rest) (in_brackets layer) ∙ ap (λ (t : List ℕ). begin ++ t) (append_assoc items end rest))
+    let items : List ℕ = items_text false (entry_items version layer) in
+    let named : List ℕ = codes ",\"overlay-layer\":" in
+    let own : List ℕ = decimal (version_number version) in
+    sym (ap (λ (t : List ℕ). t ++ rest) (in_brackets version layer)
+    ∙ ap (λ (t : List ℕ). begin ++ t) (append_assoc items (named ++ (own ++ codes "}")) rest ∙ ap (λ (t : List ℕ). items ++ (named ++ t)) (append_assoc own (codes "}") rest)))
 
 -- the text of a layer states it, with a newline and without
-module _ (layer : Entries) (is : IsLayer layer) where
+module _ (version : Version) (layer : Entries) (is : IsLayer layer) (stated : list_all (is_stated_by version) layer ≡ true) where
   abbrev value : Data
-  value = layer_value layer
+  value = layer_value version layer
 
   abbrev text : List ℕ
   text = compact_text value
@@ -316,18 +331,18 @@ module _ (layer : Entries) (is : IsLayer layer) where
   printed = sym (print-outline value)
 
   own : tokens text ≡ json_tokens (outline value)
-  own = ap tokens printed ∙ tokens-print (json_tokens (outline value)) (ArePrintable-json_tokens (outline value) (layer_numbers layer is))
+  own = ap tokens printed ∙ tokens-print (json_tokens (outline value)) (ArePrintable-json_tokens (outline value) (layer_numbers version layer is))
 
   told : (bytes : List ℕ) → IsUtf8 bytes → tokens bytes ≡ json_tokens (outline value) → read_layer bytes ≡ Ok layer
   told bytes utf8 spelled =
-      let shallow : tree_depth (outline value) ≤ 4 = omega (arith, outline-depth value, layer-shallow layer) in
+      let shallow : tree_depth (outline value) ≤ 4 = omega (arith, outline-depth value, layer-shallow version layer) in
       let parsed : json.value max_depth (tokens bytes) ≡ Some (outline value, []) =
       ap (json.value max_depth) (spelled ∙ sym (append-nil (json_tokens (outline value)))) ∙ value-json_tokens (outline value) max_depth [] (omega (arith, shallow)) in
-      let reads : read bytes ≡ Some value = ap (λ o. option_and_then of_json (option_and_then (λ p. json.if_last p.0 p.1) o)) parsed ∙ layer_states layer is in
-      text_read bytes value utf8 reads ∙ layer-back layer is
+      let reads : read bytes ≡ Some value = ap (λ o. option_and_then of_json (option_and_then (λ p. json.if_last p.0 p.1) o)) parsed ∙ layer_states version layer is in
+      text_read bytes value utf8 reads ∙ layer-back version layer is stated
 
   pub text-alone : IsUtf8 text → read_layer text ≡ Ok layer
   text-alone utf8 = told text utf8 own
 
-  pub text-back : IsUtf8 (manifest_text layer) → read_layer (manifest_text layer) ≡ Ok layer
-  text-back utf8 = told (manifest_text layer) utf8 (tokens-ended text value own (printed ∙ ap print (sym own)) ∙ own)
+  pub text-back : IsUtf8 (text ++ codes "\n") → read_layer (text ++ codes "\n") ≡ Ok layer
+  text-back utf8 = told (text ++ codes "\n") utf8 (tokens-ended text value own (printed ∙ ap print (sym own)) ∙ own)

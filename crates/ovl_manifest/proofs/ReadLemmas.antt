@@ -22,7 +22,7 @@ use Rattle.ovl_inode.specs.Sound.{is_sound_inode}
 use Rattle.ovl_manifest.specs.Layers.{Entry, Entries, is_directory_at, is_within_limits, entry_limit}
 use Rattle.ovl_manifest.specs.Versions.{depth_of, version_of}
 use Rattle.ovl_manifest.specs.declared.versions.Version.{Version}
-use Rattle.ovl_manifest.specs.declared.versions.Version.TheVariants.{One}
+use Rattle.ovl_manifest.specs.declared.versions.Version.TheVariants.{One, Two}
 use Rattle.ovl_manifest.specs.Manifest.{comes_after, fault_after, entry_fault, entry_after, entries_after, layer_of_entries, stated_entries, layer_of_fields, layer_of_value, read_layer, IsFaultOf}
 use Rattle.ovl_manifest.specs.declared.faults.LayerFault.{LayerFault}
 use Rattle.ovl_manifest.specs.declared.faults.LayerFault.TheVariants.{NotJson, Shape, Version as WrongVersion, Count, Entry as WrongEntry, Order, NoParent, Root, Escaped, Memory}
@@ -72,8 +72,9 @@ not_past : (limit n : ℕ) → nat_lt limit n ≡ false → nat_le n limit ≡ t
 not_past limit n past = grind (arith, nat_tests)
 
 -- no version has paths deeper than those of a layer
-depth-limited : (version : Version) → depth_of version ≤ depth_limit
+pub depth-limited : (version : Version) → depth_of version ≤ depth_limit
 depth-limited One = omega arith
+depth-limited Two = omega arith
 
 within : (version : Version) (text : List ℕ) → path_fault (depth_of version) text ≡ None → is_within_limits (text_parts text) ≡ true
 within version text none =
@@ -91,8 +92,8 @@ if-Some false x y is = let bad : None ≡ Some y = is in cc
 
 pub stated : (version : Version) (value : Data) (entry : Entry) → entry_of version value ≡ Some entry → (is_sound_inode entry.1 ≡ true) × (is_within_limits entry.0 ≡ true)
 stated version value entry is =
-    option_and_then_some (λ path. option_and_then (entry_with version value path) (inode_field value)) (path_field version value) entry is (λ path of_path of_inode.
-    option_and_then_some (entry_with version value path) (inode_field value) entry of_inode (λ inode has_inode made.
+    option_and_then_some (λ path. option_and_then (entry_with version value path) (inode_field version value)) (path_field version value) entry is (λ path of_path of_inode.
+    option_and_then_some (entry_with version value path) (inode_field version value) entry of_inode (λ inode has_inode made.
     let parts = if-Some (is_entry version value inode) (path, inode) entry made in
     let sound = (both parts.0).1 in
     option_and_then_some (path_of_text version) (text_field (codes "path") value) path of_path (λ text has_text read.

@@ -12,6 +12,8 @@ use Rattle.ovl_names.proofs.Ascending.{both, is_lt-Less}
 use Rattle.ovl_inode.specs.Attributes.{Attributes, attribute_cmp}
 use Rattle.ovl_manifest.specs.Layers.{Entry, Entries}
 use Rattle.ovl_manifest.specs.Text.{whole, hexadecimal, with_kind, attribute_members, common_members, entry_value, entry_items, layer_value}
+use Rattle.ovl_manifest.specs.declared.versions.Version.{Version}
+use Rattle.ovl_manifest.specs.declared.versions.Version.TheVariants.{One, Two}
 use Rattle.ovl_inode.specs.declared.inodes.Kind.{Kind}
 use Rattle.ovl_inode.specs.declared.inodes.Kind.TheVariants.{Dir, File, Symlink, Char, Block, Fifo, Socket}
 
@@ -67,12 +69,13 @@ kind-shallow (Block major minor) ms low = put-shallow 1 (codes "minor") (whole m
 kind-shallow Fifo ms low = low
 kind-shallow Socket ms low = low
 
-entry-shallow : (entry : Entry) → depth (entry_value entry) ≤ 2
-entry-shallow entry = omega (arith, kind-shallow entry.1.kind (common_members entry) (omega (arith, attributes-shallow entry.1.attrs)))
+entry-shallow : (version : Version) (entry : Entry) → depth (entry_value version entry) ≤ 2
+entry-shallow One entry = omega (arith, kind-shallow entry.1.kind (common_members One entry) (omega (arith, attributes-shallow entry.1.attrs)))
+entry-shallow Two entry = omega (arith, kind-shallow entry.1.kind (common_members Two entry) (omega (arith, attributes-shallow entry.1.attrs)))
 
-entries-shallow : (entries : Entries) → items_depth (entry_items entries) ≤ 2
-entries-shallow [] = omega arith
-entries-shallow (entry ∷ entries) = omega (arith, entry-shallow entry, entries-shallow entries)
+entries-shallow : (version : Version) (entries : Entries) → items_depth (entry_items version entries) ≤ 2
+entries-shallow version [] = omega arith
+entries-shallow version (entry ∷ entries) = omega (arith, entry-shallow version entry, entries-shallow version entries)
 
-pub layer-shallow : (layer : Entries) → depth (layer_value layer) ≤ 4
-layer-shallow layer = omega (arith, entries-shallow layer)
+pub layer-shallow : (version : Version) (layer : Entries) → depth (layer_value version layer) ≤ 4
+layer-shallow version layer = omega (arith, entries-shallow version layer)

@@ -15,6 +15,7 @@ use Rattle.ovl_inode.specs.declared.inodes.Kind.TheVariants.{Dir, File, Symlink,
 use Rattle.ovl_inode.specs.Attributes.{Attributes}
 use Rattle.ovl_inode.specs.Kinds.{kind_word}
 use Rattle.ovl_manifest.specs.Layers.{Entries}
+use Rattle.ovl_manifest.specs.Versions.{written}
 use Rattle.ovl_manifest.specs.Text.{attribute_members, entry_value, entry_items}
 use Rattle.ovl_manifest.specs.Tokens.{value_tokens, entries_tokens, number_member, text_member, attribute_tokens, blob_tokens, device_tokens, contents_tokens}
 use Rattle.ovl_manifest.proofs.TextLemmas.{attributes_in_turn}
@@ -39,13 +40,13 @@ abbrev pub members_in_turn : PathNames → Inode → List ℕ → List Token
 members_in_turn path inode seconds =
     begin_object ∷ (blob_tokens inode.kind ++ (number_member (codes "gid") inode.gid ++ (text_member (codes "kind") (kind_word inode.kind)
     ++ (device_tokens inode.kind ++ (number_member (codes "mode") inode.mode ++ (Token.key (codes "mtime") ∷ Token.number seconds
-    ∷ (text_member (codes "path") (path_text path) ++ (contents_tokens inode.kind ++ (number_member (codes "uid") inode.uid
-    ++ (Token.key (codes "xattrs") ∷ (value_tokens (object (attribute_members inode.attrs)) ++ end_object ∷ [])))))))))))
+    ∷ (number_member (codes "mtime-nsec") inode.nsec ++ (text_member (codes "path") (path_text path) ++ (contents_tokens inode.kind ++ (number_member (codes "uid") inode.uid
+    ++ (Token.key (codes "xattrs") ∷ (value_tokens (object (attribute_members inode.attrs)) ++ end_object ∷ []))))))))))))
 
-pub entry_in_turn : (path : PathNames) (inode : Inode) → members_in_turn path inode (number_text (of_integer inode.mtime)) ≡ value_tokens (entry_value (path, inode))
+pub entry_in_turn : (path : PathNames) (inode : Inode) → members_in_turn path inode (number_text (of_integer inode.mtime)) ≡ value_tokens (entry_value written (path, inode))
 entry_in_turn path inode = by inode.kind
   where
-    by : (kind : Kind) → members_in_turn path (record inode { kind = kind }) (number_text (of_integer inode.mtime)) ≡ value_tokens (entry_value (path, record inode { kind = kind }))
+    by : (kind : Kind) → members_in_turn path (record inode { kind = kind }) (number_text (of_integer inode.mtime)) ≡ value_tokens (entry_value written (path, record inode { kind = kind }))
     by Dir = refl
     by (File size None) = refl
     by (File size (Some blob)) = refl
@@ -57,13 +58,13 @@ entry_in_turn path inode = by inode.kind
 
 -- ---- the list of entries, and the layer
 
-entries-end : (entries : Entries) → items_tokens (items_outline (entry_items entries)) ≡ entries_tokens entries ++ end_array ∷ []
+entries-end : (entries : Entries) → items_tokens (items_outline (entry_items written entries)) ≡ entries_tokens entries ++ end_array ∷ []
 entries-end [] = refl
 entries-end (entry ∷ entries) =
-    ap (λ ts. value_tokens (entry_value entry) ++ ts) (entries-end entries)
-    ∙ sym (append_assoc (value_tokens (entry_value entry)) (entries_tokens entries) (end_array ∷ []))
+    ap (λ ts. value_tokens (entry_value written entry) ++ ts) (entries-end entries)
+    ∙ sym (append_assoc (value_tokens (entry_value written entry)) (entries_tokens entries) (end_array ∷ []))
 
-pub entries_array : (entries : Entries) → value_tokens (array (entry_items entries)) ≡ begin_array ∷ (entries_tokens entries ++ end_array ∷ [])
+pub entries_array : (entries : Entries) → value_tokens (array (entry_items written entries)) ≡ begin_array ∷ (entries_tokens entries ++ end_array ∷ [])
 entries_array entries = ap (λ ts. begin_array ∷ ts) (entries-end entries)
 
 -- ---- what is written after what

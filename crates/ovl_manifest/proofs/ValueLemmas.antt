@@ -1,6 +1,6 @@
 -- The values that are written state what they were written of.
 use Rattle.std.proofs.Common.{◌≡◌, ℕ, zero, suc, ◌-◌, ◌/◌, ◌%◌, ◌^◌, ◌<◌, ◌∙◌, ℤ, pos, negsuc, List, [], ◌∷◌, ◌++◌, Bool, true, false, Option, Some, None, refl, sym, ap, subst, append_assoc, append-nil, length, length-append, arith, ltb-true, le-leb, eqb-true, eq-eqb, cond}
-use Rattle.std.specs.Prelude.{◌||◌, ◌==◌, not, nat_eq, nat_lt, nat_le, is_some, is_none, if◌then◌else◌, slice_index, option_and_then}
+use Rattle.std.specs.Prelude.{◌||◌, ◌==◌, not, nat_eq, nat_lt, nat_le, is_some, is_none, if◌then◌else◌, slice_index, option_and_then, codes}
 use Rattle.std.specs.List.{list_all, list_any, starts_with, onto_first}
 use Rattle.std.specs.Ordering.{is_lt}
 use Rattle.std.specs.Result.{result_ok}
@@ -8,7 +8,8 @@ use Rattle.std.specs.Cmp.Lexicographic.{nat_list_cmp_total}
 use Rattle.std.proofs.lemmas.Bool.Decides.{nat_tests}
 use Rattle.hex.specs.Hex.{lower_digits, encode_with, encode_lower, decode_of, IsBytes}
 use Rattle.hex.proofs.HexLemmas.{decode_of-encode_lower, length-encode_with}
-use Rattle.serde_json.specs.Find.{as_i64, of_integer}
+use Rattle.serde_json.specs.Data.{Data}
+use Rattle.serde_json.specs.Find.{get, as_number, as_u64, as_i64, of_integer}
 use Rattle.ovl_names.specs.Names.{name_fault, is_name, slash, dot, dot_dot, name_eq, name_limit}
 use Rattle.ovl_names.specs.declared.names.NameFault.{NameFault}
 use Rattle.ovl_names.specs.declared.names.NameFault.TheVariants.{Empty, TooLong, Dot, Slash, Nul}
@@ -21,11 +22,13 @@ use Rattle.ovl_names.proofs.NameLemmas.{text_parts-rest}
 use Rattle.ovl_inode.specs.Bytes.{are_bytes, is_digest}
 use Rattle.ovl_inode.specs.Attributes.{Attributes, attribute_cmp, is_attribute, is_attribute_name, are_attributes, with_attribute}
 use Rattle.ovl_inode.specs.Hexadecimal.{is_lower_digit, bytes_of_digits, digest_of_text}
-use Rattle.ovl_inode.specs.Sound.{is_word, is_seconds}
+use Rattle.ovl_inode.specs.Sound.{is_word, is_seconds, nsec_limit}
 use Rattle.ovl_manifest.specs.Layers.{is_within_limits}
-use Rattle.ovl_manifest.specs.Versions.{written}
-use Rattle.ovl_manifest.specs.Fields.{up_to, path_of_text, attribute_after, attributes_after}
-use Rattle.ovl_manifest.specs.Text.{hexadecimal, attribute_members}
+use Rattle.ovl_manifest.specs.Versions.{depth_of, states_nsec}
+use Rattle.ovl_manifest.specs.declared.versions.Version.{Version}
+use Rattle.ovl_manifest.specs.declared.versions.Version.TheVariants.{One, Two}
+use Rattle.ovl_manifest.specs.Fields.{up_to, nsec_field, path_of_text, attribute_after, attributes_after}
+use Rattle.ovl_manifest.specs.Text.{whole, hexadecimal, attribute_members}
 use Rattle.ovl_manifest.specs.TextPaths.{slashed}
 use Rattle.ovl_manifest.proofs.FieldLemmas.{attributes_after-put}
 use Rattle.ovl_manifest.proofs.TextLemmas.{attributes_in_turn, attribute_members-in_turn, no_or, all-at}
@@ -41,6 +44,15 @@ word-within n is = le-leb n (2 ^ 32 - 1) (omega (arith, ltb-true n (2 ^ 32) is))
 pub seconds-back : (z : ℤ) → is_seconds z ≡ true → as_i64 (of_integer z) ≡ Some z
 seconds-back (pos n) is = rw is refl
 seconds-back (negsuc n) is = refl
+
+-- nanoseconds, which a version states or means to be 0
+abbrev pub nsec_member : Version → ℕ → Option Data
+nsec_member One nsec = None
+nsec_member Two nsec = Some (whole nsec)
+
+pub nsec-back : (version : Version) (value : Data) (nsec : ℕ) → get (codes "mtime-nsec") value ≡ nsec_member version nsec → states_nsec version nsec ≡ true → nat_le nsec nsec_limit ≡ true → nsec_field version value ≡ Some nsec
+nsec-back One value nsec has stated small = ap (λ (n : ℕ). Some n) (sym (eqb-true nsec 0 stated))
+nsec-back Two value nsec has stated small = ap (λ (o : Option Data). option_and_then (up_to nsec_limit) (option_and_then as_u64 (option_and_then as_number o))) has ∙ up_to-within nsec_limit nsec small
 
 -- ---- hexadecimal digits
 
@@ -148,17 +160,17 @@ no_fault a b c d e ea eb ec ed ee = rw (ea, eb, ec, ed, ee) refl
 within-not_past : (limit n : ℕ) → nat_le n limit ≡ true → nat_lt limit n ≡ false
 within-not_past limit n within = grind (arith, nat_tests)
 
-pub path-back : (path : PathNames) → has_names path ≡ true → is_within_limits path ≡ true → path_of_text written (path_text path) ≡ Some path
-path-back path named limited =
+pub path-back : (version : Version) (path : PathNames) → has_names path ≡ true → is_within_limits path ≡ true → nat_le (length path) (depth_of version) ≡ true → path_of_text version (path_text path) ≡ Some path
+path-back version path named limited deep =
     let text : List ℕ = path_text path in
     let parts = parts-back path named in
     let limits = both {a = nat_le (length path) depth_limit} {b = nat_le (length text) text_limit} limited in
-    let none : path_fault depth_limit text ≡ None =
-    no_fault (starts_with nat_eq text (slash ∷ [])) (list_any (λ part. length part == 0) (text_parts text)) (list_any (λ part. is_some (name_fault part)) (text_parts text)) (nat_lt depth_limit (length (text_parts text))) (nat_lt text_limit (length text))
+    let none : path_fault (depth_of version) text ≡ None =
+    no_fault (starts_with nat_eq text (slash ∷ [])) (list_any (λ part. length part == 0) (text_parts text)) (list_any (λ part. is_some (name_fault part)) (text_parts text)) (nat_lt (depth_of version) (length (text_parts text))) (nat_lt text_limit (length text))
     (starts path)
     (ap (list_any (λ part. length part == 0)) parts ∙ no_empty path named)
     (ap (list_any (λ part. is_some (name_fault part))) parts ∙ no_bad path named)
-    (ap (λ (ps : PathNames). nat_lt depth_limit (length ps)) parts ∙ within-not_past depth_limit (length path) limits.0)
+    (ap (λ (ps : PathNames). nat_lt (depth_of version) (length ps)) parts ∙ within-not_past (depth_of version) (length path) deep)
     (within-not_past text_limit (length text) limits.1) in
     ap (λ (o : Option PathFault). if is_none o then Some (text_parts text) else None) none ∙ ap (λ (p : PathNames). Some p) parts
 

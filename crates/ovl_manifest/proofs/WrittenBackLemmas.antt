@@ -1,6 +1,6 @@
 -- The tokens that are written of a layer's value are read as that value.
-use Rattle.std.proofs.Common.{◌≡◌, ◌∙◌, ℕ, ◌≤◌, ◌<◌, ◌^◌, ℤ, pos, negsuc, suc, max, List, [], ◌∷◌, ◌++◌, Bool, true, Some, None, refl, sym, ap, ap₂, arith, append_assoc, append-nil, decimal, ltb-true, leb-true}
-use Rattle.std.specs.Prelude.{option_and_then, nat_le}
+use Rattle.std.proofs.Common.{◌≡◌, ◌∙◌, ℕ, ◌≤◌, ◌<◌, ◌^◌, ℤ, pos, negsuc, suc, max, List, [], ◌∷◌, ◌++◌, Bool, true, Option, Some, None, refl, sym, ap, ap₂, arith, append_assoc, append-nil, decimal, ltb-true, leb-true}
+use Rattle.std.specs.Prelude.{⊤, option_and_then, nat_le, ◌&&◌, codes}
 use Rattle.std.specs.Option.{option_map}
 use Rattle.std.specs.List.{list_all}
 use Rattle.std.specs.Ordering.{is_lt, nat_cmp, match_ordering}
@@ -17,18 +17,23 @@ use Rattle.serde_json.specs.Find.{of_integer}
 use Rattle.serde_json.specs.Read.{number_of, of_json, of_items, of_members}
 use Rattle.serde_json.specs.Written.{outline, items_outline, members_outline, number_text}
 use Rattle.serde_json.proofs.Numbers.{number_of-decimal, number_of-negative}
-use Rattle.ovl_names.specs.Paths.{PathNames}
+use Rattle.ovl_names.specs.Paths.{PathNames, path_text}
 use Rattle.ovl_names.specs.Order.{ascends}
 use Rattle.ovl_names.proofs.Ascending.{both, reversed}
+use Rattle.ovl_inode.specs.declared.digests.Digest.{Digest}
 use Rattle.ovl_inode.specs.declared.inodes.Inode.{Inode}
 use Rattle.ovl_inode.specs.declared.inodes.Kind.{Kind}
 use Rattle.ovl_inode.specs.declared.inodes.Kind.TheVariants.{Dir, File, Symlink, Char, Block, Fifo, Socket}
-use Rattle.ovl_inode.specs.Attributes.{Attributes, attribute_cmp}
+use Rattle.ovl_inode.specs.Attributes.{Attributes, attribute_cmp, are_attributes}
+use Rattle.ovl_inode.specs.Kinds.{kind_word}
 use Rattle.ovl_inode.specs.Marks.{has_metacopy}
-use Rattle.ovl_inode.specs.Sound.{is_sound_inode, is_word, is_seconds, has_sound_blob, mode_limit, size_limit}
+use Rattle.ovl_inode.specs.Sound.{is_sound_inode, is_sound_kind, is_word, is_seconds, has_sound_blob, mode_limit, nsec_limit, size_limit}
 use Rattle.ovl_inode.proofs.SoundLaws.{sound_values}
 use Rattle.ovl_manifest.specs.Layers.{Entries, IsLayer}
-use Rattle.ovl_manifest.specs.Text.{hexadecimal, attribute_members, entry_value, entry_items, layer_value}
+use Rattle.ovl_manifest.specs.Versions.{version_number}
+use Rattle.ovl_manifest.specs.declared.versions.Version.{Version}
+use Rattle.ovl_manifest.specs.declared.versions.Version.TheVariants.{One, Two}
+use Rattle.ovl_manifest.specs.Text.{whole, hexadecimal, with_nsec, with_numbers, with_kind, attribute_members, common_members, entry_value, entry_items, layer_value}
 use Rattle.ovl_manifest.proofs.TextLemmas.{attributes_in_turn, attribute_members-in_turn}
 
 -- ---- numbers
@@ -36,37 +41,55 @@ use Rattle.ovl_manifest.proofs.TextLemmas.{attributes_in_turn, attribute_members
 natural_back : (n limit : ℕ) → n ≤ limit → limit < 2 ^ 64 → number_of (decimal n) ≡ Some (unsigned n)
 natural_back n limit within small = number_of-decimal n (omega (arith, within, small))
 
-word_back : (n : ℕ) → is_word n ≡ true → number_of (decimal n) ≡ Some (unsigned n)
-word_back n is = number_of-decimal n (omega (arith, ltb-true n (2 ^ 32) is))
-
 seconds_back : (z : ℤ) → is_seconds z ≡ true → number_of (number_text (of_integer z)) ≡ Some (of_integer z)
 seconds_back (pos n) is = number_of-decimal n (omega (arith, ltb-true n (2 ^ 63) is))
 seconds_back (negsuc n) is = number_of-negative n (ltb-true n (2 ^ 63) is)
-
-word_number : (n : ℕ) → is_word n ≡ true → IsNumber (decimal n)
-word_number n is = IsNumber-decimal n (omega (arith, ltb-true n (2 ^ 32) is))
-
-size_number : (n : ℕ) → nat_le n size_limit ≡ true → IsNumber (decimal n)
-size_number n small = IsNumber-decimal n (omega (arith, leb-true n size_limit small))
 
 seconds_number : (z : ℤ) → is_seconds z ≡ true → IsNumber (number_text (of_integer z))
 seconds_number (pos n) is = IsNumber-decimal n (omega (arith, ltb-true n (2 ^ 63) is))
 seconds_number (negsuc n) is = IsNumber-signed_decimal (negsuc n) (ltb-true n (2 ^ 63) is)
 
--- ---- attributes
+-- ---- members
 
-put-numbers : (k : List ℕ) (d : Data) (ms : Members) → HasNumbers (outline d) → MembersHaveNumbers (members_outline ms) → MembersHaveNumbers (members_outline (put k d ms))
-put-numbers k d no_members own others = (own, others)
-put-numbers k d (member l e ms) own others = by (slice_cmp nat_cmp k l) (put-numbers k d ms own others.1)
+-- a value is read as itself, and its numbers are numbers of JSON
+abbrev IsBack : Data → Type 0
+IsBack d = (of_json (outline d) ≡ Some d) × HasNumbers (outline d)
+
+abbrev AreBack : Members → Type 0
+AreBack no_members = ⊤
+AreBack (member k d ms) = IsBack d × AreBack ms
+
+put-back : (k : List ℕ) (d : Data) (ms : Members) → IsBack d → AreBack ms → AreBack (put k d ms)
+put-back k d no_members own others = (own, others)
+put-back k d (member l e ms) own others = by (slice_cmp nat_cmp k l) (put-back k d ms own others.1)
   where
-    by : (o : Ordering) → MembersHaveNumbers (members_outline (put k d ms)) → MembersHaveNumbers (members_outline (match_ordering o (member k d (member l e ms)) (member l d ms) (member l e (put k d ms))))
+    by : (o : Ordering) → AreBack (put k d ms) → AreBack (match_ordering o (member k d (member l e ms)) (member l d ms) (member l e (put k d ms)))
     by Less later = (own, others)
     by Equal later = (own, others.1)
     by Greater later = (others.0, later)
 
+-- members put one after another behind others
+abbrev put_all : Members → Members → Members
+put_all no_members found = found
+put_all (member k d ms) found = put_all ms (put k d found)
+
+members-read : (ms found : Members) → AreBack ms → of_members (members_outline ms) found ≡ Some (put_all ms found)
+members-read no_members found all = refl
+members-read (member k d ms) found all =
+    ap (option_and_then (λ own. of_members (members_outline ms) (put k own found))) all.0.0 ∙ members-read ms (put k d found) all.1
+
+members-numbers : (ms : Members) → AreBack ms → MembersHaveNumbers (members_outline ms)
+members-numbers no_members all = tt
+members-numbers (member k d ms) all = (all.0.1, members-numbers ms all.1)
+
+-- ---- attributes
+
 attribute_numbers : (attrs : Attributes) → MembersHaveNumbers (members_outline (attribute_members attrs))
-attribute_numbers [] = tt
-attribute_numbers (attr ∷ attrs) = put-numbers attr.0 (hexadecimal attr.1) (attribute_members attrs) tt (attribute_numbers attrs)
+attribute_numbers attrs = members-numbers (attribute_members attrs) (strings attrs)
+  where
+    strings : (attrs : Attributes) → AreBack (attribute_members attrs)
+    strings [] = tt
+    strings (attr ∷ attrs) = put-back attr.0 (hexadecimal attr.1) (attribute_members attrs) (refl, tt) (strings attrs)
 
 all-behind : {X : Type 0} (test : X → Bool) (done : List X) (x : X) (left : List X) → list_all test (done ++ x ∷ left) ≡ true → test x ≡ true
 all-behind test [] x left all = (both {a = test x} {b = list_all test left} all).0
@@ -96,111 +119,115 @@ attributes_back attrs up =
 
 -- ---- entries
 
-module _ (path : PathNames) (inode : Inode) where
-  abbrev of_kind : Kind → Inode
-  of_kind kind = record inode { kind = kind }
+whole-back : (n limit : ℕ) → n ≤ limit → limit < 2 ^ 64 → IsBack (whole n)
+whole-back n limit within small = (ap (option_map number) (natural_back n limit within small), IsNumber-decimal n (omega (arith, within, small)))
 
-  module _ (kind : Kind) (sound : is_sound_inode (of_kind kind) ≡ true) where
-    mode_read : number_of (decimal inode.mode) ≡ Some (unsigned inode.mode)
-    mode_read = natural_back inode.mode mode_limit (leb-true inode.mode mode_limit (sound_values (of_kind kind) sound).mode) (omega arith)
+word-back : (n : ℕ) → is_word n ≡ true → IsBack (whole n)
+word-back n is = whole-back n (2 ^ 32) (omega (arith, ltb-true n (2 ^ 32) is)) (omega arith)
 
-    uid_read : number_of (decimal inode.uid) ≡ Some (unsigned inode.uid)
-    uid_read = word_back inode.uid (sound_values (of_kind kind) sound).uid
+seconds-back : (z : ℤ) → is_seconds z ≡ true → IsBack (number (of_integer z))
+seconds-back z is = (ap (option_map number) (seconds_back z is), seconds_number z is)
 
-    gid_read : number_of (decimal inode.gid) ≡ Some (unsigned inode.gid)
-    gid_read = word_back inode.gid (sound_values (of_kind kind) sound).gid
+attributes-back : (attrs : Attributes) → are_attributes attrs ≡ true → IsBack (object (attribute_members attrs))
+attributes-back attrs are = (ap (option_map object) (attributes_back attrs (both are).1), attribute_numbers attrs)
 
-    mtime_read : number_of (number_text (of_integer inode.mtime)) ≡ Some (of_integer inode.mtime)
-    mtime_read = seconds_back inode.mtime (sound_values (of_kind kind) sound).mtime
+nsec-back : (version : Version) (nsec : ℕ) (ms : Members) → nat_le nsec nsec_limit ≡ true → AreBack ms → AreBack (with_nsec version nsec ms)
+nsec-back One nsec ms small others = others
+nsec-back Two nsec ms small others = put-back (codes "mtime-nsec") (whole nsec) ms (whole-back nsec nsec_limit (leb-true nsec nsec_limit small) (omega arith)) others
 
-    attrs_read : of_members (members_outline (attribute_members inode.attrs)) no_members ≡ Some (attribute_members inode.attrs)
-    attrs_read = attributes_back inode.attrs (both (sound_values (of_kind kind) sound).attrs).1
+common-back : (version : Version) (path : PathNames) (inode : Inode) → is_sound_inode inode ≡ true → AreBack (common_members version (path, inode))
+common-back version path inode sound =
+    let own = sound_values inode sound in
+    let gid : Members = put (codes "gid") (whole inode.gid) no_members in
+    let kind : Members = put (codes "kind") (string (kind_word inode.kind)) gid in
+    let mode : Members = put (codes "mode") (whole inode.mode) kind in
+    let mtime : Members = put (codes "mtime") (number (of_integer inode.mtime)) mode in
+    let nsec : Members = with_nsec version inode.nsec mtime in
+    let placed : Members = put (codes "path") (string (path_text path)) nsec in
+    let uid : Members = put (codes "uid") (whole inode.uid) placed in
+    put-back (codes "xattrs") (object (attribute_members inode.attrs)) uid (attributes-back inode.attrs own.attrs)
+    (put-back (codes "uid") (whole inode.uid) placed (word-back inode.uid own.uid)
+    (put-back (codes "path") (string (path_text path)) nsec (refl, tt)
+    (nsec-back version inode.nsec mtime own.nsec
+    (put-back (codes "mtime") (number (of_integer inode.mtime)) mode (seconds-back inode.mtime own.mtime)
+    (put-back (codes "mode") (whole inode.mode) kind (whole-back inode.mode mode_limit (leb-true inode.mode mode_limit own.mode) (omega arith))
+    (put-back (codes "kind") (string (kind_word inode.kind)) gid (refl, tt)
+    (put-back (codes "gid") (whole inode.gid) no_members (word-back inode.gid own.gid) tt)))))))
 
-  kind_back : (kind : Kind) → is_sound_inode (of_kind kind) ≡ true → of_json (outline (entry_value (path, of_kind kind))) ≡ Some (entry_value (path, of_kind kind))
-  kind_back Dir sound = rw (gid_read Dir sound, mode_read Dir sound, mtime_read Dir sound, uid_read Dir sound, attrs_read Dir sound) refl
-  kind_back Fifo sound = rw (gid_read Fifo sound, mode_read Fifo sound, mtime_read Fifo sound, uid_read Fifo sound, attrs_read Fifo sound) refl
-  kind_back Socket sound = rw (gid_read Socket sound, mode_read Socket sound, mtime_read Socket sound, uid_read Socket sound, attrs_read Socket sound) refl
-  kind_back (Symlink target) sound =
-      let kind = Symlink target in
-      rw (gid_read kind sound, mode_read kind sound, mtime_read kind sound, uid_read kind sound, attrs_read kind sound) refl
-  kind_back (Char major minor) sound =
-      let kind = Char major minor in
-      let words = both {a = is_word major} {b = is_word minor} (sound_values (of_kind kind) sound).kind in
-      rw (gid_read kind sound, word_back major words.0, word_back minor words.1, mode_read kind sound, mtime_read kind sound, uid_read kind sound, attrs_read kind sound) refl
-  kind_back (Block major minor) sound =
-      let kind = Block major minor in
-      let words = both {a = is_word major} {b = is_word minor} (sound_values (of_kind kind) sound).kind in
-      rw (gid_read kind sound, word_back major words.0, word_back minor words.1, mode_read kind sound, mtime_read kind sound, uid_read kind sound, attrs_read kind sound) refl
-  kind_back (File size None) sound =
-      let kind = File size None in
-      let small = both {a = nat_le size size_limit} {b = has_sound_blob size None (has_metacopy (of_kind kind))} (sound_values (of_kind kind) sound).kind in
-      rw (gid_read kind sound, mode_read kind sound, mtime_read kind sound, natural_back size size_limit (leb-true size size_limit small.0) (omega arith), uid_read kind sound, attrs_read kind sound) refl
-  kind_back (File size (Some blob)) sound =
-      let kind = File size (Some blob) in
-      let small = both {a = nat_le size size_limit} {b = has_sound_blob size (Some blob) (has_metacopy (of_kind kind))} (sound_values (of_kind kind) sound).kind in
-      rw (gid_read kind sound, mode_read kind sound, mtime_read kind sound, natural_back size size_limit (leb-true size size_limit small.0) (omega arith), uid_read kind sound, attrs_read kind sound) refl
+numbers-back : (major minor : ℕ) (ms : Members) → (is_word major && is_word minor) ≡ true → AreBack ms → AreBack (with_numbers major minor ms)
+numbers-back major minor ms are others =
+    let words = both {a = is_word major} {b = is_word minor} are in
+    put-back (codes "minor") (whole minor) (put (codes "major") (whole major) ms) (word-back minor words.1) (put-back (codes "major") (whole major) ms (word-back major words.0) others)
 
-  -- its numbers are numbers of JSON
-  module _ (kind : Kind) (sound : is_sound_inode (of_kind kind) ≡ true) where
-    mode_number : IsNumber (decimal inode.mode)
-    mode_number = IsNumber-decimal inode.mode (omega (arith, leb-true inode.mode mode_limit (sound_values (of_kind kind) sound).mode))
+size-back : (size : ℕ) (blob : Option Digest) (metacopy : Bool) (ms : Members) → is_sound_kind (File size blob) metacopy ≡ true → AreBack ms → AreBack (put (codes "size") (whole size) ms)
+size-back size blob metacopy ms sound others =
+    let small = both {a = nat_le size size_limit} {b = has_sound_blob size blob metacopy} sound in
+    put-back (codes "size") (whole size) ms (whole-back size size_limit (leb-true size size_limit small.0) (omega arith)) others
 
-    uid_number : IsNumber (decimal inode.uid)
-    uid_number = word_number inode.uid (sound_values (of_kind kind) sound).uid
+kind-back : (kind : Kind) (metacopy : Bool) (ms : Members) → is_sound_kind kind metacopy ≡ true → AreBack ms → AreBack (with_kind kind ms)
+kind-back Dir metacopy ms sound others = others
+kind-back Fifo metacopy ms sound others = others
+kind-back Socket metacopy ms sound others = others
+kind-back (Symlink target) metacopy ms sound others = put-back (codes "target") (string target) ms (refl, tt) others
+kind-back (Char major minor) metacopy ms sound others = numbers-back major minor ms sound others
+kind-back (Block major minor) metacopy ms sound others = numbers-back major minor ms sound others
+kind-back (File size None) metacopy ms sound others = size-back size None metacopy ms sound others
+kind-back (File size (Some blob)) metacopy ms sound others =
+    put-back (codes "blob") (hexadecimal blob) (put (codes "size") (whole size) ms) (refl, tt) (size-back size (Some blob) metacopy ms sound others)
 
-    gid_number : IsNumber (decimal inode.gid)
-    gid_number = word_number inode.gid (sound_values (of_kind kind) sound).gid
+-- the members of an entry stand in the order in which they are read
+in_order : (version : Version) (path : PathNames) (inode : Inode) (kind : Kind)
+    → put_all (with_kind kind (common_members version (path, record inode { kind = kind }))) no_members ≡ with_kind kind (common_members version (path, record inode { kind = kind }))
+in_order One path inode Dir = refl
+in_order One path inode (File size None) = refl
+in_order One path inode (File size (Some blob)) = refl
+in_order One path inode (Symlink target) = refl
+in_order One path inode (Char major minor) = refl
+in_order One path inode (Block major minor) = refl
+in_order One path inode Fifo = refl
+in_order One path inode Socket = refl
+in_order Two path inode Dir = refl
+in_order Two path inode (File size None) = refl
+in_order Two path inode (File size (Some blob)) = refl
+in_order Two path inode (Symlink target) = refl
+in_order Two path inode (Char major minor) = refl
+in_order Two path inode (Block major minor) = refl
+in_order Two path inode Fifo = refl
+in_order Two path inode Socket = refl
 
-    mtime_number : IsNumber (number_text (of_integer inode.mtime))
-    mtime_number = seconds_number inode.mtime (sound_values (of_kind kind) sound).mtime
+entry-back : (version : Version) (path : PathNames) (inode : Inode) → is_sound_inode inode ≡ true → IsBack (entry_value version (path, inode))
+entry-back version path inode sound =
+    let ms : Members = with_kind inode.kind (common_members version (path, inode)) in
+    let all : AreBack ms = kind-back inode.kind (has_metacopy inode) (common_members version (path, inode)) (sound_values inode sound).kind (common-back version path inode sound) in
+    (ap (option_map object) (members-read ms no_members all ∙ ap (λ (own : Members). Some own) (in_order version path inode inode.kind)), members-numbers ms all)
 
-  kind_numbers : (kind : Kind) → is_sound_inode (of_kind kind) ≡ true → HasNumbers (outline (entry_value (path, of_kind kind)))
-  kind_numbers Dir sound = (gid_number Dir sound, (tt, (mode_number Dir sound, (mtime_number Dir sound, (tt, (uid_number Dir sound, (attribute_numbers inode.attrs, tt)))))))
-  kind_numbers Fifo sound = (gid_number Fifo sound, (tt, (mode_number Fifo sound, (mtime_number Fifo sound, (tt, (uid_number Fifo sound, (attribute_numbers inode.attrs, tt)))))))
-  kind_numbers Socket sound = (gid_number Socket sound, (tt, (mode_number Socket sound, (mtime_number Socket sound, (tt, (uid_number Socket sound, (attribute_numbers inode.attrs, tt)))))))
-  kind_numbers (Symlink target) sound =
-      let kind = Symlink target in
-      (gid_number kind sound, (tt, (mode_number kind sound, (mtime_number kind sound, (tt, (tt, (uid_number kind sound, (attribute_numbers inode.attrs, tt))))))))
-  kind_numbers (Char major minor) sound =
-      let kind = Char major minor in
-      let words = both {a = is_word major} {b = is_word minor} (sound_values (of_kind kind) sound).kind in
-      (gid_number kind sound, (tt, (word_number major words.0, (word_number minor words.1, (mode_number kind sound, (mtime_number kind sound, (tt, (uid_number kind sound, (attribute_numbers inode.attrs, tt)))))))))
-  kind_numbers (Block major minor) sound =
-      let kind = Block major minor in
-      let words = both {a = is_word major} {b = is_word minor} (sound_values (of_kind kind) sound).kind in
-      (gid_number kind sound, (tt, (word_number major words.0, (word_number minor words.1, (mode_number kind sound, (mtime_number kind sound, (tt, (uid_number kind sound, (attribute_numbers inode.attrs, tt)))))))))
-  kind_numbers (File size None) sound =
-      let kind = File size None in
-      let small = both {a = nat_le size size_limit} {b = has_sound_blob size None (has_metacopy (of_kind kind))} (sound_values (of_kind kind) sound).kind in
-      (gid_number kind sound, (tt, (mode_number kind sound, (mtime_number kind sound, (tt, (size_number size small.0, (uid_number kind sound, (attribute_numbers inode.attrs, tt))))))))
-  kind_numbers (File size (Some blob)) sound =
-      let kind = File size (Some blob) in
-      let small = both {a = nat_le size size_limit} {b = has_sound_blob size (Some blob) (has_metacopy (of_kind kind))} (sound_values (of_kind kind) sound).kind in
-      (tt, (gid_number kind sound, (tt, (mode_number kind sound, (mtime_number kind sound, (tt, (size_number size small.0, (uid_number kind sound, (attribute_numbers inode.attrs, tt)))))))))
-
-entries_back : (entries : Entries) → list_all (λ entry. is_sound_inode entry.1) entries ≡ true → of_items (items_outline (entry_items entries)) ≡ Some (entry_items entries)
-entries_back [] sound = refl
-entries_back (entry ∷ entries) sound =
+entries_back : (version : Version) (entries : Entries) → list_all (λ entry. is_sound_inode entry.1) entries ≡ true → of_items (items_outline (entry_items version entries)) ≡ Some (entry_items version entries)
+entries_back version [] sound = refl
+entries_back version (entry ∷ entries) sound =
     let parts = both {a = is_sound_inode entry.1} {b = list_all (λ entry. is_sound_inode entry.1) entries} sound in
-    let own = kind_back entry.0 entry.1 entry.1.kind parts.0 in
-    ap (option_and_then (λ d. option_map (item d) (of_items (items_outline (entry_items entries))))) own
-    ∙ ap (option_map (item (entry_value entry))) (entries_back entries parts.1)
+    ap (option_and_then (λ d. option_map (item d) (of_items (items_outline (entry_items version entries))))) (entry-back version entry.0 entry.1 parts.0).0
+    ∙ ap (option_map (item (entry_value version entry))) (entries_back version entries parts.1)
 
-entries_numbers : (entries : Entries) → list_all (λ entry. is_sound_inode entry.1) entries ≡ true → ItemsHaveNumbers (items_outline (entry_items entries))
-entries_numbers [] sound = tt
-entries_numbers (entry ∷ entries) sound =
+entries_numbers : (version : Version) (entries : Entries) → list_all (λ entry. is_sound_inode entry.1) entries ≡ true → ItemsHaveNumbers (items_outline (entry_items version entries))
+entries_numbers version [] sound = tt
+entries_numbers version (entry ∷ entries) sound =
     let parts = both {a = is_sound_inode entry.1} {b = list_all (λ entry. is_sound_inode entry.1) entries} sound in
-    (kind_numbers entry.0 entry.1 entry.1.kind parts.0, entries_numbers entries parts.1)
+    ((entry-back version entry.0 entry.1 parts.0).1, entries_numbers version entries parts.1)
 
 -- ---- layers
 
-pub layer_numbers : (layer : Entries) → IsLayer layer → HasNumbers (outline (layer_value layer))
-layer_numbers layer is = (entries_numbers layer is.sound, (IsNumber-decimal 1 (omega arith), tt))
+number-small : (version : Version) → version_number version ≤ 2
+number-small One = omega arith
+number-small Two = omega arith
 
-pub layer_states : (layer : Entries) → IsLayer layer → of_json (outline (layer_value layer)) ≡ Some (layer_value layer)
-layer_states layer is =
-    let one : number_of (decimal 1) ≡ Some (unsigned 1) = number_of-decimal 1 (omega arith) in
-    rw (entries_back layer is.sound, one) refl
+version-back : (version : Version) → IsBack (whole (version_number version))
+version-back version = whole-back (version_number version) 2 (number-small version) (omega arith)
+
+pub layer_numbers : (version : Version) (layer : Entries) → IsLayer layer → HasNumbers (outline (layer_value version layer))
+layer_numbers version layer is = (entries_numbers version layer is.sound, ((version-back version).1, tt))
+
+pub layer_states : (version : Version) (layer : Entries) → IsLayer layer → of_json (outline (layer_value version layer)) ≡ Some (layer_value version layer)
+layer_states version layer is = rw (entries_back version layer is.sound, (version-back version).0) refl
 
 mutual
   pub outline-depth : (d : Data) → tree.depth (outline d) ≡ depth d

@@ -10,6 +10,8 @@ use Rattle.ovl_inode.specs.Attributes.{Attributes}
 use Rattle.ovl_inode.specs.Kinds.{kind_word}
 use Rattle.ovl_manifest.specs.Layers.{Entries}
 use Rattle.ovl_manifest.specs.Text.{entry_value}
+use Rattle.ovl_manifest.specs.declared.versions.Version.{Version}
+use Rattle.ovl_manifest.specs.declared.versions.Version.TheVariants.{One, Two}
 
 -- how an entry begins: its blob, if it has one, and its group
 abbrev pub group_text : Option Digest → ℕ → List ℕ
@@ -20,6 +22,11 @@ group_text (Some blob) gid = codes "{\"blob\":" ++ (quoted (encode_lower blob) +
 abbrev pub device_text : Option (ℕ × ℕ) → List ℕ
 device_text None = []
 device_text (Some numbers) = codes ",\"major\":" ++ (decimal numbers.0 ++ (codes ",\"minor\":" ++ decimal numbers.1))
+
+-- the member that a version has between `mtime` and `path`
+abbrev pub nsec_text : Version → ℕ → List ℕ
+nsec_text One nsec = []
+nsec_text Two nsec = codes ",\"mtime-nsec\":" ++ decimal nsec
 
 -- the members that a kind has between `path` and `uid`
 abbrev pub contents_text : Kind → List ℕ
@@ -57,6 +64,6 @@ pub record TakesAttribute (text : List ℕ) (attrs : Attributes) (rest : List �
   pub behind : more ≡ attrs ++ attr ∷ []
 
 -- the same of entries
-abbrev pub entries_text : Bool → Entries → List ℕ
-entries_text before [] = []
-entries_text before (entry ∷ entries) = comma_if before ++ (compact_text (entry_value entry) ++ entries_text true entries)
+abbrev pub entries_text : Version → Bool → Entries → List ℕ
+entries_text version before [] = []
+entries_text version before (entry ∷ entries) = comma_if before ++ (compact_text (entry_value version entry) ++ entries_text version true entries)

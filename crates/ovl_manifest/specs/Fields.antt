@@ -11,8 +11,9 @@ use Rattle.ovl_inode.specs.declared.inodes.Kind.{Kind}
 use Rattle.ovl_inode.specs.declared.inodes.Kind.TheVariants.{Dir, File, Symlink, Char, Block, Fifo, Socket}
 use Rattle.ovl_inode.specs.Attributes.{Attributes, is_attribute_name, with_attribute}
 use Rattle.ovl_inode.specs.Hexadecimal.{bytes_of_digits, digest_of_text}
-use Rattle.ovl_inode.specs.Sound.{is_sound_inode, mode_limit, size_limit}
+use Rattle.ovl_inode.specs.Sound.{is_sound_inode, mode_limit, nsec_limit, size_limit}
 use Rattle.ovl_manifest.specs.declared.versions.Version.{Version}
+use Rattle.ovl_manifest.specs.declared.versions.Version.TheVariants.{One, Two}
 use Rattle.ovl_manifest.specs.Layers.{Entry}
 use Rattle.ovl_manifest.specs.Versions.{depth_of, common_members}
 
@@ -42,6 +43,11 @@ natural_field name limit value = option_and_then (up_to limit) (option_and_then 
 -- whole seconds of 64 bits with a sign
 abbrev pub seconds_field : List ℕ → Data → Option ℤ
 seconds_field name value = option_and_then as_i64 (option_and_then as_number (get name value))
+
+-- nanoseconds past a second: 0 in the first version, which has no member for them
+abbrev pub nsec_field : Version → Data → Option ℕ
+nsec_field One value = Some 0
+nsec_field Two value = natural_field (codes "mtime-nsec") nsec_limit value
 
 -- the path that a text spells
 abbrev pub path_of_text : Version → List ℕ → Option PathNames
@@ -113,18 +119,19 @@ abbrev pub kind_members : Version → Kind → List (List ℕ)
 kind_members version kind = own_members kind ++ common_members version
 
 -- the inode that an object states
-abbrev pub inode_with : Kind → Attributes → Data → Option Inode
-inode_with kind attrs value =
-    option_and_then (λ mode. option_and_then (λ uid. option_and_then (λ gid. option_map (λ mtime.
-    record { kind = kind; mode = mode; uid = uid; gid = gid; mtime = mtime; attrs = attrs })
+abbrev pub inode_with : Version → Kind → Attributes → Data → Option Inode
+inode_with version kind attrs value =
+    option_and_then (λ mode. option_and_then (λ uid. option_and_then (λ gid. option_and_then (λ mtime. option_map (λ nsec.
+    record { kind = kind; mode = mode; uid = uid; gid = gid; mtime = mtime; nsec = nsec; attrs = attrs })
+    (nsec_field version value))
     (seconds_field (codes "mtime") value))
     (natural_field (codes "gid") (2 ^ 32 - 1) value))
     (natural_field (codes "uid") (2 ^ 32 - 1) value))
     (natural_field (codes "mode") mode_limit value)
 
-abbrev pub inode_field : Data → Option Inode
-inode_field value =
-    option_and_then (λ kind. option_and_then (λ attrs. inode_with kind attrs value) (attributes_field value)) (kind_field value)
+abbrev pub inode_field : Version → Data → Option Inode
+inode_field version value =
+    option_and_then (λ kind. option_and_then (λ attrs. inode_with version kind attrs value) (attributes_field value)) (kind_field value)
 
 -- an entry's object has exactly the members of its kind, and its inode is sound
 abbrev pub is_entry : Version → Data → Inode → Bool
@@ -136,4 +143,4 @@ entry_with version value path inode = if is_entry version value inode then Some 
 -- the entry that a value states
 abbrev pub entry_of : Version → Data → Option Entry
 entry_of version value =
-    option_and_then (λ path. option_and_then (entry_with version value path) (inode_field value)) (path_field version value)
+    option_and_then (λ path. option_and_then (entry_with version value path) (inode_field version value)) (path_field version value)

@@ -10,6 +10,7 @@ use Rattle.ovl_inode.specs.declared.inodes.Kind.{Kind}
 use Rattle.ovl_inode.specs.declared.inodes.Kind.TheVariants.{File, Symlink, Char, Block}
 use Rattle.ovl_manifest.specs.Layers.{Entries}
 use Rattle.ovl_manifest.specs.Text.{entry_value}
+use Rattle.ovl_manifest.specs.Versions.{written}
 
 -- the tokens of a value
 abbrev pub value_tokens : Data → List Token
@@ -17,7 +18,7 @@ value_tokens value = json_tokens (outline value)
 
 -- those of entries, one after another
 abbrev pub entries_tokens : Entries → List Token
-entries_tokens entries = flat_map (λ entry. value_tokens (entry_value entry)) entries
+entries_tokens entries = flat_map (λ entry. value_tokens (entry_value written entry)) entries
 
 -- a member that is a whole number, or a text
 abbrev pub number_member : List ℕ → ℕ → List Token

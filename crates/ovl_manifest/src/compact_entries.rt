@@ -7,21 +7,25 @@ ghost use Rattle.ovl_names.specs.Paths.{PathNames, path_text};
 ghost use Rattle.ovl_inode.specs.Attributes.{all_before};
 ghost use Rattle.ovl_inode.specs.Sound.{is_sound_inode};
 ghost use Rattle.ovl_manifest.specs.Text.{attribute_members, entry_value};
-ghost use Rattle.ovl_manifest.specs.Compact.{group_text, device_text, contents_text, IsKindOf, TakesAttribute};
+ghost use Rattle.ovl_manifest.specs.Versions.{states_nsec};
+ghost use Rattle.ovl_manifest.specs.Compact.{group_text, device_text, nsec_text, contents_text, IsKindOf, TakesAttribute};
 
 use crate::compact_texts::Rest;
 use crate::fields::put_digits;
-use ovl_inode::{Attrs, Digest, Inode, Kind, MODE_LIMIT, SIZE_LIMIT, Target, sound};
+use crate::versions::Version;
+use ovl_inode::{Attrs, Digest, Inode, Kind, MODE_LIMIT, NSEC_LIMIT, SIZE_LIMIT, Target, sound};
 use std::alloc::Global;
 use std::borrow::CowStr;
 
-/// The text of the path and the inode of the entry that comes next.
+/// The text of the path and the inode of the entry that comes next, in a version.
 pub(crate) fn read_entry<'a>(
     alloc: Global,
+    version: Version,
     rest: &mut Rest<'a>,
 ) -> Option<(CowStr<'a, Global>, Inode)>
     ensures text { IfSome result (λ entry. (path : PathNames) → path_text path ≡ cow_str_bytes entry.0
-        → rest.old ≡ compact_text (entry_value (path, entry.1)) ++ rest.new) }
+        → rest.old ≡ compact_text (entry_value version (path, entry.1)) ++ rest.new) }
+    ensures stated { IfSome result (λ entry. states_nsec version entry.1.nsec ≡ true) }
     ensures sound { IfSome result (λ entry. is_sound_inode entry.1 ≡ true) }
 {
     let group = read_group(rest)?;
@@ -33,6 +37,7 @@ pub(crate) fn read_entry<'a>(
     let mode = rest.take_natural(MODE_LIMIT as u64)?;
     rest.take(",\"mtime\":")?;
     let mtime = rest.take_integer()?;
+    let nsec = read_nsec(version, rest)?;
     rest.take(",\"path\":")?;
     let path = rest.take_text(alloc)?;
     let kind = read_kind(alloc, rest, word, blob, device)?;
@@ -47,6 +52,7 @@ pub(crate) fn read_entry<'a>(
         uid: uid as u32,
         gid,
         mtime,
+        nsec,
         attrs,
     };
     if sound(&inode) {
@@ -69,6 +75,21 @@ fn read_group(rest: &mut Rest<'_>) -> Option<(Option<Digest>, u32)>
     rest.take(",\"gid\":")?;
     let gid = rest.take_natural(u32::MAX as u64)?;
     Some((Some(digest), gid as u32))
+}
+
+// The nanoseconds past the second, where the version has them.
+fn read_nsec(version: Version, rest: &mut Rest<'_>) -> Option<u32>
+    ensures text { IfSome result (λ nsec. rest.old ≡ nsec_text version nsec ++ rest.new) }
+    ensures stated { IfSome result (λ nsec. states_nsec version nsec ≡ true) }
+{
+    match version {
+        Version::One => Some(0),
+        Version::Two => {
+            rest.take(",\"mtime-nsec\":")?;
+            let nsec = rest.take_natural(u64::from(NSEC_LIMIT))?;
+            Some(nsec as u32)
+        }
+    }
 }
 
 // The two numbers of a device, and none of another kind.

@@ -1,11 +1,14 @@
 //! Manifests as they are written, read by their texts without a value in between.
-ghost use Rattle.std.specs.Prelude.{◌≡◌, ◌<◌, Ok, IfSome, true, [], ◌∷◌, ◌++◌, false, length};
+ghost use Rattle.std.specs.Prelude.{◌≡◌, ◌<◌, ◌≤◌, Ok, IfSome, true, [], ◌∷◌, ◌++◌, false, length};
+ghost use Rattle.std.specs.List.{list_all};
+ghost use Rattle.std.specs.Str.{IsUtf8};
 ghost use Rattle.serde_json.specs.Written.{compact_text, items_text};
 ghost use Rattle.ovl_names.specs.Paths.{path_text};
 ghost use Rattle.ovl_inode.specs.Sound.{is_sound_inode};
 ghost use Rattle.ovl_manifest.specs.Layers.{IsLayer, entry_limit};
 ghost use Rattle.ovl_manifest.specs.Manifest.{read_layer as layer_stated};
 ghost use Rattle.ovl_manifest.specs.Text.{entry_items, layer_value};
+ghost use Rattle.ovl_manifest.specs.Versions.{depth_of, is_stated_by};
 ghost use Rattle.ovl_manifest.specs.TextPaths.{slashed};
 ghost use Rattle.ovl_manifest.specs.SheetDrafts.{drafted, IsSheetDraft};
 
@@ -15,44 +18,64 @@ use crate::entries::{ENTRY_LIMIT, has_escaped_name};
 use crate::sheet_drafts::SheetDraft;
 use crate::sheets::Sheet;
 use crate::text_paths::place_beside;
+use crate::versions::Version;
 use ovl_inode::{Inode, is_directory};
-use ovl_names::{DEPTH_LIMIT, Name, TEXT_LIMIT};
+use ovl_names::{Name, TEXT_LIMIT};
 use simdutf8::compat::from_utf8;
 use std::alloc::Global;
 use std::borrow::CowStr;
 
 /// The sheet of the layer whose manifest these bytes are, byte for byte as [`write_layer`](crate::write_layer) writes
-/// it; the newline at its end may be missing. Gives none of manifests that are written in another way, of any fault and
-/// for want of memory.
+/// it, or wrote it in the first version; the newline at its end may be missing. Gives none of manifests that are
+/// written in another way, of any fault and for want of memory.
 pub(crate) fn read_compact(alloc: Global, bytes: &[u8]) -> Option<Sheet>
     ensures { IfSome result (λ sheet. layer_stated bytes.now ≡ Ok sheet) }
 {
     let Ok(text) = from_utf8(bytes) else {
         return None;
     };
+    // The first entry tells one version from the other.
+    match read_written(alloc, Version::Two, text) {
+        Some(sheet) => Some(sheet),
+        None => read_written(alloc, Version::One, text),
+    }
+}
+
+// The sheet of the layer whose manifest of this version the text is.
+fn read_written(alloc: Global, version: Version, text: &str) -> Option<Sheet>
+    requires { IsUtf8 text.now }
+    ensures { IfSome result (λ sheet. layer_stated text.now ≡ Ok sheet) }
+{
     let mut rest = Rest::of(text);
-    let sheet = read_manifest(alloc, &mut rest)?;
+    let sheet = read_manifest(alloc, version, &mut rest)?;
     let _newline = rest.take("\n");
     if rest.is_empty() { Some(sheet) } else { None }
 }
 
-// The sheet of the layer whose manifest comes next.
-fn read_manifest(alloc: Global, rest: &mut Rest<'_>) -> Option<Sheet>
-    ensures text { IfSome result (λ sheet. rest.old ≡ compact_text (layer_value sheet) ++ rest.new) }
+// The sheet of the layer whose manifest of this version comes next.
+fn read_manifest(alloc: Global, version: Version, rest: &mut Rest<'_>) -> Option<Sheet>
+    ensures text { IfSome result (λ sheet. rest.old ≡ compact_text (layer_value version sheet) ++ rest.new) }
     ensures layer { IfSome result (λ sheet. IsLayer sheet) }
+    ensures stated { IfSome result (λ sheet. list_all (is_stated_by version) sheet ≡ true) }
 {
     rest.take("{\"entries\":[")?;
-    let sheet = read_entries(alloc, rest)?;
-    rest.take(",\"overlay-layer\":1}")?;
+    let sheet = read_entries(alloc, version, rest)?;
+    rest.take(",\"overlay-layer\":")?;
+    let number = rest.take_natural(u64::MAX)?;
+    if number != version.number() {
+        return None;
+    }
+    rest.take("}")?;
     Some(sheet)
 }
 
 // The sheet of at least one entry and at most `ENTRY_LIMIT`.
-fn read_entries(alloc: Global, rest: &mut Rest<'_>) -> Option<Sheet>
-    ensures text { IfSome result (λ sheet. rest.old ≡ items_text false (entry_items sheet) ++ rest.new) }
+fn read_entries(alloc: Global, version: Version, rest: &mut Rest<'_>) -> Option<Sheet>
+    ensures text { IfSome result (λ sheet. rest.old ≡ items_text false (entry_items version sheet) ++ rest.new) }
     ensures layer { IfSome result (λ sheet. IsLayer sheet) }
+    ensures stated { IfSome result (λ sheet. list_all (is_stated_by version) sheet ≡ true) }
 {
-    let (text, root) = read_entry(alloc, rest)?;
+    let (text, root) = read_entry(alloc, version, rest)?;
     let mut draft = start(alloc, text.as_str(), root)?;
     let mut last = CowStr::Borrowed("");
     let mut number = 1;
@@ -60,8 +83,15 @@ fn read_entries(alloc: Global, rest: &mut Rest<'_>) -> Option<Sheet>
         if number == ENTRY_LIMIT {
             return None;
         }
-        let (path, inode) = read_entry(alloc, rest)?;
-        add_beside(alloc, &mut draft, last.as_str(), path.as_str(), inode)?;
+        let (path, inode) = read_entry(alloc, version, rest)?;
+        add_beside(
+            alloc,
+            version,
+            &mut draft,
+            last.as_str(),
+            path.as_str(),
+            inode,
+        )?;
         last = path;
         number += 1;
     }
@@ -90,9 +120,11 @@ fn start(alloc: Global, text: &str, inode: Inode) -> Option<SheetDraft>
 }
 
 // Puts the entry of a sound inode, whose path a text spells, into the draft, whose last path has the text `last`; the
-// text of the root is empty here. Gives none of a path or an inode that no layer has there, and for want of memory.
+// text of the root is empty here. Gives none of a path or an inode that no layer of the version has there, and for want
+// of memory.
 fn add_beside(
     alloc: Global,
+    version: Version,
     draft: &mut SheetDraft,
     last: &str,
     text: &str,
@@ -103,12 +135,13 @@ fn add_beside(
     requires last { slashed draft.old.last ≡ last.now }
     requires sound { is_sound_inode inode ≡ true }
     ensures draft { IfSome result (λ _. IsSheetDraft draft.new) }
+    ensures depth { IfSome result (λ _. length draft.new.last ≤ depth_of version) }
     ensures last { IfSome result (λ _. slashed draft.new.last ≡ text.now) }
     ensures path { IfSome result (λ _. path_text draft.new.last ≡ text.now) }
     ensures entries { IfSome result (λ _. drafted draft.new ≡ drafted draft.old ++ (draft.new.last, inode) ∷ []) }
 {
     let (depth, name) = place_beside(last, draft.last().len(), text)?;
-    if depth >= DEPTH_LIMIT || text.len() > TEXT_LIMIT {
+    if depth >= version.depth() || text.len() > TEXT_LIMIT {
         return None;
     }
     if has_escaped_name(&inode.attrs) {

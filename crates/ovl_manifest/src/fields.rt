@@ -5,12 +5,13 @@ ghost use Rattle.std.specs.Str.{bytes_eq};
 ghost use Rattle.serde_json.specs.Data.{string};
 ghost use Rattle.serde_json.specs.Find.{get};
 ghost use Rattle.serde_json.specs.View.{view, members_view};
-ghost use Rattle.ovl_manifest.specs.Fields.{has_exactly, own_members as kind_own_members, text_field, natural_field, seconds_field, path_field, attribute_after, attributes_after, attributes_field, blob_field, file_kind, kind_named, kind_field, inode_with, inode_field, entry_of};
+ghost use Rattle.ovl_manifest.specs.Fields.{has_exactly, own_members as kind_own_members, text_field, natural_field, seconds_field, nsec_field, path_field, attribute_after, attributes_after, attributes_field, blob_field, file_kind, kind_named, kind_field, inode_with, inode_field, entry_of};
 
 use crate::versions::Version;
 use hex::FromHexError;
 use ovl_inode::{
-    AttrFault, Attrs, Digest, Inode, Kind, MODE_LIMIT, SIZE_LIMIT, Target, are_lower_digits, sound,
+    AttrFault, Attrs, Digest, Inode, Kind, MODE_LIMIT, NSEC_LIMIT, SIZE_LIMIT, Target,
+    are_lower_digits, sound,
 };
 use ovl_names::{Path, PathFault};
 use serde_json::{Map, Value};
@@ -27,7 +28,7 @@ pub(crate) fn read_entry(
     let Some(path) = read_path(alloc, version, value)? else {
         return Ok(None);
     };
-    let Some(inode) = read_inode(alloc, value)? else {
+    let Some(inode) = read_inode(alloc, version, value)? else {
         return Ok(None);
     };
     let own = own_members(&inode.kind);
@@ -52,8 +53,8 @@ fn read_path(alloc: Global, version: Version, value: &Value) -> Result<Option<Pa
     }
 }
 
-fn read_inode(alloc: Global, value: &Value) -> Result<Option<Inode>, AllocError>
-    ensures { IfOk result (λ inode. inode ≡ inode_field (view value.now)) }
+fn read_inode(alloc: Global, version: Version, value: &Value) -> Result<Option<Inode>, AllocError>
+    ensures { IfOk result (λ inode. inode ≡ inode_field version (view value.now)) }
 {
     let Some(kind) = read_kind(alloc, value)? else {
         return Ok(None);
@@ -61,23 +62,25 @@ fn read_inode(alloc: Global, value: &Value) -> Result<Option<Inode>, AllocError>
     let Some(attrs) = read_attributes(alloc, value)? else {
         return Ok(None);
     };
-    Ok(inode_of(kind, attrs, value))
+    Ok(inode_of(version, kind, attrs, value))
 }
 
 // The inode of a kind and attributes, with the numbers that the object states.
-fn inode_of(kind: Kind, attrs: Attrs, value: &Value) -> Option<Inode>
-    ensures { result ≡ inode_with kind attrs (view value.now) }
+fn inode_of(version: Version, kind: Kind, attrs: Attrs, value: &Value) -> Option<Inode>
+    ensures { result ≡ inode_with version kind attrs (view value.now) }
 {
     let mode = natural(value, "mode", MODE_LIMIT as u64)?;
     let uid = natural(value, "uid", u32::MAX as u64)?;
     let gid = natural(value, "gid", u32::MAX as u64)?;
     let mtime = seconds(value, "mtime")?;
+    let nsec = nanoseconds(version, value)?;
     Some(Inode {
         kind,
         mode: mode as u16,
         uid: uid as u32,
         gid: gid as u32,
         mtime,
+        nsec,
         attrs,
     })
 }
@@ -177,6 +180,19 @@ fn seconds(value: &Value, name: &str) -> Option<i64>
     ensures { result ≡ seconds_field name.now (view value.now) }
 {
     value.get(name)?.as_i64()
+}
+
+// Nanoseconds past the second; none are stated in the first version.
+fn nanoseconds(version: Version, value: &Value) -> Option<u32>
+    ensures { result ≡ nsec_field version (view value.now) }
+{
+    match version {
+        Version::One => Some(0),
+        Version::Two => {
+            let number = natural(value, "mtime-nsec", u64::from(NSEC_LIMIT))?;
+            Some(number as u32)
+        }
+    }
 }
 
 fn read_attributes(alloc: Global, value: &Value) -> Result<Option<Attrs>, AllocError>

@@ -1,14 +1,19 @@
 //! The versions of a manifest's form.
 ghost use Rattle.std.specs.Prelude.{◌≡◌, map};
-ghost use Rattle.ovl_manifest.specs.Versions.{version_of, depth_of, common_members as members_of};
+ghost use Rattle.ovl_manifest.specs.Versions.{version_of, version_number, depth_of, common_members as members_of};
 
 use ovl_names::DEPTH_LIMIT;
+
+// The most names of a path in the first version.
+const FIRST_DEPTH: usize = 64;
 
 /// A version of a manifest's form: what entries of all kinds state, and how deep a path may be.
 #[derive(Clone, Copy)]
 pub(crate) enum Version {
-    /// The first.
+    /// The first: times in whole seconds.
     One,
+    /// The one that is written: times with nanoseconds, and deeper paths.
+    Two,
 }
 
 impl Version {
@@ -18,7 +23,18 @@ impl Version {
     {
         match number {
             1 => Some(Version::One),
+            2 => Some(Version::Two),
             _ => None,
+        }
+    }
+
+    /// The number of the version.
+    pub(crate) fn number(self) -> u64
+        ensures { result ≡ version_number self }
+    {
+        match self {
+            Version::One => 1,
+            Version::Two => 2,
         }
     }
 
@@ -27,7 +43,8 @@ impl Version {
         ensures { result ≡ depth_of self }
     {
         match self {
-            Version::One => DEPTH_LIMIT,
+            Version::One => FIRST_DEPTH,
+            Version::Two => DEPTH_LIMIT,
         }
     }
 
@@ -37,6 +54,16 @@ impl Version {
     {
         match self {
             Version::One => &["gid", "kind", "mode", "mtime", "path", "uid", "xattrs"],
+            Version::Two => &[
+                "gid",
+                "kind",
+                "mode",
+                "mtime",
+                "mtime-nsec",
+                "path",
+                "uid",
+                "xattrs",
+            ],
         }
     }
 }

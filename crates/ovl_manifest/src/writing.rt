@@ -5,10 +5,12 @@ ghost use Rattle.ovl_names.specs.Names.{slash};
 ghost use Rattle.ovl_manifest.specs.LayerTrees.{entries_from, placed};
 ghost use Rattle.ovl_manifest.specs.Manifest.{read_layer};
 ghost use Rattle.ovl_manifest.specs.Text.{manifest_text, layer_value, entry_items};
+ghost use Rattle.ovl_manifest.specs.Versions.{written};
 ghost use Rattle.ovl_manifest.specs.TextPaths.{slashed};
 ghost use Rattle.ovl_manifest.specs.Tokens.{value_tokens, entries_tokens};
 
 use crate::trees::{Layer, Node};
+use crate::versions::Version;
 use crate::written_entries::put_entry;
 use json::Writer;
 use std::alloc::{AllocError, Global};
@@ -29,20 +31,20 @@ pub fn write_layer(alloc: Global, layer: &Layer) -> Result<Vec<u8>, AllocError>
 }
 
 fn put_layer(alloc: Global, out: &mut Writer, layer: &Layer) -> Result<(), AllocError>
-    ensures tokens { OnOk result (out.new.tokens ≡ out.old.tokens ++ value_tokens (layer_value layer.now)) }
+    ensures tokens { OnOk result (out.new.tokens ≡ out.old.tokens ++ value_tokens (layer_value written layer.now)) }
     ensures before { out.new.before ≡ out.old.before }
 {
     out.begin_object()?;
     out.key("entries")?;
     put_entries(alloc, out, layer)?;
     out.key("overlay-layer")?;
-    out.u64(1)?;
+    out.u64(Version::Two.number())?;
     out.end_object()
 }
 
 // The list of all entries, in path order.
 fn put_entries(alloc: Global, out: &mut Writer, layer: &Layer) -> Result<(), AllocError>
-    ensures tokens { OnOk result (out.new.tokens ≡ out.old.tokens ++ value_tokens (array (entry_items layer.now))) }
+    ensures tokens { OnOk result (out.new.tokens ≡ out.old.tokens ++ value_tokens (array (entry_items written layer.now))) }
     ensures before { out.new.before ≡ out.old.before }
 {
     out.begin_array()?;

@@ -4,6 +4,7 @@ ghost use Rattle.serde_json.specs.Data.{object};
 ghost use Rattle.hex.specs.Hex.{encode_lower};
 ghost use Rattle.ovl_names.specs.Paths.{PathNames, path_text as text_of_path};
 ghost use Rattle.ovl_manifest.specs.Text.{entry_value, attribute_members};
+ghost use Rattle.ovl_manifest.specs.Versions.{written};
 ghost use Rattle.ovl_manifest.specs.Tokens.{value_tokens, number_member, text_member, blob_tokens, device_tokens, contents_tokens};
 
 use json::Writer;
@@ -18,7 +19,7 @@ pub(crate) fn put_entry(
     inode: &Inode,
 ) -> Result<(), AllocError>
     ensures tokens { OnOk result ((own : PathNames) → path.now ≡ text_of_path own
-        → out.new.tokens ≡ out.old.tokens ++ value_tokens (entry_value (own, inode.now))) }
+        → out.new.tokens ≡ out.old.tokens ++ value_tokens (entry_value written (own, inode.now))) }
     ensures before { out.new.before ≡ out.old.before }
 {
     out.begin_object()?;
@@ -29,6 +30,7 @@ pub(crate) fn put_entry(
     put_number(out, "mode", u64::from(inode.mode))?;
     out.key("mtime")?;
     out.i64(inode.mtime)?;
+    put_number(out, "mtime-nsec", u64::from(inode.nsec))?;
     put_text(out, "path", path)?;
     put_contents(out, &inode.kind)?;
     put_number(out, "uid", u64::from(inode.uid))?;

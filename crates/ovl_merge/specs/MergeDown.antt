@@ -77,7 +77,7 @@ merged_inode m path inode =
 
 -- a whiteout as a merge writes it; overlayfs.rst, "whiteouts and opaque directories"
 abbrev pub new_whiteout : Inode
-new_whiteout = record { kind = Char 0 0; mode = 0; uid = 0; gid = 0; mtime = pos 0; attrs = [] }
+new_whiteout = record { kind = Char 0 0; mode = 0; uid = 0; gid = 0; mtime = pos 0; nsec = 0; attrs = [] }
 
 -- a hidden path in a shown directory, at whose natural place the rest shows something
 abbrev pub needs_whiteout : Merge → PathNames → Bool

@@ -74,6 +74,7 @@ fn new_whiteout(alloc: Global) -> Inode
         uid: 0,
         gid: 0,
         mtime: 0,
+        nsec: 0,
         attrs: Attrs::new(alloc),
     }
 }

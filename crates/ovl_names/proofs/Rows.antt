@@ -129,11 +129,11 @@ part_of_256_bytes : path_fault depth_limit (slash ∷ replicate 256 97) ≡ Some
 unfolding names_on_literals
 part_of_256_bytes = refl
 
-as_deep_as_allowed : path_fault depth_limit (path_text (replicate depth_limit (codes "d"))) ≡ None
+as_deep_as_allowed : path_fault depth_limit (path_text (replicate 128 (codes "d"))) ≡ None
 unfolding names_on_literals
 as_deep_as_allowed = refl
 
-one_name_too_deep : path_fault depth_limit (path_text (replicate (depth_limit + 1) (codes "d"))) ≡ Some TooDeep
+one_name_too_deep : path_fault depth_limit (path_text (replicate 129 (codes "d"))) ≡ Some TooDeep
 unfolding names_on_literals
 one_name_too_deep = refl
 

@@ -62,7 +62,7 @@ text_parts text = if bytes_eq text (slash ∷ []) then [] else parts_between (dr
 
 -- the limits of a path that a manifest states: names, and bytes of its text
 abbrev pub depth_limit : ℕ
-depth_limit = 64
+depth_limit = 128
 
 abbrev pub text_limit : ℕ
 text_limit = 4095

@@ -16,7 +16,7 @@ use std::marker::Model;
 use thiserror::Error;
 
 /// The most names of a path that is read from text.
-pub const DEPTH_LIMIT: usize = 64;
+pub const DEPTH_LIMIT: usize = 128;
 
 // The names that a path being read has room for at once; more take their room as they come.
 const USUAL_DEPTH: usize = 8;

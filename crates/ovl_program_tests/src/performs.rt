@@ -11,18 +11,18 @@ use std::test::Fail;
 
 // A root alone, and a root with a file of size 3 whose contents are those of the blob of `abc`.
 const ROOT: &[u8] =
-    b"{\"entries\":[{\"gid\":0,\"kind\":\"dir\",\"mode\":493,\"mtime\":0,\"path\":\"/\",\"uid\":0,\"xattrs\":{}}],\"overlay-layer\":1}";
+    b"{\"entries\":[{\"gid\":0,\"kind\":\"dir\",\"mode\":493,\"mtime\":0,\"mtime-nsec\":0,\"path\":\"/\",\"uid\":0,\"xattrs\":{}}],\"overlay-layer\":2}";
 
 const KEPT: &[u8] = b"{\"entries\":[\
-    {\"gid\":0,\"kind\":\"dir\",\"mode\":493,\"mtime\":0,\"path\":\"/\",\"uid\":0,\"xattrs\":{}},\
+    {\"gid\":0,\"kind\":\"dir\",\"mode\":493,\"mtime\":0,\"mtime-nsec\":0,\"path\":\"/\",\"uid\":0,\"xattrs\":{}},\
     {\"blob\":\"ba7816bf8f01cfea414140de5dae2223b00361a396177a9cb410ff61f20015ad\",\"gid\":0,\"kind\":\"file\",\
-    \"mode\":420,\"mtime\":0,\"path\":\"/k\",\"size\":3,\"uid\":0,\"xattrs\":{}}],\"overlay-layer\":1}";
+    \"mode\":420,\"mtime\":0,\"mtime-nsec\":0,\"path\":\"/k\",\"size\":3,\"uid\":0,\"xattrs\":{}}],\"overlay-layer\":2}";
 
 // The same with mode 0600 in place of 0644.
 const CLOSED: &[u8] = b"{\"entries\":[\
-    {\"gid\":0,\"kind\":\"dir\",\"mode\":493,\"mtime\":0,\"path\":\"/\",\"uid\":0,\"xattrs\":{}},\
+    {\"gid\":0,\"kind\":\"dir\",\"mode\":493,\"mtime\":0,\"mtime-nsec\":0,\"path\":\"/\",\"uid\":0,\"xattrs\":{}},\
     {\"blob\":\"ba7816bf8f01cfea414140de5dae2223b00361a396177a9cb410ff61f20015ad\",\"gid\":0,\"kind\":\"file\",\
-    \"mode\":384,\"mtime\":0,\"path\":\"/k\",\"size\":3,\"uid\":0,\"xattrs\":{}}],\"overlay-layer\":1}";
+    \"mode\":384,\"mtime\":0,\"mtime-nsec\":0,\"path\":\"/k\",\"size\":3,\"uid\":0,\"xattrs\":{}}],\"overlay-layer\":2}";
 
 const BLOB_ABC: &str = "b/ba7816bf8f01cfea414140de5dae2223b00361a396177a9cb410ff61f20015ad";
 

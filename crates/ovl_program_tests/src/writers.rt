@@ -41,13 +41,13 @@ pub fn of_room(alloc: Global, room: usize, fails: bool) -> Narrow {
 
 // What merge gives where a moved directory hides another.
 const TOP: &str =
-    "{\"entries\":[{\"gid\":0,\"kind\":\"dir\",\"mode\":493,\"mtime\":0,\"path\":\"/\",\"uid\":0,\"xattrs\":{}}],\"overlay-layer\":1}\n";
+    "{\"entries\":[{\"gid\":0,\"kind\":\"dir\",\"mode\":493,\"mtime\":0,\"mtime-nsec\":0,\"path\":\"/\",\"uid\":0,\"xattrs\":{}}],\"overlay-layer\":2}\n";
 
 const LOWER: &str =
-    "{\"entries\":[{\"gid\":0,\"kind\":\"dir\",\"mode\":493,\"mtime\":0,\"path\":\"/\",\"uid\":0,\"xattrs\":{}},\
-    {\"gid\":0,\"kind\":\"dir\",\"mode\":493,\"mtime\":0,\"path\":\"/b\",\"uid\":0,\"xattrs\":{\"trusted.overlay.opaque\":\"79\"}},\
+    "{\"entries\":[{\"gid\":0,\"kind\":\"dir\",\"mode\":493,\"mtime\":0,\"mtime-nsec\":0,\"path\":\"/\",\"uid\":0,\"xattrs\":{}},\
+    {\"gid\":0,\"kind\":\"dir\",\"mode\":493,\"mtime\":0,\"mtime-nsec\":0,\"path\":\"/b\",\"uid\":0,\"xattrs\":{\"trusted.overlay.opaque\":\"79\"}},\
     {\"blob\":\"ca978112ca1bbdcafac231b39a23dc4da786eff8147c4e72b9807785afee48bb\",\"gid\":0,\"kind\":\"file\",\"mode\":420,\
-    \"mtime\":0,\"path\":\"/b/k\",\"size\":1,\"uid\":0,\"xattrs\":{}}],\"overlay-layer\":1}\n";
+    \"mtime\":0,\"mtime-nsec\":0,\"path\":\"/b/k\",\"size\":1,\"uid\":0,\"xattrs\":{}}],\"overlay-layer\":2}\n";
 
 const REPORT: &str = "opaque /b\nleaf /b/k\nentries 3\n";
 

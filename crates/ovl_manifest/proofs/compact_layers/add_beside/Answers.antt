@@ -1,6 +1,7 @@
-use Rattle.std.proofs.Common.{◌≡◌, ◌∙◌, ◌≤◌, List, ℕ, sym, ap, subst, length, take, arith}
+use Rattle.std.proofs.Common.{◌≡◌, ◌∙◌, ◌≤◌, ◌∷◌, [], List, ℕ, sym, ap, subst, length, take, length-append, length-take, arith}
 use Rattle.ovl_names.specs.Paths.{PathNames, child_path, path_text}
 use Rattle.ovl_manifest.specs.TextPaths.{slashed}
+use Rattle.ovl_manifest.proofs.ReadLemmas.{depth-limited}
 use Rattle.ovl_manifest.proofs.SheetDraftLemmas.{last_named}
 use Rattle.ovl_manifest.proofs.WayLemmas.{child_limits, path_text-child}
 use Rattle.ovl_manifest.proofs.compact_layers.add_beside.Goals as goal
@@ -31,7 +32,7 @@ enter-requires-clause-entry c =
       directory = sym c.if-not-is_directory_above.ensures;
       sound = c.requires.sound;
       unescaped = sym c.if-has_escaped_name.ensures;
-      limited = child_limits last c.in_ok-depth.depth c.in-Ok.name c.args.text.now spelled (omega (arith, c.if-depth-ge-DEPTH_LIMIT.false)) (omega (arith, c.if-text-gt-TEXT_LIMIT.false));
+      limited = child_limits last c.in_ok-depth.depth c.in-Ok.name c.args.text.now spelled (omega (arith, c.if-depth.false, c.depth.ensures, depth-limited c.args.version)) (omega (arith, c.if-text-gt-TEXT_LIMIT.false));
       room = c.requires.room;
     }
 
@@ -51,3 +52,9 @@ returns-in-Ok-enter-clause-last c =
     let beside = c.in_ok-depth.ensures last (last_named _ _ _ c.requires.draft) c.requires.last count in
     ap slashed (c.in-Ok-enter.ensures).last
     ∙ (ap (λ (name : List ℕ). slashed (child_path (take c.in_ok-depth.depth last) name)) (c.in-Ok.ensures).0 ∙ sym beside.1)
+
+pub returns-in-Ok-enter-clause-depth : goal.returns-in-Ok-enter-clause-depth
+returns-in-Ok-enter-clause-depth c =
+    let last : PathNames = c.args.draft.now.last in
+    let deeper = length-append (take c.in_ok-depth.depth last) (c.in-Ok.name ∷ []) in
+    omega (arith, ap length (c.in-Ok-enter.ensures).last, deeper, length-take c.in_ok-depth.depth last, c.if-depth.false, c.depth.ensures)

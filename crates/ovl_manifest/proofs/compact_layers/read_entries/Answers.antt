@@ -1,8 +1,12 @@
-use Rattle.std.proofs.Common.{◌∙◌, ◌+◌, ◌++◌, ◌∷◌, [], ℕ, List, false, sym, ap, append_assoc, arith, length, length-append}
+use Rattle.std.proofs.Common.{le-leb, ◌∙◌, ◌+◌, ◌++◌, ◌∷◌, [], ℕ, List, true, false, sym, ap, append_assoc, arith, length, length-append}
+use Rattle.std.specs.Prelude.{◌&&◌}
+use Rattle.std.specs.List.{list_all}
+use Rattle.std.proofs.lemmas.List.Folds.{list_all-append}
 use Rattle.serde_json.specs.Written.{items_text}
 use Rattle.ovl_manifest.specs.Layers.{Entry, Entries}
 use Rattle.ovl_manifest.specs.Text.{entry_items}
 use Rattle.ovl_manifest.specs.SheetDrafts.{drafted}
+use Rattle.ovl_manifest.specs.Versions.{depth_of, is_stated_by}
 use Rattle.ovl_manifest.specs.Compact.{entries_text}
 use Rattle.ovl_manifest.proofs.CompactLemmas.{some-taken, none-taken, entries-onto, items-entries}
 use Rattle.ovl_manifest.proofs.compact_layers.read_entries.Goals as goal
@@ -18,8 +22,11 @@ entries-preserved c =
     record {
       draft = added.draft;
       taken = c.entries.invariant.taken
-          ∙ (ap (λ (t : List ℕ). entries_text false before ++ t) (comma ∙ ap (λ (t : List ℕ). 44 ∷ t) own)
-          ∙ (entries-onto before entry rest (omega (arith, c.entries.invariant.count, c.entries.invariant.some)) ∙ ap (λ (all : Entries). entries_text false all ++ rest) (sym added.entries)));
+          ∙ (ap (λ (t : List ℕ). entries_text c.args.version false before ++ t) (comma ∙ ap (λ (t : List ℕ). 44 ∷ t) own)
+          ∙ (entries-onto c.args.version before entry rest (omega (arith, c.entries.invariant.count, c.entries.invariant.some)) ∙ ap (λ (all : Entries). entries_text c.args.version false all ++ rest) (sym added.entries)));
+      stated = ap (list_all (is_stated_by c.args.version)) added.entries
+          ∙ (list_all-append (is_stated_by c.args.version) before (entry ∷ [])
+          ∙ (λ j. c.entries.invariant.stated j && ((le-leb (length entry.0) (depth_of c.args.version) added.depth j && c.in_ok-path.ensures.stated j) && true)));
       last = added.last ∙ c.as_str-in-entries-2.ensures.value;
       count = ap length added.entries ∙ (length-append before (entry ∷ []) ∙ ap (λ n. n + 1) c.entries.invariant.count);
       some = omega arith;
@@ -32,7 +39,10 @@ returns-in-Ok-clause-text c =
     let rest : List ℕ = c.take-2.new.self in
     let ended = sym (none-taken _ c.take.result c.take.ensures (sym c.is_some.ensures ∙ c.entries-test.false)) ∙ c.in_ok-take.ensures in
     c.entries.invariant.taken
-    ∙ (ap (λ (t : List ℕ). entries_text false entries ++ t) ended
-    ∙ (sym (append_assoc (entries_text false entries) (93 ∷ []) rest)
-    ∙ (ap (λ (t : List ℕ). t ++ rest) (sym (items-entries false entries))
-    ∙ ap (λ (all : Entries). items_text false (entry_items all) ++ rest) (sym c.in-Ok.ensures))))
+    ∙ (ap (λ (t : List ℕ). entries_text c.args.version false entries ++ t) ended
+    ∙ (sym (append_assoc (entries_text c.args.version false entries) (93 ∷ []) rest)
+    ∙ (ap (λ (t : List ℕ). t ++ rest) (sym (items-entries c.args.version false entries))
+    ∙ ap (λ (all : Entries). items_text false (entry_items c.args.version all) ++ rest) (sym c.in-Ok.ensures))))
+
+pub returns-in-Ok-clause-stated : goal.returns-in-Ok-clause-stated
+returns-in-Ok-clause-stated c = ap (list_all (is_stated_by c.args.version)) c.in-Ok.ensures ∙ c.entries.invariant.stated

@@ -8,6 +8,7 @@ use Rattle.ovl_manifest.specs.TextPaths.{slashed}
 use Rattle.ovl_inode.specs.declared.inodes.Inode.{Inode}
 use Rattle.ovl_manifest.specs.Layers.{Entries}
 use Rattle.ovl_manifest.specs.LayerTrees.{NodeView, entries_of_nodes, under, entries_from, placed}
+use Rattle.ovl_manifest.specs.Versions.{written}
 use Rattle.ovl_manifest.specs.Text.{entry_value}
 use Rattle.ovl_manifest.specs.Tokens.{value_tokens, entries_tokens}
 use Rattle.ovl_manifest.proofs.NodeLemmas.{entries_of_nodes-more, placed-under, placed-append}
@@ -37,7 +38,7 @@ loop-child-preserved n c = (
       ∙ slashed-below directory c.args.node.now.name)) in
       let below = sym (placed-under path node.name (entries_from node.inode node.below)) in
       let both : entries_tokens (placed path done) ++ entries_tokens (placed path own) ≡ entries_tokens (placed path (done ++ own)) =
-      sym (ap entries_tokens (placed-append path done own) ∙ flat_map-append (λ entry. value_tokens (entry_value entry)) (placed path done) (placed path own)) in
+      sym (ap entries_tokens (placed-append path done own) ∙ flat_map-append (λ entry. value_tokens (entry_value written entry)) (placed path done) (placed path own)) in
       c.in_ok-put_under.ensures.tokens path text
       ∙ ((λ j. c.loop-child.invariant.0 directory same j ++ entries_tokens (below j))
       ∙ (append_assoc before (entries_tokens (placed path done)) (entries_tokens (placed path own))
@@ -63,5 +64,5 @@ returns-clause-tokens n c directory same =
     ∙ ap (λ (own : NodeView). placed path (entries_from own.inode own.below)) c.node.view_is) in
     c.loop-child.invariant.0 directory same
     ∙ (ap (λ (ts : List Token). ts ++ entries_tokens (placed path below)) (c.in_ok-put_entry.ensures.tokens path text)
-    ∙ (append_assoc before (value_tokens (entry_value (path, inode))) (entries_tokens (placed path below))
+    ∙ (append_assoc before (value_tokens (entry_value written (path, inode))) (entries_tokens (placed path below))
     ∙ ap (λ (es : Entries). before ++ entries_tokens es) whole))

@@ -22,14 +22,15 @@ returns-clause-tokens c =
     let mode : Grows c.put_device.new.out.tokens (number_member (codes "mode") i.mode) c.put_number-2.new.out.tokens = record { is = search rules } in
     let named : Grows c.put_number-2.new.out.tokens (Token.key (codes "mtime") ∷ []) c.key.new.self.tokens = record { is = search rules } in
     let seconds : Grows c.key.new.self.tokens (Token.number (signed_decimal i.mtime) ∷ []) c.i64.new.self.tokens = record { is = search rules } in
-    let placed : Grows c.i64.new.self.tokens (text_member (codes "path") c.args.path.now) c.put_text-2.new.out.tokens = record { is = search rules } in
+    let nsec : Grows c.i64.new.self.tokens (number_member (codes "mtime-nsec") i.nsec) c.put_number-3.new.out.tokens = record { is = search rules } in
+    let placed : Grows c.put_number-3.new.out.tokens (text_member (codes "path") c.args.path.now) c.put_text-2.new.out.tokens = record { is = search rules } in
     let contents : Grows c.put_text-2.new.out.tokens (contents_tokens i.kind) c.put_contents.new.out.tokens = record { is = search rules } in
-    let uid : Grows c.put_contents.new.out.tokens (number_member (codes "uid") i.uid) c.put_number-3.new.out.tokens = record { is = search rules } in
-    let last : Grows c.put_number-3.new.out.tokens (Token.key (codes "xattrs") ∷ []) c.key-2.new.self.tokens = record { is = search rules } in
+    let uid : Grows c.put_contents.new.out.tokens (number_member (codes "uid") i.uid) c.put_number-4.new.out.tokens = record { is = search rules } in
+    let last : Grows c.put_number-4.new.out.tokens (Token.key (codes "xattrs") ∷ []) c.key-2.new.self.tokens = record { is = search rules } in
     let attributes : Grows c.key-2.new.self.tokens (value_tokens (object (attribute_members i.attrs))) c.put_attributes.new.out.tokens = record { is = search rules } in
     on_ok_weaker c.end_object.result (λ e path same.
     let end : Grows c.put_attributes.new.out.tokens (end_object ∷ []) c.end_object.new.self.tokens = record { is = e } in
     let whole = ap (members_in_turn path i) (sym (seconds_text i.mtime)) ∙ entry_in_turn path i in
-    let named_so : Grows c.i64.new.self.tokens (text_member (codes "path") (path_text path)) c.put_text-2.new.out.tokens = subst (λ (t : List ℕ). Grows c.i64.new.self.tokens (text_member (codes "path") t) c.put_text-2.new.out.tokens) same placed in
-    (onto begin (onto blob (onto gid (onto kind (onto device (onto mode (onto named (onto seconds (onto named_so (onto contents (onto uid (onto last (onto attributes end))))))))))))).is
+    let named_so : Grows c.put_number-3.new.out.tokens (text_member (codes "path") (path_text path)) c.put_text-2.new.out.tokens = subst (λ (t : List ℕ). Grows c.put_number-3.new.out.tokens (text_member (codes "path") t) c.put_text-2.new.out.tokens) same placed in
+    (onto begin (onto blob (onto gid (onto kind (onto device (onto mode (onto named (onto seconds (onto nsec (onto named_so (onto contents (onto uid (onto last (onto attributes end)))))))))))))).is
     ∙ ap (λ ts. c.args.out.now.tokens ++ ts) whole) c.end_object.ensures.ok
