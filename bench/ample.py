@@ -5,7 +5,8 @@ Python 3.11, standard library. Each layer is made as a mounted overlay leaves it
 tree so far are moved, also into each other, replaced, removed, changed and made, and the layer has what that takes:
 redirects to a path or to a name beside, opaque directories, whiteouts of both forms, metacopy files over files and
 over other metacopy files, and copies of what lies below. So it is known what each stack shows, and that it is sound.
-In a third of the stacks something is then changed that no mounted overlay would have changed.
+In a third of the stacks something is then changed that no mounted overlay would have changed. The manifests of a stack are
+of both versions: some of those without a time below a second are of version 1.
 
 Where `fsck` finds no fault, `vacuum`, `deref` and `merge` must give new layers with which the stack shows the same
 bytes; `vacuum` once more must remove nothing, and `fsck` must find no fault after `vacuum` and `deref`. Where it finds
@@ -23,11 +24,12 @@ import sys
 import tempfile
 from dataclasses import dataclass, replace
 
-from growth import METACOPY, REDIRECT, entry, write
+from growth import METACOPY, NSEC, REDIRECT, entry, write
 
 OPAQUE, WHITEOUT = "trusted.overlay.opaque", "trusted.overlay.whiteout"
 CONTENTS = ("", "a", "b", "abc")
 NAMES, DEEPEST = ("a", "b", "c", "d"), 5
+NANOSECONDS = (0, 1, 500_000_000, 999_999_999)
 REWRITES = ("vacuum", "deref", "merge")
 # How many stacks that are not as they should be are told, and the seconds after which a command counts as one without end.
 TOLD, LONGEST = 10, 60
@@ -41,6 +43,7 @@ class Thing:
 
     contents: str | None
     mode: int
+    nanoseconds: int
     origin: tuple | None = None
     changed: bool = False
 
@@ -59,18 +62,18 @@ def some_place(rng, tree):
     return next((it for it in places if it not in tree), places[0])
 
 
-def remove(_, tree, path):
+def remove(_, tree, path, *__):
     for it in below(tree, path):
         del tree[it]
 
 
-def make(rng, tree, _):
+def make(rng, tree, _, times):
     place = some_place(rng, tree)
     remove(rng, tree, place)
-    tree[place] = Thing(rng.choice((None, None, None, *CONTENTS)), rng.choice((0o644, 0o755)))
+    tree[place] = Thing(rng.choice((None, None, None, *CONTENTS)), rng.choice((0o644, 0o755)), rng.choice(times))
 
 
-def move(rng, tree, path):
+def move(rng, tree, path, _):
     place = some_place(rng, tree)
     within = below(tree, path)
     longest = max(map(len, within)) - len(path) + len(place)
@@ -79,19 +82,22 @@ def move(rng, tree, path):
         tree |= {place + it[len(path):]: tree.pop(it) for it in within}
 
 
-def change(rng, tree, path):
-    tree[path] = replace(tree[path], mode=rng.choice((0o600, 0o700)), changed=True)
+def change(rng, tree, path, times):
+    if rng.random() < 0.5:
+        tree[path] = replace(tree[path], nanoseconds=rng.choice(times), changed=True)
+    else:
+        tree[path] = replace(tree[path], mode=rng.choice((0o600, 0o700)), changed=True)
 
 
 WORK = (make, make, make, move, move, move, move, change, change, remove)
 
 
-def work(rng, tree):
-    """The tree after some work in it."""
+def work(rng, tree, times):
+    """The tree after some work in it, which gives things these nanoseconds."""
     tree = {path: replace(it, origin=path, changed=False) for path, it in tree.items()}
     for _ in range(rng.randint(8, 16)):
         what = rng.choice(WORK) if tree else make
-        what(rng, tree, rng.choice(sorted(tree)) if tree else None)
+        what(rng, tree, rng.choice(sorted(tree)) if tree else None, times)
     return tree
 
 
@@ -120,7 +126,7 @@ def file(rng, path, thing, place):
         attrs = {METACOPY: ""} | ({} if natural and rng.random() < 0.5 else redirect(rng, thing.origin, place))
     elif thing.contents:
         within["blob"] = hashlib.sha256(thing.contents.encode()).hexdigest()
-    return entry(text(path), "file", attrs, **within) | {"mode": thing.mode}
+    return entry(text(path), "file", attrs, **within) | {"mode": thing.mode, NSEC: thing.nanoseconds}
 
 
 def directory(rng, path, thing, place, lower):
@@ -133,7 +139,7 @@ def directory(rng, path, thing, place, lower):
         attrs, own = {}, natural
     else:
         attrs, own = redirect(rng, thing.origin, place), thing.origin
-    return entry(text(path), attrs=attrs) | {"mode": thing.mode}, own
+    return entry(text(path), attrs=attrs) | {"mode": thing.mode, NSEC: thing.nanoseconds}, own
 
 
 def entries(rng, tree, lower, path=(), place=()):
@@ -177,22 +183,26 @@ def spoil(rng, layers):
 
 @dataclass(frozen=True)
 class Stack:
-    """Layers, the topmost first, and what they show, where that is known."""
+    """Layers, the topmost first, and what they show, where that is known; and the versions of their manifests."""
 
     layers: list
     tree: dict | None
+    versions: list
 
 
 def stack_of(rng):
     tree, layers = {}, []
+    # The lowest layers may be of a time in which manifests had whole seconds alone.
+    times = rng.choice(((0,), NANOSECONDS))
     for _ in range(rng.choice((2, 3, 3, 4, 5))):
-        lower, tree = tree, work(rng, tree)
+        lower, tree = tree, work(rng, tree, times)
         layers.insert(0, entries(rng, tree, lower))
+        times = rng.choice((times, NANOSECONDS))
     if rng.random() < 1 / 3:
         for _ in range(rng.randint(1, 3)):
             spoil(rng, layers)
-        return Stack(layers, None)
-    return Stack(layers, tree)
+        tree = None
+    return Stack(layers, tree, [2 if any(it[NSEC] for it in layer) else rng.choice((1, 2)) for layer in layers])
 
 
 def report(tree):
@@ -200,8 +210,9 @@ def report(tree):
     lines = ["dir 0755 0 0 0 - - /"]
     for path, thing in sorted(tree.items()):
         name = hashlib.sha256(thing.contents.encode()).hexdigest() if thing.contents else "-"
-        what = "dir {:04o} 0 0 0 - -" if thing.is_directory() else f"file {{:04o}} 0 0 0 {len(thing.contents)} {name}"
-        lines.append(what.format(thing.mode) + " " + text(path))
+        kind, what = ("dir", "- -") if thing.is_directory() else ("file", f"{len(thing.contents)} {name}")
+        time = f"0+{thing.nanoseconds:09}" if thing.nanoseconds else "0"
+        lines.append(f"{kind} {thing.mode:04o} 0 0 {time} {what} {text(path)}")
     return "\n".join([*lines, f"entries {len(lines)}", ""]).encode()
 
 
@@ -237,7 +248,7 @@ def rewritten(program, blobs, layers, command, folder):
 
 def judge(program, blobs, stack, folder):
     """Whether the stack is sound."""
-    layers = write(folder, stack.layers)
+    layers = write(folder, stack.layers, versions=stack.versions)
     shown, found = ran(program, "show", *layers), ran(program, "fsck", "--blobs", blobs, *layers)
     if stack.tree is not None:
         same("show", shown, (0, report(stack.tree)))
@@ -274,7 +285,8 @@ def main():
     words.add_argument("--keep", type=int, metavar="N", help="only print the layers of the stack of this number")
     given = words.parse_args()
     if given.keep is not None:
-        sys.exit(print(*write(tempfile.mkdtemp(), stack_of(random.Random(f"{given.seed} {given.keep}")).layers), sep="\n"))
+        stack = stack_of(random.Random(f"{given.seed} {given.keep}"))
+        sys.exit(print(*write(tempfile.mkdtemp(), stack.layers, versions=stack.versions), sep="\n"))
     program, numbers = os.path.abspath(given.program), range(given.count)
     with tempfile.TemporaryDirectory(prefix="ovl-ample-") as blobs, concurrent.futures.ProcessPoolExecutor() as pool:
         for contents in map(str.encode, CONTENTS):

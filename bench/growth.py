@@ -23,11 +23,14 @@ from typing import Callable
 
 import instructions
 import run
+from generate import LAST, MOST_NAMES
 
 CONTENTS = b"x"
 BLOB = hashlib.sha256(CONTENTS).hexdigest()
 REDIRECT = "trusted.overlay.redirect"
 METACOPY = "trusted.overlay.metacopy"
+# The member of entries that version 1 of the manifest hasn't.
+NSEC = "mtime-nsec"
 # Growth of the instructions for a byte, at each doubling, that isn't told.
 ALLOWED = 1.2
 
@@ -35,7 +38,7 @@ ALLOWED = 1.2
 # ---- layers: lists of entries, which are put into path order where they are written
 
 def entry(path, kind="dir", attrs=None, **more):
-    return {"path": path, "kind": kind, "mode": 0o755 if kind == "dir" else 0o644, "uid": 0, "gid": 0, "mtime": 0,
+    return {"path": path, "kind": kind, "mode": 0o755 if kind == "dir" else 0o644, "uid": 0, "gid": 0, "mtime": 0, NSEC: 0,
             "xattrs": {name: value.encode().hex() for name, value in (attrs or {}).items()}, **more}
 
 
@@ -53,17 +56,21 @@ def chain(name, depth, attrs=None):
     return [entry(path) for path in paths[:-1]] + [entry(paths[-1], attrs=attrs)] if paths else []
 
 
-def write(folder, layers, unsorted=False):
+def write(folder, layers, unsorted=False, versions=None):
     """Writes the layers, the topmost first, and gives the files' names. A layer may be a function that makes it.
 
-    Members stand in the order of their names, as the converter and the program write them, or unsorted."""
+    Members stand in the order of their names, as the converter and the program write them, or unsorted. The manifests
+    are of the last version, or of these."""
     names = []
     for n, layer in enumerate(layers):
         entries = [entry("/")] + (layer() if callable(layer) else layer)
         entries.sort(key=lambda it: it["path"].encode().split(b"/"))
+        version = versions[n] if versions else LAST
+        if version == 1:
+            entries = [{name: value for name, value in it.items() if name != NSEC} for it in entries]
         names.append(os.path.join(folder, f"layer-{n:03d}.json"))
         with open(names[-1], "w", encoding="utf-8") as out:
-            json.dump({"overlay-layer": 1, "entries": entries}, out, separators=(",", ":"), sort_keys=not unsorted)
+            json.dump({"overlay-layer": version, "entries": entries}, out, separators=(",", ":"), sort_keys=not unsorted)
     return names
 
 
@@ -181,13 +188,14 @@ class Cost:
     instructions: int | None
 
 
-def cost(program, case, size, longest, unsorted=False):
+def cost(program, case, size, longest, unsorted=False, version=LAST):
     with tempfile.TemporaryDirectory(prefix="ovl-growth-") as folder:
         blobs = os.path.join(folder, "blobs")
         os.mkdir(blobs)
         with open(os.path.join(blobs, BLOB), "wb") as out:
             out.write(CONTENTS)
-        layers, report = write(folder, case.make(size), unsorted), os.path.join(folder, "report")
+        layers, report = case.make(size), os.path.join(folder, "report")
+        layers = write(folder, layers, unsorted, [version] * len(layers))
         command = [program, case.command, *(["--blobs", blobs] if case.command == "fsck" else []), "--workers", "1", "--data-layers",
                    str(case.data_only(size)), *layers]
         seconds, peak, status = run.one_run(command, os.devnull, report)
@@ -213,7 +221,7 @@ def line(it, mark):
                     f"{1e9 * it.seconds / it.bytes:.0f}", f"{it.peak / it.bytes:.1f}", counted[1]])
 
 
-def measure(program, case, sizes, longest, unsorted):
+def measure(program, case, sizes, longest, unsorted, version):
     """Prints the case's table. Gives whether nothing grew too fast."""
     print(f"`{case.command}`: {case.name}:\n")
     head = ["N", "Input and report, bytes", "Seconds", "Peak, bytes", "Instructions", "Nanoseconds a byte", "Peak a byte", "Instructions a byte"]
@@ -221,7 +229,7 @@ def measure(program, case, sizes, longest, unsorted):
     print(run.row(["---:"] * len(head)))
     before, good = None, True
     for size in sizes:
-        it = cost(program, case, size, longest, unsorted)
+        it = cost(program, case, size, longest, unsorted, version)
         bad = grown(before, it, case.allowed)
         print(line(it, " (too many)" if bad else ""), flush=True)
         before, good = it, good and not bad
@@ -236,11 +244,12 @@ def main():
     words.add_argument("--sizes", type=int, help="only so many of the smallest sizes of each case")
     words.add_argument("--longest", type=float, default=5.0, help="count the instructions of runs of at most so many seconds (default 5)")
     words.add_argument("--unsorted", action="store_true", help="members out of the order of their names, which are read the other way")
+    words.add_argument("--version", type=int, choices=MOST_NAMES, default=LAST, help=f"version of the manifests (default {LAST})")
     given = words.parse_args()
     program = os.path.abspath(given.program)
     print(f"Machine: {run.machine()}.\n")
     chosen = [CASES[n - 1] for n in given.case] if given.case else CASES
-    good = [measure(program, it, it.sizes[:given.sizes], given.longest, given.unsorted) for it in chosen]
+    good = [measure(program, it, it.sizes[:given.sizes], given.longest, given.unsorted, given.version) for it in chosen]
     sys.exit(0 if all(good) else 1)
 
 

@@ -60,11 +60,13 @@ def opaque(path):
 
 @dataclass(frozen=True)
 class Stack:
-    """Layers, the topmost first, each below its root; the contents of the blobs by their names; and how many workers."""
+    """Layers, the topmost first, each below its root; the contents of the blobs by their names; how many workers; and the
+    versions of the manifests, the last one where nothing is said."""
 
     layers: tuple
     blobs: dict
     workers: tuple = (1, 2)
+    versions: tuple = ()
 
 
 A = {digest(b"a"): b"a"}
@@ -74,7 +76,7 @@ STACKS = {
     "root_alone": Stack(([],), {}),
     "moved_under_opaque": Stack(([opaque("/n"), moved("/n/d", "/x"), whiteout("/x")],
                                  [entry("/n"), file("/n/z", b"a"), entry("/x"), file("/x/k", b"a")]), A),
-    "the_same_twice": Stack((DIRECTORY, DIRECTORY), A),
+    "the_same_twice": Stack((DIRECTORY, DIRECTORY), A, versions=(2, 1)),
     "moved_over_another": Stack(([whiteout("/a"), moved("/b", "/a")], [entry("/a"), file("/a/k", b"a")],
                                  [entry("/b"), file("/b/z", b"a")]), A),
     "wrong_contents": Stack(([entry("/e", "file", size=0), file("/k", b"abc"), file("/m", b"a"), file("/s", b"ab", 3)],),
@@ -129,7 +131,7 @@ class Sweep:
         words = [program, self.command, "--workers", str(self.workers)]
         words += ["--blobs", str(blobs)] if self.command != "show" else []
         words += ["--out", str(room / "new")] if self.command not in ("show", "fsck") else []
-        return words + write(str(folder), stack.layers)
+        return words + write(str(folder), stack.layers, versions=stack.versions)
 
 
 def swept(program, library, sweep):

@@ -95,8 +95,14 @@ class Manifests(FolderTest):
     def test_examples_are_written_as_they_stand(self) -> None:
         found = [path for path in sorted((ROOT / "examples").rglob("*.json")) if "out" not in path.parts]
         self.assertGreater(len(found), 5)
+        firsts = set()
         for path in found:
-            self.assertEqual("".join(written(read_manifest(str(path)))).encode(), path.read_bytes(), path)
+            text = path.read_bytes()
+            if text.endswith(b'"overlay-layer":1}\n'):
+                firsts.add(path.name)
+                text = text.replace(b',"path":', b',"mtime-nsec":0,"path":').replace(b'"overlay-layer":1', b'"overlay-layer":2')
+            self.assertEqual("".join(written(read_manifest(str(path)))).encode(), text, path)
+        self.assertEqual(firsts, {"debian.json"})
 
     def test_escapes(self) -> None:
         name = "".join(map(chr, [*range(1, 47), *range(48, 128)])) + "é日\U0001f600\u2028"
