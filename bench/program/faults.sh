@@ -165,16 +165,17 @@ each() {
     done
 }
 
-root='{"gid":0,"kind":"dir","mode":493,"mtime":0,"path":"/","uid":0,"xattrs":{}}'
+root='{"gid":0,"kind":"dir","mode":493,"mtime":0,"mtime-nsec":0,"path":"/","uid":0,"xattrs":{}}'
 abc=ba7816bf8f01cfea414140de5dae2223b00361a396177a9cb410ff61f20015ad
-kept='{"blob":"'$abc'","gid":0,"kind":"file","mode":420,"mtime":0,"path":"/k","size":3,"uid":0,"xattrs":{}}'
-printf '{"entries":[%s],"overlay-layer":1}\n' "$root" | tee input > root.json
-printf '{"entries":[%s,%s],"overlay-layer":1}\n' "$root" "$kept" > k.json
+kept='{"blob":"'$abc'","gid":0,"kind":"file","mode":420,"mtime":0,"mtime-nsec":0,"path":"/k","size":3,"uid":0,"xattrs":{}}'
+printf '{"entries":[%s],"overlay-layer":2}\n' "$root" | tee input > root.json
+printf '{"entries":[%s,%s],"overlay-layer":2}\n' "$root" "$kept" > k.json
+sed 's/"mtime-nsec":0,//g; s/"overlay-layer":2/"overlay-layer":1/' k.json > first.json
 pipes=
 for ((i = 1000; i < 1100; i++)); do
-    pipes+=',{"gid":0,"kind":"fifo","mode":384,"mtime":0,"path":"/p'$i'","uid":0,"xattrs":{}}'
+    pipes+=',{"gid":0,"kind":"fifo","mode":384,"mtime":0,"mtime-nsec":0,"path":"/p'$i'","uid":0,"xattrs":{}}'
 done
-printf '{"entries":[%s%s],"overlay-layer":1}\n' "$root" "$pipes" > pipes.json
+printf '{"entries":[%s%s],"overlay-layer":2}\n' "$root" "$pipes" > pipes.json
 printf '[]' > shape.json
 : > empty.json
 python3 -B "$bench/refusals.py" --library refuse.so || exit 1
@@ -197,12 +198,12 @@ done
 # A metacopy file over its contents; and a moved directory with a chain of directories below its old place, of which the
 # last lies within the limit of names for the shorter chain alone.
 at() {
-    printf ',{"gid":0,"kind":"%s","mode":493,"mtime":0,"path":"%s","uid":0,%s}' "$@"
+    printf ',{"gid":0,"kind":"%s","mode":493,"mtime":0,"mtime-nsec":0,"path":"%s","uid":0,%s}' "$@"
 }
 layer() {
     printf '{"entries":[%s' "$root"
     cat
-    printf '],"overlay-layer":1}\n'
+    printf '],"overlay-layer":2}\n'
 }
 plain='"xattrs":{}'
 at file /k '"size":3,"xattrs":{"trusted.overlay.metacopy":""}' | sed 's/493/420/' | layer > meta.json
@@ -219,14 +220,14 @@ chain() {
         at dir $deep "$plain"
     done
 }
-chain 62 | layer > deep.json
-chain 63 | layer > deeper.json
+chain 126 | layer > deep.json
+chain 127 | layer > deeper.json
 # A redirect of 100,000 names; and a chain of as many directories as a path may have names, the last of which goes on at the
 # chain of deeper.json.
 at dir /m "\"xattrs\":{\"trusted.overlay.redirect\":\"$(printf '2f61%.0s' {1..100000})\"}" | layer > far.json
 {
     path=
-    for ((i = 0; i < 63; i++)); do
+    for ((i = 0; i < 127; i++)); do
         path+=/a
         at dir "$path" "$plain"
     done
@@ -414,6 +415,8 @@ prints 0 'removed /k\nremoved 1 kept 1\n' vacuum --blobs blobs --out new k.json 
 gives new root.json
 prints 0 'removed 0 kept 2\n' vacuum --blobs blobs --out new --workers 64 k.json root.json
 gives new k.json
+prints 0 'removed 0 kept 2\n' vacuum --blobs blobs --out new first.json root.json
+gives new k.json
 rm -f new/layer-0.json
 refuses 5 'result over the limits' deref --blobs none --out new moved.json deeper.json
 prints 1 'fault blob-missing 1 /k\nfaults 1 notes 0\n' deref --blobs none --out new meta.json k.json
@@ -422,14 +425,14 @@ prints 0 'leaf /k\nentries 2\n' deref --blobs blobs --out new meta.json k.json
 gives new k.json
 if ends 0 told deref --blobs none --out new/ moved.json deep.json; then
     tail -n 2 printed > last
-    printf 'whiteout /x\nentries 66\n' | cmp -s - last && same=$((same + 1)) || differs 'another end' deref moved.json deep.json
+    printf 'whiteout /x\nentries 130\n' | cmp -s - last && same=$((same + 1)) || differs 'another end' deref moved.json deep.json
 fi
 
 prints 1 'fault redirect-lost 0 /m\nfault redirect-open 0 /m\nfaults 2 notes 0\n' fsck --blobs none far.json root.json
 prints 0 'faults 0 notes 0\n' fsck --blobs none moved_deeper.json deeper.json
 if ends 0 told show moved_deeper.json deeper.json; then
     tail -n 1 printed > last
-    says last $'entries 128\n' show moved_deeper.json deeper.json
+    says last $'entries 256\n' show moved_deeper.json deeper.json
 fi
 
 rm -f new/layer-0.json
