@@ -594,12 +594,12 @@ class Mounted(CommandTest):
         os.chmod(self.path("in", "a b"), 0o640)
         os.symlink("é\\", self.path("in", "l"))
         os.mkfifo(self.path("in", "p"), 0o600)
-        for name in ("a b", "l", "p", ""):
-            os.utime(self.path("in", name), (0, 7), follow_symlinks=False)
+        for name, time_ns in (("a b", 7_000_000_001), ("l", -1_500_000_000), ("p", -1), ("", 7_000_000_000)):
+            os.utime(self.path("in", name), ns=(0, time_ns), follow_symlinks=False)
         owner = f"{os.geteuid()} {os.getegid()}"
         self.assertEqual(call("mounted", self.path("in"))[1].splitlines(), [
-            f"dir 0755 {owner} 7 - - /", f"file 0640 {owner} 7 1 {A} /a\\x20b",
-            f"symlink 0777 {owner} 7 - \\xc3\\xa9\\x5c /l", f"fifo 0600 {owner} 7 - - /p", "entries 4",
+            f"dir 0755 {owner} 7 - - /", f"file 0640 {owner} 7+000000001 1 {A} /a\\x20b",
+            f"symlink 0777 {owner} -2+500000000 - \\xc3\\xa9\\x5c /l", f"fifo 0600 {owner} -1+999999999 - - /p", "entries 4",
         ])
 
     def test_a_report_that_can_not_be_written(self) -> None:
