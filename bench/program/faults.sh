@@ -170,7 +170,6 @@ abc=ba7816bf8f01cfea414140de5dae2223b00361a396177a9cb410ff61f20015ad
 kept='{"blob":"'$abc'","gid":0,"kind":"file","mode":420,"mtime":0,"mtime-nsec":0,"path":"/k","size":3,"uid":0,"xattrs":{}}'
 printf '{"entries":[%s],"overlay-layer":2}\n' "$root" | tee input > root.json
 printf '{"entries":[%s,%s],"overlay-layer":2}\n' "$root" "$kept" > k.json
-sed 's/"mtime-nsec":0,//g; s/"overlay-layer":2/"overlay-layer":1/' k.json > first.json
 pipes=
 for ((i = 1000; i < 1100; i++)); do
     pipes+=',{"gid":0,"kind":"fifo","mode":384,"mtime":0,"mtime-nsec":0,"path":"/p'$i'","uid":0,"xattrs":{}}'
@@ -415,6 +414,7 @@ prints 0 'removed /k\nremoved 1 kept 1\n' vacuum --blobs blobs --out new k.json 
 gives new root.json
 prints 0 'removed 0 kept 2\n' vacuum --blobs blobs --out new --workers 64 k.json root.json
 gives new k.json
+sed 's/"mtime-nsec":0,//g; s/"overlay-layer":2/"overlay-layer":1/' k.json > first.json
 prints 0 'removed 0 kept 2\n' vacuum --blobs blobs --out new first.json root.json
 gives new k.json
 rm -f new/layer-0.json
