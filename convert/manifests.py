@@ -95,7 +95,7 @@ def _compact_entries(file: BinaryIO) -> list[Entry] | None:
 def _compact(text: TextIO) -> Iterator[Entry]:
     if text.read(len(_HEAD)) != _HEAD:
         raise ValueError
-    version: _Version | None = None
+    sequence: _Sequence | None = None
     held, at, after = "", 0, ","
     while after == ",":
         try:
@@ -109,13 +109,13 @@ def _compact(text: TextIO) -> Iterator[Entry]:
             continue
         if ":-0" in held[at:end]:
             raise ValueError  # it may be the number -0, which isn't whole
-        if version is None:
-            # It is said at the end, and seen of the first entry.
-            version = _SECOND if isinstance(value, dict) and _BELOW_SECOND in value else _FIRST
-            sequence = _Sequence(version)
+        if sequence is None:
+            # The version is said at the end, and seen of the first entry.
+            is_second = isinstance(value, dict) and _BELOW_SECOND in value
+            sequence = _Sequence(_SECOND if is_second else _FIRST)
         yield sequence.entry(value)
         at = end + 1
-    tail = version.tail() if version is not None else ""
+    tail = sequence.version.tail() if sequence is not None else ""
     if after + held[at:] + text.read(len(tail)) not in (tail, tail + "\n"):
         raise ValueError
 
@@ -154,7 +154,7 @@ class _Sequence:
     """The entries of a layer one after the other, each in its place."""
 
     def __init__(self, version: _Version) -> None:
-        self._version = version
+        self.version = version
         self._count = 0
         self._before: tuple[bytes, ...] = ()
         self._directories: set[str] = set()
@@ -164,7 +164,7 @@ class _Sequence:
         number = self._count
         if number == rules.MAX_ENTRIES:
             raise _Refused("entry count")
-        entry = _entry_of(value, number, self._version)
+        entry = _entry_of(value, number, self.version)
         key = rules.path_key(entry.path)
         if number == 0:
             if entry.path != "/" or entry.kind != DIRECTORY:
