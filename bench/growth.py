@@ -23,7 +23,7 @@ from typing import Callable
 
 import instructions
 import run
-from generate import LAST, MOST_NAMES
+from generate import LAST
 
 CONTENTS = b"x"
 BLOB = hashlib.sha256(CONTENTS).hexdigest()
@@ -188,14 +188,13 @@ class Cost:
     instructions: int | None
 
 
-def cost(program, case, size, longest, unsorted=False, version=LAST):
+def cost(program, case, size, longest, unsorted=False):
     with tempfile.TemporaryDirectory(prefix="ovl-growth-") as folder:
         blobs = os.path.join(folder, "blobs")
         os.mkdir(blobs)
         with open(os.path.join(blobs, BLOB), "wb") as out:
             out.write(CONTENTS)
-        layers, report = case.make(size), os.path.join(folder, "report")
-        layers = write(folder, layers, unsorted, [version] * len(layers))
+        layers, report = write(folder, case.make(size), unsorted), os.path.join(folder, "report")
         command = [program, case.command, *(["--blobs", blobs] if case.command == "fsck" else []), "--workers", "1", "--data-layers",
                    str(case.data_only(size)), *layers]
         seconds, peak, status = run.one_run(command, os.devnull, report)
@@ -221,7 +220,7 @@ def line(it, mark):
                     f"{1e9 * it.seconds / it.bytes:.0f}", f"{it.peak / it.bytes:.1f}", counted[1]])
 
 
-def measure(program, case, sizes, longest, unsorted, version):
+def measure(program, case, sizes, longest, unsorted):
     """Prints the case's table. Gives whether nothing grew too fast."""
     print(f"`{case.command}`: {case.name}:\n")
     head = ["N", "Input and report, bytes", "Seconds", "Peak, bytes", "Instructions", "Nanoseconds a byte", "Peak a byte", "Instructions a byte"]
@@ -229,7 +228,7 @@ def measure(program, case, sizes, longest, unsorted, version):
     print(run.row(["---:"] * len(head)))
     before, good = None, True
     for size in sizes:
-        it = cost(program, case, size, longest, unsorted, version)
+        it = cost(program, case, size, longest, unsorted)
         bad = grown(before, it, case.allowed)
         print(line(it, " (too many)" if bad else ""), flush=True)
         before, good = it, good and not bad
@@ -244,12 +243,11 @@ def main():
     words.add_argument("--sizes", type=int, help="only so many of the smallest sizes of each case")
     words.add_argument("--longest", type=float, default=5.0, help="count the instructions of runs of at most so many seconds (default 5)")
     words.add_argument("--unsorted", action="store_true", help="members out of the order of their names, which are read the other way")
-    words.add_argument("--version", type=int, choices=MOST_NAMES, default=LAST, help=f"version of the manifests (default {LAST})")
     given = words.parse_args()
     program = os.path.abspath(given.program)
     print(f"Machine: {run.machine()}.\n")
     chosen = [CASES[n - 1] for n in given.case] if given.case else CASES
-    good = [measure(program, it, it.sizes[:given.sizes], given.longest, given.unsorted, given.version) for it in chosen]
+    good = [measure(program, it, it.sizes[:given.sizes], given.longest, given.unsorted) for it in chosen]
     sys.exit(0 if all(good) else 1)
 
 
