@@ -24,7 +24,7 @@ import sys
 import tempfile
 from dataclasses import dataclass, replace
 
-from growth import METACOPY, NSEC, REDIRECT, entry, write
+from growth import METACOPY, NSEC, REDIRECT, First, entry, write
 
 OPAQUE, WHITEOUT = "trusted.overlay.opaque", "trusted.overlay.whiteout"
 CONTENTS = ("", "a", "b", "abc")
@@ -183,11 +183,15 @@ def spoil(rng, layers):
 
 @dataclass(frozen=True)
 class Stack:
-    """Layers, the topmost first, and what they show, where that is known; and the versions of their manifests."""
+    """Layers, the topmost first, and what they show, where that is known."""
 
     layers: list
     tree: dict | None
-    versions: list
+
+
+def of_some_version(rng, layer):
+    """The layer in a version that can state it."""
+    return layer if any(it[NSEC] for it in layer) or rng.choice((1, 2)) == 2 else First(layer)
 
 
 def stack_of(rng):
@@ -202,7 +206,7 @@ def stack_of(rng):
         for _ in range(rng.randint(1, 3)):
             spoil(rng, layers)
         tree = None
-    return Stack(layers, tree, [2 if any(it[NSEC] for it in layer) else rng.choice((1, 2)) for layer in layers])
+    return Stack([of_some_version(rng, layer) for layer in layers], tree)
 
 
 def report(tree):
@@ -248,7 +252,7 @@ def rewritten(program, blobs, layers, command, folder):
 
 def judge(program, blobs, stack, folder):
     """Whether the stack is sound."""
-    layers = write(folder, stack.layers, versions=stack.versions)
+    layers = write(folder, stack.layers)
     shown, found = ran(program, "show", *layers), ran(program, "fsck", "--blobs", blobs, *layers)
     if stack.tree is not None:
         same("show", shown, (0, report(stack.tree)))
@@ -285,8 +289,7 @@ def main():
     words.add_argument("--keep", type=int, metavar="N", help="only print the layers of the stack of this number")
     given = words.parse_args()
     if given.keep is not None:
-        stack = stack_of(random.Random(f"{given.seed} {given.keep}"))
-        sys.exit(print(*write(tempfile.mkdtemp(), stack.layers, versions=stack.versions), sep="\n"))
+        sys.exit(print(*write(tempfile.mkdtemp(), stack_of(random.Random(f"{given.seed} {given.keep}")).layers), sep="\n"))
     program, numbers = os.path.abspath(given.program), range(given.count)
     with tempfile.TemporaryDirectory(prefix="ovl-ample-") as blobs, concurrent.futures.ProcessPoolExecutor() as pool:
         for contents in map(str.encode, CONTENTS):

@@ -26,7 +26,7 @@ from dataclasses import dataclass
 
 import ample
 from generate import MOST_NAMES
-from growth import METACOPY, NSEC, REDIRECT, chain, entry, write
+from growth import METACOPY, NSEC, REDIRECT, First, chain, entry, write
 
 COMMANDS = ("show", "fsck", "vacuum", "deref", "merge")
 # Seconds after which a command counts as one that gives no answer, and how many bytes of an answer are printed.
@@ -104,17 +104,20 @@ def chains(rng, versions):
 
 @dataclass(frozen=True)
 class Case:
-    """Layers, the topmost first, the versions of their manifests, and how many are data-only."""
+    """Layers, the topmost first, and how many are data-only."""
 
     number: int
     layers: list
-    versions: list
     data_only: int
+
+    def versions(self):
+        """The versions of their manifests, each once."""
+        return sorted({1 if isinstance(layer, First) else 2 for layer in self.layers})
 
 
 def in_version(layer, version):
     """The layer as a manifest of the version can state it."""
-    return [it | {NSEC: 0} for it in layer] if version == 1 else layer
+    return First(it | {NSEC: 0} for it in layer) if version == 1 else layer
 
 
 def case_of(seed, number):
@@ -122,14 +125,14 @@ def case_of(seed, number):
     chance = rng.random()
     if chance < MADE:
         stack = ample.stack_of(rng)
-        return Case(number, stack.layers, stack.versions, 0)
+        return Case(number, stack.layers, 0)
     versions = [rng.choice((1, 2, 2)) for _ in range(rng.choice((2, 2, 3, 3, 4) if chance < MADE + CHAINED else (1, 2, 2, 3, 4)))]
     if chance < MADE + CHAINED:
         layers, data_only = chains(rng, versions), 0
     else:
         layers = [anything(rng) for _ in versions]
         data_only = rng.choice((0, 0, 0, 0, 1, 1, 2))
-    return Case(number, [in_version(*it) for it in zip(layers, versions)], versions, data_only)
+    return Case(number, [in_version(*it) for it in zip(layers, versions)], data_only)
 
 
 # ---- runs
@@ -162,7 +165,7 @@ def answer(words, what, case, blobs, files, workers):
 def compared(program, oracle, blobs, case):
     """The case, a sort of answer for each command, and those of which the program says something else."""
     with tempfile.TemporaryDirectory(prefix="ovl-beside-") as folder:
-        files = write(folder, case.layers, versions=case.versions)
+        files = write(folder, case.layers)
         sorts, differ = [], []
         for what in COMMANDS:
             wanted = answer(oracle, what, case, blobs, files, 1)
@@ -184,7 +187,7 @@ def tell(case, differ, keep):
     if keep:
         folder = os.path.join(keep, str(case.number))
         os.makedirs(folder, exist_ok=True)
-        write(folder, case.layers, versions=case.versions)
+        write(folder, case.layers)
 
 
 def main():
@@ -209,7 +212,7 @@ def main():
         cases = (case_of(given.seed, number) for number in given.case or range(given.count))
         for case, found, differ in pool.map(lambda case: compared(program, oracle, blobs, case), cases):
             sorts.update(found)
-            versions[" and ".join(map(str, sorted(set(case.versions))))] += 1
+            versions[" and ".join(map(str, case.versions()))] += 1
             if differ:
                 tell(case, differ, given.keep)
                 bad += 1

@@ -56,21 +56,28 @@ def chain(name, depth, attrs=None):
     return [entry(path) for path in paths[:-1]] + [entry(paths[-1], attrs=attrs)] if paths else []
 
 
-def write(folder, layers, unsorted=False, versions=None):
+class First(list):
+    """A layer whose manifest is of version 1, in which no nanoseconds stand; others are of the last version."""
+
+
+def manifest_of(layer, entries):
+    """The value of a layer's manifest with these entries."""
+    if not isinstance(layer, First):
+        return {"overlay-layer": LAST, "entries": entries}
+    return {"overlay-layer": 1, "entries": [{name: value for name, value in it.items() if name != NSEC} for it in entries]}
+
+
+def write(folder, layers, unsorted=False):
     """Writes the layers, the topmost first, and gives the files' names. A layer may be a function that makes it.
 
-    Members stand in the order of their names, as the converter and the program write them, or unsorted. The manifests
-    are of the last version, or of these."""
+    Members stand in the order of their names, as the converter and the program write them, or unsorted."""
     names = []
     for n, layer in enumerate(layers):
         entries = [entry("/")] + (layer() if callable(layer) else layer)
         entries.sort(key=lambda it: it["path"].encode().split(b"/"))
-        version = versions[n] if versions else LAST
-        if version == 1:
-            entries = [{name: value for name, value in it.items() if name != NSEC} for it in entries]
         names.append(os.path.join(folder, f"layer-{n:03d}.json"))
         with open(names[-1], "w", encoding="utf-8") as out:
-            json.dump({"overlay-layer": version, "entries": entries}, out, separators=(",", ":"), sort_keys=not unsorted)
+            json.dump(manifest_of(layer, entries), out, separators=(",", ":"), sort_keys=not unsorted)
     return names
 
 

@@ -22,7 +22,7 @@ import tempfile
 from dataclasses import dataclass
 from pathlib import Path
 
-from growth import REDIRECT, entry, write
+from growth import REDIRECT, First, entry, write
 
 SOURCE = Path(__file__).resolve().parent / "refuse.c"
 COMMANDS = ("show", "fsck", "vacuum", "deref", "merge")
@@ -60,13 +60,11 @@ def opaque(path):
 
 @dataclass(frozen=True)
 class Stack:
-    """Layers, the topmost first, each below its root; the contents of the blobs by their names; how many workers; and the
-    versions of the manifests, the last one where nothing is said."""
+    """Layers, the topmost first, each below its root; the contents of the blobs by their names; and how many workers."""
 
     layers: tuple
     blobs: dict
     workers: tuple = (1, 2)
-    versions: tuple = ()
 
 
 A = {digest(b"a"): b"a"}
@@ -76,7 +74,7 @@ STACKS = {
     "root_alone": Stack(([],), {}),
     "moved_under_opaque": Stack(([opaque("/n"), moved("/n/d", "/x"), whiteout("/x")],
                                  [entry("/n"), file("/n/z", b"a"), entry("/x"), file("/x/k", b"a")]), A),
-    "the_same_twice": Stack((DIRECTORY, DIRECTORY), A, versions=(2, 1)),
+    "the_same_twice": Stack((DIRECTORY, First(DIRECTORY)), A),
     "moved_over_another": Stack(([whiteout("/a"), moved("/b", "/a")], [entry("/a"), file("/a/k", b"a")],
                                  [entry("/b"), file("/b/z", b"a")]), A),
     "wrong_contents": Stack(([entry("/e", "file", size=0), file("/k", b"abc"), file("/m", b"a"), file("/s", b"ab", 3)],),
@@ -131,7 +129,7 @@ class Sweep:
         words = [program, self.command, "--workers", str(self.workers)]
         words += ["--blobs", str(blobs)] if self.command != "show" else []
         words += ["--out", str(room / "new")] if self.command not in ("show", "fsck") else []
-        return words + write(str(folder), stack.layers, versions=stack.versions)
+        return words + write(str(folder), stack.layers)
 
 
 def swept(program, library, sweep):
