@@ -5,7 +5,8 @@ Python 3.11, standard library. Each layer is made as a mounted overlay leaves it
 tree so far are moved, also into each other, replaced, removed, changed and made, and the layer has what that takes:
 redirects to a path or to a name beside, opaque directories, whiteouts of both forms, metacopy files over files and
 over other metacopy files, and copies of what lies below. So it is known what each stack shows, and that it is sound.
-In a third of the stacks something is then changed that no mounted overlay would have changed.
+In a third of the stacks something is then changed that no mounted overlay would have changed. The manifests of a stack are
+of both versions: some of those without a time below a second are of version 1.
 
 Where `fsck` finds no fault, `vacuum`, `deref` and `merge` must give new layers with which the stack shows the same
 bytes; `vacuum` once more must remove nothing, and `fsck` must find no fault after `vacuum` and `deref`. Where it finds
@@ -26,11 +27,12 @@ import sys
 import tempfile
 from dataclasses import dataclass, replace
 
-from growth import METACOPY, REDIRECT, entry, write
+from growth import METACOPY, NSEC, REDIRECT, First, entry, write
 
 OPAQUE, WHITEOUT = "trusted.overlay.opaque", "trusted.overlay.whiteout"
 CONTENTS = ("", "a", "b", "abc")
 NAMES, DEEPEST = ("a", "b", "c", "d"), 5
+NANOSECONDS = (0, 1, 500_000_000, 999_999_999)
 REWRITES = ("vacuum", "deref", "merge")
 # How many stacks that are not as they should be are told, and the seconds after which a command counts as one without end.
 TOLD, LONGEST = 10, 60
@@ -44,6 +46,7 @@ class Thing:
 
     contents: str | None
     mode: int
+    nanoseconds: int
     origin: tuple | None = None
     changed: bool = False
 
@@ -62,18 +65,18 @@ def some_place(rng, tree):
     return next((it for it in places if it not in tree), places[0])
 
 
-def remove(_, tree, path):
+def remove(_, tree, path, *__):
     for it in below(tree, path):
         del tree[it]
 
 
-def make(rng, tree, _):
+def make(rng, tree, _, times):
     place = some_place(rng, tree)
     remove(rng, tree, place)
-    tree[place] = Thing(rng.choice((None, None, None, *CONTENTS)), rng.choice((0o644, 0o755)))
+    tree[place] = Thing(rng.choice((None, None, None, *CONTENTS)), rng.choice((0o644, 0o755)), rng.choice(times))
 
 
-def move(rng, tree, path):
+def move(rng, tree, path, _):
     place = some_place(rng, tree)
     within = below(tree, path)
     longest = max(map(len, within)) - len(path) + len(place)
@@ -82,19 +85,22 @@ def move(rng, tree, path):
         tree |= {place + it[len(path):]: tree.pop(it) for it in within}
 
 
-def change(rng, tree, path):
-    tree[path] = replace(tree[path], mode=rng.choice((0o600, 0o700)), changed=True)
+def change(rng, tree, path, times):
+    if rng.random() < 0.5:
+        tree[path] = replace(tree[path], nanoseconds=rng.choice(times), changed=True)
+    else:
+        tree[path] = replace(tree[path], mode=rng.choice((0o600, 0o700)), changed=True)
 
 
 WORK = (make, make, make, move, move, move, move, change, change, remove)
 
 
-def work(rng, tree):
-    """The tree after some work in it."""
+def work(rng, tree, times):
+    """The tree after some work in it, which gives things these nanoseconds."""
     tree = {path: replace(it, origin=path, changed=False) for path, it in tree.items()}
     for _ in range(rng.randint(8, 16)):
         what = rng.choice(WORK) if tree else make
-        what(rng, tree, rng.choice(sorted(tree)) if tree else None)
+        what(rng, tree, rng.choice(sorted(tree)) if tree else None, times)
     return tree
 
 
@@ -123,7 +129,7 @@ def file(rng, path, thing, place):
         attrs = {METACOPY: ""} | ({} if natural and rng.random() < 0.5 else redirect(rng, thing.origin, place))
     elif thing.contents:
         within["blob"] = hashlib.sha256(thing.contents.encode()).hexdigest()
-    return entry(text(path), "file", attrs, **within) | {"mode": thing.mode}
+    return entry(text(path), "file", attrs, **within) | {"mode": thing.mode, NSEC: thing.nanoseconds}
 
 
 def directory(rng, path, thing, place, lower):
@@ -136,7 +142,7 @@ def directory(rng, path, thing, place, lower):
         attrs, own = {}, natural
     else:
         attrs, own = redirect(rng, thing.origin, place), thing.origin
-    return entry(text(path), attrs=attrs) | {"mode": thing.mode}, own
+    return entry(text(path), attrs=attrs) | {"mode": thing.mode, NSEC: thing.nanoseconds}, own
 
 
 def entries(rng, tree, lower, path=(), place=()):
@@ -186,16 +192,24 @@ class Stack:
     tree: dict | None
 
 
+def of_some_version(rng, layer):
+    """The layer in a version that can state it."""
+    return layer if any(it[NSEC] for it in layer) or rng.choice((1, 2)) == 2 else First(layer)
+
+
 def stack_of(rng):
     tree, layers = {}, []
+    # The lowest layers may be of a time in which manifests had whole seconds alone.
+    times = rng.choice(((0,), NANOSECONDS))
     for _ in range(rng.choice((2, 3, 3, 4, 5))):
-        lower, tree = tree, work(rng, tree)
+        lower, tree = tree, work(rng, tree, times)
         layers.insert(0, entries(rng, tree, lower))
+        times = rng.choice((times, NANOSECONDS))
     if rng.random() < 1 / 3:
         for _ in range(rng.randint(1, 3)):
             spoil(rng, layers)
-        return Stack(layers, None)
-    return Stack(layers, tree)
+        tree = None
+    return Stack([of_some_version(rng, layer) for layer in layers], tree)
 
 
 def report(tree):
@@ -203,8 +217,9 @@ def report(tree):
     lines = ["dir 0755 0 0 0 - - /"]
     for path, thing in sorted(tree.items()):
         name = hashlib.sha256(thing.contents.encode()).hexdigest() if thing.contents else "-"
-        what = "dir {:04o} 0 0 0 - -" if thing.is_directory() else f"file {{:04o}} 0 0 0 {len(thing.contents)} {name}"
-        lines.append(what.format(thing.mode) + " " + text(path))
+        kind, what = ("dir", "- -") if thing.is_directory() else ("file", f"{len(thing.contents)} {name}")
+        time = f"0+{thing.nanoseconds:09}" if thing.nanoseconds else "0"
+        lines.append(f"{kind} {thing.mode:04o} 0 0 {time} {what} {text(path)}")
     return "\n".join([*lines, f"entries {len(lines)}", ""]).encode()
 
 

@@ -21,6 +21,7 @@ import sys
 import tempfile
 
 import run
+from generate import LAST
 
 WORKERS = (1, 2, 4)
 # How many layers a stack has.
@@ -40,19 +41,19 @@ def measure(command, statuses, repeats):
     return min(s for s, _ in runs), max(p for _, p in runs)
 
 
-def make_layers(folder, entries, empty=False):
+def make_layers(folder, entries, version, empty=False):
     """Layers of other names; where it is asked for, with files that are all empty."""
     files = []
     for n in range(1, LAYERS + 1):
         files.append(os.path.join(folder, "%s-%d.json" % ("empty" if empty else "layer", n)))
         subprocess.run([sys.executable, run.GENERATE, "--entries", str(entries), "--seed", str(n),
-                        "--out", files[-1]] + ["--empty"] * empty, check=True)
+                        "--version", str(version), "--out", files[-1]] + ["--empty"] * empty, check=True)
     return files
 
 
-def rewriting(program, folder, none, entries):
+def rewriting(program, folder, none, entries, version):
     """A name and a command for each command that makes new layers, over layers of other names and of the same."""
-    layers, new = make_layers(folder, entries, empty=True), os.path.join(folder, "new")
+    layers, new = make_layers(folder, entries, version, empty=True), os.path.join(folder, "new")
     os.mkdir(new)
     for what in REWRITING:
         command = [program, what, "--blobs", none, "--out", new]
@@ -60,14 +61,14 @@ def rewriting(program, folder, none, entries):
         yield what + ", the same names", command + layers[:1] * LAYERS
 
 
-def on_layers(program, folder, entries):
+def on_layers(program, folder, entries, version=LAST):
     """A name, a command and the statuses that it may end with, for each command over three layers."""
-    layers, none = make_layers(folder, entries), os.path.join(folder, "none")
+    layers, none = make_layers(folder, entries, version), os.path.join(folder, "none")
     os.mkdir(none)
     yield "show", [program, "show"] + layers, (0,)
     # The generated layers name blobs that aren't there: faults, and status 1.
     yield "fsck", [program, "fsck", "--blobs", none] + layers, (0, 1)
-    for name, command in rewriting(program, folder, none, entries):
+    for name, command in rewriting(program, folder, none, entries, version):
         yield name, command, (0,)
 
 
@@ -80,7 +81,7 @@ def make_blobs(folder, count, size):
     blobs = os.path.join(folder, "blobs")
     os.mkdir(blobs)
     bits = random.Random(1)
-    entry = {"uid": 0, "gid": 0, "mtime": 0, "xattrs": {}}
+    entry = {"uid": 0, "gid": 0, "mtime": 0, "mtime-nsec": 0, "xattrs": {}}
     entries = [dict(entry, path="/", kind="dir", mode=0o755)]
     for n in range(count):
         content = bits.randbytes(size)
@@ -90,7 +91,7 @@ def make_blobs(folder, count, size):
         entries.append(dict(entry, path="/f%07d" % n, kind="file", mode=0o644, size=size, blob=name))
     layer = os.path.join(folder, "blobs.json")
     with open(layer, "w") as file:
-        json.dump({"overlay-layer": 1, "entries": entries}, file)
+        json.dump({"overlay-layer": LAST, "entries": entries}, file, separators=(",", ":"), sort_keys=True)
     return blobs, layer
 
 

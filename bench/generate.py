@@ -4,7 +4,8 @@
 Python 3.11, standard library. The manifest is valid: compact text with sorted
 members, entries in path order (name by name as bytes, so a directory's subtree
 follows it directly), every parent a directory listed before. It is written as
-it is made, so memory stays small however many entries there are.
+it is made, so memory stays small however many entries there are. In version 2
+half of the times are not whole seconds; all else is the same in both versions.
 
     python3 bench/generate.py --entries 100000 > layer.json
     python3 bench/generate.py --self-test
@@ -16,7 +17,8 @@ import random
 import sys
 
 MOST_ENTRIES = 1_048_576
-MOST_NAMES = 64
+MOST_NAMES = {1: 64, 2: 128}
+LAST = max(MOST_NAMES)
 MOST_BYTES = 268_435_456  # of one manifest, read by the program
 PIECES = 4096             # pieces that names are made of
 FLUSH = 4096              # entries written at once
@@ -42,13 +44,13 @@ def pieces(rng):
 
 class Generator:
     def __init__(self, entries, fan_out=24, depth=16, attributes=0.05, seed=1,
-                 whiteouts=0.0, opaque=0.0, empty=False):
+                 whiteouts=0.0, opaque=0.0, empty=False, version=LAST):
         if not 1 <= entries <= MOST_ENTRIES:
             raise ValueError("entries must be 1 to %d" % MOST_ENTRIES)
         if not 1 <= fan_out <= MOST_ENTRIES:
             raise ValueError("fan-out must be 1 to %d" % MOST_ENTRIES)
-        if not 1 <= depth <= MOST_NAMES:
-            raise ValueError("depth must be 1 to %d" % MOST_NAMES)
+        if not 1 <= depth <= MOST_NAMES[version]:
+            raise ValueError("depth must be 1 to %d" % MOST_NAMES[version])
         for share in (attributes, whiteouts, opaque):
             if not 0 <= share <= 1:
                 raise ValueError("a share must be 0 to 1")
@@ -60,13 +62,23 @@ class Generator:
         self.whiteouts = round(whiteouts * 2 ** 24)
         self.opaque = round(opaque * 2 ** 24)
         self.empty = empty
+        self.version = version
         self.rng = random.Random(seed)
+        # Of its own, so that the versions differ in nothing else.
+        self.nanoseconds = random.Random("%d nanoseconds" % seed)
         self.pieces = pieces(self.rng)
         self.count = 0
         self.bytes = 0
 
     def lot(self, share):
         return share > 0 and self.rng.getrandbits(24) < share
+
+    def time(self, seconds, whole=False):
+        """The text of a time, behind the name of its first member."""
+        if self.version == 1:
+            return str(seconds)
+        below = 0 if whole or self.nanoseconds.getrandbits(1) else self.nanoseconds.randrange(10 ** 9)
+        return '%d,"mtime-nsec":%d' % (seconds, below)
 
     def names(self, count):
         """count different names of 4 to 20 bytes, in byte order."""
@@ -101,39 +113,39 @@ class Generator:
     def directory(self, path, mark=""):
         r = self.rng.getrandbits(32)
         owner = OWNERS[r >> 3 & 7]
-        return ('{"gid":%s,"kind":"dir","mode":%d,"mtime":%d,"path":"%s","uid":%s,"xattrs":%s}'
-                % (owner, DIR_MODES[r & 7], 1_500_000_000 + (r >> 6), path, owner, self.xattrs(mark)))
+        return ('{"gid":%s,"kind":"dir","mode":%d,"mtime":%s,"path":"%s","uid":%s,"xattrs":%s}'
+                % (owner, DIR_MODES[r & 7], self.time(1_500_000_000 + (r >> 6)), path, owner, self.xattrs(mark)))
 
     def other(self, path):
         """An entry that isn't a directory: mostly a file."""
         if self.lot(self.whiteouts):
-            return ('{"gid":0,"kind":"char","major":0,"minor":0,"mode":0,"mtime":0,"path":"%s",'
-                    '"uid":0,"xattrs":{}}' % path)
+            return ('{"gid":0,"kind":"char","major":0,"minor":0,"mode":0,"mtime":%s,"path":"%s",'
+                    '"uid":0,"xattrs":{}}' % (self.time(0, whole=True), path))
         r = self.rng.getrandbits(48)
         owner = OWNERS[r >> 3 & 7]
-        mtime = 1_500_000_000 + (r >> 6 & 0xFFFFFFF)
+        mtime = self.time(1_500_000_000 + (r >> 6 & 0xFFFFFFF))
         what = (r >> 34) % 1000
         xattrs = self.xattrs()
         if what < 940 and not self.empty:
             size = 1 + (r >> 8 & (1 << (4 + r % 17)) - 1)
             blob = hashlib.sha256(path.encode()).hexdigest()
-            return ('{"blob":"%s","gid":%s,"kind":"file","mode":%d,"mtime":%d,"path":"%s","size":%d,'
+            return ('{"blob":"%s","gid":%s,"kind":"file","mode":%d,"mtime":%s,"path":"%s","size":%d,'
                     '"uid":%s,"xattrs":%s}'
                     % (blob, owner, FILE_MODES[r & 7], mtime, path, size, owner, xattrs))
         if what < 960:
-            return ('{"gid":%s,"kind":"file","mode":%d,"mtime":%d,"path":"%s","size":0,"uid":%s,'
+            return ('{"gid":%s,"kind":"file","mode":%d,"mtime":%s,"path":"%s","size":0,"uid":%s,'
                     '"xattrs":%s}' % (owner, FILE_MODES[r & 7], mtime, path, owner, xattrs))
         if what < 994:
             up = "../" * (r >> 20 & 3)
             target = up + self.pieces[r & 4095] + "/" + self.pieces[r >> 12 & 4095]
-            return ('{"gid":%s,"kind":"symlink","mode":511,"mtime":%d,"path":"%s","target":"%s",'
+            return ('{"gid":%s,"kind":"symlink","mode":511,"mtime":%s,"path":"%s","target":"%s",'
                     '"uid":%s,"xattrs":%s}' % (owner, mtime, path, target, owner, xattrs))
         if what < 998:
-            return ('{"gid":%s,"kind":"%s","major":%d,"minor":%d,"mode":432,"mtime":%d,"path":"%s",'
+            return ('{"gid":%s,"kind":"%s","major":%d,"minor":%d,"mode":432,"mtime":%s,"path":"%s",'
                     '"uid":%s,"xattrs":%s}'
                     % (owner, ("char", "block")[what & 1], 1 + (r >> 9 & 255), r >> 17 & 255,
                        mtime, path, owner, xattrs))
-        return ('{"gid":%s,"kind":"%s","mode":384,"mtime":%d,"path":"%s","uid":%s,"xattrs":%s}'
+        return ('{"gid":%s,"kind":"%s","mode":384,"mtime":%s,"path":"%s","uid":%s,"xattrs":%s}'
                 % (owner, ("fifo", "socket")[what & 1], mtime, path, owner, xattrs))
 
     def below(self, path, left, room):
@@ -183,7 +195,8 @@ class Generator:
         return '"trusted.overlay.opaque":"79"' if self.lot(self.opaque) else ""
 
     def all_entries(self):
-        yield ('{"gid":0,"kind":"dir","mode":493,"mtime":1500000000,"path":"/","uid":0,"xattrs":{}}')
+        yield ('{"gid":0,"kind":"dir","mode":493,"mtime":%s,"path":"/","uid":0,"xattrs":{}}'
+               % self.time(1_500_000_000, whole=True))
         yield from self.below("", self.depth, self.entries - 1)
 
     def write(self, out):
@@ -203,7 +216,7 @@ class Generator:
         if buffer:
             put(("," if self.count else "") + ",".join(buffer))
             self.count += len(buffer)
-        put('],"overlay-layer":1}\n')
+        put('],"overlay-layer":%d}\n' % self.version)
 
 
 # ------------------------------------------------------------------ self-test
@@ -217,27 +230,27 @@ def names_of(path):
     return () if path == "/" else tuple(name.encode() for name in path[1:].split("/"))
 
 
-def wrong(data, entries, depth):
+def wrong(data, entries, depth, version):
     """What is wrong with a manifest, or None. It reads the whole text into memory."""
     value = json.loads(data)
     again = json.dumps(value, sort_keys=True, separators=(",", ":"), ensure_ascii=False) + "\n"
     if again.encode() != data:
         return "not the compact text with sorted members and one newline"
-    if set(value) != {"entries", "overlay-layer"} or value["overlay-layer"] != 1:
+    if set(value) != {"entries", "overlay-layer"} or value["overlay-layer"] != version:
         return "wrong shape"
     if len(value["entries"]) != entries:
         return "%d entries in place of %d" % (len(value["entries"]), entries)
     directories, before = set(), None
     for n, e in enumerate(value["entries"]):
         at = names_of(e["path"])
-        want = COMMON | MORE[e["kind"]]
+        want = COMMON | MORE[e["kind"]] | ({"mtime-nsec"} if version == 2 else set())
         if e["kind"] == "file" and e["size"] > 0:
             want = want | {"blob"}
             if len(e["blob"]) != 64 or set(e["blob"]) - set("0123456789abcdef"):
                 return "entry %d: blob" % n
         if set(e) != want:
             return "entry %d: members" % n
-        if not 0 <= e["mode"] <= 4095 or not 0 <= e.get("size", 0) < 2 ** 63:
+        if not 0 <= e["mode"] <= 4095 or not 0 <= e.get("size", 0) < 2 ** 63 or not 0 <= e.get("mtime-nsec", 0) < 10 ** 9:
             return "entry %d: numbers" % n
         for value_text in e["xattrs"].values():
             if bytes.fromhex(value_text).hex() != value_text:
@@ -264,20 +277,21 @@ def self_test():
     import io
     tried = 0
     for entries in (1, 2, 3, 10, 100, 1000, 5000):
-        for fan_out, depth in ((24, 16), (1, 64), (2, 64), (3, 8), (40, 2), (500, 3), (12, 1)):
+        for fan_out, depth, version in ((24, 16, 1), (1, 64, 1), (24, 16, 2), (1, 128, 2), (2, 64, 2), (3, 8, 2), (40, 2, 2),
+                                        (500, 3, 2), (12, 1, 2)):
             for seed in (1, 2):
                 for attributes, whiteouts, opaque in ((0.05, 0, 0), (1, 0.1, 0.5), (0, 1, 1)):
                     made = []
                     for _ in range(2):
                         out = io.BytesIO()
-                        g = Generator(entries, fan_out, depth, attributes, seed, whiteouts, opaque)
+                        g = Generator(entries, fan_out, depth, attributes, seed, whiteouts, opaque, version=version)
                         g.write(out)
                         made.append(out.getvalue())
                     fault = "not the same bytes twice" if made[0] != made[1] else \
-                        wrong(made[0], entries, depth)
+                        wrong(made[0], entries, depth, version)
                     if fault or g.count != entries or g.bytes != len(made[0]):
-                        sys.exit("self-test: entries %d fan-out %d depth %d seed %d: %s"
-                                 % (entries, fan_out, depth, seed, fault or "counts"))
+                        sys.exit("self-test: entries %d fan-out %d depth %d version %d seed %d: %s"
+                                 % (entries, fan_out, depth, version, seed, fault or "counts"))
                     tried += 1
     print("self-test: %d manifests, nothing wrong" % tried)
 
@@ -286,12 +300,13 @@ def main():
     words = argparse.ArgumentParser(description="Writes a large layer manifest.")
     words.add_argument("--entries", type=int, default=100_000, help="entries, the root counted (default 100000)")
     words.add_argument("--fan-out", type=int, default=24, help="a directory with directories below it holds half to one and a half times as many entries (default 24); more where --depth leaves no other place")
-    words.add_argument("--depth", type=int, default=16, help="most names of a path, 1 to 64 (default 16)")
+    words.add_argument("--depth", type=int, default=16, help="most names of a path, 1 to 128, in version 1 to 64 (default 16)")
     words.add_argument("--attributes", type=float, default=0.05, help="share of entries with extended attributes, 0 to 1 (default 0.05)")
     words.add_argument("--whiteouts", type=float, default=0.0, help="share of non-directories that are whiteouts, char 0:0 (default 0)")
     words.add_argument("--opaque", type=float, default=0.0, help="share of directories below the root that are opaque (default 0)")
     words.add_argument("--empty", action="store_true", help="files are empty, so that no contents are wanted")
     words.add_argument("--seed", type=int, default=1, help="other seeds give other layers (default 1)")
+    words.add_argument("--version", type=int, choices=MOST_NAMES, default=LAST, help="version of the manifest (default %d)" % LAST)
     words.add_argument("--out", help="file to write (default: standard output)")
     words.add_argument("--self-test", action="store_true", help="make small layers of many shapes and check each")
     given = words.parse_args()
@@ -300,7 +315,7 @@ def main():
         return
     try:
         generator = Generator(given.entries, given.fan_out, given.depth, given.attributes,
-                              given.seed, given.whiteouts, given.opaque, given.empty)
+                              given.seed, given.whiteouts, given.opaque, given.empty, given.version)
     except ValueError as fault:
         words.error(str(fault))
     if given.out:

@@ -23,11 +23,14 @@ from typing import Callable
 
 import instructions
 import run
+from generate import LAST
 
 CONTENTS = b"x"
 BLOB = hashlib.sha256(CONTENTS).hexdigest()
 REDIRECT = "trusted.overlay.redirect"
 METACOPY = "trusted.overlay.metacopy"
+# The member of entries that version 1 of the manifest hasn't.
+NSEC = "mtime-nsec"
 # Growth of the instructions for a byte, at each doubling, that isn't told.
 ALLOWED = 1.2
 
@@ -35,7 +38,7 @@ ALLOWED = 1.2
 # ---- layers: lists of entries, which are put into path order where they are written
 
 def entry(path, kind="dir", attrs=None, **more):
-    return {"path": path, "kind": kind, "mode": 0o755 if kind == "dir" else 0o644, "uid": 0, "gid": 0, "mtime": 0,
+    return {"path": path, "kind": kind, "mode": 0o755 if kind == "dir" else 0o644, "uid": 0, "gid": 0, "mtime": 0, NSEC: 0,
             "xattrs": {name: value.encode().hex() for name, value in (attrs or {}).items()}, **more}
 
 
@@ -53,6 +56,17 @@ def chain(name, depth, attrs=None):
     return [entry(path) for path in paths[:-1]] + [entry(paths[-1], attrs=attrs)] if paths else []
 
 
+class First(list):
+    """A layer whose manifest is of version 1, in which no nanoseconds stand; others are of the last version."""
+
+
+def manifest_of(layer, entries):
+    """The value of a layer's manifest with these entries."""
+    if not isinstance(layer, First):
+        return {"overlay-layer": LAST, "entries": entries}
+    return {"overlay-layer": 1, "entries": [{name: value for name, value in it.items() if name != NSEC} for it in entries]}
+
+
 def write(folder, layers, unsorted=False):
     """Writes the layers, the topmost first, and gives the files' names. A layer may be a function that makes it.
 
@@ -63,7 +77,7 @@ def write(folder, layers, unsorted=False):
         entries.sort(key=lambda it: it["path"].encode().split(b"/"))
         names.append(os.path.join(folder, f"layer-{n:03d}.json"))
         with open(names[-1], "w", encoding="utf-8") as out:
-            json.dump({"overlay-layer": 1, "entries": entries}, out, separators=(",", ":"), sort_keys=not unsorted)
+            json.dump(manifest_of(layer, entries), out, separators=(",", ":"), sort_keys=not unsorted)
     return names
 
 

@@ -19,6 +19,7 @@ import tempfile
 
 import commands
 import run
+from generate import LAST, MOST_NAMES
 
 # The statuses of a command that can't read a manifest.
 UNREAD = (3,)
@@ -45,6 +46,7 @@ def main():
     words = argparse.ArgumentParser(description="Counts the instructions of each command for each entry.")
     words.add_argument("--program", required=True, help="path of the program")
     words.add_argument("--entries", type=int, default=10000, help="entries of each of three layers (default 10000)")
+    words.add_argument("--version", type=int, choices=MOST_NAMES, default=LAST, help="version of the manifests (default %d)" % LAST)
     words.add_argument("--dearest", type=int, default=0, help="list so many functions that took the most, with all that they call")
     given = words.parse_args()
     program, listed = os.path.abspath(given.program), []
@@ -53,7 +55,7 @@ def main():
     with tempfile.TemporaryDirectory(prefix="ovl-bench-") as folder:
         unread, out = os.path.join(folder, "unread.json"), os.path.join(folder, "callgrind")
         open(unread, "wb").close()
-        for name, command, statuses in commands.on_layers(program, folder, given.entries):
+        for name, command, statuses in commands.on_layers(program, folder, given.entries, given.version):
             command = commands.with_workers(command, 1)
             total, reading = instructions(command, statuses, out), instructions([*command, unread], UNREAD)
             each = (total - reading) / (commands.LAYERS * given.entries)

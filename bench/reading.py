@@ -1,10 +1,11 @@
 #!/usr/bin/env python3
 """Counts how often the program asks for memory while it shows a manifest as the commands and the converter write it.
 
-Python 3.11, standard library, and `rt`, whose compiler builds refuse.c. Such a manifest is read piece by piece, with no
-value of JSON in between. No contract says so: a program that read each by way of a value would give the same bytes, at
-several times the cost. So the requests are counted, of a manifest of 10,000 entries, and of the same with a space in
-front, which is read the other way: the report must be the same, and the first may take at most four requests an entry.
+Python 3.11, standard library, and `rt`, whose compiler builds refuse.c. Such a manifest, of either version, is read piece
+by piece, with no value of JSON in between. No contract says so: a program that read each by way of a value would give the
+same bytes, at several times the cost. So the requests are counted, of a manifest of 10,000 entries in each version, and of
+the same with a space in front, which is read the other way: the report must be the same, and the first may take at most
+four requests an entry.
 
     python3 bench/reading.py --program crates/ovl_layers/out/ovl_layers
 """
@@ -15,7 +16,7 @@ import sys
 import tempfile
 from pathlib import Path
 
-from generate import Generator
+from generate import MOST_NAMES, Generator
 from refusals import build
 
 ENTRIES, MOST = 10_000, 4
@@ -31,25 +32,32 @@ def shown(program, library, manifest, room):
     return ran.stdout, int(told.read_text().split()[0])
 
 
+def read(program, library, room, version):
+    """The requests an entry of a manifest as it is written, and with a space in front; both must show the same."""
+    written, other = (room / f"{name}{version}.json" for name in ("written", "other"))
+    with open(written, "wb") as out:
+        Generator(ENTRIES, version=version).write(out)
+    other.write_bytes(b" " + written.read_bytes())
+    (report, count), (again, more) = (shown(program, library, str(it), room) for it in (written, other))
+    if report != again:
+        sys.exit(f"reading.py: version {version}: another report with a space in front")
+    return count / ENTRIES, more / ENTRIES
+
+
 def main():
     words = argparse.ArgumentParser(description="Counts the requests for memory of a manifest as it is written.")
     words.add_argument("--program", required=True, help="path of the program")
     given = words.parse_args()
-    program = os.path.abspath(given.program)
+    program, good = os.path.abspath(given.program), True
     with tempfile.TemporaryDirectory(prefix="ovl-reading-") as folder:
-        room, counts, reports = Path(folder), {}, set()
+        room = Path(folder)
         library = str(room / "refuse.so")
         build(library)
-        written = room / "written.json"
-        with open(written, "wb") as out:
-            Generator(ENTRIES).write(out)
-        (room / "other.json").write_bytes(b" " + written.read_bytes())
-        for name in ("written", "other"):
-            report, counts[name] = shown(program, library, str(room / f"{name}.json"), room)
-            reports.add(report)
-    each = {name: count / ENTRIES for name, count in counts.items()}
-    print(f"requests for memory an entry: {each['written']:.2f} as it is written, {each['other']:.2f} with a space in front")
-    sys.exit(0 if len(reports) == 1 and each["written"] <= MOST < each["other"] else 1)
+        for version in MOST_NAMES:
+            written, other = read(program, library, room, version)
+            print(f"version {version}, requests for memory an entry: {written:.2f} as it is written, {other:.2f} with a space in front")
+            good = good and written <= MOST < other
+    sys.exit(0 if good else 1)
 
 
 if __name__ == "__main__":

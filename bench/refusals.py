@@ -26,7 +26,7 @@ import tempfile
 from dataclasses import dataclass
 from pathlib import Path
 
-from growth import REDIRECT, entry, write
+from growth import REDIRECT, First, entry, write
 
 SOURCE = Path(__file__).resolve().parent / "refuse.c"
 COMMANDS = ("show", "fsck", "vacuum", "deref", "merge")
@@ -78,7 +78,7 @@ STACKS = {
     "root_alone": Stack(([],), {}),
     "moved_under_opaque": Stack(([opaque("/n"), moved("/n/d", "/x"), whiteout("/x")],
                                  [entry("/n"), file("/n/z", b"a"), entry("/x"), file("/x/k", b"a")]), A),
-    "the_same_twice": Stack((DIRECTORY, DIRECTORY), A),
+    "the_same_twice": Stack((DIRECTORY, First(DIRECTORY)), A),
     "moved_over_another": Stack(([whiteout("/a"), moved("/b", "/a")], [entry("/a"), file("/a/k", b"a")],
                                  [entry("/b"), file("/b/z", b"a")]), A),
     "wrong_contents": Stack(([entry("/e", "file", size=0), file("/k", b"abc"), file("/m", b"a"), file("/s", b"ab", 3)],),

@@ -3,8 +3,9 @@
 
 Python 3.11, standard library. Each case is a small layer of odd names, kinds and attributes, of which mostly one thing
 is spoilt: bytes, members, numbers, texts, digests, paths, the order of the entries. Some are only written in another
-way, and are shown. A quarter of them lie under a sound layer. `show` by 1 and by 4 workers must give the same standard
-output, standard error and status as the other reading. A case depends on the seed and its number alone.
+way, and are shown. They are of one version; a quarter of them lie under a sound layer of either. `show` by 1 and by 4
+workers must give the same standard output, standard error and status as the other reading. A case depends on the version,
+the seed and its number alone.
 
 The other reading is a command that takes the words of `show` (docs/FORMATS.md), reads the manifests, prints the report
 or the line of the fault, and ends with the status that stand there; as another build of the program does.
@@ -33,6 +34,9 @@ LONGEST, TOLD = 120, 400
 TWO, NONE, STACKED = 0.15, 0.03, 0.25
 
 MOST_ENTRIES = 1_048_576
+# How many names a path may have, by version; and the member of entries that version 1 hasn't.
+DEEPEST = {1: 64, 2: 128}
+NSEC = "mtime-nsec"
 KINDS = ("dir", "dir", "dir", "file", "file", "file", "symlink", "char", "block", "fifo", "socket")
 NAMES = ("a", "b", "bin", "lib", "etc", "a b", "a-b", "a.b", "\u00e9", "\u65e5\u672c", "\U0001f600", "\\", '"', "=", "~",
          "\x7f", "\n", "\t", "\x01", "..a", "...", "x" * 60)
@@ -59,7 +63,8 @@ BAD_UTF8 = (b"\x80", b"\xff", b"\xfe", b"\xc0\x80", b"\xc1\xbf", b"\xe0\x80\xaf"
             b"\xc3\xa9", b"\xf4\x8f\xbf\xbf", b"\xef\xbf\xbf", b"\xef\xbb\xbf")
 TEXTS = (b"", b" ", b"\n", b"null", b"true", b"0", b"-", b'"', b'"x"', b"[]", b"{}", b"[", b"{", b"{]", b"nul", b"tru", b"[[]",
          b'{"entries":[]}', b'{"overlay-layer":1}', b'{"entries":{},"overlay-layer":1}', b'[{"entries":[],"overlay-layer":1}]',
-         b'{"entries":[],"overlay-layer":1}', b'{"entries":[],"overlay-layer":2}', b'{"entries":[0],"overlay-layer":1}\n')
+         b'{"entries":[],"overlay-layer":1}', b'{"entries":[],"overlay-layer":2}', b'{"entries":[],"overlay-layer":3}',
+         b'{"entries":[0],"overlay-layer":1}\n', b'{"entries":[0],"overlay-layer":2}\n')
 AFTER = (b" ", b"\n\n", b"\r\n", b"\t", b"\0", b"x", b",", b"}", b"]", b"{}", b"null", b"//", b"\x0c", b"\xc2\xa0")
 
 
@@ -158,11 +163,13 @@ def attributes(rng):
     return Members(sorted(((name, value.hex()) for name, value in chosen.items()), key=lambda it: it[0].encode()))
 
 
-def entry(rng, path, kind):
+def entry(rng, path, kind, version):
     attrs = attributes(rng)
     members = {"path": path, "kind": kind, "mode": rng.choice((0, 0o644, 0o755, 0o4755, 4095)), "xattrs": attrs,
                "uid": rng.choice((0, 1000, 2**32 - 1)), "gid": rng.choice((0, 1000)),
                "mtime": rng.choice((0, 1_500_000_000, -1, 2**63 - 1, -2**63))}
+    if version == 2:
+        members[NSEC] = rng.choice((0, 0, 1, 500_000_000, 999_999_999))
     if kind == "file":
         members["size"] = rng.choice((0, 0, 1, 5, 2**40, 2**63 - 1))
         if members["size"] > 0 and attrs.get(METACOPY) is None:
@@ -174,7 +181,7 @@ def entry(rng, path, kind):
     return Members(sorted(members.items()))
 
 
-def sound(rng):
+def sound(rng, version):
     """The value of a manifest of a root and up to 12 entries."""
     kinds, below = {"/": "dir"}, [""]
     for _ in range(rng.randint(0, 12)):
@@ -182,8 +189,8 @@ def sound(rng):
         if path not in kinds:
             kinds[path] = rng.choice(KINDS)
             below += [path] * (kinds[path] == "dir")
-    entries = [entry(rng, path, kinds[path]) for path in sorted(kinds, key=key)]
-    return Members([("entries", entries), ("overlay-layer", 1)])
+    entries = [entry(rng, path, kinds[path], version) for path in sorted(kinds, key=key)]
+    return Members([("entries", entries), ("overlay-layer", version)])
 
 
 # ---- what is spoilt in a value: functions of the chance and the manifest, which they change
@@ -191,6 +198,12 @@ def sound(rng):
 def entries_of(manifest):
     found = manifest.get("entries")
     return found if type(found) is list else []
+
+
+def version_of(manifest):
+    """The version of a manifest, the last one where that is spoilt."""
+    found = manifest.get("overlay-layer")
+    return found if type(found) is int and found in DEEPEST else max(DEEPEST)
 
 
 def objects_of(manifest):
@@ -251,7 +264,7 @@ def missing_member(rng, manifest):
 
 def extra_member(rng, manifest):
     extra = (("size", 1), ("size", 0), ("blob", "0" * 64), ("blob", None), ("target", "x"), ("major", 0), ("minor", 0),
-             ("nlink", 1), ("mtime-nsec", 0), ("entries", []), ("overlay-layer", 1), ("", ""), ("xattrs", Members()),
+             ("nlink", 1), (NSEC, 0), ("entries", []), ("overlay-layer", 1), ("", ""), ("xattrs", Members()),
              ("user.x", "00"))
     members = some_object(rng, manifest)
     members.insert(rng.randint(0, len(members)), rng.choice(extra))
@@ -276,6 +289,24 @@ def odd_time(rng, manifest):
     whole = rng.choice((-1, -86_400, -2**63, -2**63 - 1, 1_700_000_000))
     after = rng.choice(("", "", ".0", ".5", ".123456789", "e0", "e-1", "E9"))
     some_entry(rng, manifest).put("mtime", Raw(f"{whole}{after}"))
+
+
+def odd_nanoseconds(rng, manifest):
+    """Nanoseconds at the edges, and where there may be none."""
+    values = ("0", "1", "-1", "-0", "000000001", "999999999", "1000000000", "1000000001", "999999999.0", "0.5", "1e3", "1e9",
+              "4294967296", "18446744073709551616", '"0"', '""', "null", "true", "[]")
+    some_entry(rng, manifest).put(NSEC, Raw(rng.choice(values)))
+
+
+def entry_of_another_version(rng, manifest):
+    """One entry, or each, with nanoseconds where the version has none, or without."""
+    wanted = [some_entry(rng, manifest)] if rng.random() < 0.5 else objects_of(manifest)
+    for within in wanted:
+        if within.get(NSEC) is None:
+            within.put(NSEC, 0)
+            within.sort(key=lambda it: str(it[0]))
+        else:
+            within[:] = [it for it in within if it[0] != NSEC]
 
 
 def other_type(rng, manifest):
@@ -357,7 +388,8 @@ def odd_path(rng, manifest):
 
 def deep_path(rng, manifest):
     """A chain of about as many directories as a path may have names."""
-    below = [entry(rng, "/d" * n, "dir") for n in range(1, rng.randint(62, 67))]
+    version = version_of(manifest)
+    below = [entry(rng, "/d" * n, "dir", version) for n in range(1, DEEPEST[version] + rng.randint(-2, 3))]
     manifest.put("entries", entries_of(manifest)[:1] + below)
 
 
@@ -369,7 +401,7 @@ def long_path(rng, manifest):
         sizes = [255] * 15 + [rng.randint(252, 255)]
     letter, count = rng.choice((("n", 1), ("\u00e9", 2), ("\U0001f600", 4)))
     names = [letter * (size // count) + "x" * (size % count) for size in sizes]
-    below = [entry(rng, "/" + "/".join(names[:n]), "dir") for n in range(1, len(names) + 1)]
+    below = [entry(rng, "/" + "/".join(names[:n]), "dir", version_of(manifest)) for n in range(1, len(names) + 1)]
     manifest.put("entries", entries_of(manifest)[:1] + below)
 
 
@@ -411,11 +443,11 @@ def other_root(rng, manifest):
     found = entries_of(manifest)
     if found and isinstance(found[0], Members):
         path = rng.choice(("/", "/", "/a", "", "//"))
-        found[0] = entry(rng, path, rng.choice(KINDS[3:] if path == "/" else KINDS))
+        found[0] = entry(rng, path, rng.choice(KINDS[3:] if path == "/" else KINDS), version_of(manifest))
 
 
 def other_version(rng, manifest):
-    versions = ("0", "2", "3", "-1", "1.0", "1e0", "10e-1", "1.5", '"1"', "true", "null", "[1]", "01", str(2**64 - 1),
+    versions = ("0", "1", "2", "3", "-1", "1.0", "1e0", "10e-1", "1.5", '"1"', "true", "null", "[1]", "01", str(2**64 - 1),
                 str(2**64), str(-2**63 - 1))
     manifest.put("overlay-layer", Raw(rng.choice(versions)))
 
@@ -439,7 +471,7 @@ def nested(rng, manifest):
 
 # What stands twice is drawn twice as often.
 VALUES = (renamed_member, doubled_member, doubled_member, missing_member, extra_member, odd_number, odd_number,
-          number_at_an_edge, number_at_an_edge, odd_time, other_type, odd_escape, odd_escape, odd_digits, blob_where_none_may_be,
+          number_at_an_edge, number_at_an_edge, odd_time, odd_nanoseconds, entry_of_another_version, other_type, odd_escape, odd_escape, odd_digits, blob_where_none_may_be,
           odd_attribute, odd_attribute, odd_kind, odd_target, odd_path, odd_path, deep_path, long_path, entry_elsewhere,
           entry_twice, entry_dropped, entries_in_another_order, not_an_entry, other_root, other_version, other_list, nested)
 
@@ -539,10 +571,10 @@ def encoded(value, rng):
     return (written(value, some_style(rng), rng) + "\n").encode("utf-8", "surrogatepass")
 
 
-def case_of(seed, number):
+def case_of(version, seed, number):
     """The case of this number: at most two things spoilt, those in the value before those in the bytes."""
-    rng = random.Random(f"{seed} {number}")
-    chance, manifest = rng.random(), sound(rng)
+    rng = random.Random(f"{version} {seed} {number}")
+    chance, manifest = rng.random(), sound(rng, version)
     chosen = rng.choices(VALUES + BYTES, k=2 if chance < TWO else 0 if chance < TWO + NONE else 1)
     for spoil in chosen:
         if spoil in VALUES:
@@ -551,7 +583,7 @@ def case_of(seed, number):
     for spoil in chosen:
         if spoil in BYTES:
             data = spoil(rng, data)
-    above = (encoded(sound(rng), rng),) if rng.random() < STACKED else ()
+    above = (encoded(sound(rng, rng.choice(list(DEEPEST))), rng),) if rng.random() < STACKED else ()
     return Case(number, (*above, data), ", ".join(it.__name__.replace("_", " ") for it in chosen) or "nothing")
 
 
@@ -602,6 +634,8 @@ def main():
     words.add_argument("--program", required=True, help="path of the program")
     words.add_argument("--oracle", required=True, metavar="COMMAND", help="the other reading: a command and its words, after "
                        "which come 'show --workers 1 FILE..'; it answers as the program must, see docs/FORMATS.md")
+    words.add_argument("--version", type=int, choices=DEEPEST, default=max(DEEPEST), help="version of the manifests that are "
+                       f"spoilt (default {max(DEEPEST)})")
     words.add_argument("--count", type=int, default=5000, help="how many cases (default 5000)")
     words.add_argument("--seed", default="1", help="other seeds give other cases (default 1)")
     words.add_argument("--case", type=int, action="append", help="only the case of this number; may be said again")
@@ -614,7 +648,7 @@ def main():
 
     sorts, bad = collections.Counter(), 0
     with concurrent.futures.ThreadPoolExecutor(given.jobs) as pool:
-        cases = (case_of(given.seed, number) for number in given.case or range(given.count))
+        cases = (case_of(given.version, given.seed, number) for number in given.case or range(given.count))
         for case, wanted, others in pool.map(lambda case: compared(program, oracle, case), cases):
             sorts[sort_of(wanted)] += 1
             if others:
@@ -622,7 +656,7 @@ def main():
                 bad += 1
     for sort, count in sorted(sorts.items()):
         print(f"{count:7,} {sort}")
-    print(f"{sorts.total():7,} cases of seed {given.seed}, {bad} differ")
+    print(f"{sorts.total():7,} cases of version {given.version} and seed {given.seed}, {bad} differ")
     sys.exit(1 if bad else 0)
 
 

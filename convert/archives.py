@@ -23,6 +23,7 @@ from .progress import Progress, note
 from .streams import Digesting, Source, buffered, unpacked
 from .tar_headers import HARD_LINK, REGULAR_TYPES, Header
 from .tar_reader import TarReader
+from .times import ONE_SECOND
 
 _LINK_MODE = 0o777
 _ZEROS = bytes(PIECE)
@@ -134,7 +135,7 @@ class LayerArchive:
         entry = self._entry(replace(header, type=b"0", size=0, name=hidden.encode()), [*folder, hidden])
         if WHITEOUT not in entry.attributes:
             attributes = entry.attributes
-            entry = whiteout(entry.uid, entry.gid, entry.mtime)
+            entry = whiteout(entry.uid, entry.gid, entry.mtime_ns)
             entry.attributes = attributes
         self._tree.put_whiteout([*folder, hidden], entry)
 
@@ -146,7 +147,7 @@ class LayerArchive:
             kind = DIRECTORY
         if kind is None:
             raise Unfit(f"an entry of type {header.type!r}, which can't be stated")
-        entry = Entry("", kind, header.mode, header.uid, header.gid, header.mtime)
+        entry = Entry("", kind, header.mode, header.uid, header.gid, header.mtime_ns)
         if kind == SYMLINK:
             entry.mode = _LINK_MODE
             entry.target = header.target.decode("utf-8", "surrogateescape")
@@ -256,7 +257,7 @@ def _check_values(entry: Entry) -> None:
     problem = (
         rules.number_problem("owner", entry.uid, 0, rules.MAX_NUMBER)
         or rules.number_problem("group", entry.gid, 0, rules.MAX_NUMBER)
-        or rules.number_problem("time", entry.mtime, rules.MIN_TIME, rules.MAX_TIME)
+        or rules.number_problem("time", entry.mtime_ns // ONE_SECOND, rules.MIN_TIME, rules.MAX_TIME)
         or rules.number_problem("major number", entry.major, 0, rules.MAX_NUMBER)
         or rules.number_problem("minor number", entry.minor, 0, rules.MAX_NUMBER)
     )

@@ -6,7 +6,7 @@ import stat
 from collections.abc import Mapping
 from dataclasses import dataclass
 
-from . import rules
+from . import rules, times
 from .attributes import Unstated, marks_to_user, write_attributes
 from .blobs import blob_path, opened_blob
 from .contents import PIECE, Copier, digest_and_size, read_small, write_all
@@ -16,7 +16,6 @@ from .manifests import read_manifest
 from .outputs import new_folder
 from .places import open_folder, open_root, place_of
 from .progress import Progress
-from .walks import ONE_SECOND
 
 _CREATE = os.O_RDWR | os.O_CREAT | os.O_EXCL | os.O_NOFOLLOW | os.O_CLOEXEC
 _TYPES = {
@@ -192,19 +191,18 @@ def _dress_by_name(parent: int, name: str, entry: Entry, userxattr: bool) -> Non
     write_attributes(place_of(parent, name), _marked(entry, userxattr))
     if entry.kind != SYMLINK:
         os.chmod(name, entry.mode, dir_fd=parent)
-    time = (entry.mtime * ONE_SECOND, entry.mtime * ONE_SECOND)
-    os.utime(name, ns=time, dir_fd=parent, follow_symlinks=False)
+    os.utime(name, ns=(entry.mtime_ns, entry.mtime_ns), dir_fd=parent, follow_symlinks=False)
     _require_time(os.stat(name, dir_fd=parent, follow_symlinks=False), entry)
 
 
 def _set_time(file: int, entry: Entry) -> None:
-    os.utime(file, ns=(entry.mtime * ONE_SECOND, entry.mtime * ONE_SECOND))
+    os.utime(file, ns=(entry.mtime_ns, entry.mtime_ns))
     _require_time(os.fstat(file), entry)
 
 
 def _require_time(status: os.stat_result, entry: Entry) -> None:
-    if status.st_mtime_ns != entry.mtime * ONE_SECOND:
-        raise OSError(None, f"the file system can't have the time {entry.mtime}")
+    if status.st_mtime_ns != entry.mtime_ns:
+        raise OSError(None, f"the file system can't have the time {times.shown(entry.mtime_ns)}")
 
 
 def _finish_root(options: BuildOptions, entries: list[Entry]) -> None:
@@ -214,8 +212,8 @@ def _finish_root(options: BuildOptions, entries: list[Entry]) -> None:
         try:
             for entry in entries[1:]:
                 if entry.kind == DIRECTORY and entry.path.count("/") == 1:
-                    time = (entry.mtime * ONE_SECOND, entry.mtime * ONE_SECOND)
-                    os.utime(entry.path[1:], ns=time, dir_fd=root, follow_symlinks=False)
+                    times_ns = (entry.mtime_ns, entry.mtime_ns)
+                    os.utime(entry.path[1:], ns=times_ns, dir_fd=root, follow_symlinks=False)
             _dress(root, entries[0], options.userxattr)
         finally:
             os.close(root)

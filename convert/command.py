@@ -57,9 +57,9 @@ _SCAN = """\
 Writes the manifest of a layer's folder, and the contents of its files into the folder of blobs.
 
 Links are never followed, and other file systems aren't entered. Anything that a manifest can't state
-is refused, before anything is written: names that aren't UTF-8, paths over 64 names or 4,095 bytes,
-over 1,048,576 entries, trusted.overlay.overlay.* attributes. Times are cut to whole seconds, and each
-name of a hard link becomes a file of its own; both are counted and said.
+is refused, before anything is written: names that aren't UTF-8, paths over 128 names or 4,095 bytes,
+over 1,048,576 entries, trusted.overlay.overlay.* attributes. Each name of a hard link becomes a file of
+its own, which is counted and said.
 
 With --digests-only in place of --blobs contents are read for their digests and copied nowhere, which is
 enough for `ovl_layers show`.

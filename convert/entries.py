@@ -33,7 +33,7 @@ class Entry:
     mode: int
     uid: int = 0
     gid: int = 0
-    mtime: int = 0
+    mtime_ns: int = 0
     attributes: Mapping[str, bytes] = field(default_factory=lambda: NO_ATTRIBUTES)
     size: int = 0
     blob: str | None = None

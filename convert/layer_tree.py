@@ -278,9 +278,9 @@ def _merged(below: Folder | None, upper: Folder) -> Folder:
     return Folder(upper.entry, children)
 
 
-def whiteout(uid: int = 0, gid: int = 0, mtime: int = 0) -> Entry:
+def whiteout(uid: int = 0, gid: int = 0, mtime_ns: int = 0) -> Entry:
     """A whiteout as the kernel makes it."""
-    return Entry("", CHAR, 0, uid, gid, mtime)
+    return Entry("", CHAR, 0, uid, gid, mtime_ns)
 
 
 def _implied() -> Folder:
@@ -290,7 +290,7 @@ def _implied() -> Folder:
 def _shown_directory(entry: Entry) -> Entry:
     """A directory as lower layers show it: all but the overlay's marks."""
     attributes = {name: value for name, value in entry.attributes.items() if not name.startswith(OVERLAY)}
-    return Entry("", DIRECTORY, entry.mode, entry.uid, entry.gid, entry.mtime, attributes or NO_ATTRIBUTES)
+    return Entry("", DIRECTORY, entry.mode, entry.uid, entry.gid, entry.mtime_ns, attributes or NO_ATTRIBUTES)
 
 
 def _with_path(entry: Entry, path: str) -> Iterator[Entry]:

@@ -8,7 +8,7 @@ from .progress import counted, note
 class Loss(Enum):
     """A kind of thing that is lost or put right: one of them, and several."""
 
-    CUT_TIME = ("time cut to whole seconds", "times cut to whole seconds")
+    CUT_TIME = ("time cut to whole nanoseconds", "times cut to whole nanoseconds")
     HARD_LINK = ("hard link, now a file with the same contents", "hard links, now files with the same contents")
     LOWER_LINK = (
         "hard link to a file of the layers below, now a copy",

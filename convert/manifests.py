@@ -1,4 +1,4 @@
-"""The layer manifest, version 1: reading it, and the one text that is written of a layer."""
+"""The layer manifest: reading both versions of it, and the one text that is written of a layer, of version 2."""
 
 import contextlib
 import io
@@ -6,7 +6,8 @@ import json
 import mmap
 import os
 import re
-from collections.abc import Iterable, Iterator
+from collections.abc import Iterable, Iterator, Mapping
+from dataclasses import dataclass
 from json.encoder import encode_basestring
 from typing import Any, BinaryIO, NoReturn, TextIO
 
@@ -14,9 +15,10 @@ from . import rules
 from .entries import BLOCK, CHAR, DIRECTORY, FILE, NO_ATTRIBUTES, SYMLINK, Entry
 from .faults import cannot_read, reading
 from .outputs import write_text
+from .times import ONE_SECOND
 
-VERSION = 1
 _BASE = frozenset(["path", "kind", "mode", "uid", "gid", "mtime", "xattrs"])
+_BELOW_SECOND = "mtime-nsec"
 _MORE: dict[str, frozenset[str]] = {
     "dir": frozenset(),
     "file": frozenset(["size"]),
@@ -27,8 +29,25 @@ _MORE: dict[str, frozenset[str]] = {
     "socket": frozenset(),
 }
 _KINDS = {kind: kind for kind in _MORE}  # so that each text of a kind stands once
+
+
+@dataclass(frozen=True)
+class _Version:
+    """What a version of the manifest has: the members of entries by kind, and how many names of a path at most."""
+
+    number: int
+    members: Mapping[str, frozenset[str]]
+    names: int
+
+    def tail(self) -> str:
+        """What ends its written text, before the newline."""
+        return f'],"overlay-layer":{self.number}}}'
+
+
+_FIRST = _Version(1, {kind: _BASE | more for kind, more in _MORE.items()}, rules.MAX_NAMES_OF_FIRST)
+_SECOND = _Version(2, {kind: _BASE | {_BELOW_SECOND} | more for kind, more in _MORE.items()}, rules.MAX_NAMES)
+_VERSIONS = {version.number: version for version in (_FIRST, _SECOND)}
 _HEAD = '{"entries":['
-_TAIL = f'],"overlay-layer":{VERSION}}}'
 _DECODER = json.JSONDecoder()
 _PIECE = 1 << 18
 _HEXADECIMAL = re.compile(r"(?:[0-9a-f]{2})*\Z")
@@ -76,7 +95,7 @@ def _compact_entries(file: BinaryIO) -> list[Entry] | None:
 def _compact(text: TextIO) -> Iterator[Entry]:
     if text.read(len(_HEAD)) != _HEAD:
         raise ValueError
-    sequence = _Sequence()
+    sequence: _Sequence | None = None
     held, at, after = "", 0, ","
     while after == ",":
         try:
@@ -90,9 +109,14 @@ def _compact(text: TextIO) -> Iterator[Entry]:
             continue
         if ":-0" in held[at:end]:
             raise ValueError  # it may be the number -0, which isn't whole
+        if sequence is None:
+            # The version is said at the end, and seen of the first entry.
+            is_second = isinstance(value, dict) and _BELOW_SECOND in value
+            sequence = _Sequence(_SECOND if is_second else _FIRST)
         yield sequence.entry(value)
         at = end + 1
-    if after + held[at:] + text.read(len(_TAIL)) not in (_TAIL, _TAIL + "\n"):
+    tail = sequence.version.tail() if sequence is not None else ""
+    if after + held[at:] + text.read(len(tail)) not in (tail, tail + "\n"):
         raise ValueError
 
 
@@ -101,14 +125,14 @@ def parse(data: bytes) -> Iterator[Entry]:
     members = _value_of(data)
     if not isinstance(members, dict) or set(members) != {"overlay-layer", "entries"}:
         raise _Refused("wrong shape")
-    version, stated = members["overlay-layer"], members["entries"]
-    if type(version) is not int or not isinstance(stated, list):
+    number, stated = members["overlay-layer"], members["entries"]
+    if type(number) is not int or not isinstance(stated, list):
         raise _Refused("wrong shape")
-    if version != VERSION:
+    if number not in _VERSIONS:
         raise _Refused("unknown version")
     if not 1 <= len(stated) <= rules.MAX_ENTRIES:
         raise _Refused("entry count")
-    yield from map(_Sequence().entry, stated)
+    yield from map(_Sequence(_VERSIONS[number]).entry, stated)
 
 
 def _whole(text: str) -> int | float:
@@ -129,7 +153,8 @@ def _value_of(data: bytes) -> Any:
 class _Sequence:
     """The entries of a layer one after the other, each in its place."""
 
-    def __init__(self) -> None:
+    def __init__(self, version: _Version) -> None:
+        self.version = version
         self._count = 0
         self._before: tuple[bytes, ...] = ()
         self._directories: set[str] = set()
@@ -139,7 +164,7 @@ class _Sequence:
         number = self._count
         if number == rules.MAX_ENTRIES:
             raise _Refused("entry count")
-        entry = _entry_of(value, number)
+        entry = _entry_of(value, number, self.version)
         key = rules.path_key(entry.path)
         if number == 0:
             if entry.path != "/" or entry.kind != DIRECTORY:
@@ -154,8 +179,8 @@ class _Sequence:
         return entry
 
 
-def _entry_of(value: Any, number: int) -> Entry:
-    entry = _sound_entry(value)
+def _entry_of(value: Any, number: int, version: _Version) -> Entry:
+    entry = _sound_entry(value, version)
     if entry is None:
         raise _Refused(f"entry {number}: wrong entry")
     if any(rules.attribute_problem(name) for name in entry.attributes):
@@ -163,22 +188,21 @@ def _entry_of(value: Any, number: int) -> Entry:
     return entry
 
 
-def _sound_entry(value: Any) -> Entry | None:
+def _sound_entry(value: Any, version: _Version) -> Entry | None:
     """The entry of a JSON value, or nothing where one of its members isn't as it must be."""
     if not isinstance(value, dict):
         return None
     kind = value.get("kind")
     if not isinstance(kind, str) or kind not in _MORE:
         return None
-    wanted = _BASE | _MORE[kind]
-    if set(value) - {"blob"} != wanted or not _is_path(value["path"]):
+    if set(value) - {"blob"} != version.members[kind] or not _is_path(value["path"], version):
         return None
     attributes = _attributes_of(value["xattrs"])
     if attributes is None or not _numbers_fit(value, kind):
         return None
     entry = Entry(
-        value["path"], _KINDS[kind], value["mode"], value["uid"], value["gid"], value["mtime"],
-        attributes or NO_ATTRIBUTES,
+        value["path"], _KINDS[kind], value["mode"], value["uid"], value["gid"],
+        value["mtime"] * ONE_SECOND + value.get(_BELOW_SECOND, 0), attributes or NO_ATTRIBUTES,
         size=value.get("size", 0),
         blob=value.get("blob"),
         target=value.get("target", ""),
@@ -194,13 +218,13 @@ def _sound_entry(value: Any) -> Entry | None:
     return entry
 
 
-def _is_path(text: Any) -> bool:
+def _is_path(text: Any, version: _Version) -> bool:
     if not isinstance(text, str) or not text.startswith("/"):
         return False
     if text == "/":
         return True
     names = text[1:].split("/")
-    return not any(map(rules.name_problem, names)) and not rules.path_problem(text, len(names))
+    return not any(map(rules.name_problem, names)) and not rules.path_problem(text, len(names), version.names)
 
 
 def _attributes_of(value: Any) -> dict[str, bytes] | None:
@@ -226,6 +250,7 @@ def _numbers_fit(value: dict[str, Any], kind: str) -> bool:
         and fits("uid", 0, rules.MAX_NUMBER)
         and fits("gid", 0, rules.MAX_NUMBER)
         and fits("mtime", rules.MIN_TIME, rules.MAX_TIME)
+        and (_BELOW_SECOND not in value or fits(_BELOW_SECOND, 0, ONE_SECOND - 1))
         and (kind != FILE or fits("size", 0, rules.MAX_SIZE))
         and (
             kind not in (CHAR, BLOCK)
@@ -236,12 +261,12 @@ def _numbers_fit(value: dict[str, Any], kind: str) -> bool:
 
 def written(entries: Iterable[Entry]) -> Iterator[str]:
     """The text of a layer, piece by piece: compact JSON, members sorted by name, and a newline."""
-    yield '{"entries":['
+    yield _HEAD
     before = ""
     for entry in entries:
         yield before + _entry_text(entry)
         before = ","
-    yield f'],"overlay-layer":{VERSION}}}\n'
+    yield _SECOND.tail() + "\n"
 
 
 def write_manifest(path: str, entries: Iterable[Entry], layer: str) -> None:
@@ -261,13 +286,14 @@ def _within_limit(pieces: Iterable[str], layer: str) -> Iterator[str]:
 
 
 def _entry_text(entry: Entry) -> str:
+    seconds, below = divmod(entry.mtime_ns, ONE_SECOND)
     blob = f'"blob":"{entry.blob}",' if entry.blob is not None else ""
     device = f'"major":{entry.major},"minor":{entry.minor},' if entry.kind in (CHAR, BLOCK) else ""
     size = f'"size":{entry.size},' if entry.kind == FILE else ""
     target = f'"target":{encode_basestring(entry.target)},' if entry.kind == SYMLINK else ""
     return (
         f'{{{blob}"gid":{entry.gid},"kind":"{entry.kind}",{device}"mode":{entry.mode},'
-        f'"mtime":{entry.mtime},"path":{encode_basestring(entry.path)},{size}{target}'
+        f'"mtime":{seconds},"mtime-nsec":{below},"path":{encode_basestring(entry.path)},{size}{target}'
         f'"uid":{entry.uid},"xattrs":{_attributes_text(entry)}}}'
     )
 

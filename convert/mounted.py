@@ -4,6 +4,7 @@ import os
 import stat
 from collections.abc import Iterator
 
+from . import times
 from .attributes import can_read_trusted, read_attributes
 from .contents import digest_and_size
 from .entries import BLOCK, CHAR, FILE, OVERLAY, SYMLINK
@@ -11,7 +12,7 @@ from .faults import cannot_read, reading, reason_of
 from .places import open_root
 from .progress import Progress, note
 from .texts import escaped
-from .walks import ONE_SECOND, Found, walk
+from .walks import Found, walk
 
 _READ = os.O_RDONLY | os.O_NOFOLLOW | os.O_NONBLOCK | os.O_CLOEXEC
 _NONE = "-"
@@ -45,7 +46,7 @@ def _line(found: Found) -> str:
     size = str(status.st_size) if found.kind == FILE else _NONE
     fields = [
         found.kind, f"{stat.S_IMODE(status.st_mode):04o}", str(status.st_uid), str(status.st_gid),
-        str(status.st_mtime_ns // ONE_SECOND), size, _what(found), escaped_path(found.path),
+        times.shown(status.st_mtime_ns), size, _what(found), escaped_path(found.path),
     ]
     attributes = {os.fsencode(name): value for name, value in read_attributes(found.place()).items()}
     fields += [

@@ -195,7 +195,7 @@ def _write_archive(entries: list[Entry], blobs: str, write: Callable[[bytes], ob
             archive.end_data(entry.size)
         if is_opaque(entry):
             name = f"{entry.path[1:]}/{OPAQUE_NAME}".encode()
-            archive.entry(Header(name, b"0", 0, entry.uid, entry.gid, 0, entry.mtime, b"", 0, 0))
+            archive.entry(Header(name, b"0", 0, entry.uid, entry.gid, 0, entry.mtime_ns, b"", 0, 0))
         progress.step()
     archive.end()
     progress.end()
@@ -214,7 +214,7 @@ def _header(entry: Entry) -> Header:
     if entry.kind == DIRECTORY:
         path = f"{path}/" if path else "./"
     return Header(
-        path.encode(), kind, entry.mode, entry.uid, entry.gid, entry.size, entry.mtime,
+        path.encode(), kind, entry.mode, entry.uid, entry.gid, entry.size, entry.mtime_ns,
         entry.target.encode(), entry.major, entry.minor, attributes,
     )
 

@@ -7,7 +7,8 @@ from .entries import ESCAPED
 
 MAX_LAYERS = 128
 MAX_ENTRIES = 1_048_576
-MAX_NAMES = 64
+MAX_NAMES = 128
+MAX_NAMES_OF_FIRST = 64  # in a manifest of version 1
 MAX_NAME_BYTES = 255
 MAX_PATH_BYTES = 4_095
 MAX_TARGET_BYTES = 4_095
@@ -15,7 +16,7 @@ MAX_ATTRIBUTE_NAME_BYTES = 255
 MAX_MODE = 0o7777
 MAX_NUMBER = 2**32 - 1
 MAX_SIZE = 2**63 - 1
-MIN_TIME = -(2**63)
+MIN_TIME = -(2**63)  # seconds
 MAX_TIME = 2**63 - 1
 MAX_MANIFEST_BYTES = 268_435_456
 MAX_IMAGE_ENTRIES = 4 * MAX_ENTRIES  # of all layers of an image, which are held to know what each one covers
@@ -42,10 +43,10 @@ def name_problem(name: str) -> str | None:
     return None
 
 
-def path_problem(path: str, depth: int) -> str | None:
-    """Why a path of good names, with this number of them, has no place in a manifest."""
-    if depth > MAX_NAMES:
-        return f"it is {depth} names deep, over {MAX_NAMES}"
+def path_problem(path: str, depth: int, most: int = MAX_NAMES) -> str | None:
+    """Why a path of good names, with this number of them, has no place in a manifest, where it may have `most`."""
+    if depth > most:
+        return f"it is {depth} names deep, over {most}"
     length = len(path.encode())
     if length > MAX_PATH_BYTES:
         return f"its path has {length} bytes, over {MAX_PATH_BYTES}"

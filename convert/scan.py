@@ -14,7 +14,7 @@ from .manifests import write_manifest
 from .places import Chain, open_root
 from .progress import Progress, counted, note, note_path
 from .shares import give_blobs
-from .walks import ONE_SECOND, Found, walk
+from .walks import Found, walk
 
 _READ = os.O_RDONLY | os.O_NOFOLLOW | os.O_NONBLOCK | os.O_CLOEXEC
 
@@ -36,14 +36,11 @@ class ScanOptions:
 class Losses:
     """What a manifest doesn't state, counted as it is met."""
 
-    cut_times: int = 0
     hard_links: int = 0
     left_out: int = 0
 
     def tell(self) -> None:
         """Says what was lost, where anything was."""
-        if self.cut_times:
-            note(f"{counted(self.cut_times, 'time', 'times')} cut to whole seconds")
         if self.hard_links:
             note(
                 counted(self.hard_links, "name of a hard link, now a file", "names of hard links, now files")
@@ -104,10 +101,9 @@ class Survey:
     def _entry(self, found: Found) -> Entry | None:
         """The entry of what was found, or nothing where it was left out."""
         status = found.status
-        seconds, below = divmod(status.st_mtime_ns, ONE_SECOND)
         entry = Entry(
-            found.path, found.kind, stat.S_IMODE(status.st_mode), status.st_uid, status.st_gid, seconds,
-            self._attributes(found),
+            found.path, found.kind, stat.S_IMODE(status.st_mode), status.st_uid, status.st_gid,
+            status.st_mtime_ns, self._attributes(found),
         )
         if found.kind == SYMLINK:
             with reading(self._path(found)):
@@ -120,7 +116,6 @@ class Survey:
             entry.major, entry.minor = os.major(status.st_rdev), os.minor(status.st_rdev)
         elif found.kind == FILE:
             entry.size = status.st_size
-        self._losses.cut_times += below != 0
         # The kernel links the whiteouts of a mount to one another, which nothing shows.
         is_linked = found.kind != DIRECTORY and status.st_nlink > 1
         self._losses.hard_links += is_linked and not is_whiteout(entry)

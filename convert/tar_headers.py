@@ -3,6 +3,8 @@
 import functools
 from dataclasses import dataclass, field
 
+from .times import ONE_SECOND, of_decimal
+
 BLOCK_BYTES = 512
 REGULAR_TYPES = b"\0" b"07"
 HARD_LINK = b"1"
@@ -40,7 +42,7 @@ class Header:
     uid: int
     gid: int
     size: int
-    mtime: int
+    mtime_ns: int
     target: bytes
     major: int
     minor: int
@@ -64,7 +66,7 @@ def parse_header(block: bytes) -> Header | None:
     is_old = block[257:262] != b"ustar"
     return Header(
         name=name, type=kind, mode=number(block[100:108]) & 0o7777, uid=number(block[108:116]),
-        gid=number(block[116:124]), size=number(block[124:136]), mtime=number(block[136:148]),
+        gid=number(block[116:124]), size=number(block[124:136]), mtime_ns=number(block[136:148]) * ONE_SECOND,
         target=_text(block[157:257]), major=0 if is_old else number(block[329:337]),
         minor=0 if is_old else number(block[337:345]),
     )
@@ -142,7 +144,7 @@ def apply_records(header: Header, records: dict[bytes, bytes]) -> None:
         elif key == b"gid":
             header.gid = decimal(value)
         elif key == b"mtime":
-            header.mtime, header.cut_time = _seconds(value)
+            header.mtime_ns, header.cut_time = _time(value)
         elif key.startswith(_SPARSE_RECORD):
             header.sparse[key] = value
         elif key.startswith(_ACL_RECORD):
@@ -157,14 +159,13 @@ def decimal(value: bytes) -> int:
     return int(value)
 
 
-def _seconds(value: bytes) -> tuple[int, bool]:
-    """Whole seconds, towards the past, and whether something was cut."""
-    whole, _, below = value.partition(b".")
-    if below.strip(b"0123456789"):
+def _time(value: bytes) -> tuple[int, bool]:
+    """The time of a PAX record, and whether it had to be cut to whole nanoseconds."""
+    whole, _, fraction = value.partition(b".")
+    if fraction.strip(b"0123456789"):
         raise TarFault("a time in a PAX record isn't decimal")
-    is_cut = bool(below.strip(b"0"))
     seconds = decimal(whole if whole not in (b"", b"-") else whole + b"0")
-    return seconds - (is_cut and whole.startswith(b"-")), is_cut
+    return of_decimal(whole.startswith(b"-"), abs(seconds), fraction)
 
 
 def pax_record(key: bytes, value: bytes) -> bytes:
@@ -179,9 +180,9 @@ def header_block(header: Header) -> bytes:
     """A ustar header; the name and the target are cut to what it has place for."""
     fields = (
         header.name[:100].ljust(100, b"\0"), _octal(header.mode, 8), _octal(header.uid, 8),
-        _octal(header.gid, 8), _octal(header.size, 12), _octal(header.mtime, 12), b" " * 8, header.type,
-        header.target[:100].ljust(100, b"\0"), b"ustar\0" b"00", bytes(64), _octal(header.major, 8),
-        _octal(header.minor, 8), bytes(167),
+        _octal(header.gid, 8), _octal(header.size, 12), _octal(header.mtime_ns // ONE_SECOND, 12), b" " * 8,
+        header.type, header.target[:100].ljust(100, b"\0"), b"ustar\0" b"00", bytes(64),
+        _octal(header.major, 8), _octal(header.minor, 8), bytes(167),
     )
     block = b"".join(fields)
     return block[:148] + b"%06o\0 " % sum(block) + block[156:]

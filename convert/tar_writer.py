@@ -5,6 +5,7 @@ from collections.abc import Callable
 from .tar_headers import (
     BLOCK_BYTES, PAX, XATTR_RECORD, Header, header_block, pax_record,
 )
+from .times import ONE_SECOND, to_decimal
 
 _MAX_FIELD = 8**7 - 1  # seven octal digits
 _MAX_WIDE_FIELD = 8**11 - 1  # eleven
@@ -56,10 +57,15 @@ def _records(header: Header) -> bytes:
     for key, number in ((b"uid", header.uid), (b"gid", header.gid)):
         if number > _MAX_FIELD:
             records.append((key, b"%d" % number))
-    if not 0 <= header.mtime <= _MAX_WIDE_FIELD:
-        records.append((b"mtime", b"%d" % header.mtime))
+    if not _has_seconds(header) or header.mtime_ns % ONE_SECOND:
+        records.append((b"mtime", to_decimal(header.mtime_ns).encode()))
     records += [(XATTR_RECORD + name, header.attributes[name]) for name in sorted(header.attributes)]
     return b"".join(pax_record(key, value) for key, value in records)
+
+
+def _has_seconds(header: Header) -> bool:
+    """Whether the whole seconds of its time have a place in a ustar header."""
+    return 0 <= header.mtime_ns // ONE_SECOND <= _MAX_WIDE_FIELD
 
 
 def _fitting(header: Header) -> Header:
@@ -70,7 +76,7 @@ def _fitting(header: Header) -> Header:
         header.uid if header.uid <= _MAX_FIELD else 0,
         header.gid if header.gid <= _MAX_FIELD else 0,
         header.size if header.size <= _MAX_WIDE_FIELD else 0,
-        header.mtime if 0 <= header.mtime <= _MAX_WIDE_FIELD else 0,
+        header.mtime_ns if _has_seconds(header) else 0,
         header.target if header.target.isascii() else header.target.decode().encode("ascii", "replace"),
         header.major, header.minor,
     )

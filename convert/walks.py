@@ -18,7 +18,6 @@ _KINDS = {
     stat.S_IFIFO: FIFO,
     stat.S_IFSOCK: SOCKET,
 }
-ONE_SECOND = 1_000_000_000
 
 
 @dataclass(slots=True)

@@ -414,6 +414,9 @@ prints 0 'removed /k\nremoved 1 kept 1\n' vacuum --blobs blobs --out new k.json 
 gives new root.json
 prints 0 'removed 0 kept 2\n' vacuum --blobs blobs --out new --workers 64 k.json root.json
 gives new k.json
+sed 's/"mtime-nsec":0,//g; s/"overlay-layer":2/"overlay-layer":1/' k.json > first.json
+prints 0 'removed 0 kept 2\n' vacuum --blobs blobs --out new first.json root.json
+gives new k.json
 rm -f new/layer-0.json
 refuses 5 'result over the limits' deref --blobs none --out new moved.json deeper.json
 prints 1 'fault blob-missing 1 /k\nfaults 1 notes 0\n' deref --blobs none --out new meta.json k.json

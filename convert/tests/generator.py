@@ -11,6 +11,7 @@ from support import ROOT  # noqa: F401  (sets the path of the modules)
 from convert import rules
 from convert.entries import BLOCK, CHAR, DIRECTORY, FIFO, FILE, HOST_MARKS, SOCKET, SYMLINK, Entry
 from convert.manifests import written
+from convert.times import ONE_SECOND
 
 _NAMES = (
     "a", "b", "bin", "etc", "x.conf", "a b", " ", "back\\slash", "quote\"d", "é", "日本", "new\nline",
@@ -77,7 +78,10 @@ class Generator:
             entry.gid = pick.choice((0, 33, 1000, 2_097_152))
         else:
             entry.uid, entry.gid, entry.mode = os.geteuid(), os.getegid(), entry.mode | 0o700
-        entry.mtime = pick.choice((0, 1, -1, -(2**31), 1_700_000_000, 2**31, 2**33, pick.randrange(2**32)))
+        seconds = pick.choice((0, 1, -1, 1_700_000_000, 2**31, 2**33, pick.randrange(2**32)))
+        below = pick.choice((0, 0, 1, 500_000_000, ONE_SECOND - 1, pick.randrange(ONE_SECOND)))
+        # The earliest time of ext4, which it has with no nanoseconds.
+        entry.mtime_ns = pick.choice((-(2**31) * ONE_SECOND, *[seconds * ONE_SECOND + below] * 7))
         return entry
 
     def _entry(self, path: str) -> Entry:

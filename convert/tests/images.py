@@ -111,6 +111,12 @@ def write_saved(
             file.addfile(*(lambda info: (info, io.BytesIO(data)))(member(name, data)[0]))
 
 
+def is_document(path: str) -> bool:
+    """Whether a file of a layout is a document and no archive."""
+    with open(path, "rb") as file:
+        return file.read(1) == b"{"
+
+
 def packed(data: bytes) -> bytes:
     """By gzip."""
     return gzip.compress(data, mtime=0)

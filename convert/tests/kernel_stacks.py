@@ -24,6 +24,8 @@ from difflib import unified_diff
 
 from support import call
 
+from convert.times import ONE_SECOND
+
 _NAMES = ("a", "b", "c", "d", "e f", "é", "back\\slash")
 _MAKING = "redirect_dir=on,metacopy=on"
 _LOOKING = "redirect_dir=follow,metacopy=on"
@@ -98,7 +100,8 @@ class Worker:
 
     def _age(self, path: str) -> None:
         seconds = self._pick.choice((-5, 0, 1_600_000_000, self._pick.randrange(2**31)))
-        os.utime(path, (seconds, seconds), follow_symlinks=False)
+        time = seconds * ONE_SECOND + self._pick.choice((0, 1, ONE_SECOND - 1, self._pick.randrange(ONE_SECOND)))
+        os.utime(path, ns=(time, time), follow_symlinks=False)
 
     def _mkdir(self) -> None:
         os.mkdir(self._new())

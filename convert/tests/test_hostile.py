@@ -89,7 +89,7 @@ class Paths(HostileTest):
 
     def test_names(self) -> None:
         for name, because in (
-            ("n" * 256, "its name has 256 bytes"), ("d/" * 64 + "f", "65 names deep"),
+            ("n" * 256, "its name has 256 bytes"), ("d/" * 128 + "f", "129 names deep"),
             ("\udcff", "isn't UTF-8"), ("/".join(["n" * 255] * 16), "its path has 4096 bytes"),
         ):
             info, data = member(name, b"a")
@@ -423,7 +423,7 @@ class Bomb(HostileTest):
     def test_deep_paths(self) -> None:
         for name in ("d/" * 3_000 + ".wh..wh..opq", "d/" * 3_000, "d/" * 3_000 + ".wh.x"):
             write_layout(self.path("image"), [archive([member(name)])])
-            self.require_bounded("names deep, over 64")
+            self.require_bounded("names deep, over 128")
             self.empty()
 
     def test_a_big_document(self) -> None:

@@ -8,10 +8,11 @@ import shutil
 import subprocess
 import tarfile
 import unittest
+from fractions import Fraction
 from unittest import mock
 
 from images import (
-    archive, folder, member, packed, put_index, put_manifest, write_layout, write_saved,
+    archive, folder, is_document, member, packed, put_index, put_manifest, write_layout, write_saved,
 )
 from support import FolderTest, call
 
@@ -120,12 +121,50 @@ class Entries(ImageTest):
         result = call("unpack", self.path("image"), "--out", self.path("out"))
         self.require_done(result)
         self.assertIn("1 hard link, now a file with the same contents", result[2])
-        self.assertIn("1 time cut to whole seconds", result[2])
+        self.assertNotIn("cut", result[2])
         entries = read_manifest(self.path("out", "l0.json"))
-        self.assertEqual([entry.mtime for entry in entries], [0, -2, -2])
+        self.assertEqual([entry.mtime_ns for entry in entries], [0, -1_500_000_000, -1_500_000_000])
         self.assertEqual(
             list(map(short, entries[1:])), [f"file 600 /f {A[:4]} user.k=v", f"file 600 /h {A[:4]} user.k=v"]
         )
+
+    def test_times_of_records(self) -> None:
+        for record, time_ns, is_cut in (
+            ("1.5", 1_500_000_000, False), ("-1.5", -1_500_000_000, False), ("-.5", -500_000_000, False),
+            ("-0.5", -500_000_000, False), ("7.", 7_000_000_000, False), (".000000001", 1, False),
+            ("-0.000000001", -1, False), ("1.123456789", 1_123_456_789, False), ("-1.999999999", -1_999_999_999, False),
+            ("2.50000000000000", 2_500_000_000, False), ("-2.00000000000", -2_000_000_000, False),
+            ("0.9999999999", 999_999_999, True), ("-0.0000000001", -1, True), ("-1.9999999999", -2_000_000_000, True),
+            # More digits than a float holds.
+            ("1700000000.123456789", 1_700_000_000_123_456_789, False),
+            (f"{2**63 - 1}.999999999", (2**63 - 1) * 10**9 + 999_999_999, False), (f"-{2**63}", -(2**63) * 10**9, False),
+        ):
+            write_layout(self.path("image"), [archive([member("f", pax={"mtime": record})])])
+            result = call("unpack", self.path("image"), "--out", self.path("out"))
+            self.require_done(result)
+            self.assertEqual("1 time cut to whole nanoseconds: /f" in result[2], is_cut, record)
+            self.assertEqual(read_manifest(self.path("out", "l0.json"))[1].mtime_ns, time_ns, record)
+            self._require_packed(time_ns)
+            self.empty()
+        for record in (f"{2**63}", f"-{2**63}.000000001", "1.5.5", "1.-5", "1.x", "x.5", "--1.5", "nan"):
+            write_layout(self.path("image"), [archive([member("f", pax={"mtime": record})])])
+            self.assertEqual(call("unpack", self.path("image"), "--out", self.path("out"))[0], 3, record)
+            self.empty()
+
+    def _require_packed(self, time_ns: int) -> None:
+        """What was unpacked is packed with this time: exactly in a record, or in the header alone where it has place."""
+        words = ("pack", self.path("out", "l0.json"), "--blobs", self.path("out", "blobs"), "--out", self.path("again"))
+        self.require_done(call(*words))
+        (layer,) = [path for path in os.scandir(self.path("again", "blobs", "sha256")) if not is_document(path.path)]
+        with tarfile.open(layer.path, encoding="utf-8") as file:
+            found = file.getmember("f")
+        with open(layer.path, "rb") as data:
+            self.assertEqual(b"mtime=" in data.read(), "mtime" in found.pax_headers)
+        whole, has_place = time_ns % 10**9 == 0, 0 <= time_ns < 8**11 * 10**9
+        if whole and has_place:
+            self.assertEqual((found.mtime, found.pax_headers), (time_ns // 10**9, {}))
+        else:
+            self.assertEqual(Fraction(found.pax_headers["mtime"]), Fraction(time_ns, 10**9))
 
     def test_gnu_headers(self) -> None:
         out = io.BytesIO()
@@ -138,8 +177,11 @@ class Entries(ImageTest):
         self.require_done(call("unpack", self.path("image"), "--out", self.path("out")))
         found = [entry for entry in read_manifest(self.path("out", "l0.json")) if entry.kind != "dir"]
         self.assertEqual(
-            [(entry.path, entry.mtime, entry.uid, entry.target) for entry in found],
-            [("/" + "d/" * 60 + "f", -5, 3_000_000_000, "t" * 150), ("/" + "n" * 200, -5, 3_000_000_000, "")],
+            [(entry.path, entry.mtime_ns, entry.uid, entry.target) for entry in found],
+            [
+                ("/" + "d/" * 60 + "f", -5_000_000_000, 3_000_000_000, "t" * 150),
+                ("/" + "n" * 200, -5_000_000_000, 3_000_000_000, ""),
+            ],
         )
 
     def test_an_opaque_root_hides_names_of_lower_layers(self) -> None:

@@ -12,6 +12,7 @@ from support import FolderTest, call
 
 from convert.entries import Entry
 from convert.manifests import read_manifest
+from convert.times import shown
 
 Member = tuple[tarfile.TarInfo, bytes]
 OPAQUE = "trusted.overlay.opaque"
@@ -27,7 +28,7 @@ def owned(item: Member, owner: int, time: int, **attributes: str) -> Member:
 def told(entry: Entry) -> str:
     """A directory or another entry in a few words."""
     marks = "".join(f" {name}={value.decode()}" for name, value in sorted(entry.attributes.items()))
-    return f"{entry.kind} {entry.mode:o} {entry.uid}:{entry.gid} {entry.mtime} {entry.path}{marks}"
+    return f"{entry.kind} {entry.mode:o} {entry.uid}:{entry.gid} {shown(entry.mtime_ns)} {entry.path}{marks}"
 
 
 class LayersTest(FolderTest):

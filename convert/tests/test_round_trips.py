@@ -1,10 +1,17 @@
 """What is built is scanned as it was, and what is packed is unpacked as it was, byte for byte."""
 
 import os
+import random
+import shutil
+import subprocess
 import unittest
 
 from generator import Generator, RandomLayer, Style, write_layer
+from images import write_layout
 from support import FolderTest, call, why_no_trusted
+
+from convert.manifests import read_manifest
+from convert.times import ONE_SECOND
 
 LAYERS = 300
 STACKS = 100
@@ -14,6 +21,34 @@ USER_LAYERS = 60
 def read(path: str) -> bytes:
     with open(path, "rb") as file:
         return file.read()
+
+
+def make_folder(root: str) -> None:
+    """Fills a folder: with a time of its own for each thing, before 1970 and after it, or that of its making."""
+    pick = random.Random(5)
+    for number in range(40):
+        folder = os.path.join(root, *pick.sample("abc", pick.randrange(4)))
+        os.makedirs(folder, exist_ok=True)
+        path = os.path.join(folder, str(number))
+        if number % 3 == 0:
+            os.symlink("a", path)
+        elif number % 7 == 0:
+            os.mkfifo(path)
+        else:
+            with open(path, "xb") as file:
+                file.write(pick.randbytes(number))
+        if number % 2:
+            time = pick.choice((0, 0, 1, -1, 1_700_000_000, -86_400)) * ONE_SECOND + pick.randrange(ONE_SECOND)
+            os.utime(path, ns=(time, time), follow_symlinks=False)
+    for number, name in enumerate("abc"):
+        time = (0, -1, -1_500_000_000)[number]
+        os.utime(os.path.join(root, name), ns=(time, time))
+
+
+def require_times_below_a_second(test: FolderTest, manifest: str) -> None:
+    """The manifest has times before 1970 and after it that aren't whole seconds."""
+    times = {(entry.mtime_ns >= 0, entry.mtime_ns % ONE_SECOND != 0) for entry in read_manifest(manifest)}
+    test.assertLessEqual({(False, True), (True, True)}, times)
 
 
 class Scanned(FolderTest):
@@ -38,6 +73,20 @@ class Scanned(FolderTest):
         for number in range(USER_LAYERS):
             with self.subTest(layer=number):
                 self._round_trip(generator.layer(), "--userxattr")
+
+    def test_a_folder_with_the_times_of_its_making(self) -> None:
+        os.mkdir(self.path("real"))
+        make_folder(self.path("real"))
+        words = [] if why_no_trusted(self.folder) is None else ["--userxattr"]
+        for folder, out in (("real", "first.json"), ("built", "second.json")):
+            result = call("scan", self.path(folder), "--out", self.path(out), "--blobs", self.path("blobs"), *words)
+            self.require_done(result)
+            self.assertNotIn("cut", result[2])
+            if folder == "real":
+                build = ("build", self.path(out), "--blobs", self.path("blobs"), "--out", self.path("built"))
+                self.require_done(call(*build, *words))
+        self.assertEqual(read(self.path("second.json")), read(self.path("first.json")))
+        require_times_below_a_second(self, self.path("first.json"))
 
     def _round_trip(self, layer: RandomLayer, *words: str) -> None:
         paths = [self.path(name) for name in ("in.json", "contents", "out", "out.json", "blobs")]
@@ -75,6 +124,27 @@ class Unpacked(FolderTest):
         for digest in {digest for layer in layers for digest in layer.contents}:
             self.assertEqual(read(self.path("out", "blobs", digest)), read(self.path("in", digest)))
         self.assertEqual(sorted(os.listdir(self.path("out", "blobs"))), sorted(os.listdir(self.path("in"))))
+
+    def test_an_archive_of_gnu_tar(self) -> None:
+        if "GNU tar" not in subprocess.run(["tar", "--version"], capture_output=True, text=True, check=False).stdout:
+            self.skipTest("needs GNU tar")
+        os.mkdir(self.path("real"))
+        make_folder(self.path("real"))
+        words = ["tar", "--format=posix", "--numeric-owner", "-C", self.path("real"), "-c", "."]
+        made = subprocess.run(words, capture_output=True, check=True)
+        write_layout(self.path("image"), [made.stdout])
+        for image, out in (("image", "one"), ("again.tar", "two")):
+            result = call("unpack", self.path(image), "--out", self.path(out))
+            self.require_done(result)
+            self.assertNotIn("cut", result[2])
+            words = ["pack", self.path(out, "l0.json"), "--blobs", self.path(out, "blobs"), "--out", self.path("again.tar")]
+            self.require_done(call(*words))
+        self.assertEqual(read(self.path("two", "l0.json")), read(self.path("one", "l0.json")))
+        self.assertEqual(*(sorted(os.listdir(self.path(out, "blobs"))) for out in ("one", "two")))
+        require_times_below_a_second(self, self.path("one", "l0.json"))
+        # The times are those of the folder.
+        for entry in read_manifest(self.path("one", "l0.json")):
+            self.assertEqual(entry.mtime_ns, os.lstat(self.path("real") + entry.path).st_mtime_ns, entry.path)
 
     def test_the_same_bytes_for_the_same_input(self) -> None:
         layer = Generator(4, Style(is_image=True)).layer()

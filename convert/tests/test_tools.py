@@ -17,7 +17,7 @@ from test_layers import owned
 LAYERS = [
     [
         owned(folder("./", 0o711), 5, 50), owned(folder("root", 0o700), 0, 10), owned(folder("home", 0o755), 0, 10),
-        owned(folder("home/u", 0o750), 1000, 20), member("home/u/f", b"abc", mode=0o640), member("gone", b"x"),
+        owned(folder("home/u", 0o750), 1000, 20), member("home/u/f", b"abc", mode=0o640, pax={"mtime": "-30.000000001"}), member("gone", b"x"),
         owned(folder("dir"), 0, 30), member("dir/x", b"x"), member("link", kind=tarfile.SYMTYPE, target="home"),
     ],
     [
@@ -41,7 +41,7 @@ def tree(root: str) -> dict[str, tuple[Any, ...]]:
             what: Any = None
             if stat.S_ISREG(status.st_mode):
                 with open(path, "rb") as file:
-                    what = (int(status.st_mtime), hashlib.sha256(file.read()).hexdigest())
+                    what = (status.st_mtime_ns, hashlib.sha256(file.read()).hexdigest())
             elif stat.S_ISLNK(status.st_mode):
                 what = os.readlink(path)
             names = os.listxattr(path, follow_symlinks=False)

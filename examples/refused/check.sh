@@ -1,6 +1,7 @@
 #!/usr/bin/env bash
-# Has PROGRAM show each manifest of manifests.txt, and some that are long or hold bytes that no text has, alone and under
-# the smallest layer, and compares the status and the line that is told with those expected.
+# Has PROGRAM show each manifest of manifests.txt in both versions, those of versions.txt, and some that are long or hold
+# bytes that no text has, alone and under the smallest layer, and compares the status and the line that is told with those
+# expected.
 set -uo pipefail
 
 if (($# != 1)); then
@@ -39,28 +40,50 @@ check() {
     compare "$1" "$2" "${3/layer 0/layer 1}" show --workers 2 root.json case
 }
 
+# A manifest of version 1 in version 2, with whole seconds.
+second() {
+    LC_ALL=C sed -E 's/("mtime":[^,]*,)/\1"mtime-nsec":0,/g; s/"overlay-layer":1\b/"overlay-layer":2/g'
+}
+
+# The manifest of standard input, of version 1, and the same in version 2.
+both() {
+    cat > first
+    check "$1" "$2" "$3" < first
+    check "$1 in version 2" "$2" "$3" < <(second < first)
+}
+
 directory='{"gid":0,"kind":"dir","mode":493,"mtime":0,"path":"\1","uid":0,"xattrs":{}}'
 named='{"gid":0,"kind":"dir","mode":493,"mtime":0,"path":"/a","uid":0,"xattrs":{\1}}'
 file='{"gid":0,"kind":"file","mode":420,"mtime":0,"path":"/a","uid":0,\1}'
 link='{"gid":0,"kind":"symlink","mode":511,"mtime":0,"path":"/a","target":"\1","uid":0,"xattrs":{}}'
 char='{"gid":0,"kind":"char","mode":384,"mtime":0,"path":"/a","uid":0,"xattrs":{},\1}'
+timed='{"gid":0,"kind":"dir","mode":493,"mtime":0,"mtime-nsec":\1,"path":"/","uid":0,"xattrs":{}}'
 written() {
     sed -E "s#\\bDIR\\(([^)]*)\\)#$directory#g; s#\\bNAMED\\(([^)]*)\\)#$named#; s#\\bFILE\\(([^)]*)\\)#$file#
-        s#\\bLINK\\(([^)]*)\\)#$link#; s#\\bCHAR\\(([^)]*)\\)#$char#"
+        s#\\bLINK\\(([^)]*)\\)#$link#; s#\\bCHAR\\(([^)]*)\\)#$char#; s#\\bTIMED\\(([^)]*)\\)#$timed#"
 }
-grep -v -e '^#' -e '^$' "$here/manifests.txt" | written > cases
-while IFS='|' read -r name status line manifest; do
-    read -r name <<< "$name"
-    read -r line <<< "$line"
-    check "$name" "$((status))" "$line" <<< "${manifest# }"
-done < cases
+# What `check` or `both` says of each manifest of a file.
+all_of() {
+    local name status line manifest
+    grep -v -e '^#' -e '^$' "$here/$2" | written > cases
+    while IFS='|' read -r name status line manifest; do
+        read -r name <<< "$name"
+        read -r line <<< "$line"
+        "$1" "$name" "$((status))" "$line" <<< "${manifest# }"
+    done < cases
+}
+all_of both manifests.txt
+all_of check versions.txt
 
-# The smallest manifest, cut after each of its bytes: its last one is a newline, which may be missing.
-length=$(wc -c < root.json)
-for ((count = 0; count < length - 1; count++)); do
-    check "cut_after_$count" 3 'layer 0: not JSON' < <(head -c "$count" root.json)
+# The smallest manifest of either version, cut after each of its bytes: its last one is a newline, which may be missing.
+written <<< '{"entries":[DIR(/)],"overlay-layer":1}' > root1.json
+for smallest in root1.json root.json; do
+    length=$(wc -c < $smallest)
+    for ((count = 0; count < length - 1; count++)); do
+        check "$smallest cut after $count" 3 'layer 0: not JSON' < <(head -c "$count" $smallest)
+    done
+    check "$smallest without newline" 0 'entries 1' < <(head -c "$((length - 1))" $smallest)
 done
-check no_newline 0 'entries 1' < <(head -c "$((length - 1))" root.json)
 
 # This text as often, with these texts before and after.
 often() {
@@ -68,12 +91,12 @@ often() {
     printf "$3%.0s" $(seq "$2")
     printf '%s\n' "$4"
 }
-check byte_ff_in_a_text 3 'layer 0: not JSON' < <(printf '{"entries":["\xff"],"overlay-layer":1}\n')
-check newline_in_a_text 3 'layer 0: not JSON' < <(printf '{"entries":["\n"],"overlay-layer":1}\n')
-check byte_order_mark 3 'layer 0: not JSON' < <(printf '\xef\xbb\xbf' | cat - root.json)
-check brackets_in_each_other 3 'layer 0: not JSON' < <(often '' 200 '[' "$(often '' 200 ']' '')")
-check entries_1048577 3 'layer 0: entry count' < <(often '{"entries":[' 1048576 '0,' '0],"overlay-layer":1}')
-check entries_1048576 3 'layer 0: entry 0: wrong entry' < <(often '{"entries":[' 1048575 '0,' '0],"overlay-layer":1}')
+both byte_ff_in_a_text 3 'layer 0: not JSON' < <(printf '{"entries":["\xff"],"overlay-layer":1}\n')
+both newline_in_a_text 3 'layer 0: not JSON' < <(printf '{"entries":["\n"],"overlay-layer":1}\n')
+both byte_order_mark 3 'layer 0: not JSON' < <(printf '\xef\xbb\xbf' | cat - root.json)
+both brackets_in_each_other 3 'layer 0: not JSON' < <(often '' 200 '[' "$(often '' 200 ']' '')")
+both entries_1048577 3 'layer 0: entry count' < <(often '{"entries":[' 1048576 '0,' '0],"overlay-layer":1}')
+both entries_1048576 3 'layer 0: entry 0: wrong entry' < <(often '{"entries":[' 1048575 '0,' '0],"overlay-layer":1}')
 
 # These entries behind a root.
 layer() {
@@ -84,12 +107,12 @@ layer() {
 name_of() {
     often '' "$1" n ''
 }
-check name_of_255_bytes 0 'entries 2' < <(layer "DIR(/$(name_of 255))" | written)
-check name_of_256_bytes 3 'layer 0: entry 1: wrong entry' < <(layer "DIR(/$(name_of 256))" | written)
-check attribute_name_of_255_bytes 0 'entries 2' < <(layer "NAMED(\"$(name_of 255)\":\"00\")" | written)
-check attribute_name_of_256_bytes 3 'layer 0: entry 1: wrong entry' < <(layer "NAMED(\"$(name_of 256)\":\"00\")" | written)
-check target_of_4095_bytes 0 'entries 2' < <(layer "LINK($(name_of 4095))" | written)
-check target_of_4096_bytes 3 'layer 0: entry 1: wrong entry' < <(layer "LINK($(name_of 4096))" | written)
+both name_of_255_bytes 0 'entries 2' < <(layer "DIR(/$(name_of 255))" | written)
+both name_of_256_bytes 3 'layer 0: entry 1: wrong entry' < <(layer "DIR(/$(name_of 256))" | written)
+both attribute_name_of_255_bytes 0 'entries 2' < <(layer "NAMED(\"$(name_of 255)\":\"00\")" | written)
+both attribute_name_of_256_bytes 3 'layer 0: entry 1: wrong entry' < <(layer "NAMED(\"$(name_of 256)\":\"00\")" | written)
+both target_of_4095_bytes 0 'entries 2' < <(layer "LINK($(name_of 4095))" | written)
+both target_of_4096_bytes 3 'layer 0: entry 1: wrong entry' < <(layer "LINK($(name_of 4096))" | written)
 
 # Directories in each other, of names of so many bytes.
 chain() {
@@ -101,12 +124,14 @@ chain() {
     done
     layer "${entries[@]}" | written
 }
-mapfile -t ones < <(often '' 64 '1\n' '')
+mapfile -t ones < <(often '' 129 '1\n' '')
 check path_of_64_names 0 'entries 65' < <(chain "${ones[@]:0:64}")
-check path_of_65_names 3 'layer 0: entry 65: wrong entry' < <(chain "${ones[@]:0:64}" 1)
+check path_of_65_names 3 'layer 0: entry 65: wrong entry' < <(chain "${ones[@]:0:65}")
+check path_of_128_names 0 'entries 129' < <(chain "${ones[@]:0:128}" | second)
+check path_of_129_names 3 'layer 0: entry 129: wrong entry' < <(chain "${ones[@]:0:129}" | second)
 mapfile -t full < <(often '' 15 '255\n' '')
-check path_of_4095_bytes 0 'entries 17' < <(chain "${full[@]:0:15}" 254)
-check path_of_4096_bytes 3 'layer 0: entry 16: wrong entry' < <(chain "${full[@]:0:15}" 255)
+both path_of_4095_bytes 0 'entries 17' < <(chain "${full[@]:0:15}" 254)
+both path_of_4096_bytes 3 'layer 0: entry 16: wrong entry' < <(chain "${full[@]:0:15}" 255)
 
 echo "$same manifests told of as they should be, $other not"
 ((other == 0))

@@ -1,0 +1,227 @@
+#!/usr/bin/env python3
+"""Makes small stacks of manifests of both versions, and compares all commands on them with an independent reading.
+
+Python 3.11, standard library. Half of the stacks are those of ample.py: as a mounted overlay leaves them, some of them
+spoilt. A few have chains of directories about as deep as a path may be, of which one goes on at the other by a redirect.
+The rest is anything: layers of few names with all marks, redirects that lead nowhere or can't be followed, contents that
+are missing, and data-only layers. Each manifest is of a version by chance; times in one of version 2 may lie below a
+second. `show`, `fsck`, `vacuum`, `deref` and `merge` must give the same standard output, standard error, status and new
+layers as the other reading. A case depends on the seed and its number alone.
+
+The other reading is a command that takes the same words (docs/FORMATS.md); as another build of the program does.
+
+    python3 bench/beside.py --program ./ovl_layers --oracle 'python3 reading.py'
+"""
+import argparse
+import collections
+import concurrent.futures
+import hashlib
+import os
+import random
+import shlex
+import subprocess
+import sys
+import tempfile
+from dataclasses import dataclass
+
+import ample
+from generate import MOST_NAMES
+from growth import METACOPY, NSEC, REDIRECT, First, chain, entry, write
+
+COMMANDS = ("show", "fsck", "vacuum", "deref", "merge")
+# Seconds after which a command counts as one that gives no answer, and how many bytes of an answer are printed.
+LONGEST, TOLD = 120, 400
+# The shares of the stacks as overlays leave them, and of those with chains.
+MADE, CHAINED = 0.5, 0.1
+NAMES, DEEPEST, MOST = ("a", "b", "c"), 3, 12
+CONTENTS = (b"", b"a", b"b", b"abc")
+ABSENT = b"no such blob"
+REDIRECTS = ("/a", "/b", "/c", "/a/b", "/b/c/a", "/a/a/a/a", "a", "b", "c", "/", "", "a/b", "/a/..", "/\u00e9")
+SECONDS = (0, 0, 0, 1, -1, 1_700_000_000, -2**63, 2**63 - 1)
+
+
+# ---- random layers
+
+def attributes(rng):
+    names = {"user.k": "v", ample.OPAQUE: rng.choice("yyx"), "trusted.overlay.origin": "x", "security.s": ""}
+    return {name: names[name] for name in names if rng.random() < 0.15}
+
+
+def directory(rng, path):
+    attrs = attributes(rng)
+    if rng.random() < 0.3:
+        attrs[REDIRECT] = rng.choice(REDIRECTS)
+    return entry(path, attrs=attrs)
+
+
+def file(rng, path):
+    attrs, contents = attributes(rng), rng.choice(CONTENTS)
+    if rng.random() < 0.1:
+        attrs[ample.WHITEOUT] = ""
+    if rng.random() < 0.35:
+        attrs[METACOPY] = ""
+        if rng.random() < 0.6:
+            attrs[REDIRECT] = rng.choice(REDIRECTS)
+    elif rng.random() < 0.02:
+        contents = ABSENT
+    made = entry(path, "file", attrs, size=len(contents))
+    if contents and METACOPY not in attrs:
+        made["blob"] = hashlib.sha256(contents).hexdigest()
+    return made
+
+
+def other(rng, path):
+    chance = rng.random()
+    if chance < 0.6:
+        return entry(path, "char", major=0, minor=0)
+    if chance < 0.8:
+        return entry(path, "symlink", attributes(rng), target=rng.choice(("a", "/b c", "\u00e9")))
+    return entry(path, rng.choice(("fifo", "socket")), attributes(rng))
+
+
+def timed(rng, made):
+    return made | {"mtime": rng.choice(SECONDS), NSEC: rng.choice(ample.NANOSECONDS), "mode": rng.choice((0o644, 0o755, 0o4711))}
+
+
+def anything(rng):
+    """A layer below its root, of up to so many entries."""
+    found, below = {}, [""]
+    for _ in range(rng.randint(0, MOST)):
+        path = rng.choice(below) + "/" + rng.choice(NAMES)
+        if path not in found:
+            found[path] = timed(rng, rng.choice((directory, directory, file, file, other))(rng, path))
+            below += [path] * (found[path]["kind"] == "dir" and path.count("/") < DEEPEST)
+    return list(found.values())
+
+
+def chains(rng, versions):
+    """A chain of directories, the deepest moved there from another chain in the layer below it, and empty layers."""
+    upper, lower = (MOST_NAMES[it] - rng.choice((0, 1, 2, 30, 60)) for it in versions[:2])
+    moved = chain("d", upper, {REDIRECT: "/x"})
+    layers = [[*moved, entry("/x", "char", major=0, minor=0)], chain("x", min(lower, MOST_NAMES[2] - upper + rng.randint(0, 2)))]
+    return [[timed(rng, it) if it["kind"] == "dir" else it for it in layer] for layer in (*layers, *[[]] * len(versions[2:]))]
+
+
+@dataclass(frozen=True)
+class Case:
+    """Layers, the topmost first, and how many are data-only."""
+
+    number: int
+    layers: list
+    data_only: int
+
+    def versions(self):
+        """The versions of their manifests, each once."""
+        return sorted({1 if isinstance(layer, First) else 2 for layer in self.layers})
+
+
+def in_version(layer, version):
+    """The layer as a manifest of the version can state it."""
+    return First(it | {NSEC: 0} for it in layer) if version == 1 else layer
+
+
+def case_of(seed, number):
+    rng = random.Random(f"{seed} {number}")
+    chance = rng.random()
+    if chance < MADE:
+        stack = ample.stack_of(rng)
+        return Case(number, stack.layers, 0)
+    versions = [rng.choice((1, 2, 2)) for _ in range(rng.choice((2, 2, 3, 3, 4) if chance < MADE + CHAINED else (1, 2, 2, 3, 4)))]
+    if chance < MADE + CHAINED:
+        layers, data_only = chains(rng, versions), 0
+    else:
+        layers = [anything(rng) for _ in versions]
+        data_only = rng.choice((0, 0, 0, 0, 1, 1, 2))
+    return Case(number, [in_version(*it) for it in zip(layers, versions)], data_only)
+
+
+# ---- runs
+
+@dataclass(frozen=True)
+class Answer:
+    status: int | None
+    printed: bytes
+    told: bytes
+    layers: dict
+
+
+def answer(words, what, case, blobs, files, workers):
+    """What a command says of the files, and the new layers that it makes."""
+    with tempfile.TemporaryDirectory(prefix="ovl-beside-") as out:
+        words = [*words, what, "--workers", str(workers), "--data-layers", str(case.data_only)]
+        words += ["--blobs", blobs] if what != "show" else []
+        words += ["--out", out] if what not in ("show", "fsck") else []
+        try:
+            ran = subprocess.run([*words, *files], stdin=subprocess.DEVNULL, capture_output=True, timeout=LONGEST, check=False)
+        except subprocess.TimeoutExpired:
+            return Answer(None, b"", b"no answer in time", {})
+        layers = {}
+        for it in os.scandir(out):
+            with open(it.path, "rb") as made:
+                layers[it.name] = made.read()
+        return Answer(ran.returncode, ran.stdout, ran.stderr, layers)
+
+
+def compared(program, oracle, blobs, case):
+    """The case, a sort of answer for each command, and those of which the program says something else."""
+    with tempfile.TemporaryDirectory(prefix="ovl-beside-") as folder:
+        files = write(folder, case.layers)
+        sorts, differ = [], []
+        for what in COMMANDS:
+            wanted = answer(oracle, what, case, blobs, files, 1)
+            found = answer(program, what, case, blobs, files, 1 + case.number % 4)
+            end = wanted.told.decode(errors="replace").strip() or f"status {wanted.status}"
+            sorts.append(f"{what}: {end}")
+            if found != wanted:
+                differ.append((what, wanted, found))
+        return case, sorts, differ
+
+
+def tell(case, differ, keep):
+    """Prints a case whose answers differ, and keeps its manifests where it is asked for."""
+    for what, *answers in differ:
+        print(f"case {case.number}, {what}, layers: {len(case.layers)}, data-only: {case.data_only}")
+        for name, it in zip(("wanted", "found"), answers):
+            print(f"  {name}: status {it.status}, printed {it.printed[:TOLD]!r}, told {it.told[:TOLD]!r}, layers {sorted(it.layers)}")
+    sys.stdout.flush()
+    if keep:
+        folder = os.path.join(keep, str(case.number))
+        os.makedirs(folder, exist_ok=True)
+        write(folder, case.layers)
+
+
+def main():
+    words = argparse.ArgumentParser(description="Compares what all commands do with small stacks with an independent reading.")
+    words.add_argument("--program", required=True, help="path of the program")
+    words.add_argument("--oracle", required=True, metavar="COMMAND", help="the other reading: a command and its words, after "
+                       "which come those of the program; it answers as the program must, see docs/FORMATS.md")
+    words.add_argument("--count", type=int, default=1000, help="how many stacks (default 1000)")
+    words.add_argument("--seed", default="1", help="other seeds give other stacks (default 1)")
+    words.add_argument("--case", type=int, action="append", help="only the stack of this number; may be said again")
+    words.add_argument("--jobs", type=int, default=1, help="stacks that are compared at once (default 1)")
+    words.add_argument("--keep", metavar="DIR", help="folder for the manifests of which something else is said")
+    given = words.parse_args()
+    program, oracle = [os.path.abspath(given.program)], shlex.split(given.oracle)
+    oracle = [os.path.abspath(it) if os.path.exists(it) else it for it in oracle]
+
+    sorts, versions, bad = collections.Counter(), collections.Counter(), 0
+    with tempfile.TemporaryDirectory(prefix="ovl-beside-") as blobs, concurrent.futures.ThreadPoolExecutor(given.jobs) as pool:
+        for contents in CONTENTS[1:]:
+            with open(os.path.join(blobs, hashlib.sha256(contents).hexdigest()), "wb") as out:
+                out.write(contents)
+        cases = (case_of(given.seed, number) for number in given.case or range(given.count))
+        for case, found, differ in pool.map(lambda case: compared(program, oracle, blobs, case), cases):
+            sorts.update(found)
+            versions[" and ".join(map(str, case.versions()))] += 1
+            if differ:
+                tell(case, differ, given.keep)
+                bad += 1
+    for sort, count in sorted(sorts.items()):
+        print(f"{count:7,} {sort}")
+    told = ", ".join(f"{count:,} of version {names}" for names, count in sorted(versions.items()))
+    print(f"{versions.total():,} stacks of seed {given.seed} ({told}), {bad} differ")
+    sys.exit(1 if bad else 0)
+
+
+if __name__ == "__main__":
+    main()
