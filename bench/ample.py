@@ -238,12 +238,12 @@ def moved_to(place):
 
 def at_the_limits():
     """What is said of a stack, its layers, and whether what lies in the moved directory keeps the limits there."""
-    long, deep = chain("/x", 15 * ["n" * 255]), chain("/x", 63 * ["d"])
+    long, deep = chain("/x", 15 * ["n" * 255]), chain("/x", 127 * ["d"])
     yield "paths of 4,095 bytes", [moved_to("/" + "m" * 254), long], True
     yield "paths of 4,096 bytes", [moved_to("/" + "m" * 255), long], False
     yield "paths of 4,098 bytes below a directory", [moved_to("/a/" + "m" * 255), long], False
-    yield "paths of 64 names", [moved_to("/m"), deep], True
-    yield "paths of 65 names", [moved_to("/a/m"), deep], False
+    yield "paths of 128 names", [moved_to("/m"), deep], True
+    yield "paths of 129 names", [moved_to("/a/m"), deep], False
 
 
 # ---- runs
