@@ -7,4 +7,6 @@ pub mod Options
 pub mod Outcomes
 pub mod Performed
 pub mod Taken
+pub mod Telling
+pub mod Turns
 pub mod Unread

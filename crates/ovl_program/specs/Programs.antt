@@ -1,16 +1,18 @@
 -- What the program does for a line of words.
-use Rattle.std.specs.Prelude.{◌≡◌, ◌⊎◌, ℕ, true, Option, Some, Result, Ok, Err, List, [], length, map, string_bytes, Contains, IfNone, String}
+use Rattle.std.specs.Prelude.{◌≡◌, ◌⊎◌, if◌then◌else◌, ℕ, true, Option, Some, None, Result, Ok, Err, List, [], length, map, string_bytes, Contains, IfNone, String}
 use Rattle.std.specs.Global.{Global}
 use Rattle.std.specs.Io.KnownBytes.{Keeps}
 use Rattle.ovl_check.specs.Blobs.{are_in_order}
 use Rattle.ovl_engine.specs.Requests.{Request}
+use Rattle.ovl_engine.specs.declared.requests.Answer.{Answer}
+use Rattle.ovl_engine.specs.declared.faults.EngineFault.{EngineFault}
 use Rattle.ovl_program.specs.declared.command_line.options.Line.{Line}
 use Rattle.ovl_program.specs.declared.output.status.Ending.{Ending}
 use Rattle.ovl_program.specs.declared.faults.ProgramFault.{ProgramFault}
 use Rattle.ovl_program.specs.declared.faults.ProgramFault.TheVariants.{Usage, Words, Input, Unread, Unwritten, Output, Engine}
 use Rattle.ovl_program.specs.Faults.{IsMemory}
-use Rattle.ovl_program.specs.BlobFolders.{IsInFolder}
-use Rattle.ovl_program.specs.Reported.{IsReported}
+use Rattle.ovl_program.specs.BlobFolders.{IsInFolder, may_be_in}
+use Rattle.ovl_program.specs.Reported.{IsComing, IsComingOver, IsReported}
 
 -- the line's folder of blobs, or a blob in it
 abbrev pub IsOfBlobs : Line → List ℕ → Type 0
@@ -30,19 +32,34 @@ pub record IsRequestFor (line : Line) (request : Request) : Type 0 where
   pub in_order : are_in_order request.blobs ≡ true
   pub none : IfNone line.blobs (request.blobs ≡ [])
 
--- a request that can be read for a line is reported
-abbrev pub IsDone : Line → Option (List ℕ) → Option (List ℕ) → Result Ending ProgramFault → Type 0
-IsDone line before after result =
-    (request : Request) × (IsRequestFor line request × IsReported request line.out before after result)
+-- the folder whose blobs are read in parts for a line, if it asks for that
+abbrev pub folder_in_parts : Line → Option (String Global)
+folder_in_parts line = if line.any_size then line.blobs else None
 
--- what comes of a line: it is done; or a file or a folder of it isn't read, or memory is wanting, and nothing is written
-abbrev pub IsPerformed : Line → Option (List ℕ) → Option (List ℕ) → Result Ending ProgramFault → Type 0
-IsPerformed line before after (Ok ending) = IsDone line before after (Ok ending)
-IsPerformed line before after (Err Output) = IsDone line before after (Err Output)
-IsPerformed line before after (Err (Unwritten path)) = IsDone line before after (Err (Unwritten path))
-IsPerformed line before after (Err (Engine fault)) =
-    (IsMemory fault ⊎ IsDone line before after (Err (Engine fault))) × Keeps before after
-IsPerformed line before after (Err (Unread path)) = IsOfLine line (string_bytes path) × Keeps before after
-IsPerformed line before after (Err (Usage text)) = ⊥
-IsPerformed line before after (Err Words) = ⊥
-IsPerformed line before after (Err Input) = ⊥
+-- this may come of a request, by what files may hold: of its blobs; or of a request without any, over what the files of a
+-- folder may hold that is read in parts
+abbrev pub IsComingIn : (List ℕ → Option (List ℕ) → Type 0) → Option (String Global) → Request → Result Answer EngineFault → Type 0
+IsComingIn may_hold (Some folder) request result = (request.blobs ≡ []) × IsComingOver (may_be_in may_hold (string_bytes folder)) request result
+IsComingIn may_hold None request result = IsComing request result
+
+-- this may come of a request that is read for a line
+abbrev pub IsComingFor : (List ℕ → Option (List ℕ) → Type 0) → Line → Request → Result Answer EngineFault → Type 0
+IsComingFor may_hold line request result = IsComingIn may_hold (folder_in_parts line) request result
+
+-- a request that can be read for a line is reported
+abbrev pub IsDone : (List ℕ → Option (List ℕ) → Type 0) → Line → Option (List ℕ) → Option (List ℕ) → Result Ending ProgramFault → Type 0
+IsDone may_hold line before after result =
+    (request : Request) × (IsRequestFor line request × IsReported (IsComingFor may_hold line request) line.out before after result)
+
+-- what comes of a line, by what files may hold: it is done; or a file or a folder of it isn't read, or memory is wanting, and
+-- nothing is written
+abbrev pub IsPerformed : (List ℕ → Option (List ℕ) → Type 0) → Line → Option (List ℕ) → Option (List ℕ) → Result Ending ProgramFault → Type 0
+IsPerformed may_hold line before after (Ok ending) = IsDone may_hold line before after (Ok ending)
+IsPerformed may_hold line before after (Err Output) = IsDone may_hold line before after (Err Output)
+IsPerformed may_hold line before after (Err (Unwritten path)) = IsDone may_hold line before after (Err (Unwritten path))
+IsPerformed may_hold line before after (Err (Engine fault)) =
+    (IsMemory fault ⊎ IsDone may_hold line before after (Err (Engine fault))) × Keeps before after
+IsPerformed may_hold line before after (Err (Unread path)) = IsOfLine line (string_bytes path) × Keeps before after
+IsPerformed may_hold line before after (Err (Usage text)) = ⊥
+IsPerformed may_hold line before after (Err Words) = ⊥
+IsPerformed may_hold line before after (Err Input) = ⊥
