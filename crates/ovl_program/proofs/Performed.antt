@@ -26,9 +26,9 @@ use Rattle.ovl_program.specs.Reported.{IsComing, IsComingOver, IsReported, IsTol
 use Rattle.ovl_program.proofs.Unread.{unread_of_more}
 
 -- a report of what was read
-module _ (may_hold : List ℕ → Option (List ℕ) → Type 0) (line : Line) (before after : Option (List ℕ)) where
+module _ (line : Line) (before after : Option (List ℕ)) where
   pub performed : (result : Result Ending ProgramFault) (request : Request)
-      → IsRequestFor line request → IsReported (IsComingFor may_hold line request) line.out before after result → IsPerformed may_hold line before after result
+      → IsRequestFor line request → IsReported (IsComingFor line request) line.out before after result → IsPerformed line before after result
   performed (Ok ending) request of reported = (request, (of, reported))
   performed (Err Output) request of reported = (request, (of, reported))
   performed (Err (Unwritten path)) request of reported = (request, (of, reported))
@@ -40,11 +40,11 @@ module _ (may_hold : List ℕ → Option (List ℕ) → Type 0) (line : Line) (b
 
   -- what comes of a command is what may come for the line
   pub coming_for : (from : Option (String Global)) → from ≡ folder_in_parts line → (request : Request) (result : Result Answer EngineFault)
-      → IsComingIn may_hold from request result → IsComingFor may_hold line request result
-  coming_for from is request result comes = subst (λ (o : Option (String Global)). IsComingIn may_hold o request result) is comes
+      → IsComingIn from request result → IsComingFor line request result
+  coming_for from is request result comes = subst (λ (o : Option (String Global)). IsComingIn o request result) is comes
 
   -- a file or folder that isn't read for a line
-  pub unread_for : (keeps : Keeps before after) (fault : ProgramFault) → IsUnread (IsOfLine line) fault → IsPerformed may_hold line before after (Err fault)
+  pub unread_for : (keeps : Keeps before after) (fault : ProgramFault) → IsUnread (IsOfLine line) fault → IsPerformed line before after (Err fault)
   unread_for keeps (Unread path) unread = (unread, keeps)
   unread_for keeps (Engine fault) unread = (inl unread, keeps)
   unread_for keeps (Usage told) unread = elim unread [ ]
@@ -122,11 +122,10 @@ pub few_coming : (request : Request) (answered : Result Answer EngineFault) → 
 few_coming request (Ok answer) is = few_layers _ _ _ answer is.1
 few_coming request (Err fault) is = tt
 
-pub few_coming_over : (may_be : List ℕ → Option (List ℕ) → Type 0) (request : Request) (answered : Result Answer EngineFault) → IsComingOver may_be request answered
-    → IfOk answered (λ answer. length answer.layers.items ≤ 255)
-few_coming_over may_be request (Ok answer) (inl refused) = elim refused [ ]
-few_coming_over may_be request (Ok answer) (inr run) = few_layers _ _ _ answer run.1.is
-few_coming_over may_be request (Err fault) is = tt
+pub few_coming_over : (request : Request) (answered : Result Answer EngineFault) → IsComingOver request answered → IfOk answered (λ answer. length answer.layers.items ≤ 255)
+few_coming_over request (Ok answer) (inl refused) = elim refused [ ]
+few_coming_over request (Ok answer) (inr run) = few_layers _ _ _ answer run.1.is
+few_coming_over request (Err fault) is = tt
 
 -- a writer that isn't written to
 pub stays : (before : Option (List ℕ)) → Keeps before before

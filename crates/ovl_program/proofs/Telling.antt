@@ -1,5 +1,5 @@
 -- Contents that are told name by name.
-use Rattle.std.proofs.Common.{◌≡◌, ◌∙◌, ℕ, Bool, true, false, cond, inl, inr, Option, Some, None, List, [], ◌∷◌, ◌++◌, refl, sym, ap, subst, map, All, Contains, append-nil}
+use Rattle.std.proofs.Common.{◌≡◌, ◌∙◌, ◌<◌, ◌+◌, ℕ, Bool, true, false, cond, inl, inr, Option, Some, None, List, [], ◌∷◌, ◌++◌, refl, sym, ap, subst, map, All, Contains, get_or, length, take, drop}
 use Rattle.std.specs.List.{find, list_all}
 use Rattle.std.specs.Option.{option_map, option_or}
 use Rattle.std.specs.Str.{bytes_eq}
@@ -7,18 +7,18 @@ use Rattle.std.specs.Ordering.{is_lt}
 use Rattle.std.specs.Cmp.Lexicographic.{nat_list_cmp_total, bytes_decides}
 use Rattle.std.specs.declared.cmp.Ordering.TheVariants.{Less, Equal}
 use Rattle.std.proofs.lemmas.Cmp.{tied_itself}
-use Rattle.std.proofs.lemmas.List.{map-append}
+use Rattle.std.proofs.lemmas.List.{map-append, take_more, take-append-drop}
 use Rattle.std.proofs.lemmas.List.Folds.{find-append}
 use Rattle.std.proofs.lemmas.List.Elements.{All-nil, All-push, Contains-append_left, Contains-append_right, Contains-push_cases}
 use Rattle.ovl_names.specs.Order.{ascends}
-use Rattle.ovl_names.proofs.Ascending.{ascends-across, ascends-more, both, is_lt-Less}
+use Rattle.ovl_names.proofs.Ascending.{ascends-across, ascends-more, both, is_lt-Less, list_all-front}
 use Rattle.ovl_board.proofs.LawsOfMembers.{Every, Every-All, Contains-In, In-Contains, In-map}
 use Rattle.ovl_check.specs.declared.contents.Content.{Content}
 use Rattle.ovl_check.specs.Blobs.{BlobView, digest_cmp}
 use Rattle.ovl_check.specs.Conditions.{find_blob}
 use Rattle.ovl_check.specs.Contents.{content_cmp, content_of, contents_of}
 use Rattle.ovl_engine.specs.Told.{AreTold, bytes_named}
-use Rattle.ovl_program.specs.BlobFolders.{IsToldBy, told_of}
+use Rattle.ovl_program.specs.BlobFolders.{IsToldOf, anything, told_of}
 
 -- a test that all elements pass
 each_passes : {X : Type 0} (test : X → Bool) (xs : List X) → list_all test xs ≡ true → Every (λ x. test x ≡ true) xs
@@ -133,11 +133,32 @@ module _ (may_be : List ℕ → Option (List ℕ) → Type 0) (names : List (Lis
         ];
       }
 
-  -- what the next name has is told, a content or nothing
-  pub told_next : (content : Option Content) → IsToldBy (may_be name) name content → AreTold may_be (names ++ name ∷ []) (told ++ elim content as (λ _. List Content) [ Some c ↦ c ∷ [] | None ↦ [] ])
-  told_next content is = by is.0 is.1.0 content is.1.1
+-- the front of a list in order
+ascends_front : (xs ys : List (List ℕ)) → ascends digest_cmp (xs ++ ys) ≡ true → ascends digest_cmp xs ≡ true
+ascends_front [] ys up = refl
+ascends_front (x ∷ xs) ys up =
+    let parts = both {a = list_all (λ later. is_lt (digest_cmp x later)) (xs ++ ys)} {b = ascends digest_cmp (xs ++ ys)} up in
+    rw ((list_all-front (λ later. is_lt (digest_cmp x later)) xs ys parts.0).0) (ascends_front xs ys parts.1)
+
+module _ (names : List (List ℕ)) (place : ℕ) (name : List ℕ) (told : List Content) (up : ascends digest_cmp names ≡ true) (inside : place < length names) (is : name ≡ get_or names place name)
+    (are : AreTold anything (take place names) told) where
+  more : take (place + 1) names ≡ take place names ++ name ∷ []
+  more = take_more names place name inside ∙ ap (λ n. take place names ++ n ∷ []) (sym is)
+
+  rising : ascends digest_cmp (take place names ++ name ∷ []) ≡ true
+  rising = subst (λ ns. ascends digest_cmp ns ≡ true) more
+      (ascends_front (take (place + 1) names) (drop (place + 1) names) (subst (λ ns. ascends digest_cmp ns ≡ true) (sym (take-append-drop (place + 1) names)) up))
+
+  -- the next name has a content
+  pub told_some : (content : Content) → IsToldOf name (Some content) → AreTold anything (take (place + 1) names) (told ++ content ∷ [])
+  told_some content is = subst (λ ns. AreTold anything ns (told ++ content ∷ [])) (sym more) (by is.0 is.1)
     where
-      by : (held : Option (List ℕ)) → may_be name held → (content : Option Content) → content ≡ told_of name held
-          → AreTold may_be (names ++ name ∷ []) (told ++ elim content as (λ _. List Content) [ Some c ↦ c ∷ [] | None ↦ [] ])
-      by None holds content is = rw (is, append-nil told) (told_nothing holds)
-      by (Some bytes) holds content is = rw is (told_content bytes holds)
+      by : (held : Option (List ℕ)) → Some content ≡ told_of name held → AreTold anything (take place names ++ name ∷ []) (told ++ content ∷ [])
+      by None same = cc
+      by (Some bytes) same =
+          let its : content ≡ content_of (record { name = name; bytes = bytes }) = cc in
+          rw its (told_content anything (take place names) name rising told are bytes tt)
+
+  -- it has none
+  pub told_none : IsToldOf name None → AreTold anything (take (place + 1) names) told
+  told_none is = subst (λ ns. AreTold anything ns told) (sym more) (told_nothing anything (take place names) name rising told are tt)

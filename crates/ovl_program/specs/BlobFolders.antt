@@ -1,5 +1,5 @@
 -- Folders of blobs.
-use Rattle.std.specs.Prelude.{◌≡◌, ◌⊎◌, ◌∷◌, ◌++◌, ℕ, Option, Some, List}
+use Rattle.std.specs.Prelude.{◌≡◌, ◌⊎◌, ⊤, ◌∷◌, ◌++◌, ℕ, Option, Some, List}
 use Rattle.std.specs.Option.{option_map}
 use Rattle.hex.specs.Hex.{encode_lower}
 use Rattle.ovl_inode.specs.Hexadecimal.{digest_of_text}
@@ -26,10 +26,10 @@ IsSpelt digest = digest_of_text (encode_lower digest) ≡ Some digest
 abbrev pub told_of : List ℕ → Option (List ℕ) → Option Content
 told_of name held = option_map (λ bytes. content_of (record { name = name; bytes = bytes })) held
 
--- this is told of the blob of this digest, whose file may hold that
-abbrev pub IsToldBy : (Option (List ℕ) → Type 0) → List ℕ → Option Content → Type 0
-IsToldBy may_hold name told = (held : Option (List ℕ)) × (may_hold held × (told ≡ told_of name held))
+-- this is told of the blob of this digest, by some bytes of its file, or for want of one
+abbrev pub IsToldOf : List ℕ → Option Content → Type 0
+IsToldOf name told = (held : Option (List ℕ)) × (told ≡ told_of name held)
 
--- what the blob of a digest may be, by what the files of the folder may hold
-abbrev pub may_be_in : (List ℕ → Option (List ℕ) → Type 0) → List ℕ → List ℕ → Option (List ℕ) → Type 0
-may_be_in may_hold folder name = may_hold (blob_path folder name)
+-- what may be under a name in a folder: of files nothing is known
+abbrev pub anything : List ℕ → Option (List ℕ) → Type 0
+anything name held = ⊤

@@ -11,7 +11,7 @@ use Rattle.ovl_program.specs.declared.output.status.Ending.{Ending}
 use Rattle.ovl_program.specs.declared.faults.ProgramFault.{ProgramFault}
 use Rattle.ovl_program.specs.declared.faults.ProgramFault.TheVariants.{Usage, Words, Input, Unread, Unwritten, Output, Engine}
 use Rattle.ovl_program.specs.Faults.{IsMemory}
-use Rattle.ovl_program.specs.BlobFolders.{IsInFolder, may_be_in}
+use Rattle.ovl_program.specs.BlobFolders.{IsInFolder}
 use Rattle.ovl_program.specs.Reported.{IsComing, IsComingOver, IsReported}
 
 -- the line's folder of blobs, or a blob in it
@@ -36,30 +36,28 @@ pub record IsRequestFor (line : Line) (request : Request) : Type 0 where
 abbrev pub folder_in_parts : Line → Option (String Global)
 folder_in_parts line = if line.any_size then line.blobs else None
 
--- this may come of a request, by what files may hold: of its blobs; or of a request without any, over what the files of a
--- folder may hold that is read in parts
-abbrev pub IsComingIn : (List ℕ → Option (List ℕ) → Type 0) → Option (String Global) → Request → Result Answer EngineFault → Type 0
-IsComingIn may_hold (Some folder) request result = (request.blobs ≡ []) × IsComingOver (may_be_in may_hold (string_bytes folder)) request result
-IsComingIn may_hold None request result = IsComing request result
+-- this may come of a request: of its blobs; or where a folder is read in parts, of a request without any, over its contents
+abbrev pub IsComingIn : Option (String Global) → Request → Result Answer EngineFault → Type 0
+IsComingIn (Some folder) request result = (request.blobs ≡ []) × IsComingOver request result
+IsComingIn None request result = IsComing request result
 
 -- this may come of a request that is read for a line
-abbrev pub IsComingFor : (List ℕ → Option (List ℕ) → Type 0) → Line → Request → Result Answer EngineFault → Type 0
-IsComingFor may_hold line request result = IsComingIn may_hold (folder_in_parts line) request result
+abbrev pub IsComingFor : Line → Request → Result Answer EngineFault → Type 0
+IsComingFor line request result = IsComingIn (folder_in_parts line) request result
 
 -- a request that can be read for a line is reported
-abbrev pub IsDone : (List ℕ → Option (List ℕ) → Type 0) → Line → Option (List ℕ) → Option (List ℕ) → Result Ending ProgramFault → Type 0
-IsDone may_hold line before after result =
-    (request : Request) × (IsRequestFor line request × IsReported (IsComingFor may_hold line request) line.out before after result)
+abbrev pub IsDone : Line → Option (List ℕ) → Option (List ℕ) → Result Ending ProgramFault → Type 0
+IsDone line before after result =
+    (request : Request) × (IsRequestFor line request × IsReported (IsComingFor line request) line.out before after result)
 
--- what comes of a line, by what files may hold: it is done; or a file or a folder of it isn't read, or memory is wanting, and
--- nothing is written
-abbrev pub IsPerformed : (List ℕ → Option (List ℕ) → Type 0) → Line → Option (List ℕ) → Option (List ℕ) → Result Ending ProgramFault → Type 0
-IsPerformed may_hold line before after (Ok ending) = IsDone may_hold line before after (Ok ending)
-IsPerformed may_hold line before after (Err Output) = IsDone may_hold line before after (Err Output)
-IsPerformed may_hold line before after (Err (Unwritten path)) = IsDone may_hold line before after (Err (Unwritten path))
-IsPerformed may_hold line before after (Err (Engine fault)) =
-    (IsMemory fault ⊎ IsDone may_hold line before after (Err (Engine fault))) × Keeps before after
-IsPerformed may_hold line before after (Err (Unread path)) = IsOfLine line (string_bytes path) × Keeps before after
-IsPerformed may_hold line before after (Err (Usage text)) = ⊥
-IsPerformed may_hold line before after (Err Words) = ⊥
-IsPerformed may_hold line before after (Err Input) = ⊥
+-- what comes of a line: it is done; or a file or a folder of it isn't read, or memory is wanting, and nothing is written
+abbrev pub IsPerformed : Line → Option (List ℕ) → Option (List ℕ) → Result Ending ProgramFault → Type 0
+IsPerformed line before after (Ok ending) = IsDone line before after (Ok ending)
+IsPerformed line before after (Err Output) = IsDone line before after (Err Output)
+IsPerformed line before after (Err (Unwritten path)) = IsDone line before after (Err (Unwritten path))
+IsPerformed line before after (Err (Engine fault)) =
+    (IsMemory fault ⊎ IsDone line before after (Err (Engine fault))) × Keeps before after
+IsPerformed line before after (Err (Unread path)) = IsOfLine line (string_bytes path) × Keeps before after
+IsPerformed line before after (Err (Usage text)) = ⊥
+IsPerformed line before after (Err Words) = ⊥
+IsPerformed line before after (Err Input) = ⊥

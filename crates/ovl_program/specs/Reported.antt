@@ -17,6 +17,7 @@ use Rattle.ovl_program.specs.declared.faults.ProgramFault.{ProgramFault}
 use Rattle.ovl_program.specs.declared.faults.ProgramFault.TheVariants.{Usage, Words, Input, Unread, Unwritten, Output, Engine}
 use Rattle.ovl_program.specs.Status.{ending_of}
 use Rattle.ovl_program.specs.Faults.{IsMemory}
+use Rattle.ovl_program.specs.BlobFolders.{anything}
 use Rattle.ovl_program.specs.Commands.{default_workers}
 use Rattle.ovl_program.specs.LayerFiles.{IsOutFile}
 
@@ -32,10 +33,10 @@ no_fault fault = ⊥
 abbrev pub IsComing : Request → Result Answer EngineFault → Type 0
 IsComing request result = IsOutcome request refuses_nothing result
 
--- this may come of a request over contents that may be these, where they are told
-abbrev pub IsComingOver : (List ℕ → Option (List ℕ) → Type 0) → Request → Result Answer EngineFault → Type 0
-IsComingOver may_be request (Ok answer) = IsOutcomeOver {ProgramFault} request may_be no_fault refuses_nothing (Ok answer)
-IsComingOver may_be request (Err fault) = IsOutcomeOver {ProgramFault} request may_be no_fault refuses_nothing (Err (OfEngine fault))
+-- this may come of a request over contents that are told of the files of a folder
+abbrev pub IsComingOver : Request → Result Answer EngineFault → Type 0
+IsComingOver request (Ok answer) = IsOutcomeOver {ProgramFault} request anything no_fault refuses_nothing (Ok answer)
+IsComingOver request (Err fault) = IsOutcomeOver {ProgramFault} request anything no_fault refuses_nothing (Err (OfEngine fault))
 
 -- the fault is told by a report
 abbrev pub has_report : EngineFault → Bool

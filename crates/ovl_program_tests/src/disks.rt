@@ -1,8 +1,6 @@
-ghost use Rattle.std.specs.Prelude.{⊤};
-
 use ovl_engine::Content;
 use ovl_inode::Digest;
-use ovl_program::{ProgramFault, SharedFiles, read_file, tell_file};
+use ovl_program::{ProgramFault, ReadFault, SharedFiles, read_file, tell_file};
 use std::alloc::Allocator;
 use std::fs::{Metadata, OpenFile, OpenOptions};
 use std::io;
@@ -232,13 +230,11 @@ impl<R> Files for Disk<'_, R> {
 }
 
 impl<R: AllocGlobal> SharedFiles for Disk<'_, R> {
-    ghost may_hold = { λ _ _ _. ⊤ };
-
     fn read_shared(&self, path: &str) -> Result<Vec<u8>, ProgramFault> {
         read_file(self, path)
     }
 
-    fn tell_shared(&self, path: &str, name: Digest) -> Result<Option<Content>, ProgramFault> {
+    fn tell_shared(&self, path: &str, name: Digest) -> Result<Option<Content>, ReadFault> {
         tell_file(self, path, name)
     }
 }

@@ -1,15 +1,13 @@
 //! A blob of any size, which is read in parts.
-ghost use Rattle.std.specs.Prelude.{◌≡◌, ◌<◌, ℕ, List, Option, IfOk, MatchResult, vec_len};
-ghost use Rattle.ovl_program.specs.BlobFolders.{told_of};
-ghost use Rattle.ovl_program.specs.Faults.{IsUnread};
+ghost use Rattle.std.specs.Prelude.{◌<◌, IfOk, vec_len};
+ghost use Rattle.ovl_program.specs.BlobFolders.{IsToldOf};
 
-use crate::faults::ProgramFault;
 use crate::files::reads::ReadFault;
 use ovl_check::{PART, content_in};
 use ovl_engine::Content;
 use ovl_inode::Digest;
 use std::alloc::{AllocError, Global};
-use std::fs::{self, Metadata};
+use std::fs;
 use std::io::ErrorKind;
 use std::rt::Files;
 
@@ -24,41 +22,23 @@ pub fn tell_file<R: Files + AllocGlobal>(
     rt: &R,
     path: &str,
     name: Digest,
-) -> Result<Option<Content>, ProgramFault>
-    ensures { MatchResult result
-        (λ told. (held : Option (List ℕ)) × (told ≡ told_of name.now held))
-        (λ fault. IsUnread (λ told. told ≡ path.now) fault) }
-{
-    match content_at(rt, path, name) {
-        Ok(content) => Ok(content),
-        Err(fault) => Err(ProgramFault::unread(rt.alloc(), path, fault)),
-    }
-}
-
-// The same, with a fault that doesn't name the file.
-fn content_at<R: Files + AllocGlobal>(
-    rt: &R,
-    path: &str,
-    name: Digest,
 ) -> Result<Option<Content>, ReadFault>
-    ensures { IfOk result (λ told. (held : Option (List ℕ)) × (told ≡ told_of name.now held)) }
+    ensures { IfOk result (IsToldOf name) }
 {
-    // A pipe that is opened waits for whoever writes to it.
-    let Some(metadata) = metadata_at(rt, path)? else {
+    let Some(length) = file_length(rt, path)? else {
         return Ok(None);
     };
-    if !metadata.is_file() {
-        return Ok(None);
-    }
     let mut file = fs::open(rt, path)?;
-    let mut room = room_for_part(rt.alloc(), metadata.len())?;
+    let mut room = room_for_part(rt.alloc(), length)?;
     Ok(Some(content_in(name, &mut file, &mut room)?))
 }
 
-// What is told of what lies at a path, not of what a link there leads to; nothing where nothing is there.
-fn metadata_at(files: &impl Files, path: &str) -> Result<Option<Metadata>, ReadFault> {
+// The length that is told of the regular file of a path, if there is one. It is asked before the file is opened, since a pipe
+// that is opened waits for whoever writes to it.
+fn file_length(files: &impl Files, path: &str) -> Result<Option<u64>, ReadFault> {
     match fs::symlink_metadata(files, path) {
-        Ok(metadata) => Ok(Some(metadata)),
+        Ok(metadata) if metadata.is_file() => Ok(Some(metadata.len())),
+        Ok(_) => Ok(None),
         Err(error) if error.kind() == ErrorKind::NotFound => Ok(None),
         Err(error) => Err(error.into()),
     }

@@ -1,7 +1,7 @@
-ghost use Rattle.std.specs.Prelude.{◌≡◌, ◌≤◌, ⊤, ℕ, List, Option, IfOk, IfErr, MatchResult, string_bytes, vec_len, length, map, All, Contains};
+ghost use Rattle.std.specs.Prelude.{◌≡◌, ◌≤◌, IfOk, IfErr, MatchResult, string_bytes, vec_len, length, map, All, Contains};
 ghost use Rattle.std.specs.Thread.{IsSync};
 ghost use Rattle.ovl_program.specs.Faults.{IsUnread};
-ghost use Rattle.ovl_program.specs.BlobFolders.{IsToldBy};
+ghost use Rattle.ovl_program.specs.BlobFolders.{IsToldOf};
 
 use crate::faults::ProgramFault;
 use crate::files::blob_parts::tell_file;
@@ -37,31 +37,23 @@ fn read_bytes<R: Files + AllocGlobal>(rt: &R, path: &str) -> Result<Vec<u8>, Rea
 
 /// A runtime whose files several threads may read: a bound by `Files` holds of one thread alone.
 pub trait SharedFiles {
-    /// What the regular file of a path may hold, or nothing where there is none. Where that isn't known, as of the system's
-    /// files, it may be anything.
-    ghost may_hold: { Self → List ℕ → Option (List ℕ) → Type 0 };
-
     /// What [`read_file`] gives.
     fn read_shared(&self, path: &str) -> Result<Vec<u8>, ProgramFault>
         ensures { MatchResult result
             (λ bytes. vec_len bytes ≤ INPUT_LIMIT)
             (λ fault. IsUnread (λ told. told ≡ path.now) fault) };
 
-    /// What is told of the blob of a name by the regular file of this path, if there is one: what [`tell_file`] gives.
-    fn tell_shared(&self, path: &str, name: Digest) -> Result<Option<Content>, ProgramFault>
-        ensures { MatchResult result
-            (λ told. IsToldBy (may_hold self.now path.now) name.now told)
-            (λ fault. IsUnread (λ told. told ≡ path.now) fault) };
+    /// What [`tell_file`] gives.
+    fn tell_shared(&self, path: &str, name: Digest) -> Result<Option<Content>, ReadFault>
+        ensures { IfOk result (IsToldOf name) };
 }
 
 impl SharedFiles for HostRuntime {
-    ghost may_hold = { λ _ _ _. ⊤ };
-
     fn read_shared(&self, path: &str) -> Result<Vec<u8>, ProgramFault> {
         read_file(self, path)
     }
 
-    fn tell_shared(&self, path: &str, name: Digest) -> Result<Option<Content>, ProgramFault> {
+    fn tell_shared(&self, path: &str, name: Digest) -> Result<Option<Content>, ReadFault> {
         tell_file(self, path, name)
     }
 }

@@ -1,19 +1,17 @@
-//! What several workers tell of the blobs of a folder, each of the name whose turn it is.
-ghost use Rattle.std.specs.Prelude.{◌≡◌, ◌<◌, IfOk, IfErr, OnOk, All, length};
+//! What several workers tell of the blobs of a folder before they are asked for.
+ghost use Rattle.std.specs.Prelude.{◌≡◌, IfOk, IfSome};
 ghost use Rattle.std.specs.Option.{option_map};
 ghost use Rattle.std.specs.Thread.{IsSync};
-ghost use Rattle.ovl_engine.specs.declared.faults.EngineFault.TheVariants.{Memory};
-ghost use Rattle.ovl_program.specs.declared.faults.ProgramFault.TheVariants.{Engine};
-ghost use Rattle.ovl_program.specs.Faults.{IsUnread};
-ghost use Rattle.ovl_program.specs.BlobFolders.{IsInFolder, IsToldBy, may_be_in};
-ghost use Rattle.ovl_program.specs.ToldAhead.{content_by, measure_of, IsToldAt, IsBoth};
+ghost use Rattle.ovl_program.specs.BlobFolders.{IsToldOf};
+ghost use Rattle.ovl_program.specs.ToldAhead.{content_by, measure_of};
 
-use crate::faults::ProgramFault;
 use crate::files::blob_folder::blob_path;
 use crate::files::manifests::SharedFiles;
-use ovl_engine::{Content, EngineFault};
+use crate::files::reads::ReadFault;
+use ovl_engine::Content;
 use ovl_inode::Digest;
 use std::alloc::{AllocError, Global};
+use std::str;
 use std::sync::atomic::{AtomicUsize, Ordering};
 use std::thread::{Threads, join};
 
@@ -24,84 +22,119 @@ pub struct Measure {
     pub is_right: bool,
 }
 
-/// What was told of the name at a place among names: the measure of its blob, if it has one.
-#[derive(Clone, Copy, Debug)]
+// What a content says but for its name.
+fn measure_in(content: Option<Content>) -> Option<Measure>
+    ensures { result ≡ option_map measure_of content }
+{
+    match content {
+        Some(content) => Some(Measure {
+            size: content.size,
+            is_right: content.is_right,
+        }),
+        None => None,
+    }
+}
+
+/// What a worker tells of the blob of a name: its measure, if it has one, or why it can't be read.
+#[derive(Drop)]
 pub struct Told {
-    pub place: usize,
-    pub measure: Option<Measure>,
+    name: Digest,
+    measure: Result<Option<Measure>, ReadFault>,
+    ghost of_bytes: { IfOk measure (λ measure. IsToldOf name (content_by name measure)) },
 }
 
 impl Told {
-    // This content, of the blob at a place, or that there is none.
-    fn of(place: usize, content: Option<Content>) -> Told
-        ensures { (result.place ≡ place) × (result.measure ≡ option_map measure_of content) }
+    // By what is told of a name.
+    fn of(name: Digest, told: Result<Option<Content>, ReadFault>) -> Told
+        requires { IfOk told (IsToldOf name) }
     {
-        let measure = match content {
-            Some(content) => Some(Measure {
-                size: content.size,
-                is_right: content.is_right,
-            }),
-            None => None,
-        };
-        Told { place, measure }
+        match told {
+            Ok(content) => Told {
+                name,
+                measure: Ok(measure_in(content)),
+            },
+            Err(fault) => Told {
+                name,
+                measure: Err(fault),
+            },
+        }
     }
 
-    /// The content of the blob of this name, if it has one.
-    pub fn content(&self, name: Digest) -> Option<Content>
-        ensures { result ≡ content_by name self.now.measure }
+    /// The content of the blob, if there is one.
+    pub fn content(&self) -> Result<Option<Content>, ReadFault>
+        ensures { IfOk result (IsToldOf self.now.name) }
     {
-        let measure = self.measure?;
-        Some(Content {
-            name,
-            size: measure.size,
-            is_right: measure.is_right,
-        })
-    }
-}
-
-// Why a worker doesn't tell of the name at a place.
-#[derive(Drop)]
-struct Untold {
-    place: usize,
-    fault: ProgramFault,
-}
-
-impl From<AllocError> for Untold {
-    ghost from_gives = { λ _ untold. untold.fault ≡ Engine Memory };
-
-    // Want of memory is told before all else.
-    fn from(_: AllocError) -> Untold {
-        Untold {
-            place: 0,
-            fault: ProgramFault::Engine(EngineFault::Memory),
+        match self.measure {
+            Ok(Some(measure)) => Ok(Some(Content {
+                name: self.name,
+                size: measure.size,
+                is_right: measure.is_right,
+            })),
+            Ok(None) => Ok(None),
+            Err(fault) => Err(fault),
         }
     }
 }
 
-/// What is told of the blobs of these names in a folder, by place, by at most so many threads. Each takes the next name, so
-/// that a long blob keeps none but its own from others. No name is taken behind one that can't be told of, and of several
-/// such the first in order is the one whose fault is given.
+/// What was told of a name, if anything was.
+pub fn find_told<'a>(ahead: &'a [Told], name: &Digest) -> Option<&'a Told>
+    ensures { IfSome result (λ told. told.now.name ≡ name.now) }
+{
+    match ahead.binary_search_by(|told| told.name.cmp(name)) {
+        Ok(place) => Some(&ahead[place]),
+        Err(_) => None,
+    }
+}
+
+/// The names of blobs that the texts of manifests seem to have, ascending, each once: what stands behind the member `blob`,
+/// as commands and the converter write it. It is a guess at what will be asked for, of other texts too short a one.
+pub fn seeming_names(alloc: Global, manifests: &[Vec<u8>]) -> Result<Vec<Digest>, AllocError> {
+    let mut names = Vec::new(alloc);
+    for manifest in manifests {
+        push_seeming(manifest, &mut names)?;
+    }
+    names.sort()?;
+    names.dedup();
+    Ok(names)
+}
+
+// How the member of an entry begins that names its blob, and how many digits a name has.
+const MEMBER: &str = "\"blob\":\"";
+
+const DIGITS: usize = 64;
+
+fn push_seeming(manifest: &[u8], names: &mut Vec<Digest>) -> Result<(), AllocError> {
+    let Ok(text) = str::from_utf8(manifest) else {
+        return Ok(());
+    };
+    for part in text.split(MEMBER) {
+        let Some(digits) = part.get(..DIGITS) else {
+            continue;
+        };
+        if let Ok(name) = Digest::parse(digits) {
+            names.push(name)?;
+        }
+    }
+    Ok(())
+}
+
+/// What is told of the blobs of these names in a folder, ascending by name, by at most so many threads. Each takes the next
+/// name, so that a long blob keeps none but its own from others. Names are left out behind one whose blob can't be read, and
+/// where memory is wanting.
 pub fn tell_ahead<R: SharedFiles + Threads + Sync>(
     rt: &R,
     alloc: Global,
     folder: &str,
     names: &[Digest],
     threads: usize,
-) -> Result<Vec<Told>, ProgramFault>
-    ensures told { IfOk result (λ told. All (IsToldAt (R.may_hold rt.now) folder.now names.now) told.items) }
-    ensures fault { IfErr result (λ fault. IsUnread (IsInFolder folder.now) fault) }
-{
+) -> Vec<Told> {
     let next = AtomicUsize::new(0);
-    match tell_by(rt, alloc, folder, names, &next, threads) {
-        Ok(mut told) => {
-            told.sort_unstable_by_key(|told| told.place);
-            Ok(told)
-        }
-        Err(untold) => Err(untold.fault),
-    }
+    let mut told = tell_by(rt, alloc, folder, names, &next, threads);
+    told.sort_unstable_by(|one, other| one.name.cmp(&other.name));
+    told
 }
 
-// The same in any order, by these threads, with the number of names that were taken so far.
+// The same in any order, with the number of names that were taken so far.
 #[cycle(telling)]
 fn tell_by<R: SharedFiles + Threads + Sync>(
     rt: &R,
@@ -110,101 +143,59 @@ fn tell_by<R: SharedFiles + Threads + Sync>(
     names: &[Digest],
     next: &AtomicUsize,
     threads: usize,
-) -> Result<Vec<Told>, Untold>
-    ensures told { IfOk result (λ told. All (IsToldAt (R.may_hold rt.now) folder.now names.now) told.items) }
-    ensures fault { IfErr result (λ untold. IsUnread (IsInFolder folder.now) untold.fault) }
-{
+) -> Vec<Told> {
     if threads < 2 {
         return take_turns(rt, alloc, folder, names, next);
     }
-    let (one, other) = join(
+    let (mut told, mut more) = join(
         rt,
-        || -> Result<Vec<Told>, Untold>
+        || -> Vec<Told>
             requires { IsSync R.row }
-            ensures told { IfOk result (λ told. All (IsToldAt (R.may_hold rt.entry.now) folder.entry.now names.entry.now) told.items) }
-            ensures fault { IfErr result (λ untold. IsUnread (IsInFolder folder.entry.now) untold.fault) }
         { tell_by(rt, alloc, folder, names, next, threads / 2) },
-        || -> Result<Vec<Told>, Untold>
+        || -> Vec<Told>
             requires { IsSync R.row }
-            ensures told { IfOk result (λ told. All (IsToldAt (R.may_hold rt.entry.now) folder.entry.now names.entry.now) told.items) }
-            ensures fault { IfErr result (λ untold. IsUnread (IsInFolder folder.entry.now) untold.fault) }
         { tell_by(rt, alloc, folder, names, next, threads - threads / 2) },
     );
-    both(one, other)
+    // What there is no memory for is told once it is asked for.
+    let _ = told.append(&mut more);
+    told
 }
 
-// What two workers tell, or the fault at the earlier place.
-fn both(
-    one: Result<Vec<Told>, Untold>,
-    other: Result<Vec<Told>, Untold>,
-) -> Result<Vec<Told>, Untold>
-    ensures { IsBoth one other result }
-{
-    match (one, other) {
-        (Ok(mut one), Ok(mut other)) => {
-            one.append(&mut other)?;
-            Ok(one)
-        }
-        (Err(one), Err(other)) if other.place < one.place => Err(other),
-        (Err(untold), _) | (_, Err(untold)) => Err(untold),
-    }
-}
-
-// What this thread tells of the names whose turn comes, until all are taken or it can't tell of one. Then none is taken any
-// more; those before it were, and their threads tell of them.
+// What this thread tells of the names whose turn comes, until all are taken, one can't be read or memory is wanting. Behind
+// one that can't be read none is taken any more; those before it were, and their threads tell of them.
 fn take_turns<R: SharedFiles>(
     rt: &R,
     alloc: Global,
     folder: &str,
     names: &[Digest],
     next: &AtomicUsize,
-) -> Result<Vec<Told>, Untold>
-    ensures told { IfOk result (λ told. All (IsToldAt (R.may_hold rt.now) folder.now names.now) told.items) }
-    ensures fault { IfErr result (λ untold. IsUnread (IsInFolder folder.now) untold.fault) }
-{
+) -> Vec<Told> {
     let mut told = Vec::new(alloc);
     for _ in 0..names.len() {
         let place = next.fetch_add(1, Ordering::SeqCst);
-        if place >= names.len() {
+        let Some(name) = names.get(place) else {
+            break;
+        };
+        let Ok(one) = tell_of(rt, alloc, folder, *name) else {
+            break;
+        };
+        let is_last = one.measure.is_err();
+        if is_last {
+            next.store(names.len(), Ordering::SeqCst);
+        }
+        if told.push(one).is_err() || is_last {
             break;
         }
-        if let Err(fault) = take_turn(rt, alloc, folder, names, place, &mut told) {
-            next.store(names.len(), Ordering::SeqCst);
-            return Err(Untold { place, fault });
-        }
     }
-    Ok(told)
+    told
 }
 
-// Tells of the name at a place too.
-fn take_turn<R: SharedFiles>(
-    rt: &R,
-    alloc: Global,
-    folder: &str,
-    names: &[Digest],
-    place: usize,
-    told: &mut Vec<Told>,
-) -> Result<(), ProgramFault>
-    requires { place < length names.now }
-    ensures told { OnOk result (All (IsToldAt (R.may_hold rt.now) folder.now names.now) told.old.items
-        → All (IsToldAt (R.may_hold rt.now) folder.now names.now) told.new.items) }
-    ensures fault { IfErr result (λ fault. IsUnread (IsInFolder folder.now) fault) }
-{
-    let content = tell_blob(rt, alloc, folder, names[place])?;
-    told.push(Told::of(place, content))?;
-    Ok(())
-}
-
-/// What is told of the blob of this name in a folder, if it has one.
-pub fn tell_blob<R: SharedFiles>(
+fn tell_of<R: SharedFiles>(
     rt: &R,
     alloc: Global,
     folder: &str,
     name: Digest,
-) -> Result<Option<Content>, ProgramFault>
-    ensures told { IfOk result (λ told. IsToldBy (may_be_in (R.may_hold rt.now) folder.now name.now) name.now told) }
-    ensures fault { IfErr result (λ fault. IsUnread (IsInFolder folder.now) fault) }
-{
+) -> Result<Told, AllocError> {
     let path = blob_path(alloc, folder, &name)?;
-    rt.tell_shared(path.as_str(), name)
+    Ok(Told::of(name, rt.tell_shared(path.as_str(), name)))
 }

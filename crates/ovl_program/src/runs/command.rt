@@ -25,7 +25,7 @@ pub fn perform<
     R: Files + SharedFiles + AllocGlobal + Clone + Drop + Threads + Wait + Sync,
     W: Write,
 >(rt: &R, line: &Line, writer: &mut W) -> Result<Ending, ProgramFault>
-    ensures { IsPerformed (R.may_hold rt.now) line.now (W.contents writer.old) (W.contents writer.new) result }
+    ensures { IsPerformed line.now (W.contents writer.old) (W.contents writer.new) result }
 {
     let manifests = read_files(rt, &line.layers, line.workers)?;
     if let Some(folder) = folder_in_parts(line) {
