@@ -8,5 +8,4 @@ pub mod Outcomes
 pub mod Performed
 pub mod Taken
 pub mod Telling
-pub mod Turns
 pub mod Unread

@@ -1,11 +1,12 @@
 -- What comes of a line, by what comes of its parts.
-use Rattle.std.proofs.Common.{◌≡◌, ◌<◌, ◌≤◌, ◌⊎◌, false, ℕ, refl, Option, None, Some, Result, Ok, Err, List, IfErr, IfOk, MatchResult, inl, inr, length, take, sym, ap, subst, arith, String, Vec, Global, string_bytes}
+use Rattle.std.proofs.Common.{◌≡◌, ◌<◌, ◌≤◌, ◌⊎◌, Bool, true, false, cond, ℕ, [], refl, Option, None, Some, Result, Ok, Err, List, IfErr, IfNone, IfOk, MatchResult, inl, inr, length, take, sym, ap, subst, arith, String, Vec, Global, string_bytes}
 use Rattle.std.specs.Io.KnownBytes.{Appends, Keeps}
 use Rattle.std.proofs.lemmas.List.{length-map}
 use Rattle.ovl_manifest.specs.Layers.{Entries}
 use Rattle.ovl_manifest.specs.Text.{manifest_text}
 use Rattle.ovl_lookup.specs.Stacks.{StackView}
 use Rattle.ovl_check.specs.declared.findings.Finding.{Finding}
+use Rattle.ovl_check.specs.Blobs.{BlobView}
 use Rattle.ovl_engine.specs.Outcomes.{IsAnswerOf, IsRewritten}
 use Rattle.ovl_engine.specs.declared.requests.Command.{Command}
 use Rattle.ovl_engine.specs.declared.requests.Command.TheVariants.{Show, Fsck, Vacuum, Deref, Merge}
@@ -21,7 +22,7 @@ use Rattle.ovl_program.specs.Faults.{IsUnread, IsMemory}
 use Rattle.ovl_program.specs.BlobFolders.{IsInFolder}
 use Rattle.ovl_program.specs.LayerFiles.{IsUnfinished}
 use Rattle.ovl_program.specs.Status.{ending_of}
-use Rattle.ovl_program.specs.Programs.{IsComingFor, IsComingIn, IsOfBlobs, IsOfLine, IsRequestFor, IsPerformed, folder_in_parts}
+use Rattle.ovl_program.specs.Programs.{IsComingFor, IsComingIn, IsOfBlobs, IsRequestFor, IsPerformed, folder_in_parts}
 use Rattle.ovl_program.specs.Reported.{IsComing, IsComingOver, IsReported, IsTold, has_report}
 use Rattle.ovl_program.proofs.Unread.{unread_of_more}
 
@@ -43,15 +44,17 @@ module _ (line : Line) (before after : Option (List ℕ)) where
       → IsComingIn from request result → IsComingFor line request result
   coming_for from is request result comes = subst (λ (o : Option (String Global)). IsComingIn o request result) is comes
 
-  -- a file or folder that isn't read for a line
-  pub unread_for : (keeps : Keeps before after) (fault : ProgramFault) → IsUnread (IsOfLine line) fault → IsPerformed line before after (Err fault)
-  unread_for keeps (Unread path) unread = (unread, keeps)
-  unread_for keeps (Engine fault) unread = (inl unread, keeps)
-  unread_for keeps (Usage told) unread = elim unread [ ]
-  unread_for keeps Words unread = elim unread [ ]
-  unread_for keeps Input unread = elim unread [ ]
-  unread_for keeps (Unwritten path) unread = elim unread [ ]
-  unread_for keeps Output unread = elim unread [ ]
+-- a line whose blobs are read in parts has a folder of them
+pub asked_folder : (line : Line) (folder : String Global) → folder_in_parts line ≡ Some folder → line.blobs ≡ Some folder
+asked_folder line folder asked = by line.any_size asked
+  where
+    by : (b : Bool) → cond b line.blobs None ≡ Some folder → line.blobs ≡ Some folder
+    by true is = is
+    by false is = cc
+
+pub none_asked : (asked : Option (String Global)) (blobs : List BlobView) → blobs ≡ [] → IfNone asked (blobs ≡ [])
+none_asked None blobs is = is
+none_asked (Some folder) blobs is = tt
 
 -- what may come may come with others
 module _ (one other : Result Answer EngineFault → Type 0) (more : (result : Result Answer EngineFault) → one result → other result) where

@@ -7,4 +7,3 @@ pub mod Lines
 pub mod Programs
 pub mod Reported
 pub mod Status
-pub mod ToldAhead

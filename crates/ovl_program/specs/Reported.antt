@@ -35,8 +35,8 @@ IsComing request result = IsOutcome request refuses_nothing result
 
 -- this may come of a request over contents that are told of the files of a folder
 abbrev pub IsComingOver : Request → Result Answer EngineFault → Type 0
-IsComingOver request (Ok answer) = IsOutcomeOver {ProgramFault} request anything no_fault refuses_nothing (Ok answer)
-IsComingOver request (Err fault) = IsOutcomeOver {ProgramFault} request anything no_fault refuses_nothing (Err (OfEngine fault))
+IsComingOver request (Ok answer) = IsOutcomeOver {F = ProgramFault} request anything no_fault refuses_nothing (Ok answer)
+IsComingOver request (Err fault) = IsOutcomeOver {F = ProgramFault} request anything no_fault refuses_nothing (Err (OfEngine fault))
 
 -- the fault is told by a report
 abbrev pub has_report : EngineFault → Bool

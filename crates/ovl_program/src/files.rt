@@ -5,4 +5,3 @@ pub mod folder_in_parts;
 pub mod held_blobs;
 pub mod manifests;
 pub mod reads;
-pub mod told_ahead;

@@ -1,6 +1,4 @@
-use ovl_engine::Content;
-use ovl_inode::Digest;
-use ovl_program::{ProgramFault, ReadFault, SharedFiles, read_file, tell_file};
+use ovl_program::{ProgramFault, SharedFiles, read_file};
 use std::alloc::Allocator;
 use std::fs::{Metadata, OpenFile, OpenOptions};
 use std::io;
@@ -232,9 +230,5 @@ impl<R> Files for Disk<'_, R> {
 impl<R: AllocGlobal> SharedFiles for Disk<'_, R> {
     fn read_shared(&self, path: &str) -> Result<Vec<u8>, ProgramFault> {
         read_file(self, path)
-    }
-
-    fn tell_shared(&self, path: &str, name: Digest) -> Result<Option<Content>, ReadFault> {
-        tell_file(self, path, name)
     }
 }

@@ -8,26 +8,24 @@ ghost use Rattle.ovl_program.specs.BlobFolders.{anything, IsInFolder, IsToldOf};
 
 use crate::faults::ProgramFault;
 use crate::files::blob_folder::blob_path;
-use crate::files::manifests::SharedFiles;
+use crate::files::blob_parts::tell_file;
 use crate::files::reads::ReadFault;
-use crate::files::told_ahead::{Told, find_told};
 use ovl_engine::{Content, Contents};
 use ovl_inode::Digest;
 use std::alloc::Global;
 use std::fs;
 use std::rt::Files;
 
-/// A folder of blobs, of which each is read in parts where it is asked for and workers haven't told of it ahead. What a name
-/// leads to in the folder is its blob where it is a regular file itself; where it isn't, a link too, or nothing is there, the
-/// name has none. Other names of the folder aren't looked at.
+/// A folder of blobs, of which each is read in parts where it is asked for. What a name leads to in the folder is its blob
+/// where it is a regular file itself; where it isn't, a link too, or nothing is there, the name has none. Other names of the
+/// folder aren't looked at. The first blob, in the order of names, that can't be read is told.
 #[derive(Drop)]
 pub struct FolderInParts<'a, R> {
     pub files: &'a R,
     pub path: &'a str,
-    pub ahead: &'a [Told],
 }
 
-impl<R: Files + SharedFiles> Contents for FolderInParts<'_, R> {
+impl<R: Files + AllocGlobal> Contents for FolderInParts<'_, R> {
     type Fault = ProgramFault;
 
     ghost may_be = { λ _. anything };
@@ -38,7 +36,7 @@ impl<R: Files + SharedFiles> Contents for FolderInParts<'_, R> {
         if let Err(fault) = find_folder(self.files, self.path) {
             return Err(ProgramFault::unread(alloc, self.path, fault));
         }
-        tell_all(self.files, alloc, self.path, names, self.ahead)
+        tell_all(self.files, alloc, self.path, names)
     }
 }
 
@@ -52,12 +50,11 @@ fn find_folder(files: &impl Files, path: &str) -> Result<(), ReadFault> {
 }
 
 // What is told of the blobs of these names in a folder, in their order.
-fn tell_all<R: SharedFiles>(
+fn tell_all<R: Files + AllocGlobal>(
     rt: &R,
     alloc: Global,
     folder: &str,
     names: &[Digest],
-    ahead: &[Told],
 ) -> Result<Vec<Content>, ProgramFault>
     requires { ascends digest_cmp names.now ≡ true }
     ensures told { IfOk result (λ told. AreTold anything names.now told.items) }
@@ -65,7 +62,7 @@ fn tell_all<R: SharedFiles>(
 {
     let mut contents = Vec::with_capacity(alloc, names.len())?;
     for name in names {
-        if let Some(content) = tell_blob(rt, alloc, folder, *name, ahead)? {
+        if let Some(content) = tell_blob(rt, alloc, folder, *name)? {
             contents.push(content)?;
         }
     }
@@ -73,34 +70,18 @@ fn tell_all<R: SharedFiles>(
 }
 
 // What is told of the blob of a name in a folder, if it has one.
-fn tell_blob<R: SharedFiles>(
+fn tell_blob<R: Files + AllocGlobal>(
     rt: &R,
     alloc: Global,
     folder: &str,
     name: Digest,
-    ahead: &[Told],
 ) -> Result<Option<Content>, ProgramFault>
     ensures told { IfOk result (IsToldOf name) }
     ensures fault { IfErr result (λ fault. IsUnread (IsInFolder folder.now) fault) }
 {
     let path = blob_path(alloc, folder, &name)?;
-    match told_of(rt, path.as_str(), name, ahead) {
+    match tell_file(rt, path.as_str(), name) {
         Ok(content) => Ok(content),
         Err(fault) => Err(ProgramFault::unread(alloc, path.as_str(), fault)),
-    }
-}
-
-// What was told of a name ahead, or else what the file of its path holds now.
-fn told_of<R: SharedFiles>(
-    rt: &R,
-    path: &str,
-    name: Digest,
-    ahead: &[Told],
-) -> Result<Option<Content>, ReadFault>
-    ensures { IfOk result (IsToldOf name) }
-{
-    match find_told(ahead, &name) {
-        Some(told) => told.content(),
-        None => rt.tell_shared(path, name),
     }
 }

@@ -1,27 +1,23 @@
 ghost use Rattle.std.specs.Prelude.{◌≡◌, [], Some, IfOk, IfErr, length};
 ghost use Rattle.ovl_engine.specs.Requests.{request_of};
-ghost use Rattle.ovl_program.specs.BlobFolders.{IsInFolder};
 ghost use Rattle.ovl_program.specs.Faults.{IsUnread};
 ghost use Rattle.ovl_program.specs.Reported.{IsComingOver};
-ghost use Rattle.ovl_program.specs.Programs.{IsPerformed, folder_in_parts};
+ghost use Rattle.ovl_program.specs.Programs.{IsOfBlobs, IsPerformed, folder_in_parts};
 
 use crate::command_line::options::Line;
 use crate::faults::ProgramFault;
 use crate::files::folder_in_parts::FolderInParts;
-use crate::files::manifests::SharedFiles;
-use crate::files::told_ahead::{Told, seeming_names, tell_ahead};
 use crate::output::report::write_report;
 use crate::output::status::Ending;
 use ovl_engine::{Answer, CommandFault, EngineFault, command_over};
 use ovl_pool::OpenGate;
-use std::alloc::AllocError;
 use std::io::Write;
 use std::rt::Files;
 use std::sync::Wait;
 use std::thread::Threads;
 
 /// Does what a line asks for with its manifests and the blobs of this folder of it, which are read in parts.
-pub fn perform_in_parts<R: Files + SharedFiles + AllocGlobal + Threads + Wait + Sync, W: Write>(
+pub fn perform_in_parts<R: Files + AllocGlobal + Threads + Wait + Sync, W: Write>(
     rt: &R,
     line: &Line,
     folder: &String,
@@ -32,26 +28,25 @@ pub fn perform_in_parts<R: Files + SharedFiles + AllocGlobal + Threads + Wait + 
     requires each { length manifests.items ≡ length line.now.layers.items }
     ensures { IsPerformed line.now (W.contents writer.old) (W.contents writer.new) result }
 {
-    let answered = answer_in_parts(rt, line, folder.as_str(), manifests)?;
+    let answered = answer_in_parts(rt, line, folder, manifests)?;
     write_report(rt, answered, &line.out, writer)
 }
 
 // What the line's command gives of these manifests and the blobs of this folder, where it can be told what these are.
-fn answer_in_parts<R: Files + SharedFiles + AllocGlobal + Threads + Wait + Sync>(
+fn answer_in_parts<R: Files + AllocGlobal + Threads + Wait + Sync>(
     rt: &R,
     line: &Line,
-    folder: &str,
+    folder: &String,
     manifests: Vec<Vec<u8>>,
 ) -> Result<Result<Answer, EngineFault>, ProgramFault>
+    requires { folder_in_parts line.now ≡ Some folder.now }
     ensures coming { IfOk result (IsComingOver
         (request_of line.now.what manifests.items line.now.data_layers [] line.now.workers)) }
-    ensures fault { IfErr result (λ fault. IsUnread (IsInFolder folder.now) fault) }
+    ensures fault { IfErr result (λ fault. IsUnread (IsOfBlobs line.now) fault) }
 {
-    let ahead = told_ahead(rt, folder, &manifests, line.workers)?;
     let contents = FolderInParts {
         files: rt,
-        path: folder,
-        ahead: &ahead,
+        path: folder.as_str(),
     };
     match command_over(
         rt,
@@ -67,19 +62,4 @@ fn answer_in_parts<R: Files + SharedFiles + AllocGlobal + Threads + Wait + Sync>
         Err(CommandFault::Engine(fault)) => Ok(Err(fault)),
         Err(CommandFault::Contents(fault)) => Err(fault),
     }
-}
-
-// What several workers tell of the blobs that these manifests seem to name; with one worker none is told of ahead.
-fn told_ahead<R: SharedFiles + AllocGlobal + Threads + Sync>(
-    rt: &R,
-    folder: &str,
-    manifests: &[Vec<u8>],
-    workers: usize,
-) -> Result<Vec<Told>, AllocError> {
-    if workers < 2 {
-        return Ok(Vec::new(rt.alloc()));
-    }
-    let names = seeming_names(rt.alloc(), manifests)?;
-    let threads = workers.min(names.len());
-    Ok(tell_ahead(rt, rt.alloc(), folder, &names, threads))
 }
