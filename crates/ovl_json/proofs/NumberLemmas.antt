@@ -7,7 +7,7 @@ use Rattle.json.specs.Lex.{tokens}
 use Rattle.json.specs.Json.{Json, null, boolean, number, string, array, object, Items, no_items, item, Members, no_members, member, Parse, parse_map, after_end_array, read_key, items_step, members_step, items, members, value_with, value}
 use Rattle.json.proofs.Grammar.{closed_array, key_token, read_key_is}
 use Rattle.serde_json.specs.Data.{Data}
-use Rattle.serde_json.specs.Data as data
+use Rattle.serde_json.specs.Data as told
 use Rattle.serde_json.specs.Read.{of_json, of_items, of_members, read, max_depth}
 use Rattle.ovl_json.specs.Numbers.{is_readable}
 use Rattle.ovl_json.specs.Reading.{alone}
@@ -22,7 +22,7 @@ abbrev are_items : Items → Bool
 are_items js = is_some (of_items js)
 
 abbrev are_members : Members → Bool
-are_members ms = is_some (of_members ms data.no_members)
+are_members ms = is_some (of_members ms told.no_members)
 
 -- the tokens can be read where what they are and those after it can
 abbrev Agrees : {A : Type 0} → (A → Bool) → List Token → Option (A × List Token) → Type 0
@@ -38,27 +38,28 @@ still f None = refl
 still f (Some a) = refl
 
 -- which members were found before plays no part
-members_good : (ms : Members) (found other : data.Members) → is_some (of_members ms found) ≡ is_some (of_members ms other)
+members_good-with : (o : Option Data) (k : List ℕ) (ms : Members) (found other : told.Members) → ((one two : told.Members) → is_some (of_members ms one) ≡ is_some (of_members ms two))
+    → is_some (option_and_then (λ d. of_members ms (told.put k d found)) o) ≡ is_some (option_and_then (λ d. of_members ms (told.put k d other)) o)
+members_good-with None k ms found other again = refl
+members_good-with (Some d) k ms found other again = again (told.put k d found) (told.put k d other)
+
+members_good : (ms : Members) (found other : told.Members) → is_some (of_members ms found) ≡ is_some (of_members ms other)
 members_good no_members found other = refl
-members_good (member k j ms) found other = by (of_json j)
-  where
-    by : (o : Option Data) → is_some (option_and_then (λ d. of_members ms (data.put k d found)) o) ≡ is_some (option_and_then (λ d. of_members ms (data.put k d other)) o)
-    by None = refl
-    by (Some d) = members_good ms (data.put k d found) (data.put k d other)
+members_good (member k j ms) found other = members_good-with (of_json j) k ms found other (members_good ms)
 
 item_good : (j : Json) (js : Items) → are_items (item j js) ≡ (is_data j && are_items js)
 item_good j js = by (of_json j)
   where
-    by : (o : Option Data) → is_some (option_and_then (λ d. option_map (data.item d) (of_items js)) o) ≡ (is_some o && are_items js)
+    by : (o : Option Data) → is_some (option_and_then (λ d. option_map (told.item d) (of_items js)) o) ≡ (is_some o && are_items js)
     by None = refl
-    by (Some d) = still (data.item d) (of_items js)
+    by (Some d) = still (told.item d) (of_items js)
 
 member_good : (k : List ℕ) (j : Json) (ms : Members) → are_members (member k j ms) ≡ (is_data j && are_members ms)
 member_good k j ms = by (of_json j)
   where
-    by : (o : Option Data) → is_some (option_and_then (λ d. of_members ms (data.put k d data.no_members)) o) ≡ (is_some o && are_members ms)
+    by : (o : Option Data) → is_some (option_and_then (λ d. of_members ms (told.put k d told.no_members)) o) ≡ (is_some o && are_members ms)
     by None = refl
-    by (Some d) = members_good ms (data.put k d data.no_members) data.no_members
+    by (Some d) = members_good ms (told.put k d told.no_members) told.no_members
 
 joined : (a b c : Bool) → (a && (b && c)) ≡ ((a && b) && c)
 joined true b c = refl
@@ -67,8 +68,8 @@ joined false b c = refl
 -- a value and what follows it
 then_more : {B : Type 0} (good : B → Bool) (h : Json → B → B) → ((j : Json) (b : B) → good (h j b) ≡ (is_data j && good b)) → (more : Parse B) → ((ts : List Token) → Agrees good ts (more ts))
     → (ts : List Token) (o : Option (Json × List Token)) → Agrees is_data ts o → Agrees good ts (option_and_then (λ q. parse_map (h q.0) (more q.1)) o)
-then_more good h is more again ts None x = tt
-then_more good h is more again ts (Some q) x = by (more q.1) (again q.1)
+then_more {B = B} good h is more again ts None x = tt
+then_more {B = B} good h is more again ts (Some q) x = by (more q.1) (again q.1)
   where
     by : (o : Option (B × List Token)) → Agrees good q.1 o → Agrees good ts (parse_map (h q.0) o)
     by None y = tt
@@ -108,13 +109,13 @@ module _ (p : Parse Json) (agrees : (ts : List Token) → Agrees is_data ts (p t
   Agrees-members (suc n) ts = key_turn (members p n) (Agrees-members n) ts (read_key ts) refl
 
 number_good : (s : List ℕ) (ts : List Token) → readable (Token.number s ∷ ts) ≡ (is_data (number s) && readable ts)
-number_good s ts = ap (λ b. b && readable ts) (sym (still data.number _))
+number_good s ts = ap (λ b. b && readable ts) (sym (still told.number _))
 
 array_good : (js : Items) → is_data (array js) ≡ are_items js
-array_good js = still data.array (of_items js)
+array_good js = still told.array (of_items js)
 
 object_good : (ms : Members) → is_data (object ms) ≡ are_members ms
-object_good ms = still data.object (of_members ms data.no_members)
+object_good ms = still told.object (of_members ms told.no_members)
 
 one_level : (a : Parse Items) (o : Parse Members) → ((ts : List Token) → Agrees are_items ts (a ts)) → ((ts : List Token) → Agrees are_members ts (o ts)) → (ts : List Token) → Agrees is_data ts (value_with a o ts)
 one_level a o x y [] = tt

@@ -56,8 +56,8 @@ module _ (p : Parse json.Json) (takes : Takes p) where
 -- ---- what was read, under the conversion to data
 
 of_pair : {A B : Type 0} (f : A → Option B) (g : A → A) (h : B → B) → ((a : A) → f (g a) ≡ option_map h (f a)) → (o : Option (A × List Token)) → converted f (parse_map g o) ≡ parse_map h (converted f o)
-of_pair f g h same None = refl
-of_pair f g h same (Some q) = ap (λ r. option_map (λ b. (b, q.1)) r) (same q.0) ∙ twice (f q.0)
+of_pair {B = B} f g h same None = refl
+of_pair {B = B} f g h same (Some q) = ap (λ r. option_map (λ b. (b, q.1)) r) (same q.0) ∙ twice (f q.0)
   where
     twice : (r : Option B) → option_map (λ b. (b, q.1)) (option_map h r) ≡ parse_map h (option_map (λ b. (b, q.1)) r)
     twice None = refl
@@ -74,11 +74,11 @@ same_left f h g same (Some q) = ap (option_map (λ b. (b, q.1))) (same q.0)
 -- the value that is read, and the data that it is
 pub record IsRead (depth : ℕ) (ts : List Token) : Type 0 where
   pub json : json.Json
-  pub data : Data
+  pub datum : Data
   pub rest : List Token
   pub parsed : value depth ts ≡ Some (json, rest)
-  pub is : of_json json ≡ Some data
-  pub read : read_value depth ts ≡ Some (data, rest)
+  pub is : of_json json ≡ Some datum
+  pub read : read_value depth ts ≡ Some (datum, rest)
   pub shorter : length rest < length ts
 
 is_read : (depth : ℕ) (ts : List Token) (o : Option (json.Json × List Token)) → value depth ts ≡ o → is_some (converted of_json o) ≡ true → IsRead depth ts
@@ -87,14 +87,10 @@ is_read depth ts (Some q) e some = by (of_json q.0) refl
   where
     by : (d : Option Data) → of_json q.0 ≡ d → IsRead depth ts
     by None none = let bad : false ≡ true = rw none at some in cc
-    by (Some d) is = record { json = q.0; data = d; rest = q.1; parsed = e; is = is; read = ap (converted of_json) e ∙ ap (option_map (λ b. (b, q.1))) is; shorter = skip_value-shorter depth ts q.1 (ap left e) }
+    by (Some d) is = record { json = q.0; datum = d; rest = q.1; parsed = e; is = is; read = ap (converted of_json) e ∙ ap (option_map (λ b. (b, q.1))) is; shorter = skip_value-shorter depth ts q.1 (ap left e) }
 
 pub stands : (depth : ℕ) (ts : List Token) → is_some (read_value depth ts) ≡ true → IsRead depth ts
 stands depth ts some = is_read depth ts (value depth ts) refl some
-
--- where no value is read, nothing is read of a list that it is in
-no_value : (depth : ℕ) (ts : List Token) (o : Option (json.Json × List Token)) → value depth ts ≡ o → converted of_json o ≡ None → (o ≡ None)  → value depth ts ≡ None
-no_value depth ts o e none is = e ∙ is
 
 -- ---- a turn
 
@@ -107,7 +103,7 @@ member_end depth found ts r e = ap (converted (λ ms. of_members ms found)) (mem
 -- one more item, and what is read of the others
 pub record IsItem (depth : ℕ) (ts : List Token) : Type 0 where
   pub one : IsRead depth ts
-  pub more : read_items depth ts ≡ parse_map (item one.data) (read_items depth one.rest)
+  pub more : read_items depth ts ≡ parse_map (item one.datum) (read_items depth one.rest)
 
 items_one : (depth : ℕ) (ts : List Token) (j : json.Json) (r : List Token) → after_end_array ts ≡ None → value depth ts ≡ Some (j, r) → items (value depth) (length ts) ts ≡ parse_map (json.item j) (items (value depth) (length r) r)
 items_one depth ts j r going e =
@@ -130,14 +126,14 @@ item_turn depth ts going some = by (value depth ts) refl
             let empty : read_items depth ts ≡ None = opened ∙ nothing_left of_items (json.item q.0) (λ js. rw none refl) _ in
             let bad : false ≡ true = rw empty at some in cc
         at (Some d) is = record {
-          one = record { json = q.0; data = d; rest = q.1; parsed = e; is = is; read = ap (converted of_json) e ∙ ap (option_map (λ b. (b, q.1))) is; shorter = skip_value-shorter depth ts q.1 (ap left e) };
+          one = record { json = q.0; datum = d; rest = q.1; parsed = e; is = is; read = ap (converted of_json) e ∙ ap (option_map (λ b. (b, q.1))) is; shorter = skip_value-shorter depth ts q.1 (ap left e) };
           more = opened ∙ of_pair of_items (json.item q.0) (item d) (λ js. rw is refl) _;
         }
 
 -- one more member, and what is read of the others
 pub record IsMember (depth : ℕ) (found : Members) (ts : List Token) (name : List ℕ) (value : List Token) : Type 0 where
   pub one : IsRead depth value
-  pub more : read_members depth found ts ≡ read_members depth (put name one.data found) one.rest
+  pub more : read_members depth found ts ≡ read_members depth (put name one.datum found) one.rest
   pub shorter : length one.rest < length ts
 
 members_one : (depth : ℕ) (ts s : List Token) (name : List ℕ) (j : json.Json) (r : List Token) → read_key ts ≡ Some (Some name, s) → value depth s ≡ Some (j, r)
@@ -166,7 +162,7 @@ member_turn depth found ts s name key some = by (value depth s) refl
             let empty : read_members depth found ts ≡ None = opened ∙ nothing_left made (json.member name q.0) (λ ms. rw none refl) _ in
             let bad : false ≡ true = rw empty at some in cc
         at (Some d) is = record {
-          one = record { json = q.0; data = d; rest = q.1; parsed = e; is = is; read = ap (converted of_json) e ∙ ap (option_map (λ b. (b, q.1))) is; shorter = skip_value-shorter depth s q.1 (ap left e) };
+          one = record { json = q.0; datum = d; rest = q.1; parsed = e; is = is; read = ap (converted of_json) e ∙ ap (option_map (λ b. (b, q.1))) is; shorter = skip_value-shorter depth s q.1 (ap left e) };
           more = opened ∙ same_left made (λ ms. of_members ms (put name d found)) (json.member name q.0) (λ ms. rw is refl) _;
           shorter = omega (arith, skip_value-shorter depth s q.1 (ap left e), read_key-shorter ts (Some name) s key);
         }
@@ -196,16 +192,24 @@ opened_object depth ts h = ap (converted of_json) (value-begin_object depth ts h
     by (Some q) = again q.1 (of_members q.0 no_members)
 
 -- nothing nests where the depth is none
-pub too_deep : (ts : List Token) → (value 0 (Token.begin_array ∷ ts) ≡ None) × (value 0 (Token.begin_object ∷ ts) ≡ None)
+too_deep : (ts : List Token) → (value 0 (Token.begin_array ∷ ts) ≡ None) × (value 0 (Token.begin_object ∷ ts) ≡ None)
 unfolding value
 too_deep ts = (refl, refl)
+
+pub deep_array : (depth : ℕ) (ts : List Token) → is_some (read_value depth (Token.begin_array ∷ ts)) ≡ true → 0 < depth
+deep_array zero ts some = let bad : false ≡ true = rw (too_deep ts).0 at some in cc
+deep_array (suc depth) ts some = omega arith
+
+pub deep_object : (depth : ℕ) (ts : List Token) → is_some (read_value depth (Token.begin_object ∷ ts)) ≡ true → 0 < depth
+deep_object zero ts some = let bad : false ≡ true = rw (too_deep ts).1 at some in cc
+deep_object (suc depth) ts some = omega arith
 
 -- ---- what was passed
 
 -- a list that is read ends where it was passed
 pub passed : {A B : Type 0} (f : A → Option B) (o : Option (A × List Token)) (r : List Token) → left o ≡ Some r → is_some (converted f o) ≡ true → IsSomeAnd (converted f o) (λ read. read.1 ≡ r)
-passed f None r e some = let bad : false ≡ true = some in cc
-passed f (Some q) r e some = by (f q.0) refl
+passed {B = B} f None r e some = let bad : false ≡ true = some in cc
+passed {B = B} f (Some q) r e some = by (f q.0) refl
   where
     same : q.1 ≡ r
     same = let is : Some q.1 ≡ Some r = e in cc

@@ -1,4 +1,4 @@
-ghost use Rattle.std.specs.Prelude.{◌≡◌, true, false};
+ghost use Rattle.std.specs.Prelude.{◌≡◌, ◌<◌, ◌==◌, true, false, IsTrue, length, slice_index};
 ghost use Rattle.std.specs.Option.{option_map};
 ghost use Rattle.serde_json.specs.Read.{number_of, number_from};
 ghost use Rattle.serde_json.specs.View.{number_view};
@@ -11,7 +11,7 @@ pub(crate) fn read_number(text: &str) -> Option<Number>
     ensures { option_map number_view result ≡ number_of text.now }
 {
     let bytes = text.as_bytes();
-    if !bytes.is_empty() && bytes[0] == b'-' {
+    if has_minus(bytes) {
         negative(&Numeral::scan(&bytes[1..]))
     } else {
         positive(&Numeral::scan(bytes))
@@ -36,4 +36,11 @@ fn negative(numeral: &Numeral<'_>) -> Option<Number>
         }
     }
     Number::from_f64(numeral.to_float::<f64>(true))
+}
+
+fn has_minus(bytes: &[u8]) -> bool
+    ensures value { result ≡ (slice_index bytes.now 0 == 45) }
+    ensures some { IsTrue result → 0 < length bytes.now }
+{
+    !bytes.is_empty() && bytes[0] == b'-'
 }

@@ -20,7 +20,11 @@ pub fn is_json(alloc: Global, text: &str) -> Result<bool, AllocError>
     ensures { IfOk result (λ is. is ≡ is_some (read text.now)) }
 {
     let mut scratch = Scratch::new(alloc);
-    Ok(is_one_value(text, &mut scratch)? && has_readable_numbers(text, &mut scratch)?)
+    let is_alone = is_one_value(text, &mut scratch)?;
+    if !is_alone {
+        return Ok(false);
+    }
+    has_readable_numbers(text, &mut scratch)
 }
 
 // Whether the text is one value, whatever its numbers are.

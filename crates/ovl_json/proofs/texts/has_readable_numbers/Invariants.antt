@@ -6,7 +6,7 @@ use Rattle.ovl_json.proofs.texts.has_readable_numbers.Given as goal
 
 -- those that are left decide
 abbrev pub invariant-loop-token : goal.invariant-loop-token
-invariant-loop-token l = list_all is_readable l.reader ≡ list_all is_readable (tokens l.fn.text.now)
+invariant-loop-token l = list_all is_readable l.reader ≡ list_all is_readable (tokens l.fn.text)
 
 abbrev pub decreases-loop-token : goal.decreases-loop-token
 decreases-loop-token l = length l.reader
