@@ -6,7 +6,8 @@ use Rattle.json.specs.Json as json
 use Rattle.json.specs.Json.{Parse, parse_map, after_end_array, read_key, items_step, members_step, items, members, value, if_last}
 use Rattle.json.proofs.Grammar.{left, left_some, left_none, left-parse_map, Takes, items_end, items_fail, items_more, members_end, members_fail, members_no_key, members_more, value_is, value-begin_array, value-begin_object, skip_value-shorter, read_key-shorter, after_end_array-shorter}
 use Rattle.serde_json.specs.Data.{Data, array, object, Items, no_items, item, Members, no_members, put}
-use Rattle.serde_json.specs.Read.{of_json, of_items, of_members, converted}
+use Rattle.json.specs.Lex.{tokens}
+use Rattle.serde_json.specs.Read.{of_json, of_items, of_members, converted, read, max_depth}
 use Rattle.ovl_json.specs.Reading.{read_value, read_items, read_members}
 
 -- ---- as many turns as there are tokens are enough
@@ -217,3 +218,12 @@ passed {B = B} f (Some q) r e some = by (f q.0) refl
     by : (b : Option B) → f q.0 ≡ b → IsSomeAnd (converted f (Some q)) (λ read. read.1 ≡ r)
     by None none = let bad : false ≡ true = rw none at some in cc
     by (Some b) is = rw is same
+
+-- a text that is read is the value at its first token
+pub read_is : (text : List ℕ) (d : Data) → read text ≡ Some d → read_value max_depth (tokens text) ≡ Some (d, [])
+read_is text d e = by (value max_depth (tokens text)) e
+  where
+    by : (o : Option (json.Json × List Token)) → option_and_then of_json (option_and_then (λ p. if_last p.0 p.1) o) ≡ Some d → converted of_json o ≡ Some (d, [])
+    by None f = let bad : None ≡ Some d = f in cc
+    by (Some (j, [])) f = ap (option_map (λ b. (b, []))) f
+    by (Some (j, t ∷ ts)) f = let bad : None ≡ Some d = f in cc

@@ -21,7 +21,7 @@ use Rattle.ovl_inode.specs.declared.inodes.Kind.TheVariants.{Dir, File, Symlink,
 use Rattle.ovl_manifest.specs.Layers.{Entry, Entries}
 use Rattle.ovl_manifest.specs.Fields.{member_count, has_count, has_exactly, up_to, text_field, natural_field, seconds_field, path_of_text, path_field, attribute_after, attributes_after, attributes_of, attributes_field, blob_of, blob_field, file_kind, numbers_kind, kind_named, kind_field, own_members, kind_members, inode_with, inode_field, is_entry, entry_with, entry_of}
 use Rattle.ovl_manifest.specs.Versions.{common_members}
-use Rattle.ovl_manifest.specs.Manifest.{outline_of, outline}
+use Rattle.ovl_manifest.specs.Lists.{outline_of, outline}
 use Rattle.ovl_manifest.specs.declared.versions.Version.{Version}
 use Rattle.ovl_manifest.specs.declared.versions.Version.TheVariants.{One}
 use Rattle.ovl_manifest.specs.declared.faults.LayerFault.{LayerFault}

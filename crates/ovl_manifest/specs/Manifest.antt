@@ -98,18 +98,6 @@ layer_of_version n values = elim (option_and_then version_of (as_u64 n)) [
   | None ↦ Err WrongVersion
 ]
 
--- a manifest is an object of a whole number that names a version, and a list of entries
-abbrev pub outline_of : Option Num → Option Items → Result Version LayerFault
-outline_of (Some n) (Some values) =
-    if is_whole n then elim (option_and_then version_of (as_u64 n)) [ Some version ↦ Ok version | None ↦ Err WrongVersion ] else Err Shape
-outline_of _ _ = Err Shape
-
-abbrev pub outline : Data → Result Version LayerFault
-outline value =
-    if has_exactly (codes "entries" ∷ codes "overlay-layer" ∷ []) value
-    then outline_of (option_and_then as_number (get (codes "overlay-layer") value)) (option_and_then as_array (get (codes "entries") value))
-    else Err Shape
-
 -- a manifest is an object of a whole number and a list
 abbrev pub layer_of_fields : Option Num → Option Items → Result Entries LayerFault
 layer_of_fields (Some version) (Some values) = if is_whole version then layer_of_version version values else Err Shape

@@ -7,7 +7,7 @@ ghost use Rattle.ovl_json.specs.Reading.{read_value, read_items as items_read, r
 ghost use Rattle.ovl_manifest.specs.Layers.{entry_limit};
 ghost use Rattle.ovl_manifest.specs.Fields.{entry_of};
 ghost use Rattle.ovl_manifest.specs.Manifest.{layer_of_entries, stated_entries, IsFaultOf};
-ghost use Rattle.ovl_manifest.specs.Lists.{listed, entry_on, made, IsProgress, Tells, TellsLast, member_depth, item_depth};
+ghost use Rattle.ovl_manifest.specs.Lists.{listed, entry_on, made, IsProgress, IsProgressOf, Tells, TellsLast, member_depth, item_depth};
 
 use crate::drafts::Draft;
 use crate::entries::{ENTRY_LIMIT, add, start};
@@ -16,7 +16,9 @@ use crate::fields::read_entry;
 use crate::trees::Layer;
 use crate::versions::Version;
 use json::{Reader, Scratch};
+use ovl_inode::Inode;
 use ovl_json::{Beginning, MAX_DEPTH, Unread, begin, pass_items, pass_members, read_object};
+use ovl_names::Path;
 use std::alloc::Global;
 
 // How deep members of the manifest nest, and items of its list.
@@ -149,25 +151,49 @@ fn with_item(
     requires value { is_some (read_value item_depth reader.old) ≡ true }
     requires progress { IsProgress progress number }
     requires room { number < entry_limit }
-    ensures { IfOk result (λ more. IsProgress more (number + 1)
-        × IsSomeAnd (read_value item_depth reader.old) (λ read.
+    ensures progress { IfOk result (λ more. IsProgress more (number + 1)) }
+    ensures made { IfOk result (λ more. IsSomeAnd (read_value item_depth reader.old) (λ read.
         (read.1 ≡ reader.new) × (made more ≡ entry_on (made progress) (entry_of version read.0)))) }
 {
-    if let Progress::Refused(fault) = progress {
-        reader.skip_value(ITEM_DEPTH)?;
-        return Ok(Progress::Refused(fault));
+    match progress {
+        Progress::Nothing => {
+            let entry = read_item(alloc, version, reader)?;
+            progress_of(start(alloc, entry))
+        }
+        Progress::Made(draft) => {
+            let entry = read_item(alloc, version, reader)?;
+            progress_of(add(alloc, draft, number, entry))
+        }
+        Progress::Refused(fault) => {
+            reader.skip_value(ITEM_DEPTH)?;
+            Ok(Progress::Refused(fault))
+        }
     }
-    let entry = match read_object(alloc, reader, ITEM_DEPTH)? {
-        Some(value) => read_entry(alloc, version, &value)?,
-        None => None,
-    };
-    let more = match progress {
-        Progress::Made(draft) => add(alloc, draft, number, entry),
-        _ => start(alloc, entry),
-    };
+}
+
+// The progress that a draft with one more entry is, or its fault.
+fn progress_of(more: Result<Draft, LayerFault>) -> Result<Progress, Unread>
+    ensures { IfOk result (λ progress. IsProgressOf more progress) }
+{
     match more {
         Ok(draft) => Ok(Progress::Made(draft)),
         Err(LayerFault::Memory) => Err(Unread),
         Err(fault) => Ok(Progress::Refused(fault)),
+    }
+}
+
+// The entry that the item that stands next states, if it states one.
+fn read_item(
+    alloc: Global,
+    version: Version,
+    reader: &mut Reader<'_>,
+) -> Result<Option<(Path, Inode)>, Unread>
+    requires { is_some (read_value item_depth reader.old) ≡ true }
+    ensures { IfOk result (λ entry. IsSomeAnd (read_value item_depth reader.old) (λ read.
+        (read.1 ≡ reader.new) × (entry ≡ entry_of version read.0))) }
+{
+    match read_object(alloc, reader, ITEM_DEPTH)? {
+        Some(value) => Ok(read_entry(alloc, version, &value)?),
+        None => Ok(None),
     }
 }

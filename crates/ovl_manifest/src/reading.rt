@@ -4,7 +4,8 @@ ghost use Rattle.serde_json.specs.Read.{read};
 ghost use Rattle.serde_json.specs.View.{number_view};
 ghost use Rattle.ovl_json.specs.Views.{object_view};
 ghost use Rattle.ovl_manifest.specs.Versions.{version_of};
-ghost use Rattle.ovl_manifest.specs.Manifest.{layer_of_value, outline, read_layer as layer_stated, IsFaultOf};
+ghost use Rattle.ovl_manifest.specs.Manifest.{read_layer as layer_stated, IsFaultOf};
+ghost use Rattle.ovl_manifest.specs.Lists.{outline};
 
 use crate::compact_layers::read_compact;
 use crate::faults::LayerFault;

@@ -1,0 +1,220 @@
+-- The entries of a list, one after another, and the outline of a manifest.
+use Rattle.std.proofs.Common.{◌≡◌, ℕ, zero, suc, ◌+◌, ◌<◌, ◌≤◌, ◌∙◌, ◌++◌, ◌⊎◌, inl, inr, List, [], ◌∷◌, length, length-append, Bool, true, false, Option, Some, None, Result, Ok, Err, MatchResult, refl, sym, ap, subst, arith}
+use Rattle.std.specs.Prelude.{⊤, ◌==◌, is_some, IsSomeAnd, if◌then◌else◌, option_and_then, codes}
+use Rattle.std.specs.Option.{option_map}
+use Rattle.std.proofs.lemmas.Bool.Decides.{nat_tests}
+use Rattle.json.specs.Token.{Token}
+use Rattle.json.specs.Json.{parse_map}
+use Rattle.serde_json.specs.Data.{Num, Data, null, boolean, number, string, array, object, Items, no_items, item, Members}
+use Rattle.serde_json.specs.Events.{items_len}
+use Rattle.serde_json.specs.Find.{get, as_number, as_u64, as_array}
+use Rattle.ovl_json.specs.Kept.{kept}
+use Rattle.ovl_manifest.specs.Layers.{Entry, Entries, entry_limit}
+use Rattle.ovl_manifest.specs.Fields.{has_exactly, entry_of}
+use Rattle.ovl_manifest.specs.Versions.{version_of}
+use Rattle.ovl_manifest.specs.Manifest.{is_whole, entry_after, entries_after, is_miscounted, layer_of_entries, stated_entries, layer_of_version, layer_of_fields, layer_of_value, IsFaultOf}
+use Rattle.ovl_manifest.specs.Drafts.{draft_entries, IsDraft}
+use Rattle.ovl_manifest.specs.Lists.{listed, outline_of, outline, entry_on, entries_on, made, IsProgress, IsProgressOf, Tells, TellsLast}
+use Rattle.ovl_manifest.specs.declared.versions.Version.{Version}
+use Rattle.ovl_manifest.specs.declared.drafts.Draft.{Draft}
+use Rattle.ovl_manifest.specs.declared.lists.Progress.{Progress}
+use Rattle.ovl_manifest.specs.declared.lists.Progress.TheVariants.{Nothing, Made, Refused}
+use Rattle.ovl_manifest.specs.declared.faults.LayerFault.{LayerFault}
+use Rattle.ovl_manifest.specs.declared.faults.LayerFault.TheVariants.{NotJson, Shape, Version as WrongVersion, Count, Entry as WrongEntry, Order, NoParent, Root, Escaped, Memory}
+use Rattle.ovl_manifest.proofs.ReadLemmas.{counted, miscounted, one_more}
+
+-- ---- one more item
+
+entries_on-one : (result : Result Entries LayerFault) (one : Option Entry) (more : List (Option Entry)) → entries_on result (one ∷ more) ≡ entries_on (entry_on result one) more
+entries_on-one (Err fault) one more = refl
+entries_on-one (Ok before) one more = by (entry_after before one)
+  where
+    by : (next : Result Entries LayerFault) → (elim next as (λ _. Result Entries LayerFault) [ Ok entries ↦ entries_after entries more | Err fault ↦ Err fault ]) ≡ entries_on next more
+    by (Ok entries) = refl
+    by (Err fault) = refl
+
+-- what the items that are left make of these entries, how many there are with them, and the tokens after them
+abbrev pub Told : Type 0
+Told = Result Entries LayerFault × ℕ × List Token
+
+abbrev pub told : Version → ℕ → Result Entries LayerFault → Option (Items × List Token) → Option Told
+told version count result read = option_map (λ own. (entries_on result (stated_entries version own.0), count + items_len own.0, own.1)) read
+
+pub told-one : (version : Version) (count : ℕ) (result : Result Entries LayerFault) (value : Data) (more : Option (Items × List Token))
+    → told version count result (parse_map (item value) more) ≡ told version (count + 1) (entry_on result (entry_of version value)) more
+told-one version count result value None = refl
+told-one version count result value (Some own) =
+    let same : count + suc (items_len own.0) ≡ count + 1 + items_len own.0 = omega arith in
+    λ j. Some (entries_on-one result (entry_of version value) (stated_entries version own.0) j, same j, own.1)
+
+pub told-some : (version : Version) (count : ℕ) (result : Result Entries LayerFault) (read : Option (Items × List Token)) → is_some (told version count result read) ≡ is_some read
+told-some version count result None = refl
+told-some version count result (Some own) = refl
+
+stated-count : (version : Version) (items : Items) → length (stated_entries version items) ≡ items_len items
+stated-count version no_items = refl
+stated-count version (item value items) = ap suc (stated-count version items)
+
+-- ---- the end of a list
+
+made_of : Option Told → Result Entries LayerFault
+made_of None = Ok []
+made_of (Some own) = own.0
+
+count_of : Option Told → ℕ
+count_of None = 0
+count_of (Some own) = own.1
+
+rest_of : Option Told → List Token
+rest_of None = []
+rest_of (Some own) = own.2
+
+-- the items that were read, by what is told of them
+record IsTold (version : Version) (result : Result Entries LayerFault) (count : ℕ) (rest : List Token) (items : Items) (after : List Token) : Type 0 where
+  made : entries_after [] (stated_entries version items) ≡ result
+  count_is : length (stated_entries version items) ≡ count
+  rest_is : after ≡ rest
+
+is_told : (version : Version) (result : Result Entries LayerFault) (count : ℕ) (rest : List Token) (items : Items) (after : List Token) → told version 0 (Ok []) (Some (items, after)) ≡ Some (result, count, rest)
+    → IsTold version result count rest items after
+unfolding made_of count_of rest_of
+is_told version result count rest items after e = record {
+  made = ap made_of e;
+  count_is = stated-count version items ∙ ap count_of e;
+  rest_is = ap rest_of e;
+}
+
+-- nothing, a draft and a fault are what they are told as
+nothing-told : (stated : List (Option Entry)) → length stated ≡ 0 → layer_of_entries stated ≡ Err Count
+nothing-told stated none = miscounted stated (inl none)
+
+all-told : (stated : List (Option Entry)) (result : Result Entries LayerFault) (count : ℕ) → entries_after [] stated ≡ result → length stated ≡ count → 0 < count → count ≤ entry_limit → layer_of_entries stated ≡ result
+all-told stated result count made is some few = counted stated (omega (arith, is, some)) (omega (arith, is, few)) ∙ made
+
+draft-some : (draft : Draft) → IsDraft draft → 0 < length (draft_entries draft)
+draft-some draft is = omega (arith, ap length is.ends.2, length-append is.ends.0 ((draft.last, is.ends.1) ∷ []))
+
+pub nothing_at_end : (version : Version) (read : Option (Items × List Token)) (result : Result Entries LayerFault) (count : ℕ) (rest : List Token) → told version 0 (Ok []) read ≡ Some (result, count, rest) → IsProgress Nothing count
+    → IsSomeAnd read (λ own. (own.1 ≡ rest) × Tells (Err Count) (layer_of_entries (stated_entries version own.0)))
+nothing_at_end version None result count rest e none = let bad : ◌≡◌ {A = Option Told} None (Some (result, count, rest)) = e in cc
+nothing_at_end version (Some own) result count rest e none =
+    let is = is_told version result count rest own.0 own.1 e in
+    (is.rest_is, nothing-told (stated_entries version own.0) (is.count_is ∙ none))
+
+pub made_at_end : (version : Version) (read : Option (Items × List Token)) (draft : Draft) (count : ℕ) (rest : List Token) → told version 0 (Ok []) read ≡ Some (Ok (draft_entries draft), count, rest) → IsProgress (Made draft) count → count ≤ entry_limit
+    → IsSomeAnd read (λ own. (own.1 ≡ rest) × Tells (Ok draft) (layer_of_entries (stated_entries version own.0)))
+made_at_end version None draft count rest e one few = let bad : ◌≡◌ {A = Option Told} None (Some (Ok (draft_entries draft), count, rest)) = e in cc
+made_at_end version (Some own) draft count rest e one few =
+    let is = is_told version (Ok (draft_entries draft)) count rest own.0 own.1 e in
+    let some : 0 < count = omega (arith, draft-some draft one.0, one.1) in
+    (is.rest_is, all-told (stated_entries version own.0) (Ok (draft_entries draft)) count is.made is.count_is some few, one.0)
+
+pub refused_at_end : (version : Version) (read : Option (Items × List Token)) (fault : LayerFault) (count : ℕ) (rest : List Token) → told version 0 (Ok []) read ≡ Some (Err fault, count, rest) → IsProgress (Refused fault) count → count ≤ entry_limit
+    → IsSomeAnd read (λ own. (own.1 ≡ rest) × Tells (Err fault) (layer_of_entries (stated_entries version own.0)))
+refused_at_end version None fault count rest e some few = let bad : ◌≡◌ {A = Option Told} None (Some (Err fault, count, rest)) = e in cc
+refused_at_end version (Some own) fault count rest e some few =
+    let is = is_told version (Err fault) count rest own.0 own.1 e in
+    (is.rest_is, all-told (stated_entries version own.0) (Err fault) count is.made is.count_is some few)
+
+-- a list with one item more than a layer has entries
+pub too_many_items : (version : Version) (read left : Option (Items × List Token)) (result : Result Entries LayerFault) (value : Data) (rest : List Token)
+    → told version 0 (Ok []) read ≡ told version entry_limit result (parse_map (item value) left) → IsSomeAnd (parse_map (item value) left) (λ own. own.1 ≡ rest)
+    → IsSomeAnd read (λ own. (own.1 ≡ rest) × Tells (Err Count) (layer_of_entries (stated_entries version own.0)))
+too_many_items version read None result value rest e end = absurd end
+too_many_items version None (Some more) result value rest e end =
+    let bad : ◌≡◌ {A = Option Told} None (Some (entries_on result (stated_entries version (item value more.0)), entry_limit + suc (items_len more.0), more.1)) = e in cc
+too_many_items version (Some own) (Some more) result value rest e end =
+    let is = is_told version (entries_on result (stated_entries version (item value more.0))) (entry_limit + suc (items_len more.0)) more.1 own.0 own.1 e in
+    (is.rest_is ∙ end, miscounted (stated_entries version own.0) (inr (omega (arith, is.count_is))))
+
+-- ---- the progress with one more entry
+
+fault-told : (result : Result Entries LayerFault) (fault : LayerFault) (progress : Progress) (count : ℕ) → IsFaultOf result fault → IsProgressOf (Err fault) progress → 0 < count → IsProgress progress count × (made progress ≡ result)
+fault-told result Memory progress count told is some = absurd is
+fault-told result NotJson progress count told is some = subst (λ p. IsProgress p count × (made p ≡ result)) (sym is) (some, sym told)
+fault-told result Shape progress count told is some = subst (λ p. IsProgress p count × (made p ≡ result)) (sym is) (some, sym told)
+fault-told result WrongVersion progress count told is some = subst (λ p. IsProgress p count × (made p ≡ result)) (sym is) (some, sym told)
+fault-told result Count progress count told is some = subst (λ p. IsProgress p count × (made p ≡ result)) (sym is) (some, sym told)
+fault-told result (WrongEntry n) progress count told is some = subst (λ p. IsProgress p count × (made p ≡ result)) (sym is) (some, sym told)
+fault-told result (Order n) progress count told is some = subst (λ p. IsProgress p count × (made p ≡ result)) (sym is) (some, sym told)
+fault-told result (NoParent n) progress count told is some = subst (λ p. IsProgress p count × (made p ≡ result)) (sym is) (some, sym told)
+fault-told result Root progress count told is some = subst (λ p. IsProgress p count × (made p ≡ result)) (sym is) (some, sym told)
+fault-told result (Escaped n) progress count told is some = subst (λ p. IsProgress p count × (made p ≡ result)) (sym is) (some, sym told)
+
+pub progress-told : (before : Entries) (entry : Option Entry) (more : Result Draft LayerFault) (progress : Progress) (count : ℕ)
+    → MatchResult more (λ draft. (entry_after before entry ≡ Ok (draft_entries draft)) × IsDraft draft) (λ fault. IsFaultOf (entry_after before entry) fault) → IsProgressOf more progress → length before ≡ count
+    → IsProgress progress (count + 1) × (made progress ≡ entry_after before entry)
+progress-told before entry (Ok draft) progress count told is number =
+    subst (λ p. IsProgress p (count + 1) × (made p ≡ entry_after before entry)) (sym is) ((told.1, one_more before entry (draft_entries draft) told.0 ∙ ap (λ n. n + 1) number), sym told.0)
+progress-told before entry (Err fault) progress count told is number = fault-told (entry_after before entry) fault progress (count + 1) told is (omega arith)
+
+-- ---- a list, and what is none
+
+pub as_list : (version : Version) (read : Option (Items × List Token)) (rest : List Token) (own : Result Draft LayerFault)
+    → IsSomeAnd read (λ o. (o.1 ≡ rest) × Tells own (layer_of_entries (stated_entries version o.0))) → IsSomeAnd (parse_map array read) (λ o. (o.1 ≡ rest) × TellsLast version (as_array o.0) (Some own))
+as_list version None rest own is = is
+as_list version (Some o) rest own is = is
+
+pub some-list : {A B : Type 0} (made : A → B) (read : Option (A × List Token)) → is_some (parse_map made read) ≡ true → is_some read ≡ true
+some-list made None some = some
+some-list made (Some o) some = refl
+
+pub as_object : (version : Version) (read : Option (Members × List Token)) (rest : List Token) (own : Option (Result Draft LayerFault))
+    → IsSomeAnd read (λ o. o.1 ≡ rest) → IsSomeAnd (parse_map object read) (λ o. (o.1 ≡ rest) × TellsLast version (as_array o.0) own)
+as_object version None rest own is = is
+as_object version (Some o) rest own is = (is, tt)
+
+pub plain-none : (version : Version) (value : Data) (own : Option (Result Draft LayerFault)) → kept value ≡ null → TellsLast version (as_array value) own
+plain-none version null own is = tt
+plain-none version (boolean b) own is = tt
+plain-none version (number n) own is = tt
+plain-none version (string text) own is = tt
+plain-none version (array items) own is = let bad : array no_items ≡ null = is in cc
+plain-none version (object members) own is = tt
+
+-- ---- the outline
+
+fields_version : (n : Option Num) (items : Option Items) (version : Version) → outline_of n items ≡ Ok version → IsSomeAnd items (λ own. layer_of_fields n items ≡ layer_of_entries (stated_entries version own))
+fields_version None items version e = let bad : Err Shape ≡ Ok version = e in cc
+fields_version (Some n) None version e = let bad : Err Shape ≡ Ok version = e in cc
+fields_version (Some n) (Some items) version e = by (is_whole n) (option_and_then version_of (as_u64 n)) e
+  where
+    by : (whole : Bool) (named : Option Version) → (if whole then elim named as (λ _. Result Version LayerFault) [ Some own ↦ Ok own | None ↦ Err WrongVersion ] else Err Shape) ≡ Ok version
+        → (if whole then elim named as (λ _. Result Entries LayerFault) [ Some own ↦ layer_of_entries (stated_entries own items) | None ↦ Err WrongVersion ] else Err Shape) ≡ layer_of_entries (stated_entries version items)
+    by true (Some own) is = let same : own ≡ version = cc in ap (λ v. layer_of_entries (stated_entries v items)) same
+    by true None is = let bad : Err WrongVersion ≡ Ok version = is in cc
+    by false named is = let bad : Err Shape ≡ Ok version = is in cc
+
+fields_fault : (n : Option Num) (items : Option Items) (fault : LayerFault) → outline_of n items ≡ Err fault → layer_of_fields n items ≡ Err fault
+fields_fault None items fault e = let same : Shape ≡ fault = cc in ap Err same
+fields_fault (Some n) None fault e = let same : Shape ≡ fault = cc in ap Err same
+fields_fault (Some n) (Some items) fault e = by (is_whole n) (option_and_then version_of (as_u64 n)) e
+  where
+    by : (whole : Bool) (named : Option Version) → (if whole then elim named as (λ _. Result Version LayerFault) [ Some own ↦ Ok own | None ↦ Err WrongVersion ] else Err Shape) ≡ Err fault
+        → (if whole then elim named as (λ _. Result Entries LayerFault) [ Some own ↦ layer_of_entries (stated_entries own items) | None ↦ Err WrongVersion ] else Err Shape) ≡ Err fault
+    by true (Some own) is = let bad : Ok own ≡ Err fault = is in cc
+    by true None is = let same : WrongVersion ≡ fault = cc in ap Err same
+    by false named is = let same : Shape ≡ fault = cc in ap Err same
+
+-- a manifest of an outline states the entries of its list, and one without has the fault of its outline
+module _ (value : Data) where
+  n : Option Num
+  n = option_and_then as_number (get (codes "overlay-layer") value)
+
+  pub outline_lists : (version : Version) → outline value ≡ Ok version → IsSomeAnd (listed value) (λ items. layer_of_value value ≡ layer_of_entries (stated_entries version items))
+  unfolding n
+  outline_lists version e = by (has_exactly (codes "entries" ∷ codes "overlay-layer" ∷ []) value) refl e
+    where
+      by : (members : Bool) → has_exactly (codes "entries" ∷ codes "overlay-layer" ∷ []) value ≡ members → (if members then outline_of n (listed value) else Err Shape) ≡ Ok version
+          → IsSomeAnd (listed value) (λ items. layer_of_value value ≡ layer_of_entries (stated_entries version items))
+      by true has is = rw (has, layer_of_value) (fields_version n (listed value) version is)
+      by false has is = let bad : Err Shape ≡ Ok version = is in cc
+
+  pub outline_fault : (fault : LayerFault) → outline value ≡ Err fault → layer_of_value value ≡ Err fault
+  unfolding n
+  outline_fault fault e = by (has_exactly (codes "entries" ∷ codes "overlay-layer" ∷ []) value) refl e
+    where
+      by : (members : Bool) → has_exactly (codes "entries" ∷ codes "overlay-layer" ∷ []) value ≡ members → (if members then outline_of n (listed value) else Err Shape) ≡ Err fault
+          → layer_of_value value ≡ Err fault
+      by true has is = rw (has, layer_of_value) (fields_fault n (listed value) fault is)
+      by false has is = let same : Shape ≡ fault = cc in rw (has, layer_of_value) (ap Err same)
