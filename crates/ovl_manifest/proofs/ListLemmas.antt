@@ -1,6 +1,6 @@
 -- The entries of a list, one after another, and the outline of a manifest.
 use Rattle.std.proofs.Common.{◌≡◌, ℕ, zero, suc, ◌+◌, ◌<◌, ◌≤◌, ◌∙◌, ◌++◌, ◌⊎◌, inl, inr, List, [], ◌∷◌, length, length-append, Bool, true, false, Option, Some, None, Result, Ok, Err, MatchResult, refl, sym, ap, subst, arith}
-use Rattle.std.specs.Prelude.{⊤, ◌==◌, is_some, IsSomeAnd, if◌then◌else◌, option_and_then, codes}
+use Rattle.std.specs.Prelude.{⊤, ◌==◌, is_some, IsSomeAnd, IfOk, if◌then◌else◌, option_and_then, codes}
 use Rattle.std.specs.Option.{option_map}
 use Rattle.std.proofs.lemmas.Bool.Decides.{nat_tests}
 use Rattle.json.specs.Token.{Token}
@@ -8,11 +8,14 @@ use Rattle.json.specs.Json.{parse_map}
 use Rattle.serde_json.specs.Data.{Num, Data, null, boolean, number, string, array, object, Items, no_items, item, Members}
 use Rattle.serde_json.specs.Events.{items_len}
 use Rattle.serde_json.specs.Find.{get, as_number, as_u64, as_array}
-use Rattle.ovl_json.specs.Kept.{kept}
+use Rattle.serde_json.specs.Read.{read}
+use Rattle.std.specs.Str.{IsUtf8}
+use Rattle.ovl_json.specs.Kept.{kept, object_kept}
+use Rattle.ovl_json.specs.declared.passing.Unread.{Unread}
 use Rattle.ovl_manifest.specs.Layers.{Entry, Entries, entry_limit}
 use Rattle.ovl_manifest.specs.Fields.{has_exactly, entry_of}
 use Rattle.ovl_manifest.specs.Versions.{version_of}
-use Rattle.ovl_manifest.specs.Manifest.{is_whole, entry_after, entries_after, is_miscounted, layer_of_entries, stated_entries, layer_of_version, layer_of_fields, layer_of_value, IsFaultOf}
+use Rattle.ovl_manifest.specs.Manifest.{is_whole, entry_after, entries_after, is_miscounted, layer_of_entries, stated_entries, layer_of_version, layer_of_fields, layer_of_value, read_layer, IsFaultOf}
 use Rattle.ovl_manifest.specs.Drafts.{draft_entries, IsDraft}
 use Rattle.ovl_manifest.specs.Lists.{listed, outline_of, outline, entry_on, entries_on, made, IsProgress, IsProgressOf, Tells, TellsLast}
 use Rattle.ovl_manifest.specs.declared.versions.Version.{Version}
@@ -21,7 +24,8 @@ use Rattle.ovl_manifest.specs.declared.lists.Progress.{Progress}
 use Rattle.ovl_manifest.specs.declared.lists.Progress.TheVariants.{Nothing, Made, Refused}
 use Rattle.ovl_manifest.specs.declared.faults.LayerFault.{LayerFault}
 use Rattle.ovl_manifest.specs.declared.faults.LayerFault.TheVariants.{NotJson, Shape, Version as WrongVersion, Count, Entry as WrongEntry, Order, NoParent, Root, Escaped, Memory}
-use Rattle.ovl_manifest.proofs.ReadLemmas.{counted, miscounted, one_more}
+use Rattle.ovl_manifest.proofs.ReadLemmas.{counted, miscounted, one_more, text_read, is_told as is_told_of}
+use Rattle.ovl_manifest.proofs.KeptLemmas.{entry-of-kept, no-entry}
 
 -- ---- one more item
 
@@ -218,3 +222,69 @@ module _ (value : Data) where
           → layer_of_value value ≡ Err fault
       by true has is = rw (has, layer_of_value) (fields_fault n (listed value) fault is)
       by false has is = let same : Shape ≡ fault = cc in rw (has, layer_of_value) (ap Err same)
+
+-- ---- an item, and the text
+
+-- what an item states is what is stated by as much of it as is kept
+pub item_stated : (version : Version) (read : Option (Data × List Token)) (rest : List Token) (own : Option Data) (entry : Option Entry)
+    → IsSomeAnd read (λ o. (o.1 ≡ rest) × (own ≡ object_kept o.0)) → entry ≡ option_and_then (entry_of version) own → IsSomeAnd read (λ o. (o.1 ≡ rest) × (entry ≡ entry_of version o.0))
+item_stated version None rest own entry is e = is
+item_stated version (Some o) rest None entry is e = (is.0, e ∙ sym (no-entry version o.0 (sym is.1)))
+item_stated version (Some o) rest (Some value) entry is e = (is.0, e ∙ entry-of-kept version o.0 value (sym is.1))
+
+abbrev pub Adds : Entries → Option Entry → Result Draft LayerFault → Type 0
+Adds before entry more = MatchResult more (λ draft. (entry_after before entry ≡ Ok (draft_entries draft)) × IsDraft draft) (λ fault. IsFaultOf (entry_after before entry) fault)
+
+pub started : (entry : Option Entry) (more : Result Draft LayerFault) → MatchResult more (λ draft. (entry_after [] entry ≡ Ok (draft_entries draft)) × IsDraft draft) (λ fault. entry_after [] entry ≡ Err fault) → Adds [] entry more
+started entry (Ok draft) is = is
+started entry (Err fault) is = is_told_of (entry_after [] entry) fault is
+
+pub progress-ok : (before : Entries) (entry : Option Entry) (more : Result Draft LayerFault) (result : Result Progress Unread) (count : ℕ) → Adds before entry more → IfOk result (λ progress. IsProgressOf more progress) → length before ≡ count
+    → IfOk result (λ progress. IsProgress progress (count + 1) × (made progress ≡ entry_after before entry))
+progress-ok before entry more (Ok progress) count told is number = progress-told before entry more progress count told is number
+progress-ok before entry more (Err fault) count told is number = is
+
+pub first-ok : {A B : Progress → Type 0} (result : Result Progress Unread) → IfOk result (λ progress. A progress × B progress) → IfOk result A
+first-ok (Ok progress) is = is.0
+first-ok (Err fault) is = is
+
+-- the progress after the item that was read
+pub item-made : (version : Version) (read : Option (Data × List Token)) (rest : List Token) (entry : Option Entry) (before : Result Entries LayerFault) (result : Result Progress Unread) (count : ℕ)
+    → IsSomeAnd read (λ o. (o.1 ≡ rest) × (entry ≡ entry_of version o.0)) → IfOk result (λ progress. IsProgress progress count × (made progress ≡ entry_on before entry))
+    → IfOk result (λ progress. IsSomeAnd read (λ o. (o.1 ≡ rest) × (made progress ≡ entry_on before (entry_of version o.0))))
+item-made version None rest entry before (Ok progress) count is made = is
+item-made version (Some o) rest entry before (Ok progress) count is made = (is.0, made.1 ∙ ap (entry_on before) is.1)
+item-made version read rest entry before (Err fault) count is made = made
+
+-- after a fault items are passed
+pub item-passed : (version : Version) (read : Option (Data × List Token)) (rest : List Token) (fault : LayerFault) → IsSomeAnd read (λ o. o.1 ≡ rest) → IsSomeAnd read (λ o. (o.1 ≡ rest) × (made (Refused fault) ≡ entry_on (Err fault) (entry_of version o.0)))
+item-passed version None rest fault is = is
+item-passed version (Some o) rest fault is = (is, refl)
+
+-- a text whose outline is known has a list, whose entries it states
+pub text_lists : (read : Option Data) (version : Version) → IsSomeAnd read (λ value. outline value ≡ Ok version) → IsSomeAnd (option_and_then listed read) (λ items. IsSomeAnd read (λ value. layer_of_value value ≡ layer_of_entries (stated_entries version items)))
+text_lists None version is = is
+text_lists (Some value) version is = outline_lists value version is
+
+pub some-and : {A : Type 0} {P : A → Type 0} (o : Option A) → IsSomeAnd o P → is_some o ≡ true
+some-and None is = absurd is
+some-and (Some a) is = refl
+
+-- the layer of a text is that of its list, or its fault
+pub layer-told : (bytes : List ℕ) (version : Version) (result : Result Entries LayerFault) → IsUtf8 bytes → IsSomeAnd (read bytes) (λ value. outline value ≡ Ok version)
+    → IsSomeAnd (option_and_then listed (read bytes)) (λ items. layer_of_entries (stated_entries version items) ≡ result) → read_layer bytes ≡ result
+layer-told bytes version result utf8 named made = by (read bytes) refl named made
+  where
+    at : (value : Data) (items : Option Items) → read bytes ≡ Some value → IsSomeAnd items (λ own. layer_of_value value ≡ layer_of_entries (stated_entries version own)) → IsSomeAnd items (λ own. layer_of_entries (stated_entries version own) ≡ result)
+        → read_layer bytes ≡ result
+    at value None reads lists told = absurd lists
+    at value (Some items) reads lists told = text_read bytes value utf8 reads ∙ (lists ∙ told)
+
+    by : (o : Option Data) → read bytes ≡ o → IsSomeAnd o (λ value. outline value ≡ Ok version) → IsSomeAnd (option_and_then listed o) (λ items. layer_of_entries (stated_entries version items) ≡ result) → read_layer bytes ≡ result
+    by None reads is told = absurd is
+    by (Some value) reads is told = at value (listed value) reads (outline_lists value version is) told
+
+-- nothing more is made of no items
+pub told-end : (version : Version) (count : ℕ) (result : Result Entries LayerFault) (rest : List Token) → told version count result (Some (no_items, rest)) ≡ Some (result, count, rest)
+told-end version count (Ok before) rest = let same : count + 0 ≡ count = omega arith in λ j. Some (Ok before, same j, rest)
+told-end version count (Err fault) rest = let same : count + 0 ≡ count = omega arith in λ j. Some (Err fault, same j, rest)

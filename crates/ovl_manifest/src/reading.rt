@@ -4,7 +4,7 @@ ghost use Rattle.serde_json.specs.Read.{read};
 ghost use Rattle.serde_json.specs.View.{number_view};
 ghost use Rattle.ovl_json.specs.Views.{object_view};
 ghost use Rattle.ovl_manifest.specs.Versions.{version_of};
-ghost use Rattle.ovl_manifest.specs.Manifest.{read_layer as layer_stated, IsFaultOf};
+ghost use Rattle.ovl_manifest.specs.Manifest.{layer_of_value, read_layer as layer_stated, IsFaultOf};
 ghost use Rattle.ovl_manifest.specs.Lists.{outline};
 
 use crate::compact_layers::read_compact;
@@ -61,7 +61,7 @@ fn read_version(alloc: Global, text: &str) -> Result<Version, LayerFault>
     requires { is_some (read text.now) ≡ true }
     ensures { IsSomeAnd (read text.now) (λ value. MatchResult result
         (λ version. outline value ≡ Ok version)
-        (λ fault. IsFaultOf (outline value) fault)) }
+        (λ fault. IsFaultOf (layer_of_value value) fault)) }
 {
     let mut scratch = Scratch::new(alloc);
     let mut reader = Reader::new(text, &mut scratch)?;
