@@ -240,8 +240,13 @@ none-then f none None = refl
 none-then f none (Some a) = none a
 
 many-entry : (version : Version) (members : Members) → nat_le (members_len members) member_limit ≡ false → entry_of version (object members) ≡ None
-many-entry version members many =
-    none-then _ (λ path. none-then _ (λ inode. ap (λ b. if b && is_sound_inode inode then Some (path, inode) else None) (too_many members (kind_members version inode.kind) many (few_members version inode.kind))) _) _
+many-entry version members many = none-then (λ path. option_and_then (entry_with version (object members) path) (inode_field (object members))) no_path (path_field version (object members))
+  where
+    no_inode : (path : PathNames) (inode : Inode) → entry_with version (object members) path inode ≡ None
+    no_inode path inode = ap (λ b. if b && is_sound_inode inode then Some (path, inode) else None) (too_many members (kind_members version inode.kind) many (few_members version inode.kind))
+
+    no_path : (path : PathNames) → option_and_then (entry_with version (object members) path) (inode_field (object members)) ≡ None
+    no_path path = none-then (entry_with version (object members) path) (no_inode path) (inode_field (object members))
 
 -- an object that is kept states the entry, and where none is kept there is none
 pub entry-of-kept : (version : Version) (value own : Data) → object_kept value ≡ Some own → entry_of version own ≡ entry_of version value

@@ -1,21 +1,26 @@
 -- The entries of a list, one after another, and the outline of a manifest.
 use Rattle.std.proofs.Common.{◌≡◌, ℕ, zero, suc, ◌+◌, ◌<◌, ◌≤◌, ◌∙◌, ◌++◌, ◌⊎◌, inl, inr, List, [], ◌∷◌, length, length-append, Bool, true, false, Option, Some, None, Result, Ok, Err, MatchResult, refl, sym, ap, subst, arith}
-use Rattle.std.specs.Prelude.{⊤, ◌==◌, is_some, IsSomeAnd, IfOk, if◌then◌else◌, option_and_then, codes}
+use Rattle.std.specs.Prelude.{⊤, ◌==◌, is_some, IfSome, IsTrue, IsSomeAnd, IfOk, if◌then◌else◌, option_and_then, codes}
 use Rattle.std.specs.Option.{option_map}
 use Rattle.std.proofs.lemmas.Bool.Decides.{nat_tests}
 use Rattle.json.specs.Token.{Token}
 use Rattle.json.specs.Json.{parse_map}
-use Rattle.serde_json.specs.Data.{Num, Data, null, boolean, number, string, array, object, Items, no_items, item, Members}
+use Rattle.serde_json.specs.Data.{Num, Data, null, boolean, number, string, array, object, Items, no_items, item, Members, put}
 use Rattle.serde_json.specs.Events.{items_len}
-use Rattle.serde_json.specs.Find.{get, as_number, as_u64, as_array}
-use Rattle.serde_json.specs.Read.{read}
-use Rattle.std.specs.Str.{IsUtf8}
+use Rattle.serde_json.specs.Find.{get, get_member, as_number, as_u64, as_array}
+use Rattle.json.specs.Lex.{tokens}
+use Rattle.serde_json.specs.Read.{read, max_depth}
+use Rattle.serde_json.proofs.Views.{get_member-put, get_member-put_other}
+use Rattle.std.specs.Str.{IsUtf8, bytes_eq}
+use Rattle.std.proofs.lemmas.Slice.Eq.{bytes_eq-Decides}
+use Rattle.ovl_json.specs.Reading.{read_value}
+use Rattle.ovl_json.proofs.Turns.{read_is}
 use Rattle.ovl_json.specs.Kept.{kept, object_kept}
 use Rattle.ovl_json.specs.declared.passing.Unread.{Unread}
 use Rattle.ovl_manifest.specs.Layers.{Entry, Entries, entry_limit}
 use Rattle.ovl_manifest.specs.Fields.{has_exactly, entry_of}
 use Rattle.ovl_manifest.specs.Versions.{version_of}
-use Rattle.ovl_manifest.specs.Manifest.{is_whole, entry_after, entries_after, is_miscounted, layer_of_entries, stated_entries, layer_of_version, layer_of_fields, layer_of_value, read_layer, IsFaultOf}
+use Rattle.ovl_manifest.specs.Manifest.{is_whole, entry_after, entries_after, is_miscounted, layer_of_entries, stated_entries, is_statable, layer_of_version, layer_of_fields, layer_of_value, read_layer, IsFaultOf}
 use Rattle.ovl_manifest.specs.Drafts.{draft_entries, IsDraft}
 use Rattle.ovl_manifest.specs.Lists.{listed, outline_of, outline, entry_on, entries_on, made, IsProgress, IsProgressOf, Tells, TellsLast}
 use Rattle.ovl_manifest.specs.declared.versions.Version.{Version}
@@ -25,7 +30,8 @@ use Rattle.ovl_manifest.specs.declared.lists.Progress.TheVariants.{Nothing, Made
 use Rattle.ovl_manifest.specs.declared.faults.LayerFault.{LayerFault}
 use Rattle.ovl_manifest.specs.declared.faults.LayerFault.TheVariants.{NotJson, Shape, Version as WrongVersion, Count, Entry as WrongEntry, Order, NoParent, Root, Escaped, Memory}
 use Rattle.ovl_manifest.proofs.ReadLemmas.{counted, miscounted, one_more, text_read, is_told as is_told_of}
-use Rattle.ovl_manifest.proofs.KeptLemmas.{entry-of-kept, no-entry}
+use Rattle.ovl_manifest.proofs.EntryLemmas.{stated_statable}
+use Rattle.ovl_manifest.proofs.KeptLemmas.{entry-of-kept, no-entry, outline-of-kept, no-outline}
 
 -- ---- one more item
 
@@ -82,11 +88,13 @@ record IsTold (version : Version) (result : Result Entries LayerFault) (count : 
 is_told : (version : Version) (result : Result Entries LayerFault) (count : ℕ) (rest : List Token) (items : Items) (after : List Token) → told version 0 (Ok []) (Some (items, after)) ≡ Some (result, count, rest)
     → IsTold version result count rest items after
 unfolding made_of count_of rest_of
-is_told version result count rest items after e = record {
-  made = ap made_of e;
-  count_is = stated-count version items ∙ ap count_of e;
-  rest_is = ap rest_of e;
-}
+is_told version result count rest items after e =
+    let all : 0 + items_len items ≡ count = ap count_of e in
+    record {
+      made = ap made_of e;
+      count_is = omega (arith, all, stated-count version items);
+      rest_is = ap rest_of e;
+    }
 
 -- nothing, a draft and a fault are what they are told as
 nothing-told : (stated : List (Option Entry)) → length stated ≡ 0 → layer_of_entries stated ≡ Err Count
@@ -111,7 +119,7 @@ made_at_end version None draft count rest e one few = let bad : ◌≡◌ {A = O
 made_at_end version (Some own) draft count rest e one few =
     let is = is_told version (Ok (draft_entries draft)) count rest own.0 own.1 e in
     let some : 0 < count = omega (arith, draft-some draft one.0, one.1) in
-    (is.rest_is, all-told (stated_entries version own.0) (Ok (draft_entries draft)) count is.made is.count_is some few, one.0)
+    (is.rest_is, (all-told (stated_entries version own.0) (Ok (draft_entries draft)) count is.made is.count_is some few, one.0))
 
 pub refused_at_end : (version : Version) (read : Option (Items × List Token)) (fault : LayerFault) (count : ℕ) (rest : List Token) → told version 0 (Ok []) read ≡ Some (Err fault, count, rest) → IsProgress (Refused fault) count → count ≤ entry_limit
     → IsSomeAnd read (λ own. (own.1 ≡ rest) × Tells (Err fault) (layer_of_entries (stated_entries version own.0)))
@@ -134,23 +142,23 @@ too_many_items version (Some own) (Some more) result value rest e end =
 -- ---- the progress with one more entry
 
 fault-told : (result : Result Entries LayerFault) (fault : LayerFault) (progress : Progress) (count : ℕ) → IsFaultOf result fault → IsProgressOf (Err fault) progress → 0 < count → IsProgress progress count × (made progress ≡ result)
-fault-told result Memory progress count told is some = absurd is
-fault-told result NotJson progress count told is some = subst (λ p. IsProgress p count × (made p ≡ result)) (sym is) (some, sym told)
-fault-told result Shape progress count told is some = subst (λ p. IsProgress p count × (made p ≡ result)) (sym is) (some, sym told)
-fault-told result WrongVersion progress count told is some = subst (λ p. IsProgress p count × (made p ≡ result)) (sym is) (some, sym told)
-fault-told result Count progress count told is some = subst (λ p. IsProgress p count × (made p ≡ result)) (sym is) (some, sym told)
-fault-told result (WrongEntry n) progress count told is some = subst (λ p. IsProgress p count × (made p ≡ result)) (sym is) (some, sym told)
-fault-told result (Order n) progress count told is some = subst (λ p. IsProgress p count × (made p ≡ result)) (sym is) (some, sym told)
-fault-told result (NoParent n) progress count told is some = subst (λ p. IsProgress p count × (made p ≡ result)) (sym is) (some, sym told)
-fault-told result Root progress count told is some = subst (λ p. IsProgress p count × (made p ≡ result)) (sym is) (some, sym told)
-fault-told result (Escaped n) progress count told is some = subst (λ p. IsProgress p count × (made p ≡ result)) (sym is) (some, sym told)
+fault-told result Memory progress count err is some = absurd is
+fault-told result NotJson progress count err is some = subst (λ p. IsProgress p count × (made p ≡ result)) (sym is) (some, sym err)
+fault-told result Shape progress count err is some = subst (λ p. IsProgress p count × (made p ≡ result)) (sym is) (some, sym err)
+fault-told result WrongVersion progress count err is some = subst (λ p. IsProgress p count × (made p ≡ result)) (sym is) (some, sym err)
+fault-told result Count progress count err is some = subst (λ p. IsProgress p count × (made p ≡ result)) (sym is) (some, sym err)
+fault-told result (WrongEntry n) progress count err is some = subst (λ p. IsProgress p count × (made p ≡ result)) (sym is) (some, sym err)
+fault-told result (Order n) progress count err is some = subst (λ p. IsProgress p count × (made p ≡ result)) (sym is) (some, sym err)
+fault-told result (NoParent n) progress count err is some = subst (λ p. IsProgress p count × (made p ≡ result)) (sym is) (some, sym err)
+fault-told result Root progress count err is some = subst (λ p. IsProgress p count × (made p ≡ result)) (sym is) (some, sym err)
+fault-told result (Escaped n) progress count err is some = subst (λ p. IsProgress p count × (made p ≡ result)) (sym is) (some, sym err)
 
 pub progress-told : (before : Entries) (entry : Option Entry) (more : Result Draft LayerFault) (progress : Progress) (count : ℕ)
     → MatchResult more (λ draft. (entry_after before entry ≡ Ok (draft_entries draft)) × IsDraft draft) (λ fault. IsFaultOf (entry_after before entry) fault) → IsProgressOf more progress → length before ≡ count
     → IsProgress progress (count + 1) × (made progress ≡ entry_after before entry)
-progress-told before entry (Ok draft) progress count told is number =
-    subst (λ p. IsProgress p (count + 1) × (made p ≡ entry_after before entry)) (sym is) ((told.1, one_more before entry (draft_entries draft) told.0 ∙ ap (λ n. n + 1) number), sym told.0)
-progress-told before entry (Err fault) progress count told is number = fault-told (entry_after before entry) fault progress (count + 1) told is (omega arith)
+progress-told before entry (Ok draft) progress count adds is same =
+    subst (λ p. IsProgress p (count + 1) × (made p ≡ entry_after before entry)) (sym is) ((adds.1, one_more before entry (draft_entries draft) adds.0 ∙ ap (λ n. n + 1) same), sym adds.0)
+progress-told before entry (Err fault) progress count adds is same = fault-told (entry_after before entry) fault progress (count + 1) adds is (omega arith)
 
 -- ---- a list, and what is none
 
@@ -241,12 +249,12 @@ started entry (Err fault) is = is_told_of (entry_after [] entry) fault is
 
 pub progress-ok : (before : Entries) (entry : Option Entry) (more : Result Draft LayerFault) (result : Result Progress Unread) (count : ℕ) → Adds before entry more → IfOk result (λ progress. IsProgressOf more progress) → length before ≡ count
     → IfOk result (λ progress. IsProgress progress (count + 1) × (made progress ≡ entry_after before entry))
-progress-ok before entry more (Ok progress) count told is number = progress-told before entry more progress count told is number
-progress-ok before entry more (Err fault) count told is number = is
+progress-ok before entry more (Ok progress) count adds is same = progress-told before entry more progress count adds is same
+progress-ok before entry more (Err fault) count adds is same = is
 
-pub first-ok : {A B : Progress → Type 0} (result : Result Progress Unread) → IfOk result (λ progress. A progress × B progress) → IfOk result A
-first-ok (Ok progress) is = is.0
-first-ok (Err fault) is = is
+pub first-ok : (A B : Progress → Type 0) (result : Result Progress Unread) → IfOk result (λ progress. A progress × B progress) → IfOk result A
+first-ok A B (Ok progress) is = is.0
+first-ok A B (Err fault) is = is
 
 -- the progress after the item that was read
 pub item-made : (version : Version) (read : Option (Data × List Token)) (rest : List Token) (entry : Option Entry) (before : Result Entries LayerFault) (result : Result Progress Unread) (count : ℕ)
@@ -261,30 +269,129 @@ pub item-passed : (version : Version) (read : Option (Data × List Token)) (rest
 item-passed version None rest fault is = is
 item-passed version (Some o) rest fault is = (is, refl)
 
--- a text whose outline is known has a list, whose entries it states
-pub text_lists : (read : Option Data) (version : Version) → IsSomeAnd read (λ value. outline value ≡ Ok version) → IsSomeAnd (option_and_then listed read) (λ items. IsSomeAnd read (λ value. layer_of_value value ≡ layer_of_entries (stated_entries version items)))
-text_lists None version is = is
-text_lists (Some value) version is = outline_lists value version is
-
-pub some-and : {A : Type 0} {P : A → Type 0} (o : Option A) → IsSomeAnd o P → is_some o ≡ true
-some-and None is = absurd is
-some-and (Some a) is = refl
-
 -- the layer of a text is that of its list, or its fault
-pub layer-told : (bytes : List ℕ) (version : Version) (result : Result Entries LayerFault) → IsUtf8 bytes → IsSomeAnd (read bytes) (λ value. outline value ≡ Ok version)
-    → IsSomeAnd (option_and_then listed (read bytes)) (λ items. layer_of_entries (stated_entries version items) ≡ result) → read_layer bytes ≡ result
-layer-told bytes version result utf8 named made = by (read bytes) refl named made
+pub layer_stated : (text : List ℕ) (version : Version) (result : Result Entries LayerFault) → IsUtf8 text → IsSomeAnd (read text) (λ value. outline value ≡ Ok version)
+    → IsSomeAnd (option_and_then listed (read text)) (λ items. MatchResult result (λ layer. layer_of_entries (stated_entries version items) ≡ Ok layer) (λ fault. IsFaultOf (layer_of_entries (stated_entries version items)) fault))
+    → MatchResult result (λ layer. read_layer text ≡ Ok layer) (λ fault. IsFaultOf (read_layer text) fault)
+layer_stated text version result utf8 named listing = by (read text) refl named listing
   where
-    at : (value : Data) (items : Option Items) → read bytes ≡ Some value → IsSomeAnd items (λ own. layer_of_value value ≡ layer_of_entries (stated_entries version own)) → IsSomeAnd items (λ own. layer_of_entries (stated_entries version own) ≡ result)
-        → read_layer bytes ≡ result
-    at value None reads lists told = absurd lists
-    at value (Some items) reads lists told = text_read bytes value utf8 reads ∙ (lists ∙ told)
+    at : (value : Data) (items : Option Items) → read text ≡ Some value → IsSomeAnd items (λ own. layer_of_value value ≡ layer_of_entries (stated_entries version own))
+        → IsSomeAnd items (λ own. MatchResult result (λ layer. layer_of_entries (stated_entries version own) ≡ Ok layer) (λ fault. IsFaultOf (layer_of_entries (stated_entries version own)) fault))
+        → MatchResult result (λ layer. read_layer text ≡ Ok layer) (λ fault. IsFaultOf (read_layer text) fault)
+    at value None e lists all = absurd lists
+    at value (Some items) e lists all =
+        subst (λ (stated : Result Entries LayerFault). MatchResult result (λ layer. stated ≡ Ok layer) (λ fault. IsFaultOf stated fault)) (sym (text_read text value utf8 e ∙ lists)) all
 
-    by : (o : Option Data) → read bytes ≡ o → IsSomeAnd o (λ value. outline value ≡ Ok version) → IsSomeAnd (option_and_then listed o) (λ items. layer_of_entries (stated_entries version items) ≡ result) → read_layer bytes ≡ result
-    by None reads is told = absurd is
-    by (Some value) reads is told = at value (listed value) reads (outline_lists value version is) told
+    by : (o : Option Data) → read text ≡ o → IsSomeAnd o (λ value. outline value ≡ Ok version)
+        → IsSomeAnd (option_and_then listed o) (λ items. MatchResult result (λ layer. layer_of_entries (stated_entries version items) ≡ Ok layer) (λ fault. IsFaultOf (layer_of_entries (stated_entries version items)) fault))
+        → MatchResult result (λ layer. read_layer text ≡ Ok layer) (λ fault. IsFaultOf (read_layer text) fault)
+    by None e is all = absurd is
+    by (Some value) e is all = at value (listed value) e (outline_lists value version is) all
+
+pub fault_stated : (text : List ℕ) (fault : LayerFault) → IsUtf8 text → IsSomeAnd (read text) (λ value. IsFaultOf (layer_of_value value) fault) → IsFaultOf (read_layer text) fault
+fault_stated text fault utf8 is = by (read text) refl is
+  where
+    by : (o : Option Data) → read text ≡ o → IsSomeAnd o (λ value. IsFaultOf (layer_of_value value) fault) → IsFaultOf (read_layer text) fault
+    by None e all = absurd all
+    by (Some value) e all = subst (λ (stated : Result Entries LayerFault). IsFaultOf stated fault) (sym (text_read text value utf8 e)) all
+
+-- and there is a list
+pub has_list : (read : Option Data) (version : Version) → IsSomeAnd read (λ value. outline value ≡ Ok version) → is_some (option_and_then listed read) ≡ true
+has_list None version is = absurd is
+has_list (Some value) version is = by (listed value) (outline_lists value version is)
+  where
+    by : (o : Option Items) → IsSomeAnd o (λ items. layer_of_value value ≡ layer_of_entries (stated_entries version items)) → is_some o ≡ true
+    by None lists = absurd lists
+    by (Some items) lists = refl
+
+-- a draft that is told is one
+pub told-draft : (listing : Option Items) (version : Version) (draft : Draft) → IsSomeAnd listing (λ items. Tells (Ok draft) (layer_of_entries (stated_entries version items))) → IsDraft draft
+told-draft None version draft is = absurd is
+told-draft (Some items) version draft is = is.1
 
 -- nothing more is made of no items
 pub told-end : (version : Version) (count : ℕ) (result : Result Entries LayerFault) (rest : List Token) → told version count result (Some (no_items, rest)) ≡ Some (result, count, rest)
 told-end version count (Ok before) rest = let same : count + 0 ≡ count = omega arith in λ j. Some (Ok before, same j, rest)
 told-end version count (Err fault) rest = let same : count + 0 ≡ count = omega arith in λ j. Some (Err fault, same j, rest)
+
+-- ---- the outline of a text
+
+abbrev pub outlined : Option Data → Result Version LayerFault
+outlined None = Err Shape
+outlined (Some value) = outline value
+
+outlined-kept : (own : Option Data) (value : Data) → own ≡ object_kept value → outlined own ≡ outline value
+outlined-kept None value is = sym (no-outline value (sym is))
+outlined-kept (Some part) value is = outline-of-kept value part (sym is)
+
+tells-outline : (value : Data) (result : Result Version LayerFault) → result ≡ outline value → MatchResult result (λ version. outline value ≡ Ok version) (λ fault. IsFaultOf (layer_of_value value) fault)
+tells-outline value (Ok version) is = sym is
+tells-outline value (Err fault) is = is_told_of (layer_of_value value) fault (outline_fault value fault (sym is))
+
+pub outline_stated : (text : List ℕ) (own : Option Data) (rest : List Token) (result : Result Version LayerFault) → is_some (read text) ≡ true
+    → IsSomeAnd (read_value max_depth (tokens text)) (λ o. (o.1 ≡ rest) × (own ≡ object_kept o.0)) → result ≡ outlined own
+    → IsSomeAnd (read text) (λ value. MatchResult result (λ version. outline value ≡ Ok version) (λ fault. IsFaultOf (layer_of_value value) fault))
+outline_stated text own rest result some is one = by (read text) refl some
+  where
+    at : (value : Data) (o : Option (Data × List Token)) → o ≡ Some (value, []) → IsSomeAnd o (λ q. (q.1 ≡ rest) × (own ≡ object_kept q.0)) → own ≡ object_kept value
+    at value o e kept = (subst (λ p. IsSomeAnd p (λ q. (q.1 ≡ rest) × (own ≡ object_kept q.0))) e kept).1
+
+    by : (o : Option Data) → read text ≡ o → is_some o ≡ true → IsSomeAnd o (λ value. MatchResult result (λ version. outline value ≡ Ok version) (λ fault. IsFaultOf (layer_of_value value) fault))
+    by None e none = let bad : false ≡ true = none in cc
+    by (Some value) e _ = tells-outline value result (one ∙ outlined-kept own value (at value (read_value max_depth (tokens text)) (read_is text value e) is))
+
+-- the value of a text that has a list
+pub text-some : (text : List ℕ) → is_some (option_and_then listed (read text)) ≡ true → is_some (read_value max_depth (tokens text)) ≡ true
+text-some text some = by (read text) refl some
+  where
+    by : (o : Option Data) → read text ≡ o → is_some (option_and_then listed o) ≡ true → is_some (read_value max_depth (tokens text)) ≡ true
+    by None e none = let bad : false ≡ true = none in cc
+    by (Some value) e one = ap is_some (read_is text value e)
+
+pub text-read : (text : List ℕ) → is_some (read text) ≡ true → is_some (read_value max_depth (tokens text)) ≡ true
+text-read text some = by (read text) refl some
+  where
+    by : (o : Option Data) → read text ≡ o → is_some o ≡ true → is_some (read_value max_depth (tokens text)) ≡ true
+    by None e none = let bad : false ≡ true = none in cc
+    by (Some value) e one = ap is_some (read_is text value e)
+
+-- the last list of the members of a text is its list
+pub last_list : (version : Version) (text : List ℕ) (own : Result Draft LayerFault) (members : Option (Members × List Token)) → read_value max_depth (tokens text) ≡ parse_map object members → is_some (option_and_then listed (read text)) ≡ true
+    → IsSomeAnd members (λ o. TellsLast version (listed (object o.0)) (Some own)) → IsSomeAnd (option_and_then listed (read text)) (λ items. Tells own (layer_of_entries (stated_entries version items)))
+last_list version text own members opened some last = by (read text) refl some
+  where
+    lists : (value : Data) (items : Option Items) → is_some items ≡ true → TellsLast version items (Some own) → IsSomeAnd items (λ o. Tells own (layer_of_entries (stated_entries version o)))
+    lists value None none is = let bad : false ≡ true = none in cc
+    lists value (Some items) one is = is
+
+    same : (value : Data) (o : Option (Members × List Token)) → IsSomeAnd o (λ q. TellsLast version (listed (object q.0)) (Some own)) → Some (value, []) ≡ parse_map object o → TellsLast version (listed value) (Some own)
+    same value None last e = absurd last
+    same value (Some q) last e =
+        let both : ◌≡◌ {A = Option (Data × List Token)} (Some (value, [])) (Some (object q.0, q.1)) = e in
+        subst (λ d. TellsLast version (listed d) (Some own)) (sym (ap (λ o. first value o) both)) last
+      where
+        first : Data → Option (Data × List Token) → Data
+        first d None = d
+        first d (Some p) = p.0
+
+    by : (o : Option Data) → read text ≡ o → is_some (option_and_then listed o) ≡ true → IsSomeAnd (option_and_then listed o) (λ items. Tells own (layer_of_entries (stated_entries version items)))
+    by None e none = let bad : false ≡ true = none in cc
+    by (Some value) e one = lists value (listed value) one (same value members last (sym (read_is text value e) ∙ opened))
+
+-- ---- members of the manifest
+
+pub listed-put : (value : Data) (found : Members) (name : List ℕ) → bytes_eq name (codes "entries") ≡ true → listed (object (put name value found)) ≡ as_array value
+listed-put value found name is =
+    let same : name ≡ codes "entries" = (bytes_eq-Decides name (codes "entries")).0 is in
+    ap (option_and_then as_array) (ap (λ own. get_member own (put name value found)) (sym same) ∙ get_member-put name value found)
+
+pub listed-other : (value : Data) (found : Members) (name : List ℕ) → bytes_eq name (codes "entries") ≡ false → listed (object (put name value found)) ≡ listed (object found)
+listed-other value found name other = ap (option_and_then as_array) (get_member-put_other (codes "entries") name value found (λ e. apart (sym e)))
+  where
+    apart : name ≡ codes "entries" → ⊥
+    apart e = let bad : true ≡ false = sym ((bytes_eq-Decides name (codes "entries")).1 e) ∙ other in cc
+
+-- an item states what a manifest can
+pub item_statable : (version : Version) (read : Option (Data × List Token)) (rest : List Token) (entry : Option Entry) → IsSomeAnd read (λ o. (o.1 ≡ rest) × (entry ≡ entry_of version o.0)) → IfSome entry (λ own. IsTrue (is_statable own))
+item_statable version None rest entry is = absurd is
+item_statable version (Some o) rest entry is = stated_statable version o.0 entry is.1

@@ -43,7 +43,8 @@ pub(crate) fn read_entries(alloc: Global, version: Version, text: &str) -> Resul
         (λ layer. layer_of_entries (stated_entries version items) ≡ Ok layer)
         (λ fault. IsFaultOf (layer_of_entries (stated_entries version items)) fault)) }
 {
-    match read_draft(alloc, version, text)? {
+    let told = read_draft(alloc, version, text)?;
+    match told {
         Ok(draft) => Ok(draft.finish()?),
         Err(fault) => Err(fault),
     }

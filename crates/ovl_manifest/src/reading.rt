@@ -29,14 +29,25 @@ pub fn read_layer(alloc: Global, bytes: &[u8]) -> Result<Layer, LayerFault>
         (λ layer. layer_stated bytes.now ≡ Ok layer)
         (λ fault. IsFaultOf (layer_stated bytes.now) fault) }
 {
-    let Ok(text) = from_utf8(bytes) else {
-        return Err(LayerFault::NotJson);
-    };
+    match from_utf8(bytes) {
+        Ok(text) => read_text(alloc, text),
+        Err(_) => Err(LayerFault::NotJson),
+    }
+}
+
+// The layer that a text states.
+fn read_text(alloc: Global, text: &str) -> Result<Layer, LayerFault>
+    ensures { MatchResult result
+        (λ layer. layer_stated text.now ≡ Ok layer)
+        (λ fault. IsFaultOf (layer_stated text.now) fault) }
+{
     if !is_json(alloc, text)? {
         return Err(LayerFault::NotJson);
     }
-    let version = read_version(alloc, text)?;
-    read_entries(alloc, version, text)
+    match read_version(alloc, text) {
+        Ok(version) => read_entries(alloc, version, text),
+        Err(fault) => Err(fault),
+    }
 }
 
 /// The sheet of the layer that the bytes of a manifest state, refused as [`read_layer`] refuses it. A manifest as

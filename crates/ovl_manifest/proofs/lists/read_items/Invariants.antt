@@ -7,13 +7,13 @@ use Rattle.ovl_manifest.proofs.ListLemmas.{told}
 use Rattle.ovl_manifest.proofs.lists.read_items.Given as goal
 
 -- the items that are left make of the entries so far what all items make
-abbrev pub invariant-loop-progress : goal.invariant-loop-progress
-invariant-loop-progress l = record {
+abbrev pub invariant-loop-alloc : goal.invariant-loop-alloc
+invariant-loop-alloc l = record {
   progress : IsProgress l.progress l.count;
   few : l.count ≤ entry_limit;
   some : is_some (read_items item_depth l.reader) ≡ true;
   same : told l.version 0 (Ok []) (read_items item_depth l.initial.reader) ≡ told l.version l.count (made l.progress) (read_items item_depth l.reader);
 }
 
-abbrev pub decreases-loop-progress : goal.decreases-loop-progress
-decreases-loop-progress l = length l.reader
+abbrev pub decreases-loop-alloc : goal.decreases-loop-alloc
+decreases-loop-alloc l = length l.reader

@@ -1,0 +1,1 @@
+use Rattle.ovl_manifest.proofs.lists.read_draft.Goals as goal

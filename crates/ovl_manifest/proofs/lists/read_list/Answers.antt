@@ -1,0 +1,1 @@
+use Rattle.ovl_manifest.proofs.lists.read_list.Goals as goal
