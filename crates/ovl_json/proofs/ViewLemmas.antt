@@ -91,9 +91,9 @@ member_view-lookup name (m ∷ members) = found_or (slice_cmp nat_cmp name m.0.n
 
 put-grows-at : (o : Ordering) (name own : List ℕ) (value other : Data) (members : Members) → members_len members ≤ members_len (put name value members)
     → members_len (member own other members) ≤ members_len (match_ordering o (member name value (member own other members)) (member own value members) (member own other (put name value members)))
-put-grows-at Less name own value other members h = omega arith
-put-grows-at Equal name own value other members h = omega arith
-put-grows-at Greater name own value other members h = omega (arith, h)
+put-grows-at Less name own value other more h = omega arith
+put-grows-at Equal name own value other more h = omega arith
+put-grows-at Greater name own value other more h = omega (arith, h)
 
 put-grows : (name : List ℕ) (value : Data) (members : Members) → members_len members ≤ members_len (put name value members)
 put-grows name value no_members = omega arith

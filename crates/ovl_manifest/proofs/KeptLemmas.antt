@@ -58,7 +58,7 @@ as_str-kept (boolean b) = refl
 as_str-kept (number n) = refl
 as_str-kept (string text) = refl
 as_str-kept (array items) = refl
-as_str-kept (object members) = refl
+as_str-kept (object own) = refl
 
 as_number-kept : (value : Data) → as_number (kept value) ≡ as_number value
 as_number-kept null = refl
@@ -66,7 +66,7 @@ as_number-kept (boolean b) = refl
 as_number-kept (number n) = refl
 as_number-kept (string text) = refl
 as_number-kept (array items) = refl
-as_number-kept (object members) = refl
+as_number-kept (object own) = refl
 
 attribute-kept : (attrs : Attributes) (name : List ℕ) (value : Data) → attribute_after attrs name (text_kept value) ≡ attribute_after attrs name value
 attribute-kept attrs name null = refl
@@ -74,12 +74,12 @@ attribute-kept attrs name (boolean b) = refl
 attribute-kept attrs name (number n) = refl
 attribute-kept attrs name (string text) = refl
 attribute-kept attrs name (array items) = refl
-attribute-kept attrs name (object members) = refl
+attribute-kept attrs name (object own) = refl
 
 attributes-with : (found : Option Attributes) (members : Members) → ((attrs : Attributes) → attributes_after attrs (texts_kept members) ≡ attributes_after attrs members)
     → option_and_then (λ more. attributes_after more (texts_kept members)) found ≡ option_and_then (λ more. attributes_after more members) found
-attributes-with None members again = refl
-attributes-with (Some attrs) members again = again attrs
+attributes-with None more again = refl
+attributes-with (Some attrs) more again = again attrs
 
 attributes-kept : (members : Members) (attrs : Attributes) → attributes_after attrs (texts_kept members) ≡ attributes_after attrs members
 attributes-kept no_members attrs = refl
@@ -101,7 +101,7 @@ blob_of-kept (boolean b) = refl
 blob_of-kept (number n) = refl
 blob_of-kept (string text) = refl
 blob_of-kept (array items) = refl
-blob_of-kept (object members) = refl
+blob_of-kept (object own) = refl
 
 through : {B : Type 0} (seen : Data → Option B) → ((value : Data) → seen (kept value) ≡ seen value) → (found : Option Data) → option_and_then seen (option_map kept found) ≡ option_and_then seen found
 through seen same None = refl
@@ -195,7 +195,7 @@ module _ (members : Members) where
       one (number n) = refl
       one (string text) = refl
       one (array items) = refl
-      one (object members) = refl
+      one (object own) = refl
 
       by : (found : Option Data) → is_some (option_and_then as_array (option_map kept found)) ≡ is_some (option_and_then as_array found)
       by None = refl

@@ -182,7 +182,7 @@ plain-none version (boolean b) own is = tt
 plain-none version (number n) own is = tt
 plain-none version (string text) own is = tt
 plain-none version (array items) own is = let bad : array no_items ≡ null = is in cc
-plain-none version (object members) own is = tt
+plain-none version (object found) own is = tt
 
 -- ---- the outline
 
