@@ -143,7 +143,11 @@ fn read_members<'a>(
 }
 
 // What is kept of the value of a member.
-fn read_member<'a>(alloc: Global, reader: &mut Reader<'a>, depth: usize) -> Result<Member<'a>, Unread>
+fn read_member<'a>(
+    alloc: Global,
+    reader: &mut Reader<'a>,
+    depth: usize,
+) -> Result<Member<'a>, Unread>
     requires { is_some (read_value depth reader.old) ≡ true }
     ensures { IfOk result (λ own. IsSomeAnd (read_value depth reader.old) (λ read.
         (read.1 ≡ reader.new) × (member_view own ≡ kept read.0))) }

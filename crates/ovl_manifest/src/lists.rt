@@ -23,6 +23,7 @@ use std::alloc::Global;
 
 // How deep members of the manifest nest, and items of its list.
 const MEMBER_DEPTH: usize = MAX_DEPTH - 1;
+
 const ITEM_DEPTH: usize = MEMBER_DEPTH - 1;
 
 // What the entries so far make.
