@@ -1,30 +1,26 @@
 -- What is kept of a value states what the value does.
-use Rattle.std.proofs.Common.{◌≡◌, ℕ, suc, ◌+◌, ◌<◌, ◌≤◌, ◌∙◌, ◌++◌, List, [], ◌∷◌, length, Bool, true, false, Option, Some, None, Result, Ok, Err, refl, sym, ap, arith, cond, nat_cmp, Ordering, Less, Equal, Greater}
-use Rattle.std.specs.Prelude.{◌==◌, ◌&&◌, ◌^◌, ◌-◌, nat_eq, nat_le, nat_lt, is_some, is_none, if◌then◌else◌, option_and_then, codes}
+use Rattle.std.proofs.Common.{◌≡◌, ℕ, ◌+◌, ◌≤◌, ◌∙◌, List, [], ◌∷◌, length, Bool, true, false, Option, Some, None, Err, refl, sym, ap, arith, nat_cmp, Ordering, Less, Equal, Greater}
+use Rattle.std.specs.Prelude.{◌==◌, ◌&&◌, ◌^◌, ◌-◌, nat_le, is_some, if◌then◌else◌, option_and_then, codes}
 use Rattle.std.specs.Option.{option_map}
 use Rattle.std.specs.List.{list_all}
 use Rattle.std.specs.Ordering.{match_ordering}
 use Rattle.std.specs.Str.{bytes_eq}
 use Rattle.std.specs.Cmp.Lexicographic.{slice_cmp}
 use Rattle.std.proofs.lemmas.Bool.Decides.{nat_tests}
-use Rattle.serde_json.specs.Data.{Num, Data, null, boolean, number, string, array, object, Items, no_items, Members, no_members, member}
+use Rattle.serde_json.specs.Data.{Num, Data, null, boolean, number, string, array, object, Items, Members, no_members, member}
 use Rattle.serde_json.specs.Events.{members_len}
 use Rattle.serde_json.specs.Find.{get, get_member, as_number, as_u64, as_i64, as_str, as_array}
 use Rattle.ovl_json.specs.Kept.{member_limit, text_kept, texts_kept, kept, members_kept, object_kept}
 use Rattle.ovl_names.specs.Paths.{PathNames}
-use Rattle.ovl_inode.specs.Attributes.{Attributes, is_attribute_name, with_attribute}
-use Rattle.ovl_inode.specs.Hexadecimal.{bytes_of_digits}
+use Rattle.ovl_inode.specs.Attributes.{Attributes}
 use Rattle.ovl_inode.specs.Sound.{is_sound_inode, mode_limit, size_limit}
 use Rattle.ovl_inode.specs.declared.inodes.Inode.{Inode}
 use Rattle.ovl_inode.specs.declared.inodes.Kind.{Kind}
 use Rattle.ovl_inode.specs.declared.inodes.Kind.TheVariants.{Dir, File, Symlink, Char, Block, Fifo, Socket}
-use Rattle.ovl_manifest.specs.Layers.{Entry, Entries}
-use Rattle.ovl_manifest.specs.Fields.{member_count, has_count, has_exactly, up_to, text_field, natural_field, seconds_field, path_of_text, path_field, attribute_after, attributes_after, attributes_of, attributes_field, blob_of, blob_field, file_kind, numbers_kind, kind_named, kind_field, own_members, kind_members, inode_with, inode_field, is_entry, entry_with, entry_of}
-use Rattle.ovl_manifest.specs.Versions.{common_members}
+use Rattle.ovl_manifest.specs.Fields.{member_count, has_exactly, up_to, text_field, natural_field, seconds_field, path_of_text, path_field, attribute_after, attributes_after, attributes_of, attributes_field, blob_of, blob_field, file_kind, numbers_kind, kind_named, kind_field, kind_members, inode_with, inode_field, entry_with, entry_of}
 use Rattle.ovl_manifest.specs.Lists.{outline_of, outline}
 use Rattle.ovl_manifest.specs.declared.versions.Version.{Version}
 use Rattle.ovl_manifest.specs.declared.versions.Version.TheVariants.{One}
-use Rattle.ovl_manifest.specs.declared.faults.LayerFault.{LayerFault}
 use Rattle.ovl_manifest.specs.declared.faults.LayerFault.TheVariants.{Shape}
 
 -- ---- members

@@ -1,8 +1,7 @@
 -- The entries of a list, one after another, and the outline of a manifest.
-use Rattle.std.proofs.Common.{◌≡◌, ℕ, zero, suc, ◌+◌, ◌<◌, ◌≤◌, ◌∙◌, ◌++◌, ◌⊎◌, inl, inr, List, [], ◌∷◌, length, length-append, Bool, true, false, Option, Some, None, Result, Ok, Err, MatchResult, refl, sym, ap, subst, arith}
-use Rattle.std.specs.Prelude.{⊤, ◌==◌, is_some, IfSome, IsTrue, IsSomeAnd, IfOk, if◌then◌else◌, option_and_then, codes}
+use Rattle.std.proofs.Common.{◌≡◌, ℕ, suc, ◌+◌, ◌<◌, ◌≤◌, ◌∙◌, inl, inr, List, [], ◌∷◌, length, length-append, Bool, true, false, Option, Some, None, Result, Ok, Err, MatchResult, refl, sym, ap, subst, arith}
+use Rattle.std.specs.Prelude.{is_some, IfSome, IsTrue, IsSomeAnd, IfOk, if◌then◌else◌, option_and_then, codes}
 use Rattle.std.specs.Option.{option_map}
-use Rattle.std.proofs.lemmas.Bool.Decides.{nat_tests}
 use Rattle.json.specs.Token.{Token}
 use Rattle.json.specs.Json.{parse_map}
 use Rattle.serde_json.specs.Data.{Num, Data, null, boolean, number, string, array, object, Items, no_items, item, Members, put}
@@ -20,7 +19,7 @@ use Rattle.ovl_json.specs.declared.passing.Unread.{Unread}
 use Rattle.ovl_manifest.specs.Layers.{Entry, Entries, entry_limit}
 use Rattle.ovl_manifest.specs.Fields.{has_exactly, entry_of}
 use Rattle.ovl_manifest.specs.Versions.{version_of}
-use Rattle.ovl_manifest.specs.Manifest.{is_whole, entry_after, entries_after, is_miscounted, layer_of_entries, stated_entries, is_statable, layer_of_version, layer_of_fields, layer_of_value, read_layer, IsFaultOf}
+use Rattle.ovl_manifest.specs.Manifest.{is_whole, entry_after, entries_after, layer_of_entries, stated_entries, is_statable, layer_of_fields, layer_of_value, read_layer, IsFaultOf}
 use Rattle.ovl_manifest.specs.Drafts.{draft_entries, IsDraft}
 use Rattle.ovl_manifest.specs.Lists.{listed, outline_of, outline, entry_on, entries_on, made, IsProgress, IsProgressOf, Tells, TellsLast}
 use Rattle.ovl_manifest.specs.declared.versions.Version.{Version}

@@ -1,5 +1,5 @@
 -- What a stated entry is, and what one more entry makes of a layer.
-use Rattle.std.proofs.Common.{◌≡◌, ℕ, ◌<◌, ◌≤◌, ◌+◌, ◌⊎◌, zero, suc, get_or, List, [], ◌∷◌, ◌++◌, Bool, true, false, Option, Some, None, Result, Ok, Err, refl, sym, ap, ◌∙◌, subst, length, length-append, drop, take, arith, le-leb, leb-true}
+use Rattle.std.proofs.Common.{◌≡◌, ℕ, ◌<◌, ◌≤◌, ◌+◌, ◌⊎◌, List, [], ◌∷◌, ◌++◌, Bool, true, false, Option, Some, None, Result, Ok, Err, refl, sym, ap, ◌∙◌, subst, length, length-append, drop, arith, le-leb, leb-true}
 use Rattle.std.specs.Option.{option_and_then}
 use Rattle.std.specs.Prelude.{◌==◌, not, nat_eq, nat_lt, nat_le, is_some, is_none, if◌then◌else◌, flat_map, codes}
 use Rattle.std.specs.List.{starts_with, list_any}
@@ -8,11 +8,8 @@ use Rattle.std.proofs.lemmas.Bool.Decides.{nat_tests}
 use Rattle.std.proofs.lemmas.Option.{option_and_then_some}
 use Rattle.std.proofs.lemmas.Str.{IsUtf8-from_is_utf8, is_utf8-from_IsUtf8}
 use Rattle.std.specs.Str.{IsUtf8, is_utf8}
-use Rattle.serde_json.specs.Data.{unsigned, negative, float, Data, null, boolean, number, string, array, object, Items}
-use Rattle.serde_json.specs.Find.{get, as_number, as_u64, as_array}
+use Rattle.serde_json.specs.Data.{Data}
 use Rattle.serde_json.specs.Read.{read}
-use Rattle.serde_json.specs.View.{view, items_view}
-use Rattle.serde_json.specs.declared.value.Value.{Value}
 use Rattle.ovl_names.specs.Names.{slash, name_fault}
 use Rattle.ovl_names.specs.Paths.{PathNames, parent_path, path_fault, path_text, text_parts, parts_between, depth_limit, text_limit}
 use Rattle.ovl_names.specs.declared.paths.PathFault.{PathFault}
@@ -20,14 +17,14 @@ use Rattle.ovl_names.specs.declared.paths.PathFault.TheVariants.{NotAbsolute, Em
 use Rattle.ovl_names.proofs.Ascending.{both}
 use Rattle.ovl_inode.specs.Sound.{is_sound_inode}
 use Rattle.ovl_manifest.specs.Layers.{Entry, Entries, is_directory_at, is_within_limits, entry_limit}
-use Rattle.ovl_manifest.specs.Versions.{depth_of, version_of}
+use Rattle.ovl_manifest.specs.Versions.{depth_of}
 use Rattle.ovl_manifest.specs.declared.versions.Version.{Version}
 use Rattle.ovl_manifest.specs.declared.versions.Version.TheVariants.{One}
-use Rattle.ovl_manifest.specs.Manifest.{comes_after, fault_after, entry_fault, entry_after, entries_after, layer_of_entries, stated_entries, layer_of_fields, layer_of_value, read_layer, IsFaultOf}
+use Rattle.ovl_manifest.specs.Manifest.{comes_after, fault_after, entry_fault, entry_after, entries_after, layer_of_entries, layer_of_value, read_layer, IsFaultOf}
 use Rattle.ovl_manifest.specs.declared.faults.LayerFault.{LayerFault}
 use Rattle.ovl_manifest.specs.declared.faults.LayerFault.TheVariants.{NotJson, Shape, Version as WrongVersion, Count, Entry as WrongEntry, Order, NoParent, Root, Escaped, Memory}
 use Rattle.ovl_inode.specs.Attributes.{has_escaped_name}
-use Rattle.ovl_manifest.specs.Fields.{has_exactly, entry_of, entry_with, is_entry, inode_field, path_field, path_of_text, text_field}
+use Rattle.ovl_manifest.specs.Fields.{entry_of, entry_with, is_entry, inode_field, path_field, path_of_text, text_field}
 
 -- ---- a path that is read keeps the limits
 

@@ -1,8 +1,7 @@
-use Rattle.std.proofs.Common.{◌≡◌, ◌∙◌, List, ℕ, sym, subst, Some, None}
+use Rattle.std.proofs.Common.{◌∙◌, sym}
 use Rattle.std.specs.Map.Iter.{deref_pair}
 use Rattle.std.proofs.lemmas.Map.Iter.{rest_more, rest_all}
 use Rattle.ovl_json.specs.Views.{text_view, texts_view}
-use Rattle.ovl_manifest.specs.Fields.{attribute_after}
 use Rattle.ovl_manifest.proofs.FieldLemmas.{attributes_after-put, attributes_after-refused}
 use Rattle.ovl_manifest.proofs.fields.read_texts.Goals as goal
 

@@ -1,10 +1,10 @@
-use Rattle.std.proofs.Common.{◌≡◌, ◌+◌, ◌<◌, ◌∷◌, true, None, Some, Ok, Err, [], length, refl, sym, ap, ◌∙◌, subst, arith}
+use Rattle.std.proofs.Common.{◌≡◌, ◌+◌, true, None, Some, Ok, [], length, refl, sym, ap, ◌∙◌, subst, arith}
 use Rattle.std.specs.Prelude.{is_some, IsSomeAnd}
 use Rattle.json.specs.Json.{after_end_array, items, parse_map, value}
 use Rattle.json.specs.Reads.{skip_items}
-use Rattle.serde_json.specs.Data.{no_items, item}
+use Rattle.serde_json.specs.Data.{item}
 use Rattle.serde_json.specs.Read.{of_items}
-use Rattle.ovl_json.specs.Reading.{read_value, read_items}
+use Rattle.ovl_json.specs.Reading.{read_items}
 use Rattle.ovl_json.proofs.Turns.{item_turn, item_end, passed}
 use Rattle.ovl_manifest.specs.Layers.{entry_limit}
 use Rattle.ovl_manifest.specs.Fields.{entry_of}

@@ -1,4 +1,4 @@
-use Rattle.std.proofs.Common.{◌≡◌, ◌+◌, Ok, length, sym, subst}
+use Rattle.std.proofs.Common.{◌≡◌, ◌+◌, Ok, length, subst}
 use Rattle.ovl_json.specs.Reading.{read_value}
 use Rattle.ovl_manifest.specs.Drafts.{draft_entries, IsDraft}
 use Rattle.ovl_manifest.specs.Lists.{made, IsProgress, item_depth}

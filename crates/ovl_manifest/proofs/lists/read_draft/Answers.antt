@@ -1,1 +1,0 @@
-use Rattle.ovl_manifest.proofs.lists.read_draft.Goals as goal

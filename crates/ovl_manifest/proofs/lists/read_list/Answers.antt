@@ -1,1 +1,0 @@
-use Rattle.ovl_manifest.proofs.lists.read_list.Goals as goal
