@@ -6,7 +6,8 @@ case makes layers of several sizes in a temporary folder and has one command
 read them by one worker. It prints a Markdown table a case: wall time, peak
 memory and instructions at each size, and each of them for a byte of the input
 and the report together. The status is 1 where, from a size to the next, the
-instructions for a byte grow by more than a fifth for each doubling.
+instructions for a byte grow by more than a fifth for each doubling, and where
+the peak is more bytes for a byte than the case allows.
 
     python3 bench/growth.py --program ./ovl_layers
 """
@@ -33,6 +34,8 @@ METACOPY = "trusted.overlay.metacopy"
 NSEC = "mtime-nsec"
 # Growth of the instructions for a byte, at each doubling, that isn't told.
 ALLOWED = 1.2
+# The most bytes of memory for a byte of a manifest that anyone may hand in, and the status of one that is refused.
+MOST, REFUSED = 12.0, 3
 
 
 # ---- layers: lists of entries, which are put into path order where they are written
@@ -68,14 +71,19 @@ def manifest_of(layer, entries):
 
 
 def write(folder, layers, unsorted=False):
-    """Writes the layers, the topmost first, and gives the files' names. A layer may be a function that makes it.
+    """Writes the layers, the topmost first, and gives the files' names. A layer may be a function that makes it, and a
+    text that is written as it stands.
 
     Members stand in the order of their names, as the converter and the program write them, or unsorted."""
     names = []
     for n, layer in enumerate(layers):
+        names.append(os.path.join(folder, f"layer-{n:03d}.json"))
+        if isinstance(layer, str):
+            with open(names[-1], "w", encoding="utf-8") as out:
+                out.write(layer)
+            continue
         entries = [entry("/")] + (layer() if callable(layer) else layer)
         entries.sort(key=lambda it: it["path"].encode().split(b"/"))
-        names.append(os.path.join(folder, f"layer-{n:03d}.json"))
         with open(names[-1], "w", encoding="utf-8") as out:
             json.dump(manifest_of(layer, entries), out, separators=(",", ":"), sort_keys=not unsorted)
     return names
@@ -85,6 +93,10 @@ def write(folder, layers, unsorted=False):
 
 def long_redirect(size):
     return [[entry("/m", attrs={REDIRECT: "/a" * size})] + files("/m", size), []]
+
+
+def lone_redirect(size):
+    return [[entry("/m", attrs={REDIRECT: "/a" * size})]]
 
 
 def redirected_directories(size):
@@ -148,6 +160,32 @@ def one_directory(size):
     return [files("", size)]
 
 
+# ---- manifests that state no layer, and are to be refused without a value of all that they hold
+
+def manifest(entries):
+    return [f'{{"entries":[{entries}],"overlay-layer":1}}']
+
+
+def no_entries(size):
+    return manifest(",".join(['{"":0}'] * size))
+
+
+def numbers_alone(size):
+    return [f"[{','.join('0' * size)}]"]
+
+
+def many_members(size):
+    return manifest("{" + ",".join(f'"{n:x}":0' for n in range(size)) + "}")
+
+
+def wrong_attributes(size):
+    return manifest('{"xattrs":{' + ",".join(f'"{n:x}":0' for n in range(size)) + "}}")
+
+
+def many_lists(size):
+    return ["{" + ",".join(['"entries":[0,0]'] * size) + ',"overlay-layer":1}']
+
+
 @dataclass(frozen=True)
 class Case:
     """A command on layers of several sizes, how often the instructions for a byte may grow at a doubling, its status, and
@@ -161,6 +199,10 @@ class Case:
     status: int = 0
     # How many layers are data-only, at a size.
     data_only: Callable = lambda size: 0
+    # Whether members stand out of the order of their names.
+    unsorted: bool = False
+    # The most bytes of memory for a byte.
+    most: float = math.inf
 
 
 CHAINS = Case("N layers of 64 directories in each other, the deepest redirected to the first", "show", chained_redirects,
@@ -183,6 +225,14 @@ CASES = [
     Case("a directory with a redirect of N names, and N directories in it", "show", redirected_directories, (250, 500, 1_000, 2_000)),
     # The redirect leads nowhere, which is a fault.
     Case("a directory with a redirect of N names, and N directories in it", "fsck", redirected_directories, (250, 500, 1_000, 2_000), status=1),
+    # What anyone may hand in: the status is that of a manifest that is refused.
+    Case("N objects that are no entries", "show", no_entries, (1_000_000, 2_000_000), status=REFUSED, most=MOST),
+    Case("a list of N numbers as the whole manifest", "show", numbers_alone, (4_000_000, 8_000_000), status=REFUSED, most=MOST),
+    Case("an entry of N members", "show", many_members, (1_000_000, 2_000_000), status=REFUSED, most=MOST),
+    Case("an entry of N attributes that are no texts", "show", wrong_attributes, (1_000_000, 2_000_000), status=REFUSED, most=MOST),
+    Case("N members `entries`", "show", many_lists, (500_000, 1_000_000), status=REFUSED, most=MOST),
+    Case("a directory of N files, members out of the order of their names", "show", one_directory, (100_000, 200_000), unsorted=True, most=MOST),
+    Case("a redirect of N names", "show", lone_redirect, (1_000_000, 2_000_000)),
 ]
 
 
@@ -201,7 +251,7 @@ def cost(program, case, size, longest, unsorted=False):
         os.mkdir(blobs)
         with open(os.path.join(blobs, BLOB), "wb") as out:
             out.write(CONTENTS)
-        layers, report = write(folder, case.make(size), unsorted), os.path.join(folder, "report")
+        layers, report = write(folder, case.make(size), unsorted or case.unsorted), os.path.join(folder, "report")
         command = [program, case.command, *(["--blobs", blobs] if case.command == "fsck" else []), "--workers", "1", "--data-layers",
                    str(case.data_only(size)), *layers]
         seconds, peak, status = run.one_run(command, os.devnull, report)
@@ -221,10 +271,10 @@ def grown(before, after, allowed):
     return after.instructions / after.bytes > allowed ** doublings * before.instructions / before.bytes
 
 
-def line(it, mark):
+def line(it, mark, full):
     counted = ("", "") if it.instructions is None else (f"{it.instructions:,}", f"{it.instructions / it.bytes:.0f}{mark}")
     return run.row([f"{it.size:,}", f"{it.bytes:,}", f"{it.seconds:.2f}", f"{it.peak:,}", counted[0],
-                    f"{1e9 * it.seconds / it.bytes:.0f}", f"{it.peak / it.bytes:.1f}", counted[1]])
+                    f"{1e9 * it.seconds / it.bytes:.0f}", f"{it.peak / it.bytes:.1f}{full}", counted[1]])
 
 
 def measure(program, case, sizes, longest, unsorted):
@@ -236,9 +286,9 @@ def measure(program, case, sizes, longest, unsorted):
     before, good = None, True
     for size in sizes:
         it = cost(program, case, size, longest, unsorted)
-        bad = grown(before, it, case.allowed)
-        print(line(it, " (too many)" if bad else ""), flush=True)
-        before, good = it, good and not bad
+        bad, full = grown(before, it, case.allowed), it.peak > case.most * it.bytes
+        print(line(it, " (too many)" if bad else "", " (too much)" if full else ""), flush=True)
+        before, good = it, good and not bad and not full
     print()
     return good
 

@@ -2,10 +2,10 @@
 """Counts how often the program asks for memory while it shows a manifest as the commands and the converter write it.
 
 Python 3.11, standard library, and `rt`, whose compiler builds refuse.c. Such a manifest, of either version, is read piece
-by piece, with no value of JSON in between. No contract says so: a program that read each by way of a value would give the
+by piece, with no value of JSON in between. No contract says so: a program that made a value of each entry would give the
 same bytes, at several times the cost. So the requests are counted, of a manifest of 10,000 entries in each version, and of
 the same with a space in front, which is read the other way: the report must be the same, and the first may take at most
-four requests an entry.
+four fifths of the requests of the second.
 
     python3 bench/reading.py --program crates/ovl_layers/out/ovl_layers
 """
@@ -19,7 +19,7 @@ from pathlib import Path
 from generate import MOST_NAMES, Generator
 from refusals import build
 
-ENTRIES, MOST = 10_000, 4
+ENTRIES, MOST = 10_000, 0.8
 
 
 def shown(program, library, manifest, room):
@@ -56,7 +56,7 @@ def main():
         for version in MOST_NAMES:
             written, other = read(program, library, room, version)
             print(f"version {version}, requests for memory an entry: {written:.2f} as it is written, {other:.2f} with a space in front")
-            good = good and written <= MOST < other
+            good = good and written <= MOST * other
     sys.exit(0 if good else 1)
 
 

@@ -1,32 +1,23 @@
 -- Objects of exactly some members.
-use Rattle.std.proofs.Common.{◌≡◌, ◌∙◌, ℕ, ◌+◌, List, [], ◌∷◌, ◌++◌, Bool, false, sym, ap, refl, Some, None, length, length-append, nat_eq, Bor, map, eq-eqb, arith}
-use Rattle.std.specs.Prelude.{◌&&◌, is_some, unwrap_or, String}
-use Rattle.std.specs.declared.alloc.Global.{Global}
+use Rattle.std.proofs.Common.{◌≡◌, ◌∙◌, ℕ, ◌+◌, List, ◌++◌, Bool, false, ap, refl, Some, None, length, length-append, nat_eq, Bor, map, eq-eqb, arith}
+use Rattle.std.specs.Prelude.{◌&&◌, is_some}
 use Rattle.std.specs.List.{list_all}
 use Rattle.std.proofs.lemmas.List.{length-map}
 use Rattle.std.proofs.lemmas.List.Folds.{list_all-append, list_all-map}
 use Rattle.serde_json.specs.Data.{Data, object, Members, member}
-use Rattle.serde_json.specs.declared.value.Value.{Value}
-use Rattle.serde_json.specs.View.{members_view}
-use Rattle.serde_json.specs.Find.{get, as_object}
+use Rattle.serde_json.specs.Events.{members_len}
+use Rattle.serde_json.specs.Find.{get}
 use Rattle.ovl_inode.specs.Attributes.{Attributes}
-use Rattle.ovl_manifest.specs.Fields.{member_count, has_count, has_exactly, attribute_after, attributes_after}
-
-pub member_count-view : (entries : List (String Global × Value)) → member_count (members_view entries) ≡ length entries
-member_count-view [] = refl
-member_count-view (entry ∷ entries) = omega (arith, member_count-view entries)
-
-pub is_object : (d : Data) (members : Members) → Some members ≡ as_object d → d ≡ object members
-is_object (object found) given e = ap object (sym (ap (λ o. unwrap_or o found) e))
-is_object _ given e = let bad : Some given ≡ None = e in cc
+use Rattle.ovl_manifest.specs.Fields.{has_count, has_exactly, attribute_after, attributes_after}
+use Rattle.ovl_manifest.proofs.KeptLemmas.{member_count-len}
 
 -- an object has exactly these members and those where it has as many, and all of them
-module _ (own common : List (Bor (List ℕ))) (d : Data) (entries : List (String Global × Value)) (is : Some (members_view entries) ≡ as_object d) where
+module _ (own common : List (Bor (List ℕ))) (members : Members) where
   abbrev now : Bor (List ℕ) → List ℕ
   now name = name.now
 
   abbrev is_there : List ℕ → Bool
-  is_there name = is_some (get name d)
+  is_there name = is_some (get name (object members))
 
   abbrev names : List (List ℕ)
   names = map now own ++ map now common
@@ -34,16 +25,16 @@ module _ (own common : List (Bor (List ℕ))) (d : Data) (entries : List (String
   count : length names ≡ length own + length common
   count = omega (arith, length-append (map now own) (map now common), length-map own now, length-map common now)
 
-  counts : has_count (length names) d ≡ nat_eq (length entries) (length own + length common)
-  counts = ap (has_count (length names)) (is_object d (members_view entries) is) ∙ (λ j. nat_eq (member_count-view entries j) (count j))
+  counts : has_count (length names) (object members) ≡ nat_eq (members_len members) (length own + length common)
+  counts = λ j. nat_eq (member_count-len members j) (count j)
 
-  all : list_all is_there names ≡ (list_all (λ name. is_some (get name.now d)) own && list_all (λ name. is_some (get name.now d)) common)
+  all : list_all is_there names ≡ (list_all (λ name. is_some (get name.now (object members))) own && list_all (λ name. is_some (get name.now (object members))) common)
   all = list_all-append is_there (map now own) (map now common) ∙ (λ j. list_all-map is_there now own j && list_all-map is_there now common j)
 
-  pub has_exactly-counted : length entries ≡ length own + length common → has_exactly names d ≡ (list_all (λ name. is_some (get name.now d)) own && list_all (λ name. is_some (get name.now d)) common)
-  has_exactly-counted same = λ j. (counts ∙ eq-eqb (length entries) (length own + length common) same) j && all j
+  pub has_exactly-counted : members_len members ≡ length own + length common → has_exactly names (object members) ≡ (list_all (λ name. is_some (get name.now (object members))) own && list_all (λ name. is_some (get name.now (object members))) common)
+  has_exactly-counted same = λ j. (counts ∙ eq-eqb (members_len members) (length own + length common) same) j && all j
 
-  pub has_exactly-miscounted : nat_eq (length entries) (length own + length common) ≡ false → has_exactly names d ≡ false
+  pub has_exactly-miscounted : nat_eq (members_len members) (length own + length common) ≡ false → has_exactly names (object members) ≡ false
   has_exactly-miscounted other = ap (λ b. b && list_all is_there names) (counts ∙ other)
 
 -- a member whose attribute can be put, and one that states none

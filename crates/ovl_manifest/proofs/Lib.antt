@@ -2,6 +2,8 @@ pub mod NodeLemmas
 pub mod OpenLemmas
 pub mod LayerLemmas
 pub mod DraftLemmas
+pub mod KeptLemmas
+pub mod ListLemmas
 pub mod FieldLemmas
 mod Rows
 mod RowsText

@@ -1,5 +1,5 @@
 -- What a stated entry is, and what one more entry makes of a layer.
-use Rattle.std.proofs.Common.{◌≡◌, ℕ, ◌<◌, ◌≤◌, ◌+◌, ◌⊎◌, zero, suc, get_or, List, [], ◌∷◌, ◌++◌, Bool, true, false, Option, Some, None, Result, Ok, Err, refl, sym, ap, ◌∙◌, subst, length, length-append, drop, take, arith, le-leb, leb-true}
+use Rattle.std.proofs.Common.{◌≡◌, ℕ, ◌<◌, ◌≤◌, ◌+◌, ◌⊎◌, List, [], ◌∷◌, ◌++◌, Bool, true, false, Option, Some, None, Result, Ok, Err, refl, sym, ap, ◌∙◌, subst, length, length-append, drop, arith, le-leb, leb-true}
 use Rattle.std.specs.Option.{option_and_then}
 use Rattle.std.specs.Prelude.{◌==◌, not, nat_eq, nat_lt, nat_le, is_some, is_none, if◌then◌else◌, flat_map, codes}
 use Rattle.std.specs.List.{starts_with, list_any}
@@ -8,11 +8,8 @@ use Rattle.std.proofs.lemmas.Bool.Decides.{nat_tests}
 use Rattle.std.proofs.lemmas.Option.{option_and_then_some}
 use Rattle.std.proofs.lemmas.Str.{IsUtf8-from_is_utf8, is_utf8-from_IsUtf8}
 use Rattle.std.specs.Str.{IsUtf8, is_utf8}
-use Rattle.serde_json.specs.Data.{unsigned, negative, float, Data, null, boolean, number, string, array, object, Items}
-use Rattle.serde_json.specs.Find.{get, as_number, as_u64, as_array}
+use Rattle.serde_json.specs.Data.{Data}
 use Rattle.serde_json.specs.Read.{read}
-use Rattle.serde_json.specs.View.{view, items_view}
-use Rattle.serde_json.specs.declared.value.Value.{Value}
 use Rattle.ovl_names.specs.Names.{slash, name_fault}
 use Rattle.ovl_names.specs.Paths.{PathNames, parent_path, path_fault, path_text, text_parts, parts_between, depth_limit, text_limit}
 use Rattle.ovl_names.specs.declared.paths.PathFault.{PathFault}
@@ -20,14 +17,14 @@ use Rattle.ovl_names.specs.declared.paths.PathFault.TheVariants.{NotAbsolute, Em
 use Rattle.ovl_names.proofs.Ascending.{both}
 use Rattle.ovl_inode.specs.Sound.{is_sound_inode}
 use Rattle.ovl_manifest.specs.Layers.{Entry, Entries, is_directory_at, is_within_limits, entry_limit}
-use Rattle.ovl_manifest.specs.Versions.{depth_of, version_of}
+use Rattle.ovl_manifest.specs.Versions.{depth_of}
 use Rattle.ovl_manifest.specs.declared.versions.Version.{Version}
 use Rattle.ovl_manifest.specs.declared.versions.Version.TheVariants.{One, Two}
-use Rattle.ovl_manifest.specs.Manifest.{comes_after, fault_after, entry_fault, entry_after, entries_after, layer_of_entries, stated_entries, layer_of_fields, layer_of_value, read_layer, IsFaultOf}
+use Rattle.ovl_manifest.specs.Manifest.{comes_after, fault_after, entry_fault, entry_after, entries_after, layer_of_entries, layer_of_value, read_layer, IsFaultOf}
 use Rattle.ovl_manifest.specs.declared.faults.LayerFault.{LayerFault}
 use Rattle.ovl_manifest.specs.declared.faults.LayerFault.TheVariants.{NotJson, Shape, Version as WrongVersion, Count, Entry as WrongEntry, Order, NoParent, Root, Escaped, Memory}
 use Rattle.ovl_inode.specs.Attributes.{has_escaped_name}
-use Rattle.ovl_manifest.specs.Fields.{has_exactly, entry_of, entry_with, is_entry, inode_field, path_field, path_of_text, text_field}
+use Rattle.ovl_manifest.specs.Fields.{entry_of, entry_with, is_entry, inode_field, path_field, path_of_text, text_field}
 
 -- ---- a path that is read keeps the limits
 
@@ -131,28 +128,7 @@ one_more before (Some entry) entries is = by (entry_fault before entry) refl
     by None e = let made : Ok (before ++ entry ∷ []) ≡ Ok entries = rw (e, entry_after) at is in let same : before ++ entry ∷ [] ≡ entries = cc in ap length (sym same) ∙ length-append before (entry ∷ [])
     by (Some fault) e = let bad : Err fault ≡ Ok entries = rw (e, entry_after) at is in cc
 
-through : (before mid : Entries) (one more : List (Option Entry)) → entries_after before one ≡ Ok mid → entries_after before (one ++ more) ≡ entries_after mid more
-through before mid [] more is = let same : before ≡ mid = cc in ap (λ (es : Entries). entries_after es more) same
-through before mid (first ∷ one) more is = by (λ entries. through entries mid one more) (entry_after before first) refl
-  where
-    by : ((entries : Entries) → entries_after entries one ≡ Ok mid → entries_after entries (one ++ more) ≡ entries_after mid more) → (r : Result Entries LayerFault) → entry_after before first ≡ r → entries_after before ((first ∷ one) ++ more) ≡ entries_after mid more
-    by rest (Ok entries) e = rw (e, entries_after) (rest entries (rw (e, entries_after) at is))
-    by rest (Err fault) e = let bad : Err fault ≡ Ok mid = rw (e, entries_after) at is in cc
-
--- the fault of one result is that of another which fails with it
-pub same_fault : (one other : Result Entries LayerFault) → ((fault : LayerFault) → one ≡ Err fault → other ≡ Err fault) → (fault : LayerFault) → IsFaultOf one fault → IsFaultOf other fault
-same_fault one other fails NotJson is = fails NotJson is
-same_fault one other fails Shape is = fails Shape is
-same_fault one other fails WrongVersion is = fails WrongVersion is
-same_fault one other fails Count is = fails Count is
-same_fault one other fails (WrongEntry n) is = fails (WrongEntry n) is
-same_fault one other fails (Order n) is = fails (Order n) is
-same_fault one other fails (NoParent n) is = fails (NoParent n) is
-same_fault one other fails Root is = fails Root is
-same_fault one other fails (Escaped n) is = fails (Escaped n) is
-same_fault one other fails Memory is = tt
-
--- and the fault that is stated is told
+-- the fault that is stated is told
 pub is_told : (stated : Result Entries LayerFault) (fault : LayerFault) → stated ≡ Err fault → IsFaultOf stated fault
 is_told stated NotJson is = is
 is_told stated Shape is = is
@@ -165,69 +141,7 @@ is_told stated Root is = is
 is_told stated (Escaped n) is = is
 is_told stated Memory is = tt
 
--- ---- the entries of values, one after another
-
-abbrev pub stated_of : Version → List Value → List (Option Entry)
-stated_of version values = stated_entries version (items_view values)
-
-stated_of-append : (version : Version) (one other : List Value) → stated_of version (one ++ other) ≡ stated_of version one ++ stated_of version other
-stated_of-append version [] other = refl
-stated_of-append version (value ∷ one) other = ap (λ rest. entry_of version (view value) ∷ rest) (stated_of-append version one other)
-
-pub length-stated_of : (version : Version) (values : List Value) → length (stated_of version values) ≡ length values
-length-stated_of version [] = refl
-length-stated_of version (value ∷ values) = ap suc (length-stated_of version values)
-
-split_here : (values : List Value) (k : ℕ) (d : Value) → k < length values → take k values ++ get_or values k d ∷ drop (suc k) values ≡ values
-split_here [] k d inside = absurd (omega arith)
-split_here (value ∷ values) zero d inside = refl
-split_here (value ∷ values) (suc k) d inside = ap (λ rest. value ∷ rest) (split_here values k d (omega arith))
-
-plus_one : (k : ℕ) → k + 1 ≡ suc k
-plus_one k = omega arith
-
-take_next : (values : List Value) (k : ℕ) (d : Value) → k < length values → take (suc k) values ≡ take k values ++ get_or values k d ∷ []
-take_next [] k d inside = absurd (omega arith)
-take_next (value ∷ values) zero d inside = refl
-take_next (value ∷ values) (suc k) d inside = ap (λ rest. value ∷ rest) (take_next values k d (omega arith))
-
-module _ (version : Version) (values : List Value) (k : ℕ) (value : Value) (inside : k < length values) (is : value ≡ get_or values k value) (before : Entries) (so_far : entries_after [] (stated_of version (take k values)) ≡ Ok before) where
-  pub further : (entries : Entries) → entry_after before (entry_of version (view value)) ≡ Ok entries → entries_after [] (stated_of version (take (k + 1) values)) ≡ Ok entries
-  further entries one =
-      let next : take (k + 1) values ≡ take k values ++ value ∷ [] = ap (λ (n : ℕ). take n values) (plus_one k) ∙ (take_next values k value inside ∙ ap (λ (v : Value). take k values ++ v ∷ []) (sym is)) in
-      ap (λ (vs : List Value). entries_after [] (stated_of version vs)) next
-      ∙ (ap (entries_after []) (stated_of-append version (take k values) (value ∷ []))
-      ∙ (through [] before (stated_of version (take k values)) (stated_of version (value ∷ [])) so_far ∙ rw (one, entries_after) refl))
-
-  pub fails_here : (fault : LayerFault) → IsFaultOf (entry_after before (entry_of version (view value))) fault → IsFaultOf (entries_after [] (stated_of version values)) fault
-  fails_here fault told = same_fault (entry_after before (entry_of version (view value))) (entries_after [] (stated_of version values)) at fault told
-    where
-      whole : take k values ++ value ∷ drop (suc k) values ≡ values
-      whole = ap (λ (v : Value). take k values ++ v ∷ drop (suc k) values) is ∙ split_here values k value inside
-
-      at : (fault : LayerFault) → entry_after before (entry_of version (view value)) ≡ Err fault → entries_after [] (stated_of version values) ≡ Err fault
-      at fault fails =
-          ap (λ (vs : List Value). entries_after [] (stated_of version vs)) (sym whole)
-          ∙ (ap (entries_after []) (stated_of-append version (take k values) (value ∷ drop (suc k) values))
-          ∙ (through [] before (stated_of version (take k values)) (stated_of version (value ∷ drop (suc k) values)) so_far ∙ rw (fails, entries_after) refl))
-
--- ---- the fields of a manifest
-
-version_read : (number_of : Data) (version : Version) (items : Items) → option_and_then version_of (option_and_then as_u64 (as_number number_of)) ≡ Some version → layer_of_fields (as_number number_of) (Some items) ≡ layer_of_entries (stated_entries version items)
-version_read (number (unsigned n)) version items is = ap (λ o. elim o as (λ _. Result Entries LayerFault) [ Some own ↦ layer_of_entries (stated_entries own items) | None ↦ Err WrongVersion ]) is
-version_read (number (negative n)) version items is = let bad : None ≡ Some version = is in cc
-version_read (number (float n)) version items is = let bad : None ≡ Some version = is in cc
-version_read null version items is = let bad : None ≡ Some version = is in cc
-version_read (boolean b) version items is = let bad : None ≡ Some version = is in cc
-version_read (string s) version items is = let bad : None ≡ Some version = is in cc
-version_read (array a) version items is = let bad : None ≡ Some version = is in cc
-version_read (object o) version items is = let bad : None ≡ Some version = is in cc
-
-pub value_read : (version : Version) (value named entries : Data) (items : Items) → has_exactly (codes "entries" ∷ codes "overlay-layer" ∷ []) value ≡ true → get (codes "overlay-layer") value ≡ Some named → get (codes "entries") value ≡ Some entries → as_array entries ≡ Some items → option_and_then version_of (option_and_then as_u64 (as_number named)) ≡ Some version → layer_of_value value ≡ layer_of_entries (stated_entries version items)
-value_read version value named entries items members has_version has_entries listed one =
-    rw members (ap (λ (o : Option Data). layer_of_fields (option_and_then as_number o) (option_and_then as_array (get (codes "entries") value))) has_version
-    ∙ (ap (λ (o : Option Data). layer_of_fields (as_number named) (option_and_then as_array o)) has_entries
-    ∙ (ap (layer_of_fields (as_number named)) listed ∙ version_read named version items one)))
+-- ---- how many entries there are
 
 pub counted : (stated : List (Option Entry)) → 1 ≤ length stated → length stated ≤ entry_limit → layer_of_entries stated ≡ entries_after [] stated
 counted stated some limit = rw (none, most) refl

@@ -4,6 +4,7 @@ pub mod TreeFalls
 pub mod Versions
 pub mod Fields
 pub mod Manifest
+pub mod Lists
 pub mod Text
 pub mod TextPaths
 pub mod Drafts

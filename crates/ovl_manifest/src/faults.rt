@@ -1,6 +1,7 @@
 ghost use Rattle.std.specs.Prelude.{◌≡◌};
 ghost use Rattle.ovl_manifest.specs.declared.faults.LayerFault.TheVariants.{Memory};
 
+use ovl_json::Unread;
 use std::alloc::AllocError;
 use thiserror::Error;
 
@@ -44,6 +45,14 @@ impl From<AllocError> for LayerFault {
     ghost from_gives = { λ _ fault. fault ≡ Memory };
 
     fn from(_: AllocError) -> LayerFault {
+        LayerFault::Memory
+    }
+}
+
+impl From<Unread> for LayerFault {
+    ghost from_gives = { λ _ fault. fault ≡ Memory };
+
+    fn from(_: Unread) -> LayerFault {
         LayerFault::Memory
     }
 }

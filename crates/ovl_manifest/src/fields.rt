@@ -2,9 +2,9 @@ ghost use Rattle.std.specs.Prelude.{◌≡◌, ◌≤◌, false, Some, None, IfO
 ghost use Rattle.std.specs.Option.{option_map};
 ghost use Rattle.std.specs.List.{list_all};
 ghost use Rattle.std.specs.Str.{bytes_eq};
-ghost use Rattle.serde_json.specs.Data.{string};
+ghost use Rattle.serde_json.specs.Data.{Data, string};
 ghost use Rattle.serde_json.specs.Find.{get};
-ghost use Rattle.serde_json.specs.View.{view, members_view};
+ghost use Rattle.ovl_json.specs.Views.{text_view, texts_view, object_view as view};
 ghost use Rattle.ovl_manifest.specs.Fields.{has_exactly, own_members as kind_own_members, text_field, natural_field, seconds_field, nsec_field, path_field, attribute_after, attributes_after, attributes_field, blob_field, file_kind, kind_named, kind_field, inode_with, inode_field, entry_of};
 
 use crate::versions::Version;
@@ -13,8 +13,8 @@ use ovl_inode::{
     AttrFault, Attrs, Digest, Inode, Kind, MODE_LIMIT, NSEC_LIMIT, SIZE_LIMIT, Target,
     are_lower_digits, sound,
 };
+use ovl_json::{Object as Value, Texts};
 use ovl_names::{Path, PathFault};
-use serde_json::{Map, Value};
 use std::alloc::{AllocError, Global};
 
 /// The entry that a member of `entries` states, and `None` where it states none.
@@ -171,7 +171,7 @@ fn natural(value: &Value, name: &str, limit: u64) -> Option<u64>
     ensures value { result ≡ natural_field name.now limit (view value.now) }
     ensures bound { IfSome result (λ number. number ≤ limit) }
 {
-    let number = value.get(name)?.as_u64()?;
+    let number = value.get(name)?.as_number()?.as_u64()?;
     if number <= limit { Some(number) } else { None }
 }
 
@@ -179,7 +179,7 @@ fn natural(value: &Value, name: &str, limit: u64) -> Option<u64>
 fn seconds(value: &Value, name: &str) -> Option<i64>
     ensures { result ≡ seconds_field name.now (view value.now) }
 {
-    value.get(name)?.as_i64()
+    value.get(name)?.as_number()?.as_i64()
 }
 
 // Nanoseconds past the second; none are stated in the first version.
@@ -202,18 +202,18 @@ fn read_attributes(alloc: Global, value: &Value) -> Result<Option<Attrs>, AllocE
         return Ok(None);
     };
     match value.as_object() {
-        Some(members) => read_members(alloc, members),
+        Some(texts) => read_texts(alloc, texts),
         None => Ok(None),
     }
 }
 
-// The attributes that the members state.
-fn read_members(alloc: Global, members: &Map<String, Value>) -> Result<Option<Attrs>, AllocError>
-    ensures { IfOk result (λ attrs. attrs ≡ attributes_after [] (members_view members.now.entries)) }
+// The attributes that the texts of an object state.
+fn read_texts(alloc: Global, texts: &Texts<'_>) -> Result<Option<Attrs>, AllocError>
+    ensures { IfOk result (λ attrs. attrs ≡ attributes_after [] (texts_view texts.now.entries)) }
 {
     let mut attrs = Attrs::new(alloc);
-    for (name, value) in members {
-        if !put_attribute(alloc, &mut attrs, name.as_str(), value)? {
+    for (name, text) in texts {
+        if !put_attribute(alloc, &mut attrs, *name, *text)? {
             return Ok(None);
         }
     }
@@ -225,13 +225,13 @@ fn put_attribute(
     alloc: Global,
     attrs: &mut Attrs,
     name: &str,
-    value: &Value,
+    text: Option<&str>,
 ) -> Result<bool, AllocError>
     ensures { IfOk result (λ put. MatchBool put
-        (attribute_after attrs.old name.now (view value.now) ≡ Some attrs.new)
-        (attribute_after attrs.old name.now (view value.now) ≡ None)) }
+        (attribute_after attrs.old name.now (text_view text.entry) ≡ Some attrs.new)
+        (attribute_after attrs.old name.now (text_view text.entry) ≡ None)) }
 {
-    match value.as_str() {
+    match text {
         Some(digits) => put_digits(alloc, attrs, name, digits),
         None => Ok(false),
     }
@@ -275,14 +275,11 @@ fn own_members(kind: &Kind) -> &'static [&'static str]
     }
 }
 
-/// Whether the value is an object of these members and those, each of another name, and no more.
+/// Whether the object has these members and those, each of another name, and no more.
 pub(crate) fn is_made_of(value: &Value, own: &[&str], common: &[&str]) -> bool
     ensures { result ≡ has_exactly (map (λ name. name.now) own.now ++ map (λ name. name.now) common.now) (view value.now) }
 {
-    let Some(members) = value.as_object() else {
-        return false;
-    };
-    if members.len() != own.len() + common.len() {
+    if value.len() != own.len() + common.len() {
         return false;
     }
     has_all(value, own) && has_all(value, common)

@@ -9,6 +9,7 @@ mod drafts;
 mod entries;
 mod faults;
 mod fields;
+mod lists;
 mod plain_runs;
 mod reading;
 mod sheet_drafts;

@@ -1,0 +1,67 @@
+use Rattle.std.proofs.Common.{◌≡◌, ◌<◌, ◌≤◌, true, Some, None, length, refl, ap, sym, ◌∙◌, subst, arith}
+use Rattle.std.specs.Prelude.{is_some, IsSomeAnd}
+use Rattle.json.specs.Json.{read_key}
+use Rattle.serde_json.specs.Data.{Members, no_members, object, put}
+use Rattle.serde_json.specs.Events.{members_len}
+use Rattle.ovl_json.specs.Kept.{kept, members_kept, member_limit, object_kept}
+use Rattle.ovl_json.specs.Reading.{read_value, read_members}
+use Rattle.ovl_json.specs.Views.{member_view, members_view}
+use Rattle.ovl_json.proofs.Turns.{IsMember, member_turn, member_end}
+use Rattle.ovl_json.proofs.ViewLemmas.{one_more_member, too_many, few_kept, count_kept}
+use Rattle.ovl_json.proofs.objects.read_members.Goals as goal
+
+pub read_member-requires : goal.read_member-requires
+read_member-requires c =
+    let l = c.loop-members in
+    let key : read_key l.reader ≡ Some (Some c.in-Some.name.now, c.next_key.new.self) = grind arith in
+    let some : is_some (read_members c.args.depth l.invariant.0 l.reader) ≡ true = ap is_some l.invariant.1 ∙ c.requires in
+    ap is_some (member_turn c.args.depth l.invariant.0 l.reader c.next_key.new.self c.in-Some.name.now key some).one.read
+
+pub returns-then-len-gt-MEMBER_LIMIT : goal.returns-then-len-gt-MEMBER_LIMIT
+returns-then-len-gt-MEMBER_LIMIT c =
+    let l = c.loop-members in
+    let key : read_key l.reader ≡ Some (Some c.in-Some.name.now, c.next_key.new.self) = grind arith in
+    let some : is_some (read_members c.args.depth l.invariant.0 l.reader) ≡ true = ap is_some l.invariant.1 ∙ c.requires in
+    let turn = member_turn c.args.depth l.invariant.0 l.reader c.next_key.new.self c.in-Some.name.now key some in
+    let own : (turn.one.rest ≡ c.read_member.new.reader) × (member_view c.in_ok-member.member ≡ kept turn.one.datum) =
+    rw turn.one.read at c.in_ok-member.ensures in
+    let found : Members = put c.in-Some.name.now turn.one.datum l.invariant.0 in
+    let are : members_view c.insert.new.self.entries ≡ members_kept found =
+    ap members_view c.in_ok-insert.ensures.entries ∙ one_more_member l.invariant.0 l.members.entries c.in-Some.name c.in_ok-member.member turn.one.datum l.invariant.2 own.1 in
+    let many : member_limit < members_len found = omega (arith, count_kept found c.insert.new.self.entries are, c.len.ensures.len, c.if-len-gt-MEMBER_LIMIT.true) in
+    let all : read_members c.args.depth no_members c.args.reader.now ≡ read_members c.args.depth found c.read_member.new.reader =
+    sym l.invariant.1 ∙ (turn.more ∙ ap (read_members c.args.depth found) own.0) in
+    subst (λ o. IsSomeAnd o (λ read. (read.1 ≡ c.pass_members.new.reader) × (None ≡ object_kept (object read.0)))) (sym all)
+    (too_many c.args.depth found c.read_member.new.reader c.pass_members.new.reader many (sym (ap is_some all) ∙ c.requires) c.in_ok-pass_members.ensures.value)
+
+pub loop-members-smaller : goal.loop-members-smaller
+loop-members-smaller c =
+    let l = c.loop-members in
+    let key : read_key l.reader ≡ Some (Some c.in-Some.name.now, c.next_key.new.self) = grind arith in
+    let some : is_some (read_members c.args.depth l.invariant.0 l.reader) ≡ true = ap is_some l.invariant.1 ∙ c.requires in
+    let turn = member_turn c.args.depth l.invariant.0 l.reader c.next_key.new.self c.in-Some.name.now key some in
+    let own : (turn.one.rest ≡ c.read_member.new.reader) × (member_view c.in_ok-member.member ≡ kept turn.one.datum) =
+    rw turn.one.read at c.in_ok-member.ensures in
+    rw (← own.0) turn.shorter
+
+pub loop-members-preserved : goal.loop-members-preserved
+loop-members-preserved c =
+    let l = c.loop-members in
+    let key : read_key l.reader ≡ Some (Some c.in-Some.name.now, c.next_key.new.self) = grind arith in
+    let some : is_some (read_members c.args.depth l.invariant.0 l.reader) ≡ true = ap is_some l.invariant.1 ∙ c.requires in
+    let turn = member_turn c.args.depth l.invariant.0 l.reader c.next_key.new.self c.in-Some.name.now key some in
+    let own : (turn.one.rest ≡ c.read_member.new.reader) × (member_view c.in_ok-member.member ≡ kept turn.one.datum) =
+    rw turn.one.read at c.in_ok-member.ensures in (
+      put c.in-Some.name.now turn.one.datum l.invariant.0,
+      ap (read_members c.args.depth (put c.in-Some.name.now turn.one.datum l.invariant.0)) (sym own.0) ∙ (sym turn.more ∙ l.invariant.1),
+      ap members_view c.in_ok-insert.ensures.entries ∙ one_more_member l.invariant.0 l.members.entries c.in-Some.name c.in_ok-member.member turn.one.datum l.invariant.2 own.1,
+      omega (arith, c.len.ensures.len, c.if-len-gt-MEMBER_LIMIT.false),
+    )
+
+pub returns : goal.returns
+returns c =
+    let l = c.loop-members in
+    let key : read_key l.reader ≡ Some (None, c.next_key.new.self) = grind arith in
+    let all : read_members c.args.depth no_members c.args.reader.now ≡ Some (l.invariant.0, c.next_key.new.self) =
+    sym l.invariant.1 ∙ member_end c.args.depth l.invariant.0 l.reader c.next_key.new.self key in
+    rw all (refl, few_kept l.invariant.0 l.members.entries l.invariant.2 l.invariant.3)

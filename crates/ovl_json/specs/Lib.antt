@@ -1,0 +1,5 @@
+pub mod Numbers
+pub mod Reading
+pub mod Kept
+pub mod Views
+pub mod Beginnings

@@ -1,0 +1,13 @@
+//! JSON of which no more is held at a time than what its reader needs.
+#![tactic(auto)]
+
+mod beginnings;
+mod numbers;
+mod objects;
+mod passing;
+mod texts;
+
+pub use beginnings::{Beginning, begin};
+pub use objects::{MEMBER_LIMIT, Member, Object, Texts, read_object};
+pub use passing::{Unread, pass_items, pass_members};
+pub use texts::{MAX_DEPTH, is_json};
