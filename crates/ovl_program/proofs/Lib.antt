@@ -7,5 +7,4 @@ pub mod Options
 pub mod Outcomes
 pub mod Performed
 pub mod Taken
-pub mod Telling
 pub mod Unread
