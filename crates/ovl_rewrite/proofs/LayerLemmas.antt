@@ -1,11 +1,11 @@
 -- From the parcels to the new layer.
 use Rattle.std.proofs.Common.{◌≡◌, ℕ, suc, ◌+◌, ◌-◌, Bool, true, false, cond, Option, Some, None, List, [], ◌∷◌, ◌++◌, length, map, refl, sym, ap, ◌∙◌, subst, append_assoc, arith}
-use Rattle.std.specs.Prelude.{Result, Ok, Err}
+use Rattle.std.specs.Prelude.{Result, Ok, Err, nat_lt}
 use Rattle.std.proofs.lemmas.List.{append-nil}
 use Rattle.ovl_names.specs.Order.{ascends}
 use Rattle.ovl_inode.specs.declared.inodes.Inode.{Inode}
-use Rattle.ovl_manifest.specs.Layers.{Entry, Entries, entry_cmp, IsLayer}
-use Rattle.ovl_manifest.specs.Manifest.{entry_fault, entries_after, is_miscounted, is_statable, stated_pair, layer_of_pairs, IsFaultOf}
+use Rattle.ovl_manifest.specs.Layers.{Entry, Entries, entry_cmp, entry_limit, IsLayer}
+use Rattle.ovl_manifest.specs.Manifest.{entry_fault, entry_after, entries_after, is_miscounted, is_statable, stated_pair, layer_of_pairs, IsFaultOf}
 use Rattle.ovl_manifest.specs.declared.faults.LayerFault.{LayerFault}
 use Rattle.ovl_manifest.specs.declared.faults.LayerFault.TheVariants.{NotJson, Shape, Version, Count, Entry as WrongEntry, Order, NoParent, Root, Escaped, Memory}
 use Rattle.ovl_manifest.specs.Builders.{pair_after}
@@ -60,6 +60,21 @@ layer-refused entries fault is told = told-memory entries fault (subst (λ (r : 
 
 pub next-refused : (before : Entries) (pair : Entry) (more : Entries) (fault : LayerFault) → IsLayer (before ++ pair ∷ more) → IsFaultOf (pair_after before pair) fault → fault ≡ Memory
 next-refused before pair more fault is told = told-memory (before ++ pair ∷ []) fault (subst (λ (r : Result Entries LayerFault). IsFaultOf r fault) (pair-taken before pair more is) told)
+
+-- ---- what is there with one more entry
+
+pub entry-given : (before : Entries) (pair : Entry) (new : Entries) → entry_after before (stated_pair pair) ≡ Ok new → new ≡ before ++ pair ∷ []
+entry-given before pair new e = sym (pairs-given before (pair ∷ []) new (ap after e))
+  where
+    after : Result Entries LayerFault → Result Entries LayerFault
+    after r = elim r as (λ _. Result Entries LayerFault) [ Ok entries ↦ entries_after entries [] | Err found ↦ Err found ]
+
+pub pair-given : (before : Entries) (pair : Entry) (new : Entries) → pair_after before pair ≡ Ok new → new ≡ before ++ pair ∷ []
+pair-given before pair new e = by (nat_lt (length before) entry_limit) e
+  where
+    by : (b : Bool) → cond b (entry_after before (stated_pair pair)) (Err Count) ≡ Ok new → new ≡ before ++ pair ∷ []
+    by true e = entry-given before pair new e
+    by false e = let bad : Err Count ≡ Ok new = e in cc
 
 -- ---- the entries that the parcels tell
 

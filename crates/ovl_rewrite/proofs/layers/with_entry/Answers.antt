@@ -1,7 +1,10 @@
 use Rattle.std.proofs.Common.{◌≡◌}
 use Rattle.ovl_rewrite.specs.declared.faults.RewriteFault.TheVariants.{LimitOut}
-use Rattle.ovl_rewrite.proofs.LayerLemmas.{next-refused}
+use Rattle.ovl_rewrite.proofs.LayerLemmas.{next-refused, pair-given}
 use Rattle.ovl_rewrite.proofs.layers.with_entry.Goals as goal
+
+pub returns-in-Ok-clause-entries : goal.returns-in-Ok-clause-entries
+returns-in-Ok-clause-entries c = pair-given c.args.builder (c.args.path, c.args.inode) c.in-Ok.more c.in-Ok.ensures
 
 pub returns-in-Err-clause-limit : goal.returns-in-Err-clause-limit
 returns-in-Err-clause-limit c out more is =
