@@ -29,7 +29,7 @@ from pathlib import Path
 from growth import REDIRECT, First, entry, write
 
 SOURCE = Path(__file__).resolve().parent / "refuse.c"
-COMMANDS = ("show", "fsck", "vacuum", "deref", "merge")
+COMMANDS = ("show", "fsck", "vacuum", "deref", "merge", "fsck --any-size", "merge --any-size")
 # What is refused, and how refuse.c is told so.
 THREAD = "the start of a thread"
 WAYS = {"a request": {"REFUSE": "memory"}, "a request and all after it": {"REFUSE": "memory", "REFUSE_ON": ""},
@@ -130,9 +130,10 @@ class Sweep:
             it.mkdir()
         for name, contents in stack.blobs.items():
             (blobs / name).write_bytes(contents)
-        words = [program, self.command, "--workers", str(self.workers)]
-        words += ["--blobs", str(blobs)] if self.command != "show" else []
-        words += ["--out", str(room / "new")] if self.command not in ("show", "fsck") else []
+        what, *more = self.command.split()
+        words = [program, what, *more, "--workers", str(self.workers)]
+        words += ["--blobs", str(blobs)] if what != "show" else []
+        words += ["--out", str(room / "new")] if what not in ("show", "fsck") else []
         return words + write(str(folder), stack.layers)
 
 

@@ -17,7 +17,7 @@ _HERE = Path(__file__).resolve().parents[1]
 _BUILT = _HERE / "crates" / NAME / "out" / NAME  # in the repository
 _INSTALLED = _HERE.parents[1] / "bin" / NAME  # of PREFIX/lib/ovl_layers, where `install` puts this converter
 # What each command is told that reads contents.
-_WORDS_ON_CONTENTS: tuple[str, ...] = ()
+_WORDS_ON_CONTENTS: tuple[str, ...] = ("--any-size",)
 _FAULTY = 1
 _ENDING = (signal.SIGINT, signal.SIGTERM, signal.SIGHUP)
 _LAST_BYTES = 4_096

@@ -325,6 +325,69 @@ most=
 each open k.json 4 prints 0 "$clean" fsck --blobs blobs root.json k.json
 each open "/$abc" 4 prints 0 "$clean" fsck --blobs blobs k.json
 
+# Contents in parts: names that no layer has aren't looked at, and there is no limit of their bytes. What isn't a regular file
+# is missing; what can't be read is told.
+parts=(fsck --any-size --blobs)
+prints 0 "$clean" "${parts[@]}" blobs k.json
+prints 0 "$clean" "${parts[@]}" blobs/ --workers 1 root.json k.json
+prints 0 "$clean" "${parts[@]}" linked --workers 64 k.json
+prints 1 'fault blob-digest 0 /k\nfaults 1 notes 0\n' "${parts[@]}" wrong k.json
+prints 1 'fault blob-missing 1 /k\nfaults 1 notes 0\n' "${parts[@]}" none root.json k.json
+prints 1 'fault blob-missing 0 /k\nfaults 1 notes 0\n' "${parts[@]}" bad.utf8 k.json
+prints 0 "$clean" "${parts[@]}" large root.json
+unlike='fault blob-size 0 /k\nfault blob-digest 0 /k\nfaults 2 notes 0\n'
+prints 1 "$unlike" "${parts[@]}" large k.json
+mkdir longest && truncate -s 268435457 "longest/$abc"
+prints 1 "$unlike" "${parts[@]}" longest k.json
+refuses 3 "cannot read longest/$abc" fsck --blobs longest k.json
+rm -r longest
+refuses 3 'cannot read missing.json' "${parts[@]}" missing missing.json
+refuses 3 'layer 0: wrong shape' "${parts[@]}" missing shape.json
+for path in missing missing/ root.json dangling.json round.json socket.json pipe.json /dev/null '' "$long_name"; do
+    refuses 3 "cannot read $path" "${parts[@]}" "$path" k.json
+done
+if ((EUID != 0)); then
+    refuses 3 "cannot read closed/$abc" "${parts[@]}" closed k.json
+    chmod 000 closed
+    refuses 3 "cannot read closed/$abc" "${parts[@]}" closed k.json
+    chmod 700 closed
+fi
+for kind in 'mkfifo' 'socket_at' 'mkdir' 'ln -s ../root.json' 'ln -s lost' 'ln -s /dev/zero'; do
+    mkdir odd
+    # shellcheck disable=SC2086
+    (cd odd && $kind "$abc")
+    prints 1 'fault blob-missing 0 /k\nfaults 1 notes 0\n' "${parts[@]}" odd k.json
+    rm -r odd
+done
+if mkdir odd && mknod "odd/$abc" c 1 5 2> told; then
+    prints 1 'fault blob-missing 0 /k\nfaults 1 notes 0\n' "${parts[@]}" odd k.json
+fi
+rm -r odd
+each open "/$abc" '5 12 13 24' refuses 3 "cannot read blobs/$abc" "${parts[@]}" blobs k.json
+each open "/$abc" 4 prints 0 "$clean" "${parts[@]}" blobs k.json
+each stat "/$abc" '4 5 12 13' refuses 3 "cannot read blobs/$abc" "${parts[@]}" blobs k.json
+each stat "/$abc" 2 prints 1 'fault blob-missing 0 /k\nfaults 1 notes 0\n' "${parts[@]}" blobs k.json
+each stat blobs '2 4 5 12 13' refuses 3 'cannot read blobs' "${parts[@]}" blobs k.json
+for most in 1 2 100; do
+    each read "/$abc" '4 5 12' refuses 3 "cannot read blobs/$abc" "${parts[@]}" blobs k.json
+    over='failing read no-file 0 0' prints 0 "$clean" "${parts[@]}" blobs k.json
+done
+most=
+# (It grows, shrinks and is emptied while it is read, and never has the three bytes of its name.)
+mkdir restless new && printf abcd > "restless/$abc"
+(while :; do
+    for length in 5000000 70000 1 4; do truncate -s "$length" "restless/$abc"; done
+done) &
+changes=$!
+for workers in 1 2 3 4 5 6 7 8; do
+    prints 1 "$unlike" "${parts[@]}" restless --workers "$workers" k.json
+    prints 1 "${unlike//0 \/k/1 /k}" vacuum --any-size --blobs restless --out new root.json k.json
+done
+kill "$changes" && wait "$changes" 2> told
+rm -r restless
+gives new
+rmdir new
+
 # The command.
 refuses 3 'layer 1: not JSON' show root.json empty.json
 refuses 3 'layer 0: wrong shape' fsck --blobs none shape.json
@@ -356,6 +419,9 @@ misfits fsck root.json
 misfits fsck --blobs none
 misfits fsck --blobs
 misfits fsck --blobs none --out none root.json
+misfits fsck --blobs none --any-size --any-size root.json
+misfits fsck --blobs none --any-size=true root.json
+misfits show --any-size root.json
 misfits show --unknown root.json
 misfits unknown root.json
 misfits ''

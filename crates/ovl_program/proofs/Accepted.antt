@@ -1,5 +1,5 @@
 -- Words that nothing refuses name a command, and give it its options.
-use Rattle.std.proofs.Common.{◌≡◌, ◌∙◌, ◌<◌, ◌||◌, ℕ, Bool, true, false, not, cond, refl, sym, ap, subst, arith, inl, inr, List, [], ◌∷◌, ◌++◌, codes, fold, find, length, Option, Some, None, is_some}
+use Rattle.std.proofs.Common.{◌≡◌, ◌∙◌, ◌<◌, ◌||◌, ◌⊎◌, ℕ, Bool, true, false, not, cond, refl, sym, ap, subst, arith, inl, inr, List, [], ◌∷◌, ◌++◌, codes, fold, find, length, Option, Some, None, is_some}
 use Rattle.std.specs.Prelude.{IfSome, option_and_then, option_map, slice_get}
 use Rattle.std.specs.List.{list_any}
 use Rattle.std.specs.Option.{option_map_or}
@@ -8,7 +8,7 @@ use Rattle.std.proofs.lemmas.Slice.Eq.{bytes_eq-Decides}
 use Rattle.clap.specs.Facts.{explicit_source}
 use Rattle.clap.specs.Kinds.{Kinds, check_kinds}
 use Rattle.clap.specs.Values.{IsUnsignedIn}
-use Rattle.clap.specs.Walk.{Names, Row, Rule, Text, all_of, answers_to, arg_by_id, default_rows, first_of, has_row, more_values, nothing_held, reading_by, row_text, rows_after, settled, stop_after, walk, walk_from, with_default, with_values}
+use Rattle.clap.specs.Walk.{Names, Row, Rule, Text, all_of, answers_to, arg_by_id, default_rows, first_of, has_row, more_values, nothing_held, one_of, reading_by, row_text, rows_after, settled, stop_after, walk, walk_from, with_default, with_values}
 use Rattle.clap.specs.Simple.{Shape, built, built_leaf, entered, filled, inherited, label_of, marked_built, names_of, rows_at, subcommand_of, with_leaf_noted}
 use Rattle.clap.specs.Takes.{is_given, value_passes}
 use Rattle.clap.specs.Faults.{check_fault, entered_fault, fault_of, level_fault, settle_fault, walk_fault}
@@ -16,10 +16,10 @@ use Rattle.clap.specs.declared.parser.matches.ValueSource.{ValueSource}
 use Rattle.clap.specs.declared.parser.matches.ValueSource.TheVariants.{DefaultValue}
 use Rattle.clap.specs.declared.builder.value_parser.Reading.{Reading}
 use Rattle.clap.specs.declared.builder.value_parser.Reading.TheVariants.{AsWritten}
-use Rattle.clap.specs.declared.builder.value_parser.ValueParser.TheVariants.{NonEmptyString, Unsigned}
+use Rattle.clap.specs.declared.builder.value_parser.ValueParser.TheVariants.{Bool as Boolean, NonEmptyString, Unsigned}
 use Rattle.clap.proofs.ValueTestLemmas.{accepts-Accepts}
-use Rattle.ovl_program.specs.Commands.{blobs_rule, data_layers_rule, fsck_shape, out_rule, show_shape, rewriting_shape, tool_app, workers_rule}
-use Rattle.ovl_program.specs.Lines.{HasNumber, IsGiven, name_of}
+use Rattle.ovl_program.specs.Commands.{any_size_rule, blobs_rule, data_layers_rule, fsck_shape, out_rule, show_shape, rewriting_shape, tool_app, workers_rule}
+use Rattle.ovl_program.specs.Lines.{HasNumber, IsFlag, IsGiven, name_of}
 use Rattle.ovl_engine.specs.declared.requests.Command.{Command}
 use Rattle.ovl_engine.specs.Commands.{checks, makes_layers}
 use Rattle.ovl_engine.specs.declared.requests.Command.TheVariants.{Show, Fsck, Vacuum, Deref, Merge}
@@ -148,10 +148,10 @@ row_of_rule c id a rows r fit found rule =
 -- ---- the options
 
 -- an id that no rule has is in no row
-absent : (c : List Rule) (id : Text) (rows : List Row) → AllFit c rows → arg_by_id c id ≡ None → first_of id rows ≡ None
-absent c id rows fit none = go (find (λ r. bytes_eq r.id id) rows) refl
+absent_by : {Y : Type 0} (read : Row → Option Y) (c : List Rule) (id : Text) (rows : List Row) → AllFit c rows → arg_by_id c id ≡ None → option_and_then read (find (λ r. bytes_eq r.id id) rows) ≡ None
+absent_by read c id rows fit none = go (find (λ r. bytes_eq r.id id) rows) refl
   where
-    go : (o : Option Row) → find (λ r. bytes_eq r.id id) rows ≡ o → option_and_then (λ r. slice_get r.values 0) o ≡ None
+    go : (o : Option Row) → find (λ r. bytes_eq r.id id) rows ≡ o → option_and_then read o ≡ None
     go None found = refl
     go (Some r) found =
         let fits = each_find (Fits c) (λ r. bytes_eq r.id id) rows r found fit in
@@ -159,6 +159,9 @@ absent c id rows fit none = go (find (λ r. bytes_eq r.id id) rows) refl
         let here : arg_by_id c r.id ≡ None = ap (arg_by_id c) is ∙ none in
         let own = fits.1 in
         cc
+
+absent : (c : List Rule) (id : Text) (rows : List Row) → AllFit c rows → arg_by_id c id ≡ None → first_of id rows ≡ None
+absent c id rows fit none = absent_by (λ r. slice_get r.values 0) c id rows fit none
 
 given_found : (o : Option Row) → option_map_or (λ r. explicit_source r.source) o false ≡ true → (r : Row) × (o ≡ Some r)
 given_found None e = cc
@@ -202,6 +205,27 @@ number_given c id a low high rows fit rule written spells there =
     let first = row_of_rule c id a rows found.0 fit found.1 rule in
     (first.0, ap (option_and_then row_text) found.1 ∙ first_text found.0 first.0 first.1 first.2 (first.4 ∙ written), spells first.0 first.3)
 
+-- a flag's value spells whether it is there
+bool_spelt : (v : Text) → (bytes_eq v (codes "true") || bytes_eq v (codes "false")) ≡ true → (v ≡ codes "true") ⊎ (v ≡ codes "false")
+bool_spelt v is = go (bytes_eq v (codes "true")) refl is
+  where
+    go : (b : Bool) → bytes_eq v (codes "true") ≡ b → (b || bytes_eq v (codes "false")) ≡ true → (v ≡ codes "true") ⊎ (v ≡ codes "false")
+    go true e is = inl ((bytes_eq-Decides v (codes "true")).0 e)
+    go false e is = inr ((bytes_eq-Decides v (codes "false")).0 is)
+
+flag_given : (c : List Rule) (rows : List Row) → AllFit c rows → arg_by_id c (codes "any-size") ≡ Some (filled any_size_rule) → IsFlag (codes "any-size") rows
+flag_given c rows fit rule = go (find (λ r. bytes_eq r.id (codes "any-size")) rows) refl
+  where
+    go : (o : Option Row) → find (λ r. bytes_eq r.id (codes "any-size")) rows ≡ o → IfSome (option_and_then row_text o) (λ text. (text ≡ codes "true") ⊎ (text ≡ codes "false"))
+    go None found = tt
+    go (Some r) found =
+        let first = row_of_rule c (codes "any-size") (filled any_size_rule) rows r fit found rule in
+        rw (first_text r first.0 first.1 first.2 first.4) (bool_spelt first.0 (accepts-Accepts false Boolean first.0 first.3))
+
+no_flag : (o : Option Text) → o ≡ None → option_map_or (λ text. bytes_eq text (codes "true")) o false ≡ true → ⊥
+no_flag None e given = cc
+no_flag (Some text) e given = cc
+
 workers_given : (c : List Rule) (rows : List Row) → AllFit c rows → arg_by_id c (codes "workers") ≡ Some (filled workers_rule) → has_row (codes "workers") rows ≡ true
     → HasNumber (codes "workers") 1 64 rows
 workers_given c rows fit rule there =
@@ -223,17 +247,17 @@ rest_of [] = []
 rest_of (a ∷ rest) = rest
 
 own_show : Each (IsOwn (leaf show_shape).rules) (leaf show_shape).rules
-own_show = ((refl, inl (inl refl, refl), (refl, tt)), ((refl, inl (inl refl, refl), (refl, tt)), ((refl, inl (inr refl, refl), tt), ((refl, inr refl, tt), tt))))
+own_show = ((refl, inl (inl refl, refl), (refl, tt)), ((refl, inl (inl refl, refl), (refl, tt)), ((refl, inl (inr refl, refl), tt), ((refl, inr (inl refl), tt), tt))))
 
 own_fsck : Each (IsOwn (leaf fsck_shape).rules) (leaf fsck_shape).rules
-own_fsck = ((refl, inl (inl refl, refl), tt), ((refl, inl (inl refl, refl), (refl, tt)), ((refl, inl (inl refl, refl), (refl, tt)), ((refl, inl (inr refl, refl), tt), ((refl, inr refl, tt), tt)))))
+own_fsck = ((refl, inl (inl refl, refl), tt), ((refl, inr (inr (refl, omega arith)), (refl, tt)), ((refl, inl (inl refl, refl), (refl, tt)), ((refl, inl (inl refl, refl), (refl, tt)), ((refl, inl (inr refl, refl), tt), ((refl, inr (inl refl), tt), tt))))))
 
 one_wanted : (a : Bool) → check_kinds false false (not a || false) ≡ [] → a ≡ true
 one_wanted true e = refl
 one_wanted false e = cc
 
 own_rewriting : (name : Text) → Each (IsOwn (leaf (rewriting_shape name)).rules) (leaf (rewriting_shape name)).rules
-own_rewriting name = ((refl, inl (inl refl, refl), tt), ((refl, inl (inl refl, refl), tt), ((refl, inl (inl refl, refl), (refl, tt)), ((refl, inl (inl refl, refl), (refl, tt)), ((refl, inl (inr refl, refl), tt), ((refl, inr refl, tt), tt))))))
+own_rewriting name = ((refl, inl (inl refl, refl), tt), ((refl, inr (inr (refl, omega arith)), (refl, tt)), ((refl, inl (inl refl, refl), tt), ((refl, inl (inl refl, refl), (refl, tt)), ((refl, inl (inl refl, refl), (refl, tt)), ((refl, inl (inr refl, refl), tt), ((refl, inr (inl refl), tt), tt)))))))
 
 two_wanted : (a b : Bool) → check_kinds false false (not a || (not b || false)) ≡ [] → (a ≡ true) × (b ≡ true)
 two_wanted true true e = (refl, refl)
@@ -264,6 +288,8 @@ show_given words e =
       blobs = ap is_some (absent rules (codes "blobs") rows fit refl);
       out = ap is_some (absent rules (codes "out") rows fit refl);
       out_named = absent_passes _ (first_of (codes "out") rows) (absent rules (codes "out") rows fit refl);
+      is_flag = absent_passes _ (one_of (codes "any-size") rows) (absent_by row_text rules (codes "any-size") rows fit refl);
+      any_size = λ given. absurd (no_flag (one_of (codes "any-size") rows) (absent_by row_text rules (codes "any-size") rows fit refl) given);
       layers = files_given rules (codes "layers") _ rows fit refl (one_wanted _ check);
     }
 
@@ -273,12 +299,12 @@ fsck_given words e =
     let fit = level_fits (leaf fsck_shape) words own_fsck e in
     let check = (level_parts (leaf fsck_shape) [] words false [] e).3 in
     let rows = rows_after rules [] words in
-    let before = with_default (settled rules (walk rules [] nothing_held words).held).rows (filled blobs_rule) in
+    let before = with_default (with_default (settled rules (walk rules [] nothing_held words).held).rows (filled blobs_rule)) (filled any_size_rule) in
     let after = with_default before (filled workers_rule) in
     let there : has_row (codes "workers") rows ≡ true =
-    defaults_stay (codes "workers") (rest_of (rest_of rules)) after (default_made (filled workers_rule) (codes "4") [] before refl) in
+    defaults_stay (codes "workers") (rest_of (rest_of (rest_of rules))) after (default_made (filled workers_rule) (codes "4") [] before refl) in
     let there_too : has_row (codes "data-layers") rows ≡ true =
-    defaults_stay (codes "data-layers") (rest_of (rest_of (rest_of rules))) (with_default after (filled data_layers_rule)) (default_made (filled data_layers_rule) (codes "0") [] after refl) in
+    defaults_stay (codes "data-layers") (rest_of (rest_of (rest_of (rest_of rules)))) (with_default after (filled data_layers_rule)) (default_made (filled data_layers_rule) (codes "0") [] after refl) in
     let wanted = two_wanted _ _ check in
     record {
       workers = workers_given rules rows fit refl there;
@@ -286,6 +312,8 @@ fsck_given words e =
       blobs = first_given rules (codes "blobs") (filled blobs_rule) rows fit refl wanted.0;
       out = ap is_some (absent rules (codes "out") rows fit refl);
       out_named = absent_passes _ (first_of (codes "out") rows) (absent rules (codes "out") rows fit refl);
+      is_flag = flag_given rules rows fit refl;
+      any_size = λ given. refl;
       layers = files_given rules (codes "layers") _ rows fit refl wanted.1;
     }
 
@@ -297,12 +325,12 @@ rewriting_given what checking making name words e =
     let fit = level_fits (leaf (rewriting_shape name)) words (own_rewriting name) e in
     let check = (level_parts (leaf (rewriting_shape name)) [] words false [] e).3 in
     let rows = rows_after rules [] words in
-    let before = with_default (with_default (settled rules (walk rules [] nothing_held words).held).rows (filled blobs_rule)) (filled out_rule) in
+    let before = with_default (with_default (with_default (settled rules (walk rules [] nothing_held words).held).rows (filled blobs_rule)) (filled any_size_rule)) (filled out_rule) in
     let after = with_default before (filled workers_rule) in
     let there : has_row (codes "workers") rows ≡ true =
-    defaults_stay (codes "workers") (rest_of (rest_of (rest_of rules))) after (default_made (filled workers_rule) (codes "4") [] before refl) in
+    defaults_stay (codes "workers") (rest_of (rest_of (rest_of (rest_of rules)))) after (default_made (filled workers_rule) (codes "4") [] before refl) in
     let there_too : has_row (codes "data-layers") rows ≡ true =
-    defaults_stay (codes "data-layers") (rest_of (rest_of (rest_of (rest_of rules)))) (with_default after (filled data_layers_rule)) (default_made (filled data_layers_rule) (codes "0") [] after refl) in
+    defaults_stay (codes "data-layers") (rest_of (rest_of (rest_of (rest_of (rest_of rules))))) (with_default after (filled data_layers_rule)) (default_made (filled data_layers_rule) (codes "0") [] after refl) in
     let wanted = three_wanted _ _ _ check in
     record {
       workers = workers_given rules rows fit refl there;
@@ -310,6 +338,8 @@ rewriting_given what checking making name words e =
       blobs = first_given rules (codes "blobs") (filled blobs_rule) rows fit refl wanted.0 ∙ sym checking;
       out = first_given rules (codes "out") (filled out_rule) rows fit refl wanted.1 ∙ sym making;
       out_named = first_passes rules (codes "out") (filled out_rule) (λ folder. 0 < length folder) rows fit refl (λ v passes. accepts-Accepts false NonEmptyString v passes);
+      is_flag = flag_given rules rows fit refl;
+      any_size = λ given. checking;
       layers = files_given rules (codes "layers") _ rows fit refl wanted.2;
     }
 

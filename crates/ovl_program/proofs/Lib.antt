@@ -7,4 +7,5 @@ pub mod Options
 pub mod Outcomes
 pub mod Performed
 pub mod Taken
+pub mod Telling
 pub mod Unread

@@ -1,14 +1,16 @@
 -- What the getters of the matches read of the options of a command.
-use Rattle.std.proofs.Common.{rules, ◌≡◌, ◌∙◌, ◌<◌, ◌≤◌, ℕ, refl, sym, ap, arith, List, length, map, Option, Some, None, is_some}
+use Rattle.std.proofs.Common.{rules, ◌≡◌, ◌∙◌, ◌<◌, ◌≤◌, ◌⊎◌, inl, inr, ℕ, Bool, true, false, codes, refl, sym, ap, arith, List, length, map, Option, Some, None, is_some}
 use Rattle.std.specs.Global.{Global}
 use Rattle.std.specs.Prelude.{IfSome, IsSome, Result, String, option_map, string_bytes}
+use Rattle.std.specs.Option.{option_map_or}
+use Rattle.std.specs.Str.{bytes_eq}
 use Rattle.std.specs.Str.Parse.{ParsesUnsigned}
 use Rattle.std.proofs.lemmas.List.{length-map}
 use Rattle.clap.specs.Words.{ReadsOne, one_text}
 use Rattle.clap.specs.Walk.{Text, one_of, rows_of}
 use Rattle.clap.specs.declared.parser.matches.Found.{Found}
 use Rattle.clap.proofs.WalkLemmas.{one_text-rows}
-use Rattle.ovl_program.specs.Lines.{HasNumber, number_in}
+use Rattle.ovl_program.specs.Lines.{HasNumber, IsFlag, has_flag, number_in}
 use Rattle.ovl_program.proofs.Numbers.{number_read}
 
 -- the number that an option has is read
@@ -20,6 +22,16 @@ option_read id low high E gives f read given reads parses =
     let text = given.0 in
     let number = number_read E gives low high text read (reads text (one_text-rows f id ∙ given.1)) parses given.2 in
     (number.0, number.1, ap (option_map number_in) given.1 ∙ ap Some (sym number.2), number.3, number.4)
+
+-- a flag that is there is read as such
+pub flag_read : (id : Text) (f : Found) (read : Bool) → IsFlag id (rows_of f) → (one_text f id ≡ None → read ≡ false)
+    → (one_text f id ≡ Some (codes "true") → read ≡ true) → (one_text f id ≡ Some (codes "false") → read ≡ false) → read ≡ has_flag id (rows_of f)
+flag_read id f read is none yes no = go (one_of id (rows_of f)) refl is
+  where
+    go : (o : Option Text) → one_of id (rows_of f) ≡ o → IfSome o (λ text. (text ≡ codes "true") ⊎ (text ≡ codes "false")) → read ≡ option_map_or (λ text. bytes_eq text (codes "true")) o false
+    go None e is = none (one_text-rows f id ∙ e)
+    go (Some text) e (inl is) = yes (one_text-rows f id ∙ e ∙ ap Some is) ∙ sym (ap (λ (t : Text). bytes_eq t (codes "true")) is)
+    go (Some text) e (inr is) = no (one_text-rows f id ∙ e ∙ ap Some is) ∙ sym (ap (λ (t : Text). bytes_eq t (codes "true")) is)
 
 pub is_some-map : {X Y : Type 0} (f : X → Y) (o : Option X) → is_some o ≡ is_some (option_map f o)
 is_some-map f None = refl

@@ -13,7 +13,7 @@ use Rattle.clap.specs.Takes.{value_passes}
 use Rattle.clap.specs.Faults.{action_fault, bundle_step_fault, flag_word_fault, flags_fault, long_fault, option_fault, other_fault, positional_fault, react_fault, settle_fault, short_fault, step_fault, stray_fault, turn_fault, use_fault, values_fault, walk_fault, word_fault}
 use Rattle.clap.specs.Lexer.{long_of, short_of}
 use Rattle.clap.specs.declared.builder.action.ArgAction.{ArgAction}
-use Rattle.clap.specs.declared.builder.action.ArgAction.TheVariants.{Set, Append, Help}
+use Rattle.clap.specs.declared.builder.action.ArgAction.TheVariants.{Set, Append, SetTrue, Help}
 use Rattle.clap.specs.declared.error.kind.ErrorKind.{ErrorKind}
 use Rattle.clap.specs.declared.parser.matches.ValueSource.{ValueSource}
 use Rattle.clap.specs.declared.parser.matches.ValueSource.TheVariants.{CommandLine}
@@ -67,9 +67,13 @@ all_pass a (v ∷ vs) e =
 abbrev pub TakesValue : Rule → Type 0
 TakesValue a = ((action_of a ≡ Set) ⊎ (action_of a ≡ Append)) × ((unwrap_or_range a.range).start_inclusive ≡ 1)
 
--- no other rule before this one has its id, a use takes a value or asks for help, and the defaults pass
+-- the rule is a flag, and a value stands for a use
+abbrev pub IsSetByUse : Rule → Type 0
+IsSetByUse a = (action_of a ≡ SetTrue) × (0 < length a.missing)
+
+-- no other rule before this one has its id, a use takes a value, asks for help or sets a flag, and the defaults pass
 abbrev pub IsOwn : List Rule → Rule → Type 0
-IsOwn c a = (arg_by_id c a.id ≡ Some a) × (TakesValue a ⊎ (action_of a ≡ Help)) × AllPass a a.defaults
+IsOwn c a = (arg_by_id c a.id ≡ Some a) × (TakesValue a ⊎ ((action_of a ≡ Help) ⊎ IsSetByUse a)) × AllPass a a.defaults
 
 -- the row has a value, and each of its values passes the parser of its rule
 abbrev pub Fits : List Rule → Row → Type 0
@@ -132,12 +136,24 @@ module _ (s : Shape) (own : Each (IsOwn s.rules) s.rules) where
     | inr append ↦ subst (λ (x : ArgAction). action_fault x s.args_override_self a (v ∷ vs) rows ≡ [] → AllFit s.rules (used_as x a.id (reading_by a) (v ∷ vs) rows)) (sym append) (append_fits a (v ∷ vs) rows is some fit) e
   ]
 
+  some_value : (a : Rule) (vs : List Text) → 0 < length a.missing → 0 < length (values_or_missing a vs)
+  some_value a [] some = some
+  some_value a (v ∷ vs) some = omega arith
+
+  flag_used : (a : Rule) (vs : List Text) (rows : List Row) → IsOwn s.rules a → IsSetByUse a → AllFit s.rules rows
+      → action_fault (action_of a) s.args_override_self a (values_or_missing a vs) rows ≡ []
+      → AllFit s.rules (used_as (action_of a) a.id (reading_by a) (values_or_missing a vs) rows)
+  flag_used a vs rows is flag fit e =
+      subst (λ (x : ArgAction). action_fault x s.args_override_self a (values_or_missing a vs) rows ≡ [] → AllFit s.rules (used_as x a.id (reading_by a) (values_or_missing a vs) rows)) (sym flag.0)
+      (set_fits a (values_or_missing a vs) rows is (some_value a vs flag.1) fit) e
+
   used_fits : (a : Rule) (vs : List Text) (rows : List Row) → IsOwn s.rules a → AllFit s.rules rows → use_fault s.args_override_self a vs rows ≡ [] → AllFit s.rules (used a vs rows)
   used_fits a vs rows is fit e =
       let both = no_kinds _ _ e in
       elim is.1 [
         | inl takes ↦ taken_fits a vs rows is takes.0 (has_some _ (length vs) (subst (λ (n : ℕ). range_kinds n (unwrap_or_range a.range).end_inclusive (length vs) ≡ []) takes.1 both.0)) fit both.1
-        | inr help ↦ subst (λ (x : ArgAction). AllFit s.rules (used_as x a.id (reading_by a) (values_or_missing a vs) rows)) (sym help) fit
+        | inr (inl help) ↦ subst (λ (x : ArgAction). AllFit s.rules (used_as x a.id (reading_by a) (values_or_missing a vs) rows)) (sym help) fit
+        | inr (inr flag) ↦ flag_used a vs rows is flag fit both.1
       ]
 
   pending_fits : (p : Option (Text × List Text)) (rows : List Row) → AllFit s.rules rows

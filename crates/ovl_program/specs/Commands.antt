@@ -3,7 +3,7 @@ use Rattle.std.specs.Prelude.{ℕ, ◌-◌, true, false, List, [], ◌∷◌, So
 use Rattle.clap.specs.Lexer.{usize_max}
 use Rattle.clap.specs.Words.{App, Rule, Shape, new_rule}
 use Rattle.clap.specs.Simple.{new_shape}
-use Rattle.clap.specs.declared.builder.action.ArgAction.TheVariants.{Append}
+use Rattle.clap.specs.declared.builder.action.ArgAction.TheVariants.{Append, SetTrue}
 use Rattle.clap.specs.declared.builder.value_parser.ValueParser.TheVariants.{NonEmptyString, Unsigned}
 use Rattle.ovl_lookup.specs.Stacks.{layer_limit}
 use Rattle.ovl_board.specs.Machine.{worker_limit}
@@ -41,6 +41,13 @@ blobs_rule = record (new_rule (codes "blobs")) {
   required = true;
 }
 
+-- `--any-size`, which may be left out
+abbrev pub any_size_rule : Rule
+any_size_rule = record (new_rule (codes "any-size")) {
+  long = Some (codes "any-size");
+  action = Some SetTrue;
+}
+
 -- `--out DIR`, which must be there and have a name: the empty one would be the root of the file system
 abbrev pub out_rule : Rule
 out_rule = record (new_rule (codes "out")) {
@@ -63,18 +70,18 @@ abbrev pub show_shape : Shape
 show_shape = record (new_shape (codes "show")) { rules = workers_rule ∷ data_layers_rule ∷ layers_rule ∷ [] }
 
 abbrev pub fsck_shape : Shape
-fsck_shape = record (new_shape (codes "fsck")) { rules = blobs_rule ∷ workers_rule ∷ data_layers_rule ∷ layers_rule ∷ [] }
+fsck_shape = record (new_shape (codes "fsck")) { rules = blobs_rule ∷ any_size_rule ∷ workers_rule ∷ data_layers_rule ∷ layers_rule ∷ [] }
 
--- a command that checks, with the option for its folder of blobs
+-- a command that checks, with the options for its blobs
 abbrev pub blobs_shape : List ℕ → Shape
-blobs_shape name = record (new_shape name) { rules = blobs_rule ∷ [] }
+blobs_shape name = record (new_shape name) { rules = blobs_rule ∷ any_size_rule ∷ [] }
 
--- a command that makes new layers, with the options for its folders, and with all
+-- a command that makes new layers, with the options for its blobs and its new layers, and with all
 abbrev pub folders_shape : List ℕ → Shape
-folders_shape name = record (new_shape name) { rules = blobs_rule ∷ out_rule ∷ [] }
+folders_shape name = record (new_shape name) { rules = blobs_rule ∷ any_size_rule ∷ out_rule ∷ [] }
 
 abbrev pub rewriting_shape : List ℕ → Shape
-rewriting_shape name = record (new_shape name) { rules = blobs_rule ∷ out_rule ∷ workers_rule ∷ data_layers_rule ∷ layers_rule ∷ [] }
+rewriting_shape name = record (new_shape name) { rules = blobs_rule ∷ any_size_rule ∷ out_rule ∷ workers_rule ∷ data_layers_rule ∷ layers_rule ∷ [] }
 
 -- the program's own level, without its commands
 abbrev pub bare_app : App

@@ -1,5 +1,7 @@
 -- What the words of a command line ask for.
-use Rattle.std.specs.Prelude.{◌≡◌, ◌≢◌, ◌⊎◌, ◌-◌, ◌<◌, ◌≤◌, ⊤, ℕ, List, [], map, Some, Result, Ok, Err, codes, is_some, length, option_map, string_bytes, IfSome}
+use Rattle.std.specs.Prelude.{◌≡◌, ◌≢◌, ◌⊎◌, ◌-◌, ◌<◌, ◌≤◌, ⊤, ℕ, Bool, true, false, List, [], map, Some, Result, Ok, Err, codes, is_some, length, option_map, string_bytes, IfSome}
+use Rattle.std.specs.Option.{option_map_or}
+use Rattle.std.specs.Str.{bytes_eq}
 use Rattle.std.specs.Str.Parse.{digits_value, without_leading_plus}
 use Rattle.clap.specs.Walk.{Row, Text, all_of, first_of, one_of}
 use Rattle.clap.specs.Simple.{subcommand_of}
@@ -40,6 +42,7 @@ pub record IsSound (line : Line) : Type 0 where
   pub blobs : is_some line.blobs ≡ checks line.what
   pub out : is_some line.out ≡ makes_layers line.what
   pub out_named : IfSome line.out (λ folder. 0 < length (string_bytes folder))
+  pub any_size : line.any_size ≡ true → checks line.what ≡ true
 
 -- the number that a text spells in decimal digits
 abbrev pub number_in : Text → ℕ
@@ -49,6 +52,14 @@ number_in text = digits_value 10 (without_leading_plus text)
 abbrev pub HasNumber : Text → ℕ → ℕ → List Row → Type 0
 HasNumber id low high rows = (text : Text) × (one_of id rows ≡ Some text) × IsUnsignedIn low high text
 
+-- a flag is there
+abbrev pub has_flag : Text → List Row → Bool
+has_flag id rows = option_map_or (λ text. bytes_eq text (codes "true")) (one_of id rows) false
+
+-- the value of a flag spells whether it is there
+abbrev pub IsFlag : Text → List Row → Type 0
+IsFlag id rows = IfSome (one_of id rows) (λ text. (text ≡ codes "true") ⊎ (text ≡ codes "false"))
+
 -- the values of the options make a line of the command
 pub record IsGiven (what : Command) (rows : List Row) : Type 0 where
   pub workers : HasNumber (codes "workers") 1 worker_limit rows
@@ -56,6 +67,8 @@ pub record IsGiven (what : Command) (rows : List Row) : Type 0 where
   pub blobs : is_some (first_of (codes "blobs") rows) ≡ checks what
   pub out : is_some (first_of (codes "out") rows) ≡ makes_layers what
   pub out_named : IfSome (first_of (codes "out") rows) (λ folder. 0 < length folder)
+  pub is_flag : IsFlag (codes "any-size") rows
+  pub any_size : has_flag (codes "any-size") rows ≡ true → checks what ≡ true
   pub layers : (files : List Text) × (all_of (codes "layers") rows ≡ Some files) × (0 < length files)
 
 -- the line is a command with the values that its options have
@@ -64,6 +77,7 @@ pub record HasValues (line : Line) (rows : List Row) : Type 0 where
   pub data_layers : option_map number_in (one_of (codes "data-layers") rows) ≡ Some line.data_layers
   pub blobs : option_map string_bytes line.blobs ≡ first_of (codes "blobs") rows
   pub out : option_map string_bytes line.out ≡ first_of (codes "out") rows
+  pub any_size : line.any_size ≡ has_flag (codes "any-size") rows
   pub layers : all_of (codes "layers") rows ≡ Some (map string_bytes line.layers.items)
 
 -- the words name the line's command, with the line's values for its options

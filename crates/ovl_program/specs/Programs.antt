@@ -1,16 +1,18 @@
 -- What the program does for a line of words.
-use Rattle.std.specs.Prelude.{◌≡◌, ◌⊎◌, ℕ, true, Option, Some, Result, Ok, Err, List, [], length, map, string_bytes, Contains, IfNone, String}
+use Rattle.std.specs.Prelude.{◌≡◌, ◌⊎◌, if◌then◌else◌, ℕ, true, Option, Some, None, Result, Ok, Err, List, [], length, map, string_bytes, Contains, IfNone, String}
 use Rattle.std.specs.Global.{Global}
 use Rattle.std.specs.Io.KnownBytes.{Keeps}
 use Rattle.ovl_check.specs.Blobs.{are_in_order}
 use Rattle.ovl_engine.specs.Requests.{Request}
+use Rattle.ovl_engine.specs.declared.requests.Answer.{Answer}
+use Rattle.ovl_engine.specs.declared.faults.EngineFault.{EngineFault}
 use Rattle.ovl_program.specs.declared.command_line.options.Line.{Line}
 use Rattle.ovl_program.specs.declared.output.status.Ending.{Ending}
 use Rattle.ovl_program.specs.declared.faults.ProgramFault.{ProgramFault}
 use Rattle.ovl_program.specs.declared.faults.ProgramFault.TheVariants.{Usage, Words, Input, Unread, Unwritten, Output, Engine}
 use Rattle.ovl_program.specs.Faults.{IsMemory}
 use Rattle.ovl_program.specs.BlobFolders.{IsInFolder}
-use Rattle.ovl_program.specs.Reported.{IsReported}
+use Rattle.ovl_program.specs.Reported.{IsComing, IsComingOver, IsReported}
 
 -- the line's folder of blobs, or a blob in it
 abbrev pub IsOfBlobs : Line → List ℕ → Type 0
@@ -30,10 +32,23 @@ pub record IsRequestFor (line : Line) (request : Request) : Type 0 where
   pub in_order : are_in_order request.blobs ≡ true
   pub none : IfNone line.blobs (request.blobs ≡ [])
 
+-- the folder whose blobs are read in parts for a line, if it asks for that
+abbrev pub folder_in_parts : Line → Option (String Global)
+folder_in_parts line = if line.any_size then line.blobs else None
+
+-- this may come of a request: of its blobs; or where a folder is read in parts, of a request without any, over its contents
+abbrev pub IsComingIn : Option (String Global) → Request → Result Answer EngineFault → Type 0
+IsComingIn (Some folder) request result = (request.blobs ≡ []) × IsComingOver request result
+IsComingIn None request result = IsComing request result
+
+-- this may come of a request that is read for a line
+abbrev pub IsComingFor : Line → Request → Result Answer EngineFault → Type 0
+IsComingFor line request result = IsComingIn (folder_in_parts line) request result
+
 -- a request that can be read for a line is reported
 abbrev pub IsDone : Line → Option (List ℕ) → Option (List ℕ) → Result Ending ProgramFault → Type 0
 IsDone line before after result =
-    (request : Request) × (IsRequestFor line request × IsReported request line.out before after result)
+    (request : Request) × (IsRequestFor line request × IsReported (IsComingFor line request) line.out before after result)
 
 -- what comes of a line: it is done; or a file or a folder of it isn't read, or memory is wanting, and nothing is written
 abbrev pub IsPerformed : Line → Option (List ℕ) → Option (List ℕ) → Result Ending ProgramFault → Type 0

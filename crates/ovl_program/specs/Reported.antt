@@ -9,11 +9,15 @@ use Rattle.ovl_engine.specs.declared.faults.EngineFault.{EngineFault}
 use Rattle.ovl_engine.specs.declared.faults.EngineFault.TheVariants.{Faulty as FaultyLayers}
 use Rattle.ovl_engine.specs.Requests.{Request}
 use Rattle.ovl_engine.specs.Outcomes.{IsOutcome}
+use Rattle.ovl_engine.specs.Told.{IsOutcomeOver}
+use Rattle.ovl_engine.specs.declared.contents.CommandFault.TheVariants.{Engine as OfEngine}
 use Rattle.ovl_program.specs.declared.output.status.Ending.{Ending}
 use Rattle.ovl_program.specs.declared.output.status.Ending.TheVariants.{Faulty}
 use Rattle.ovl_program.specs.declared.faults.ProgramFault.{ProgramFault}
 use Rattle.ovl_program.specs.declared.faults.ProgramFault.TheVariants.{Usage, Words, Input, Unread, Unwritten, Output, Engine}
 use Rattle.ovl_program.specs.Status.{ending_of}
+use Rattle.ovl_program.specs.Faults.{IsMemory}
+use Rattle.ovl_program.specs.BlobFolders.{anything}
 use Rattle.ovl_program.specs.Commands.{default_workers}
 use Rattle.ovl_program.specs.LayerFiles.{IsOutFile}
 
@@ -21,39 +25,49 @@ use Rattle.ovl_program.specs.LayerFiles.{IsOutFile}
 abbrev pub refuses_nothing : Piece → Type 0
 refuses_nothing piece = ⊥
 
--- this is the answer to a request
-abbrev pub IsAnswered : Request → Answer → Type 0
-IsAnswered request answer = IsOutcome request refuses_nothing (Ok answer)
+-- contents that are told have no fault
+abbrev pub no_fault : ProgramFault → Type 0
+no_fault fault = ⊥
+
+-- this may come of a request
+abbrev pub IsComing : Request → Result Answer EngineFault → Type 0
+IsComing request result = IsOutcome request refuses_nothing result
+
+-- this may come of a request over contents that are told of the files of a folder
+abbrev pub IsComingOver : Request → Result Answer EngineFault → Type 0
+IsComingOver request (Ok answer) = IsOutcomeOver {F = ProgramFault} request anything no_fault refuses_nothing (Ok answer)
+IsComingOver request (Err fault) = IsOutcomeOver {F = ProgramFault} request anything no_fault refuses_nothing (Err (OfEngine fault))
 
 -- the fault is told by a report
 abbrev pub has_report : EngineFault → Bool
 has_report (FaultyLayers report) = true
 has_report _ = false
 
--- what is told of a request, and how the program ends: its answer's report; or where it is refused for faults, theirs
-abbrev pub IsTold : Request → List ℕ → Ending → Type 0
-IsTold request report ending =
-    ((answer : Answer) × (IsAnswered request answer × ((report ≡ answer.report.items) × (ending ≡ ending_of answer.clean))))
-    ⊎ ((faults : Vec ℕ Global) × (IsOutcome request refuses_nothing (Err (FaultyLayers faults))
+-- what is told of a command of which this may come, and how the program ends: its answer's report; or where it is refused for
+-- faults, theirs
+abbrev pub IsTold : (Result Answer EngineFault → Type 0) → List ℕ → Ending → Type 0
+IsTold may_come report ending =
+    ((answer : Answer) × (may_come (Ok answer) × ((report ≡ answer.report.items) × (ending ≡ ending_of answer.clean))))
+    ⊎ ((faults : Vec ℕ Global) × (may_come (Err (FaultyLayers faults))
     × ((report ≡ faults.items) × (ending ≡ Faulty))))
 
--- what comes of a request whose report goes to a writer, and whose new layers go to a folder if there is one: the whole
--- report is written; or where a write fails, fewer of its bytes; or nothing, where a new layer isn't written, memory is
--- wanting or there is no answer
-abbrev pub IsReported : Request → Option (String Global) → Option (List ℕ) → Option (List ℕ) → Result Ending ProgramFault → Type 0
-IsReported request out before after (Ok ending) =
-    (report : List ℕ) × (IsTold request report ending × Appends before after report)
-IsReported request out before after (Err Output) =
-    (report : List ℕ) × (ending : Ending) × (count : ℕ) × (IsTold request report ending
+-- what comes of a command of which this may come, whose report goes to a writer, and whose new layers go to a folder if there
+-- is one: the whole report is written; or where a write fails, fewer of its bytes; or nothing, where a new layer isn't written,
+-- memory is wanting or there is no answer
+abbrev pub IsReported : (Result Answer EngineFault → Type 0) → Option (String Global) → Option (List ℕ) → Option (List ℕ) → Result Ending ProgramFault → Type 0
+IsReported may_come out before after (Ok ending) =
+    (report : List ℕ) × (IsTold may_come report ending × Appends before after report)
+IsReported may_come out before after (Err Output) =
+    (report : List ℕ) × (ending : Ending) × (count : ℕ) × (IsTold may_come report ending
     × ((count < length report) × Appends before after (take count report)))
-IsReported request out before after (Err (Unwritten path)) =
-    ((answer : Answer) × (IsAnswered request answer × IsOutFile out (length answer.layers.items) (string_bytes path))) × Keeps before after
-IsReported request out before after (Err (Engine fault)) =
-    (IsOutcome request refuses_nothing (Err fault) × (has_report fault ≡ false)) × Keeps before after
-IsReported request out before after (Err (Usage text)) = ⊥
-IsReported request out before after (Err Words) = ⊥
-IsReported request out before after (Err Input) = ⊥
-IsReported request out before after (Err (Unread path)) = ⊥
+IsReported may_come out before after (Err (Unwritten path)) =
+    ((answer : Answer) × (may_come (Ok answer) × IsOutFile out (length answer.layers.items) (string_bytes path))) × Keeps before after
+IsReported may_come out before after (Err (Engine fault)) =
+    (IsMemory fault ⊎ (may_come (Err fault) × (has_report fault ≡ false))) × Keeps before after
+IsReported may_come out before after (Err (Usage text)) = ⊥
+IsReported may_come out before after (Err Words) = ⊥
+IsReported may_come out before after (Err Input) = ⊥
+IsReported may_come out before after (Err (Unread path)) = ⊥
 
 -- what is asked of one manifest alone: what its layer shows
 abbrev pub input_request : List ℕ → Request

@@ -1,4 +1,4 @@
-use crate::disks::Thing::{File, Folder};
+use crate::disks::Thing::{File, Folder, Link, MisstatedFile, PaddedFile, TornFile};
 use crate::disks::{Disk, Thing};
 use crate::readers::Slow;
 use crate::writers::of_room;
@@ -51,6 +51,7 @@ fn line(alloc: Global, blobs: Option<&str>, layers: &[&str]) -> Result<Line, All
         workers: 2,
         data_layers: 0,
         blobs,
+        any_size: false,
         out: None,
         layers: paths,
     })
@@ -138,6 +139,57 @@ fn layers_are_checked_with_their_blobs(rt: HostRuntime) -> Result<(), Fail> {
         let asked = line(alloc, Some("b"), &["low"])?;
         assert_eq!(rt; perform(&disk, &asked, &mut output)?, ending);
         assert_eq!(rt; output.as_slice(), report.as_bytes());
+    }
+    Ok(())
+}
+
+// A root with files of the blobs of `a` and of `abc`.
+const BOTH: &[u8] = b"{\"entries\":[\
+    {\"gid\":0,\"kind\":\"dir\",\"mode\":493,\"mtime\":0,\"path\":\"/\",\"uid\":0,\"xattrs\":{}},\
+    {\"blob\":\"ca978112ca1bbdcafac231b39a23dc4da786eff8147c4e72b9807785afee48bb\",\"gid\":0,\"kind\":\"file\",\
+    \"mode\":420,\"mtime\":0,\"path\":\"/a\",\"size\":1,\"uid\":0,\"xattrs\":{}},\
+    {\"blob\":\"ba7816bf8f01cfea414140de5dae2223b00361a396177a9cb410ff61f20015ad\",\"gid\":0,\"kind\":\"file\",\
+    \"mode\":420,\"mtime\":0,\"path\":\"/k\",\"size\":3,\"uid\":0,\"xattrs\":{}}],\"overlay-layer\":1}";
+
+const BLOB_A: &str = "b/ca978112ca1bbdcafac231b39a23dc4da786eff8147c4e72b9807785afee48bb";
+
+#[test]
+fn contents_of_any_size_are_those_of_the_files(rt: HostRuntime) -> Result<(), Fail> {
+    let alloc = rt.alloc();
+    let whole = Ok("faults 0 notes 0\n");
+    let unlike = Ok("fault blob-size 0 /k\nfault blob-digest 0 /k\nfaults 2 notes 0\n");
+    let missing = Ok("fault blob-missing 0 /k\nfaults 1 notes 0\n");
+    for (a, abc, told) in [
+        (File(b"a"), File(b"abc"), whole),
+        (MisstatedFile(9, b"a"), MisstatedFile(0, b"abc"), whole),
+        (File(b"a"), PaddedFile(200_000, b"abc"), unlike),
+        (File(b"a"), MisstatedFile(3, b"ab"), unlike),
+        (File(b"a"), Folder(b""), missing),
+        (File(b"a"), Link, missing),
+        (TornFile(b"a"), File(b"abc"), Err(BLOB_A)),
+        (TornFile(b"a"), TornFile(b"abc"), Err(BLOB_ABC)),
+    ] {
+        let things = [
+            ("b", Folder(b"")),
+            (BLOB_A, a),
+            (BLOB_ABC, abc),
+            ("low", File(BOTH)),
+        ];
+        let disk = Disk {
+            rt: &rt,
+            things: &things,
+        };
+        for workers in [1, 2, 64] {
+            let mut asked = line(alloc, Some("b"), &["low"])?;
+            asked.any_size = true;
+            asked.workers = workers;
+            let mut output = Vec::new(alloc);
+            let fault = perform(&disk, &asked, &mut output).err();
+            match told {
+                Ok(report) => assert_eq!(rt; output.as_slice(), report.as_bytes()),
+                Err(path) => assert_eq!(rt; fault, unread(alloc, path)?),
+            }
+        }
     }
     Ok(())
 }

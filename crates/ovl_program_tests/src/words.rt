@@ -7,19 +7,19 @@ fn words_make_a_line(rt: HostRuntime) -> Result<(), Fail> {
     for (words, told) in [
         (
             ["show", "a", "c", "--workers=64", "--data-layers", "1"].as_slice(),
-            "Line { what: Show, workers: 64, data_layers: 1, blobs: None, out: None, layers: [\"a\", \"c\"] }",
+            "Line { what: Show, workers: 64, data_layers: 1, blobs: None, any_size: false, out: None, layers: [\"a\", \"c\"] }",
         ),
         (
             ["fsck", "--blobs=", "a"].as_slice(),
-            "Line { what: Fsck, workers: 4, data_layers: 0, blobs: Some(\"\"), out: None, layers: [\"a\"] }",
+            "Line { what: Fsck, workers: 4, data_layers: 0, blobs: Some(\"\"), any_size: false, out: None, layers: [\"a\"] }",
         ),
         (
-            ["vacuum", "--out", "o", "--blobs", "b", "a"].as_slice(),
-            "Line { what: Vacuum, workers: 4, data_layers: 0, blobs: Some(\"b\"), out: Some(\"o\"), layers: [\"a\"] }",
+            ["vacuum", "--out", "o", "--blobs", "b", "--any-size", "a"].as_slice(),
+            "Line { what: Vacuum, workers: 4, data_layers: 0, blobs: Some(\"b\"), any_size: true, out: Some(\"o\"), layers: [\"a\"] }",
         ),
         (
             ["deref", "a", "--blobs", "b", "--out=o", "a"].as_slice(),
-            "Line { what: Deref, workers: 4, data_layers: 0, blobs: Some(\"b\"), out: Some(\"o\"), layers: [\"a\", \"a\"] }",
+            "Line { what: Deref, workers: 4, data_layers: 0, blobs: Some(\"b\"), any_size: false, out: Some(\"o\"), layers: [\"a\", \"a\"] }",
         ),
         (
             [
@@ -31,7 +31,7 @@ fn words_make_a_line(rt: HostRuntime) -> Result<(), Fail> {
                 "-a",
             ]
             .as_slice(),
-            "Line { what: Merge, workers: 4, data_layers: 127, blobs: Some(\"b\"), out: Some(\"o\"), layers: [\"-a\"] }",
+            "Line { what: Merge, workers: 4, data_layers: 127, blobs: Some(\"b\"), any_size: false, out: Some(\"o\"), layers: [\"-a\"] }",
         ),
     ] {
         let read = line(alloc, words)?;

@@ -2,7 +2,7 @@
 ghost use Rattle.std.specs.Prelude.{◌≡◌, IfOk, false};
 ghost use Rattle.clap.specs.Words.{app_of, rule_of};
 ghost use Rattle.clap.specs.declared.builder.command.Command.TheViews.{out-Command as fields_of};
-ghost use Rattle.ovl_program.specs.Commands.{bare_app, blobs_rule, blobs_shape, data_layers_rule, default_word, default_workers, folders_shape, fsck_shape, layers_rule, out_rule, rewriting_shape, show_shape, tool_app, workers_rule};
+ghost use Rattle.ovl_program.specs.Commands.{any_size_rule, bare_app, blobs_rule, blobs_shape, data_layers_rule, default_word, default_workers, folders_shape, fsck_shape, layers_rule, out_rule, rewriting_shape, show_shape, tool_app, workers_rule};
 ghost use Rattle.ovl_program.specs.Lines.{number_in};
 ghost use Rattle.clap.specs.Simple.{shape_of};
 
@@ -49,6 +49,9 @@ const DATA_LAYERS: &str = "How many of the layers, the lowest ones, are data-onl
 const BLOBS: &str =
     "Folder with the contents of the layers' files, each file named by its SHA-256 digest";
 
+const ANY_SIZE: &str =
+    "Read the contents in parts, those that the layers name alone, whatever their size";
+
 const OUT: &str = "Folder for the new layers, written there as layer-0.json and so on";
 
 const LAYERS: &str = "Manifest of a layer, the topmost layer first";
@@ -59,6 +62,7 @@ What the commands take:
   --workers <N>      How many workers share the directories, 1 to 64 [default: 4]
   --data-layers <K>  How many of the layers, the lowest ones, are data-only, 0 to 127 [default: 0]
   --blobs <DIR>      For all but show: folder with the contents of the layers' files, each file named by its SHA-256 digest
+  --any-size         For all but show: read the contents in parts, those that the layers name alone, whatever their size
   --out <DIR>        For vacuum, deref and merge: folder for the new layers, written there as layer-0.json and so on
 
 A data-only layer shows no path of its own. It has contents for metacopy files of the layers over it that name it by an
@@ -80,10 +84,14 @@ merge is for an upper layer that is to be taken into the layer below it: it writ
 layer of a root alone to go over it, layer-0.json. With these in place of the two the overlay shows the same as before. It
 tells what the one layer has, as deref does, and first checks, as vacuum does.
 
+All contents together have at most 268,435,456 bytes, those in the folder that no layer names too. With --any-size there is
+no such limit: what the layers name is read in parts, each once, and not held.
+
 Examples:
   ovl_layers < layer.json
   ovl_layers show upper.json lower.json
   ovl_layers fsck --blobs contents --workers 8 upper.json lower.json
+  ovl_layers fsck --blobs contents --any-size upper.json lower.json
   ovl_layers vacuum --blobs contents --out new upper.json lower.json
   ovl_layers deref --blobs contents --out new upper.json lower.json
   ovl_layers merge --blobs contents --out new upper.json lower.json";
@@ -171,7 +179,7 @@ fn rewriting<'a>(
         .arg(layers(alloc))
 }
 
-// A command that checks, with the option for its folder of blobs alone.
+// A command that checks, with the options for its blobs alone.
 fn with_blobs<'a>(
     alloc: Global,
     name: &'a str,
@@ -183,10 +191,11 @@ fn with_blobs<'a>(
     Command::new(alloc, name)
         .about(about)
         .after_help(example)
-        .arg(blobs(alloc))
+        .arg(blobs(alloc))?
+        .arg(any_size(alloc))
 }
 
-// The same with the options for both folders.
+// The same with the option for its new layers.
 fn with_folders<'a>(
     alloc: Global,
     name: &'a str,
@@ -229,6 +238,15 @@ fn blobs<'a>(alloc: Global) -> Arg<'a>
         .value_name("DIR")
         .required(true)
         .help(BLOBS)
+}
+
+fn any_size<'a>(alloc: Global) -> Arg<'a>
+    ensures { (rule_of result ≡ any_size_rule) × (result.global ≡ false) }
+{
+    Arg::new(alloc, "any-size")
+        .long("any-size")
+        .action(ArgAction::SetTrue)
+        .help(ANY_SIZE)
 }
 
 fn out<'a>(alloc: Global) -> Arg<'a>

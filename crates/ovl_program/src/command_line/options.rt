@@ -17,6 +17,8 @@ pub struct Line {
     pub data_layers: u16,
     /// The folder of the files' contents, for each command but `show`.
     pub blobs: Option<String>,
+    /// Whether the contents are read in parts, whatever their size; never for `show`.
+    pub any_size: bool,
     /// The folder for new layers, for the commands that make some.
     pub out: Option<String>,
     /// The files of the manifests, the topmost layer first. There is at least one.

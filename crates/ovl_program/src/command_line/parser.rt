@@ -52,6 +52,7 @@ fn read(alloc: Global, what: Command, given: &ArgMatches<'_>) -> Result<Line, Al
         workers: given.get_one("workers").unwrap(),
         data_layers: data_layers as u16,
         blobs: copy(alloc, given.get_str("blobs"))?,
+        any_size: given.get_flag("any-size"),
         out: copy(alloc, given.get_str("out"))?,
         layers: copies(alloc, given.get_strs("layers").unwrap())?,
     })

@@ -171,8 +171,8 @@ fn blob_file<R: Files>(entry: &DirEntry<R>) -> Result<Option<BlobFile>, ReadFaul
     }
 }
 
-// A blob's path: the folder as it is given, a slash, and the 64 digits of the blob's name.
-fn blob_path(alloc: Global, folder: &str, name: &Digest) -> Result<String, AllocError>
+/// A blob's path: the folder as it is given, a slash, and the 64 digits of the blob's name.
+pub fn blob_path(alloc: Global, folder: &str, name: &Digest) -> Result<String, AllocError>
     ensures path { IfOk result (λ path. string_bytes path ≡ path_of_blob folder.now name.now) }
     ensures spelt { IfOk result (λ _. IsSpelt name.now) }
 {

@@ -4,12 +4,13 @@ ghost use Rattle.std.specs.IoError.{error_kind, raw_os_error};
 ghost use Rattle.std.specs.declared.io.ErrorKind.TheVariants.{OutOfMemory};
 ghost use Rattle.ovl_program.specs.declared.files.reads.ReadFault.TheVariants.{TooLong, Memory};
 
+use ovl_check::ReadFault as PartFault;
 use ovl_engine::BLOB_LIMIT;
 use std::alloc::{AllocError, AllocFailed, Global};
 use std::io::{Error, ErrorKind, Read};
 
-/// The most bytes that are read of one input, be it a manifest or a blob. A command takes no blob of more, since all its
-/// blobs together have at most so many.
+/// The most bytes that are held of one input, be it a manifest or a blob. A command takes no blob of more, since all its
+/// blobs together have at most so many; blobs that are read in parts aren't held.
 pub const INPUT_LIMIT: usize = BLOB_LIMIT;
 
 // How many bytes one read may give.
@@ -20,7 +21,7 @@ const ROOM: usize = 16384;
 pub enum ReadFault {
     /// It can't be opened, or a read answered an error.
     Device,
-    /// More bytes than the limit came.
+    /// More bytes than the limit came, or than a length can tell.
     TooLong,
     /// Memory is wanted.
     Memory,
@@ -108,6 +109,17 @@ impl From<Error> for ReadFault {
             ReadFault::Memory
         } else {
             ReadFault::Device
+        }
+    }
+}
+
+impl From<PartFault> for ReadFault {
+    ghost from_gives = { λ _ fault. fault ≢ Memory };
+
+    fn from(fault: PartFault) -> ReadFault {
+        match fault {
+            PartFault::Device => ReadFault::Device,
+            PartFault::TooLong => ReadFault::TooLong,
         }
     }
 }

@@ -1,46 +1,29 @@
-ghost use Rattle.std.specs.Prelude.{◌≡◌, ◌<◌, ℕ, MatchResult, length, take};
+ghost use Rattle.std.specs.Prelude.{◌≡◌, ◌<◌, ◌≤◌, ℕ, IfOk, MatchResult, length, take};
 ghost use Rattle.std.specs.Io.KnownBytes.{Appends};
-ghost use Rattle.ovl_engine.specs.Requests.{request_of};
 ghost use Rattle.ovl_program.specs.declared.faults.ProgramFault.TheVariants.{Output};
 ghost use Rattle.ovl_program.specs.Reported.{IsReported};
 
 use crate::faults::ProgramFault;
 use crate::output::layer_files::write_answer;
 use crate::output::status::Ending;
-use ovl_engine::{Blob, Command, EngineFault, command_of, emit};
-use ovl_pool::OpenGate;
+use ovl_engine::{Answer, EngineFault, emit};
 use std::io::Write;
 use std::rt::Files;
-use std::sync::Wait;
-use std::thread::Threads;
 
-/// Writes what a command gives of these manifests, the topmost layer's first and the last `bottom` of data-only ones, and
-/// these blobs: first its new layers into the folder `out`, if there is one, and then its report. The manifests are let go
-/// once they are read. Where the command is refused for faults, their report is written and no layer. Nothing is written
-/// to the writer where the command gives no answer, or a layer can't be written.
-pub fn write_report<H: Threads + Wait + Sync + Files + AllocGlobal, W: Write>(
+/// Writes what a command gives: first its new layers into the folder `out`, if there is one, and then its report. Where the
+/// command is refused for faults, their report is written and no layer. Nothing is written to the writer where the command
+/// gives no answer, or a layer can't be written.
+pub fn write_report<H: Files + AllocGlobal, W: Write>(
     rt: &H,
-    what: Command,
-    manifests: Vec<Vec<u8>>,
-    bottom: u16,
-    blobs: &[Blob],
-    workers: usize,
+    answered: Result<Answer, EngineFault>,
     out: &Option<String>,
     writer: &mut W,
 ) -> Result<Ending, ProgramFault>
-    ensures { IsReported (request_of what manifests.items bottom blobs.now workers) out.now
+    requires { IfOk answered (λ answer. length answer.layers.items ≤ 255) }
+    ensures { IsReported (λ outcome. outcome ≡ answered) out.now
         (W.contents writer.old) (W.contents writer.new) result }
 {
-    match command_of(
-        rt,
-        rt.alloc(),
-        what,
-        manifests,
-        bottom,
-        blobs,
-        workers,
-        &OpenGate,
-    ) {
+    match answered {
         Ok(answer) => match out {
             Some(folder) => write_answer(rt, folder.as_str(), &answer, writer),
             None => write(writer, &answer.report, Ending::of(answer.clean)),

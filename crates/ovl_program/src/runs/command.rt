@@ -1,7 +1,7 @@
-ghost use Rattle.std.specs.Prelude.{◌≡◌, [], true, IfOk, IfErr, IfNone};
+ghost use Rattle.std.specs.Prelude.{◌≡◌, [], true, option_map, IfOk, IfErr, IfNone};
 ghost use Rattle.ovl_check.specs.Blobs.{blob_views, are_in_order};
 ghost use Rattle.ovl_program.specs.Faults.{IsUnread};
-ghost use Rattle.ovl_program.specs.Programs.{IsOfBlobs, IsPerformed};
+ghost use Rattle.ovl_program.specs.Programs.{IsOfBlobs, IsPerformed, folder_in_parts as the_folder_in_parts};
 
 use crate::command_line::options::Line;
 use crate::faults::ProgramFault;
@@ -9,15 +9,18 @@ use crate::files::blob_folder::read_blobs;
 use crate::files::manifests::{SharedFiles, read_files};
 use crate::output::report::write_report;
 use crate::output::status::Ending;
-use ovl_engine::Blob;
+use crate::runs::in_parts::perform_in_parts;
+use ovl_engine::{Blob, command_of};
+use ovl_pool::OpenGate;
 use std::io::Write;
 use std::rt::Files;
 use std::sync::Wait;
 use std::thread::Threads;
 
-/// Does what a line asks for: reads its layers and then its blobs, and writes the new layers and then the report. Nothing
-/// is written where a file or a folder isn't read, or the command gives no answer; where it is refused for faults, their
-/// report is written alone.
+/// Does what a line asks for: reads its layers and then its blobs, and writes the new layers and then the report. Where it asks
+/// for blobs of any size, those that the layers name are read in parts once all else is tested that is before any work.
+/// Nothing is written where a file or a folder isn't read, or the command gives no answer; where it is refused for faults,
+/// their report is written alone. What files hold is what their reads give; of a file that changes nothing more is said.
 pub fn perform<
     R: Files + SharedFiles + AllocGlobal + Clone + Drop + Threads + Wait + Sync,
     W: Write,
@@ -25,17 +28,32 @@ pub fn perform<
     ensures { IsPerformed line.now (W.contents writer.old) (W.contents writer.new) result }
 {
     let manifests = read_files(rt, &line.layers, line.workers)?;
+    if let Some(folder) = folder_in_parts(line) {
+        return perform_in_parts(rt, line, folder, manifests, writer);
+    }
     let blobs = blobs_of_line(rt, line)?;
-    write_report(
+    let answered = command_of(
         rt,
+        rt.alloc(),
         line.what,
         manifests,
         line.data_layers,
         &blobs,
         line.workers,
-        &line.out,
-        writer,
-    )
+        &OpenGate,
+    );
+    write_report(rt, answered, &line.out, writer)
+}
+
+// The folder whose blobs are read in parts, if the line asks for that.
+fn folder_in_parts(line: &Line) -> Option<&String>
+    ensures { option_map (λ folder. folder.now) result ≡ the_folder_in_parts line.now }
+{
+    if line.any_size {
+        line.blobs.as_ref()
+    } else {
+        None
+    }
 }
 
 // The blobs of a line's folder, or none where it has no folder.

@@ -2,14 +2,15 @@ ghost use Rattle.std.specs.Prelude.{◌≡◌, ◌≢◌, ◌⊎◌, None, Err, 
 ghost use Rattle.std.specs.Io.KnownBytes.{Keeps};
 ghost use Rattle.ovl_engine.specs.declared.faults.EngineFault.TheVariants.{Memory};
 ghost use Rattle.ovl_program.specs.declared.faults.ProgramFault.TheVariants.{Input, Output, Engine};
-ghost use Rattle.ovl_program.specs.Reported.{IsReported, input_request};
+ghost use Rattle.ovl_program.specs.Reported.{IsComing, IsReported, input_request};
 
 use crate::command_line::commands::DEFAULT_WORKERS;
 use crate::faults::ProgramFault;
 use crate::files::reads::{INPUT_LIMIT, read_all};
 use crate::output::report::write_report;
 use crate::output::status::Ending;
-use ovl_engine::Command;
+use ovl_engine::{Command, command_of};
+use ovl_pool::OpenGate;
 use std::io::{Read, Write};
 use std::rt::Files;
 use std::sync::Wait;
@@ -23,20 +24,21 @@ pub fn show_input<H: Threads + Wait + Sync + Files + AllocGlobal, R: Read, W: Wr
     writer: &mut W,
 ) -> Result<Ending, ProgramFault>
     ensures shown { IfSome (R.remaining reader.old) (λ manifest. (result ≡ Err Input) ⊎ ((result ≡ Err (Engine Memory))
-        ⊎ IsReported (input_request manifest) None (W.contents writer.old) (W.contents writer.new) result)) }
+        ⊎ IsReported (IsComing (input_request manifest)) None (W.contents writer.old) (W.contents writer.new) result)) }
     ensures silent { IfErr result (λ fault. fault ≢ Output → Keeps (W.contents writer.old) (W.contents writer.new)) }
 {
     let manifest = read_all(rt.alloc(), reader, INPUT_LIMIT)?;
     let mut manifests = Vec::new(rt.alloc());
     manifests.push(manifest)?;
-    write_report(
+    let answered = command_of(
         rt,
+        rt.alloc(),
         Command::Show,
         manifests,
         0,
         &[],
         DEFAULT_WORKERS,
-        &None,
-        writer,
-    )
+        &OpenGate,
+    );
+    write_report(rt, answered, &None, writer)
 }

@@ -1,9 +1,14 @@
-use Rattle.std.proofs.Common.{◌∙◌, ℕ, refl, sym, ap, length, Vec, Global}
+use Rattle.std.proofs.Common.{◌∙◌, ◌≡◌, ℕ, None, refl, sym, ap, length, Vec, Global, Result}
 use Rattle.std.proofs.lemmas.List.{length-map}
+use Rattle.ovl_engine.specs.declared.requests.Answer.{Answer}
+use Rattle.ovl_engine.specs.declared.faults.EngineFault.{EngineFault}
 use Rattle.ovl_engine.specs.Requests.{Request, request_of}
-use Rattle.ovl_program.specs.Programs.{IsRequestFor}
-use Rattle.ovl_program.proofs.Performed.{performed}
+use Rattle.ovl_program.specs.Programs.{IsComingFor, IsRequestFor}
+use Rattle.ovl_program.proofs.Performed.{coming_for, few_coming, performed, reported_more}
 use Rattle.ovl_program.proofs.runs.command.perform.Goals as goal
+
+pub write_report-requires : goal.write_report-requires
+write_report-requires g c = few_coming _ c.command_of.result c.command_of.ensures.outcome
 
 pub returns : goal.returns
 returns g c =
@@ -17,4 +22,7 @@ returns g c =
       in_order = c.in_ok-blobs.ensures.in_order;
       none = c.in_ok-blobs.ensures.none;
     } in
-    performed line _ _ c.write_report.result request made (rw c.deref-2.ensures.value at c.write_report.ensures)
+    performed line _ _ c.write_report.result request made
+    (reported_more (λ (outcome : Result Answer EngineFault). outcome ≡ c.command_of.result) (IsComingFor line request)
+    (λ outcome is. coming_for line _ _ None c.folder_in_parts.ensures request outcome (rw is (rw c.deref-2.ensures.value at c.command_of.ensures.outcome)))
+    line.out _ _ c.write_report.result c.write_report.ensures)

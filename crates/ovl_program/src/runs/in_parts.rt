@@ -1,0 +1,65 @@
+ghost use Rattle.std.specs.Prelude.{◌≡◌, [], Some, IfOk, IfErr, length};
+ghost use Rattle.ovl_engine.specs.Requests.{request_of};
+ghost use Rattle.ovl_program.specs.Faults.{IsUnread};
+ghost use Rattle.ovl_program.specs.Reported.{IsComingOver};
+ghost use Rattle.ovl_program.specs.Programs.{IsOfBlobs, IsPerformed, folder_in_parts};
+
+use crate::command_line::options::Line;
+use crate::faults::ProgramFault;
+use crate::files::folder_in_parts::FolderInParts;
+use crate::output::report::write_report;
+use crate::output::status::Ending;
+use ovl_engine::{Answer, CommandFault, EngineFault, command_over};
+use ovl_pool::OpenGate;
+use std::io::Write;
+use std::rt::Files;
+use std::sync::Wait;
+use std::thread::Threads;
+
+/// Does what a line asks for with its manifests and the blobs of this folder of it, which are read in parts.
+pub fn perform_in_parts<R: Files + AllocGlobal + Threads + Wait + Sync, W: Write>(
+    rt: &R,
+    line: &Line,
+    folder: &String,
+    manifests: Vec<Vec<u8>>,
+    writer: &mut W,
+) -> Result<Ending, ProgramFault>
+    requires folder { folder_in_parts line.now ≡ Some folder.now }
+    requires each { length manifests.items ≡ length line.now.layers.items }
+    ensures { IsPerformed line.now (W.contents writer.old) (W.contents writer.new) result }
+{
+    let answered = answer_in_parts(rt, line, folder, manifests)?;
+    write_report(rt, answered, &line.out, writer)
+}
+
+// What the line's command gives of these manifests and the blobs of this folder, where it can be told what these are.
+fn answer_in_parts<R: Files + AllocGlobal + Threads + Wait + Sync>(
+    rt: &R,
+    line: &Line,
+    folder: &String,
+    manifests: Vec<Vec<u8>>,
+) -> Result<Result<Answer, EngineFault>, ProgramFault>
+    requires { folder_in_parts line.now ≡ Some folder.now }
+    ensures coming { IfOk result (IsComingOver
+        (request_of line.now.what manifests.items line.now.data_layers [] line.now.workers)) }
+    ensures fault { IfErr result (λ fault. IsUnread (IsOfBlobs line.now) fault) }
+{
+    let contents = FolderInParts {
+        files: rt,
+        path: folder.as_str(),
+    };
+    match command_over(
+        rt,
+        rt.alloc(),
+        line.what,
+        manifests,
+        line.data_layers,
+        &contents,
+        line.workers,
+        &OpenGate,
+    ) {
+        Ok(answer) => Ok(Ok(answer)),
+        Err(CommandFault::Engine(fault)) => Ok(Err(fault)),
+        Err(CommandFault::Contents(fault)) => Err(fault),
+    }
+}
