@@ -133,6 +133,10 @@ module _ (may_be : List ℕ → Option (List ℕ) → Type 0) (names : List (Lis
         ];
       }
 
+pub not_some : {X : Type 0} → (found : Option X) → ((x : X) → found ≡ Some x → ⊥) → found ≡ None
+not_some None never = refl
+not_some (Some x) never = absurd (never x refl)
+
 -- the front of a list in order
 ascends_front : (xs ys : List (List ℕ)) → ascends digest_cmp (xs ++ ys) ≡ true → ascends digest_cmp xs ≡ true
 ascends_front [] ys up = refl
