@@ -16,7 +16,6 @@ use Rattle.ovl_engine.specs.declared.requests.Command.TheVariants.{Show, Fsck, V
 use Rattle.ovl_engine.specs.Requests.{Request}
 use Rattle.ovl_engine.specs.declared.requests.Answer.{Answer}
 use Rattle.ovl_engine.specs.declared.faults.EngineFault.{EngineFault}
-use Rattle.ovl_engine.specs.declared.faults.EngineFault.TheVariants.{Memory, Workers, Layers, Layer, BlobOrder, BlobSize, NoLower, Faulty, LimitOut, Run, DataLayers}
 use Rattle.ovl_program.specs.declared.command_line.options.Line.{Line}
 use Rattle.ovl_program.specs.declared.output.status.Ending.{Ending}
 use Rattle.ovl_program.specs.declared.faults.ProgramFault.{ProgramFault}

@@ -1,4 +1,4 @@
-use Rattle.std.proofs.Common.{sym, subst, None, ◌∙◌}
+use Rattle.std.proofs.Common.{subst}
 use Rattle.ovl_program.specs.BlobFolders.{IsToldOf, anything}
 use Rattle.ovl_program.proofs.Telling.{not_some, told_none, told_of_none, told_some}
 use Rattle.ovl_program.proofs.files.folder_in_parts.tell_all.Goals.{in-Some+in_ok-push, in_default}
