@@ -26,12 +26,12 @@ option_read id low high E gives f read given reads parses =
 -- a flag that is there is read as such
 pub flag_read : (id : Text) (f : Found) (read : Bool) → IsFlag id (rows_of f) → (one_text f id ≡ None → read ≡ false)
     → (one_text f id ≡ Some (codes "true") → read ≡ true) → (one_text f id ≡ Some (codes "false") → read ≡ false) → read ≡ has_flag id (rows_of f)
-flag_read id f read is none yes no = go (one_of id (rows_of f)) refl is
+flag_read id f read is none set unset = go (one_of id (rows_of f)) refl is
   where
     go : (o : Option Text) → one_of id (rows_of f) ≡ o → IfSome o (λ text. (text ≡ codes "true") ⊎ (text ≡ codes "false")) → read ≡ option_map_or (λ text. bytes_eq text (codes "true")) o false
     go None e is = none (one_text-rows f id ∙ e)
-    go (Some text) e (inl is) = yes (one_text-rows f id ∙ e ∙ ap Some is) ∙ sym (ap (λ (t : Text). bytes_eq t (codes "true")) is)
-    go (Some text) e (inr is) = no (one_text-rows f id ∙ e ∙ ap Some is) ∙ sym (ap (λ (t : Text). bytes_eq t (codes "true")) is)
+    go (Some text) e (inl is) = set (one_text-rows f id ∙ e ∙ ap Some is) ∙ sym (ap (λ (t : Text). bytes_eq t (codes "true")) is)
+    go (Some text) e (inr is) = unset (one_text-rows f id ∙ e ∙ ap Some is) ∙ sym (ap (λ (t : Text). bytes_eq t (codes "true")) is)
 
 pub is_some-map : {X Y : Type 0} (f : X → Y) (o : Option X) → is_some o ≡ is_some (option_map f o)
 is_some-map f None = refl

@@ -7,13 +7,15 @@ use Rattle.ovl_manifest.specs.Text.{manifest_text}
 use Rattle.ovl_lookup.specs.Stacks.{StackView}
 use Rattle.ovl_check.specs.declared.findings.Finding.{Finding}
 use Rattle.ovl_check.specs.Blobs.{BlobView}
+use Rattle.ovl_board.specs.declared.pieces.Piece.{Piece}
+use Rattle.ovl_engine.specs.declared.contents.CommandFault.TheVariants.{Contents as OfContents}
+use Rattle.ovl_engine.specs.Told.{IsOutcomeOver}
 use Rattle.ovl_engine.specs.Outcomes.{IsAnswerOf, IsRewritten}
 use Rattle.ovl_engine.specs.declared.requests.Command.{Command}
 use Rattle.ovl_engine.specs.declared.requests.Command.TheVariants.{Show, Fsck, Vacuum, Deref, Merge}
 use Rattle.ovl_engine.specs.Requests.{Request}
 use Rattle.ovl_engine.specs.declared.requests.Answer.{Answer}
 use Rattle.ovl_engine.specs.declared.faults.EngineFault.{EngineFault}
-use Rattle.ovl_engine.specs.declared.faults.EngineFault.TheVariants.{Memory, Workers, Layers, Layer, BlobOrder, BlobSize, NoLower, Faulty, LimitOut, Run, DataLayers}
 use Rattle.ovl_program.specs.declared.command_line.options.Line.{Line}
 use Rattle.ovl_program.specs.declared.output.status.Ending.{Ending}
 use Rattle.ovl_program.specs.declared.faults.ProgramFault.{ProgramFault}
@@ -39,10 +41,10 @@ module _ (line : Line) (before after : Option (List ℕ)) where
   performed (Err Words) request of reported = elim reported [ ]
   performed (Err Input) request of reported = elim reported [ ]
 
-  -- what comes of a command is what may come for the line
-  pub coming_for : (from : Option (String Global)) → from ≡ folder_in_parts line → (request : Request) (result : Result Answer EngineFault)
-      → IsComingIn from request result → IsComingFor line request result
-  coming_for from is request result comes = subst (λ (o : Option (String Global)). IsComingIn o request result) is comes
+-- what comes of a command is what may come for the line
+pub coming_for : (line : Line) (from : Option (String Global)) → from ≡ folder_in_parts line → (request : Request) (result : Result Answer EngineFault)
+    → IsComingIn from request result → IsComingFor line request result
+coming_for line from is request result comes = subst (λ (o : Option (String Global)). IsComingIn o request result) is comes
 
 -- a line whose blobs are read in parts has a folder of them
 pub asked_folder : (line : Line) (folder : String Global) → folder_in_parts line ≡ Some folder → line.blobs ≡ Some folder
@@ -129,6 +131,12 @@ pub few_coming_over : (request : Request) (answered : Result Answer EngineFault)
 few_coming_over request (Ok answer) (inl refused) = elim refused [ ]
 few_coming_over request (Ok answer) (inr run) = few_layers _ _ _ answer run.1.is
 few_coming_over request (Err fault) is = tt
+
+-- why contents aren't told
+pub untold : (request : Request) (may_be : List ℕ → Option (List ℕ) → Type 0) (may_fail : ProgramFault → Type 0) (may_refuse : Piece → Type 0) (fault : ProgramFault)
+    → IsOutcomeOver {F = ProgramFault} request may_be may_fail may_refuse (Err (OfContents fault)) → may_fail fault
+untold request may_be may_fail may_refuse fault (inl refused) = elim refused [ ]
+untold request may_be may_fail may_refuse fault (inr run) = run.1.1
 
 -- a writer that isn't written to
 pub stays : (before : Option (List ℕ)) → Keeps before before

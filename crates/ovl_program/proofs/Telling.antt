@@ -1,6 +1,6 @@
 -- Contents that are told name by name.
-use Rattle.std.proofs.Common.{◌≡◌, ◌∙◌, ◌<◌, ◌+◌, ℕ, Bool, true, false, cond, inl, inr, Option, Some, None, List, [], ◌∷◌, ◌++◌, refl, sym, ap, subst, map, All, Contains, get_or, length, take, drop}
-use Rattle.std.specs.List.{find, list_all}
+use Rattle.std.proofs.Common.{◌≡◌, ◌∙◌, ◌<◌, ◌+◌, ℕ, Bool, true, false, cond, inl, inr, Option, Some, None, List, [], ◌∷◌, ◌++◌, refl, sym, ap, subst, Contains, get_or, length, take, drop}
+use Rattle.std.specs.List.{list_all}
 use Rattle.std.specs.Option.{option_map, option_or}
 use Rattle.std.specs.Str.{bytes_eq}
 use Rattle.std.specs.Ordering.{is_lt}
@@ -16,7 +16,7 @@ use Rattle.ovl_board.proofs.LawsOfMembers.{Every, Every-All, Contains-In, In-Con
 use Rattle.ovl_check.specs.declared.contents.Content.{Content}
 use Rattle.ovl_check.specs.Blobs.{BlobView, digest_cmp}
 use Rattle.ovl_check.specs.Conditions.{find_blob}
-use Rattle.ovl_check.specs.Contents.{content_cmp, content_of, contents_of}
+use Rattle.ovl_check.specs.Contents.{content_cmp, content_of}
 use Rattle.ovl_engine.specs.Told.{AreTold, bytes_named}
 use Rattle.ovl_program.specs.BlobFolders.{IsToldOf, anything, told_of}
 
@@ -132,6 +132,10 @@ module _ (may_be : List ℕ → Option (List ℕ) → Type 0) (names : List (Lis
           | inr last ↦ subst (λ n. may_be n (bytes_named (one_more are.blobs name bytes) n)) last (subst (may_be name) (sym (own_found are.blobs name bytes new)) holds)
         ];
       }
+
+pub not_some : {X : Type 0} → (found : Option X) → ((x : X) → found ≡ Some x → ⊥) → found ≡ None
+not_some None never = refl
+not_some (Some x) never = absurd (never x refl)
 
 -- the front of a list in order
 ascends_front : (xs ys : List (List ℕ)) → ascends digest_cmp (xs ++ ys) ≡ true → ascends digest_cmp xs ≡ true

@@ -28,6 +28,17 @@ pub fn show_input<H: Threads + Wait + Sync + Files + AllocGlobal, R: Read, W: Wr
     ensures silent { IfErr result (λ fault. fault ≢ Output → Keeps (W.contents writer.old) (W.contents writer.new)) }
 {
     let manifest = read_all(rt.alloc(), reader, INPUT_LIMIT)?;
+    show_manifest(rt, manifest, writer)
+}
+
+// Writes the report of `show` over the one layer that this manifest states.
+fn show_manifest<H: Threads + Wait + Sync + Files + AllocGlobal, W: Write>(
+    rt: &H,
+    manifest: Vec<u8>,
+    writer: &mut W,
+) -> Result<Ending, ProgramFault>
+    ensures { IsReported (IsComing (input_request manifest.items)) None (W.contents writer.old) (W.contents writer.new) result }
+{
     let mut manifests = Vec::new(rt.alloc());
     manifests.push(manifest)?;
     let answered = command_of(

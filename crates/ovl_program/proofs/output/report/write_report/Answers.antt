@@ -1,4 +1,4 @@
-use Rattle.std.proofs.Common.{◌≡◌, inl, inr, refl, sym, subst, Result, Err}
+use Rattle.std.proofs.Common.{◌≡◌, ◌∙◌, inl, inr, refl, sym, ap, Result, Err}
 use Rattle.ovl_engine.specs.declared.requests.Answer.{Answer}
 use Rattle.ovl_engine.specs.declared.faults.EngineFault.{EngineFault}
 use Rattle.ovl_program.proofs.Performed.{answered, told}
@@ -23,4 +23,4 @@ returns-in-Err-Faulty g c =
     told (λ (outcome : Result Answer EngineFault). outcome ≡ c.args.answered) c.args.out.now
     (g.W.Write.contents c.args.writer.now) (g.W.Write.contents c.write-in-Err-Faulty.new.writer)
     c.deref-in-Err-Faulty.result.now _ c.write-in-Err-Faulty.result
-    (inr (c.in-Err-Faulty.report, (sym c.in-Err-Faulty.is, (c.deref-in-Err-Faulty.ensures.value, refl)))) c.write-in-Err-Faulty.ensures
+    (inr (c.in-Err-Faulty.report, (ap Err (sym c.in-Err-Faulty.field-0-is) ∙ sym c.in-Err-Faulty.is, (c.deref-in-Err-Faulty.ensures.value, refl)))) c.write-in-Err-Faulty.ensures
