@@ -107,7 +107,13 @@ fn a_new_layer_is_within_the_limits(rt: HostRuntime) -> Result<(), Fail> {
     for (what, upper, name, directories, end) in [
         (Command::Deref, deep, "d", 63, "\nwhiteout /x\nentries 67\n"),
         (Command::Show, deep, "d", 127, "\nentries 130\n"),
-        (Command::Deref, deep, "d", 126, "\nwhiteout /x\nentries 130\n"),
+        (
+            Command::Deref,
+            deep,
+            "d",
+            126,
+            "\nwhiteout /x\nentries 130\n",
+        ),
         (Command::Deref, deep, "d", 127, "! result over the limits\n"),
         (Command::Merge, deep, "d", 126, "\nentries 129\n"),
         (Command::Merge, deep, "d", 127, "! result over the limits\n"),

@@ -19,8 +19,12 @@ fn layers_are_written_as_they_were_read(rt: HostRuntime) -> Result<(), Fail> {
     let smallest = format!(in alloc; "{ROOT_ALONE}\n")?;
     assert_eq!(rt; smallest.as_bytes(), manifest_of(alloc, "root")?.as_slice());
     let earlier = read_layer(alloc, EARLIER_ROOT.as_bytes())?;
-    assert_eq!(rt; write_layer(alloc, &earlier)?.as_slice(), smallest.as_bytes());
-    let all = "console /c, dir /d opaque=y, file-late /d/k, disk /e, link /l user.k=v, fifo /p, socket /s";
+    assert_eq!(rt;
+        write_layer(alloc, &earlier)?.as_slice(),
+        smallest.as_bytes()
+    );
+    let all =
+        "console /c, dir /d opaque=y, file-late /d/k, disk /e, link /l user.k=v, fifo /p, socket /s";
     for (entries, count) in [("root", 1), (all, 8)] {
         let manifest = manifest_of(alloc, entries)?;
         let layer = read_layer(alloc, &manifest)?;
@@ -57,7 +61,9 @@ fn chain_of(alloc: Global, version: u8, nsec: &str, directories: usize) -> Resul
             text.push_str(",")?;
             "/d".repeat(alloc, depth)?
         };
-        let entry = format!(in alloc; r#"{{"gid":0,"kind":"dir","mode":493,"mtime":0,{nsec}"path":"{path}","uid":0,"xattrs":{{}}}}"#)?;
+        let entry = format!(in alloc;
+            r#"{{"gid":0,"kind":"dir","mode":493,"mtime":0,{nsec}"path":"{path}","uid":0,"xattrs":{{}}}}"#
+        )?;
         text.push_str(entry.as_str())?;
     }
     text.push_str("]}")?;
@@ -89,8 +95,16 @@ fn each_version_has_its_depth_and_its_members(rt: HostRuntime) -> Result<(), Fai
             read_layer(alloc, manifest.as_bytes()),
             read_sheet(alloc, manifest.as_bytes()),
         );
-        assert_eq!(rt; layer.err(), wanted, "version {version}, {nsec}, {directories}");
-        assert_eq!(rt; sheet.err(), wanted, "version {version}, {nsec}, {directories}");
+        assert_eq!(rt;
+            layer.err(),
+            wanted,
+            "version {version}, {nsec}, {directories}"
+        );
+        assert_eq!(rt;
+            sheet.err(),
+            wanted,
+            "version {version}, {nsec}, {directories}"
+        );
     }
     Ok(())
 }
