@@ -184,7 +184,7 @@ fn of_cores<R: Print>(teller: &Teller<'_, R>) -> Result<(), Fail> {
     .iter()
     .enumerate()
     {
-        if teller.is_asked(name) {
+        if teller.is_asked(name)? {
             of_step(teller, &small, number)?;
         }
     }
@@ -200,19 +200,16 @@ fn of_step<R: Print>(teller: &Teller<'_, R>, tree: &Tree, number: usize) -> Resu
             core.step(alloc, *event)?;
             continue;
         }
-        teller.line("now");
+        teller.line("now")?;
         let made = core.step(alloc, *event);
-        teller.line("done");
+        teller.line("done")?;
         if made == Err(CoreFault::Memory) {
-            teller.line("refused");
+            teller.line("refused")?;
             core.step(alloc, *event)?;
         }
     }
     match core.finish() {
-        Ok(parcels) => {
-            teller.tell("answer", &parcels);
-            Ok(())
-        },
+        Ok(parcels) => Ok(teller.tell("answer", &parcels)?),
         Err(_) => Err(Fail::new("the core isn't idle")),
     }
 }

@@ -17,7 +17,6 @@ pub(crate) fn make<R: Print>(teller: &Teller<'_, R>) -> Result<(), Fail> {
     of_other_manifests(teller)?;
     of_layers(teller)?;
     of_new_layers(teller)?;
-    of_builders(teller)?;
     of_sheets(teller)?;
     of_sheets_of_layers(teller)
 }
@@ -154,12 +153,6 @@ fn of_new_layers<R: Print>(teller: &Teller<'_, R>) -> Result<(), Fail> {
         LayerFault::Memory,
         |made| &layer_told(alloc, made)?
     );
-    Ok(())
-}
-
-fn of_builders<R: Print>(teller: &Teller<'_, R>) -> Result<(), Fail> {
-    let alloc = teller.alloc;
-    let layer = layer_of(alloc, LOWER)?;
     let text = format!(in alloc; "/{LONG}")?;
     let path = Path::parse(alloc, text.as_str())?;
     let root = layer.root().inode();
@@ -205,22 +198,22 @@ fn text_of(alloc: Global, layer: &Layer) -> Result<String, Fail> {
 // The layer comes back where there is no memory for its sheet.
 fn of_sheets_of_layers<R: Print>(teller: &Teller<'_, R>) -> Result<(), Fail> {
     let alloc = teller.alloc;
-    if !teller.is_asked("Sheet::of") {
+    if !teller.is_asked("Sheet::of")? {
         return Ok(());
     }
     let layer = layer_of(alloc, LOWER)?;
-    teller.tell("lent", &text_of(alloc, &layer)?);
-    teller.line("now");
+    teller.tell("lent", &text_of(alloc, &layer)?)?;
+    teller.line("now")?;
     let made = Sheet::of(alloc, layer);
-    teller.line("done");
+    teller.line("done")?;
     let made = match made {
         Ok(sheet) => Ok(sheet),
         Err(layer) => {
-            teller.line("refused");
-            teller.tell("lent", &text_of(alloc, &layer)?);
+            teller.line("refused")?;
+            teller.tell("lent", &text_of(alloc, &layer)?)?;
             Sheet::of(alloc, layer)
         }
     };
-    teller.tell("answer", &sheet_told(alloc, &made.map_err(|_| AllocError))?);
+    teller.tell("answer", &sheet_told(alloc, &made.map_err(|_| AllocError))?)?;
     Ok(())
 }

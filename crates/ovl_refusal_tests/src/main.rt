@@ -7,24 +7,24 @@
 // What is given away is made anew for each call.
 macro_rules! call {
     ($teller:expr, $name:expr, [$($lent:expr),*], $given:ident = $make:expr, $call:expr, $want:pat, |$answer:ident| $told:expr) => {
-        if $teller.is_asked($name) {
-            $($teller.tell("lent", &$lent);)*
+        if $teller.is_asked($name)? {
+            $($teller.tell("lent", &$lent)?;)*
             let $given = $make;
-            $teller.line("now");
+            $teller.line("now")?;
             let made = $call;
-            $teller.line("done");
+            $teller.line("done")?;
             if matches!(made, Err($want)) {
-                $teller.line("refused");
-                $($teller.tell("lent", &$lent);)*
+                $teller.line("refused")?;
+                $($teller.tell("lent", &$lent)?;)*
                 let $given = $make;
                 let again = $call;
                 let $answer = &again;
-                $teller.tell("answer", $told);
+                $teller.tell("answer", $told)?;
             } else {
                 let $answer = &made;
-                $teller.tell("answer", $told);
+                $teller.tell("answer", $told)?;
             }
-            $($teller.tell("lent", &$lent);)*
+            $($teller.tell("lent", &$lent)?;)*
         }
     };
     ($teller:expr, $name:expr, [$($lent:expr),*], $call:expr, $want:pat, |$answer:ident| $told:expr) => {

@@ -37,7 +37,7 @@ const SLOTS: usize = 4;
 // A lane that must grow gives the piece back where there is no memory for it.
 fn of_pushes<R: Print>(teller: &Teller<'_, R>) -> Result<(), Fail> {
     let alloc = teller.alloc;
-    if !teller.is_asked("Lane::push") {
+    if !teller.is_asked("Lane::push")? {
         return Ok(());
     }
     let Some(mut seat) = lanes(alloc, 1)?.pop() else {
@@ -51,22 +51,21 @@ fn of_pushes<R: Print>(teller: &Teller<'_, R>) -> Result<(), Fail> {
         space: 1,
         dir: Path::parse(alloc, text.as_str())?,
     };
-    teller.tell("lent", &piece);
-    teller.line("now");
+    teller.tell("lent", &piece)?;
+    teller.line("now")?;
     let pushed = seat.lane.push(piece);
-    teller.line("done");
+    teller.line("done")?;
     let pushed = match pushed {
         Ok(()) => Ok(()),
         Err(piece) => {
-            teller.line("refused");
-            teller.tell("lent", &piece);
+            teller.line("refused")?;
+            teller.tell("lent", &piece)?;
             seat.lane.push(piece)
         }
     };
-    teller.tell("answer", &pushed);
+    teller.tell("answer", &pushed)?;
     let gathered = close(seat);
-    teller.tell("lent", &(gathered.pushed, gathered.left));
-    Ok(())
+    Ok(teller.tell("lent", &(gathered.pushed, gathered.left))?)
 }
 
 // A root, ten directories, and in each 20 more, or 9 in the last: 200 paths.

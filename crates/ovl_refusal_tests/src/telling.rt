@@ -2,6 +2,7 @@
 
 use std::alloc::Global;
 use std::fmt::Debug;
+use std::io;
 
 /// Tells of the call that is asked for.
 #[derive(Drop)]
@@ -18,23 +19,23 @@ impl<'a, R: Print> Teller<'a, R> {
     }
 
     /// Whether the call of this name is to be made. Where there are no words its name is printed.
-    pub fn is_asked(&self, name: &str) -> bool {
+    pub fn is_asked(&self, name: &str) -> io::Result<bool> {
         match self.words.first() {
-            Some(word) => word.as_str() == name,
+            Some(word) => Ok(word.as_str() == name),
             None => {
-                self.line(name);
-                false
+                self.line(name)?;
+                Ok(false)
             }
         }
     }
 
-    /// Prints a line. One that can't be printed is missed by who reads them.
-    pub fn line(&self, text: &str) {
-        let _ = println!(self.rt; "{text}");
+    /// Prints a line.
+    pub fn line(&self, text: &str) -> io::Result<()> {
+        println!(self.rt; "{text}")
     }
 
     /// Prints a line of a word and a value.
-    pub fn tell<T: Debug>(&self, word: &str, value: &T) {
-        let _ = println!(self.rt; "{word} {value:?}");
+    pub fn tell<T: Debug>(&self, word: &str, value: &T) -> io::Result<()> {
+        println!(self.rt; "{word} {value:?}")
     }
 }

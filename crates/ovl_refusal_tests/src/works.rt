@@ -1,16 +1,16 @@
 //! Works of commands, and what is made of their walks.
 ghost use Rattle.std.specs.Prelude.{◌≡◌, IfOk, length, map};
 ghost use Rattle.ovl_board.specs.Parcels.{parcel_views};
-ghost use Rattle.ovl_check.specs.Blobs.{blob_root as blob_piece};
 ghost use Rattle.ovl_check.specs.Checks.{check_seen};
 ghost use Rattle.ovl_check.specs.CheckViews.{check_view};
 ghost use Rattle.ovl_check.specs.Walks.{AreLayerWalks};
 
-use crate::samples::{LOWER, blobs, layer_of as layer_in, layer_told, root, stack, text_told};
+use crate::samples::{blobs, layer_told, root, stack, text_told};
 use crate::telling::Teller;
 use ovl_board::{Parcel, Piece, Work, plain_walk};
 use ovl_check::{
-    BLOB_SPACE, Blob, BlobWork, CheckOut, CheckWork, finish_blobs, finish_check, stated_names,
+    BLOB_SPACE, BlobWork, CheckOut, CheckWork, blobs_in_order, finish_blobs, finish_check,
+    stated_names,
 };
 use ovl_deref::{DerefWork, finish_deref};
 use ovl_engine::{ShowWork, finish_show, report_of, report_of_walk};
@@ -25,42 +25,29 @@ use std::test::Fail;
 pub(crate) fn make<R: Print>(teller: &Teller<'_, R>) -> Result<(), Fail> {
     let stack = stack(teller.alloc)?;
     of_blobs(teller)?;
-    of_walked_blobs(teller)?;
     of_checks(teller, &stack)?;
     of_shows(teller, &stack)?;
     of_reports(teller, &stack)?;
     of_vacuums(teller, &stack)?;
     of_derefs(teller, &stack)?;
     of_merges(teller, &stack)?;
-    of_directories(teller, &stack)?;
-    of_told_layers(teller, &stack)?;
-    of_entries(teller)
-}
-
-// Blobs of which the bytes are wrong.
-fn wrong_blobs(alloc: Global) -> Result<Vec<Blob>, Fail> {
-    let mut blobs = blobs(alloc)?;
-    for blob in &mut blobs {
-        blob.bytes.push(b'a')?;
-    }
-    Ok(blobs)
-}
-
-// The root of the work over blobs.
-fn blob_root(alloc: Global) -> Piece
-    ensures { result ≡ blob_piece }
-{
-    Piece {
-        space: BLOB_SPACE,
-        dir: Path::root(alloc),
-    }
+    of_rewrites(teller, &stack)
 }
 
 fn of_blobs<R: Print>(teller: &Teller<'_, R>) -> Result<(), Fail> {
     let alloc = teller.alloc;
-    let blobs = wrong_blobs(alloc)?;
+    let mut blobs = blobs(alloc)?;
+    for blob in &mut blobs {
+        blob.bytes.push(b'a')?;
+    }
+    if !blobs_in_order(&blobs) {
+        return Err(Fail::new("the names do not ascend"));
+    }
     let work = BlobWork::new(&blobs);
-    let top = blob_root(alloc);
+    let top = Piece {
+        space: BLOB_SPACE,
+        dir: Path::root(alloc),
+    };
     call!(
         teller,
         "BlobWork::visit",
@@ -68,7 +55,7 @@ fn of_blobs<R: Print>(teller: &Teller<'_, R>) -> Result<(), Fail> {
         work.visit(alloc, &top),
         AllocError
     );
-    let walk = plain_walk(alloc, &work, top)?;
+    let walk = plain_walk(alloc, &work, top.copy(alloc)?)?;
     if let Some(last) = walk.last() {
         call!(
             teller,
@@ -78,18 +65,11 @@ fn of_blobs<R: Print>(teller: &Teller<'_, R>) -> Result<(), Fail> {
             AllocError
         );
     }
-    Ok(())
-}
-
-fn of_walked_blobs<R: Print>(teller: &Teller<'_, R>) -> Result<(), Fail> {
-    let alloc = teller.alloc;
-    let blobs = wrong_blobs(alloc)?;
-    let work = BlobWork::new(&blobs);
     call!(
         teller,
         "finish_blobs",
         [],
-        walk = plain_walk(alloc, &work, blob_root(alloc))?,
+        walk = plain_walk(alloc, &work, top.copy(alloc)?)?,
         finish_blobs(alloc, &work, walk),
         AllocError,
         |answer| answer
@@ -272,7 +252,7 @@ fn of_merges<R: Print>(teller: &Teller<'_, R>, stack: &Stack) -> Result<(), Fail
     Ok(())
 }
 
-fn of_directories<R: Print>(teller: &Teller<'_, R>, stack: &Stack) -> Result<(), Fail> {
+fn of_rewrites<R: Print>(teller: &Teller<'_, R>, stack: &Stack) -> Result<(), Fail> {
     let alloc = teller.alloc;
     let work = DerefWork::new(stack);
     let top = root(alloc);
@@ -286,15 +266,8 @@ fn of_directories<R: Print>(teller: &Teller<'_, R>, stack: &Stack) -> Result<(),
             AllocError
         );
     }
-    Ok(())
-}
-
-fn of_told_layers<R: Print>(teller: &Teller<'_, R>, stack: &Stack) -> Result<(), Fail> {
-    let alloc = teller.alloc;
-    let work = DerefWork::new(stack);
-    // A stack has a topmost layer.
-    let _layers = stack.ordinary();
-    let inode = stack.sheet(0).root().inode();
+    let layer = finish_deref(alloc, &work, walk)?;
+    let inode = layer.root().inode();
     call!(
         teller,
         "layer_told",
@@ -304,12 +277,6 @@ fn of_told_layers<R: Print>(teller: &Teller<'_, R>, stack: &Stack) -> Result<(),
         RewriteFault::Memory,
         |made| &layer_told(alloc, made)?
     );
-    Ok(())
-}
-
-fn of_entries<R: Print>(teller: &Teller<'_, R>) -> Result<(), Fail> {
-    let alloc = teller.alloc;
-    let layer = layer_in(alloc, LOWER)?;
     call!(
         teller,
         "layer_of",
