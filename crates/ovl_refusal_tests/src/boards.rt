@@ -66,14 +66,14 @@ fn of_pieces<R: Print>(teller: &Teller<'_, R>) -> Result<(), Fail> {
     call!(
         teller,
         "Piece::copy",
-        [pieces],
+        lent[pieces],
         pieces[0].copy(alloc),
         AllocError
     );
     call!(
         teller,
         "copies",
-        [pieces],
+        lent[pieces],
         copies(alloc, &pieces),
         AllocError
     );
@@ -86,18 +86,12 @@ const MANY: usize = 24;
 fn of_parcels<R: Print>(teller: &Teller<'_, R>) -> Result<(), Fail> {
     let alloc = teller.alloc;
     let tree = tree(alloc, MANY)?;
-    call!(
-        teller,
-        "plain_walk",
-        [],
-        plain_walk(alloc, &tree, root(alloc)),
-        AllocError
-    );
+    call!(teller, "plain_walk", lent [], plain_walk(alloc, &tree, root(alloc)), AllocError);
     let mut parcels = reversed(alloc, &tree)?;
     call!(
         teller,
         "sort_parcels",
-        [parcels],
+        lent[parcels],
         sort_parcels(&mut parcels),
         AllocError
     );
@@ -109,33 +103,12 @@ fn of_assemblies<R: Print>(teller: &Teller<'_, R>) -> Result<(), Fail> {
     let alloc = teller.alloc;
     let tree = tree(alloc, MANY)?;
     let top = root(alloc);
-    call!(
-        teller,
-        "assemble",
-        [top],
-        parcels = checked(alloc, reversed(alloc, &tree)?)?,
-        assemble(alloc, &top, parcels),
-        BoardFault::Memory,
-        |answer| answer
-    );
-    call!(
-        teller,
-        "assemble-double",
-        [top],
-        parcels = checked(alloc, doubled(alloc, &tree)?)?,
-        assemble(alloc, &top, parcels),
-        BoardFault::Memory,
-        |answer| answer
-    );
-    call!(
-        teller,
-        "assemble-missing",
-        [top],
-        parcels = checked(alloc, fewer(alloc, &tree)?)?,
-        assemble(alloc, &top, parcels),
-        BoardFault::Memory,
-        |answer| answer
-    );
+    call!(teller, "assemble", lent [top], given parcels = checked(alloc, reversed(alloc, &tree)?)?,
+        assemble(alloc, &top, parcels), BoardFault::Memory, |answer| answer);
+    call!(teller, "assemble-double", lent [top], given parcels = checked(alloc, doubled(alloc, &tree)?)?,
+        assemble(alloc, &top, parcels), BoardFault::Memory, |answer| answer);
+    call!(teller, "assemble-missing", lent [top], given parcels = checked(alloc, fewer(alloc, &tree)?)?,
+        assemble(alloc, &top, parcels), BoardFault::Memory, |answer| answer);
     Ok(())
 }
 
@@ -166,14 +139,7 @@ const STEPS: [Event; 8] = [
 fn of_cores<R: Print>(teller: &Teller<'_, R>) -> Result<(), Fail> {
     let alloc = teller.alloc;
     let small = tree(alloc, 2)?;
-    call!(
-        teller,
-        "Core::start",
-        [],
-        Core::start(alloc, &small, root(alloc), 2),
-        CoreFault::Memory,
-        |made| &made.is_ok()
-    );
+    call!(teller, "Core::start", lent [], Core::start(alloc, &small, root(alloc), 2), CoreFault::Memory, |made| &made.is_ok());
     for (number, name) in [
         "Core::step-0",
         "Core::step-1",

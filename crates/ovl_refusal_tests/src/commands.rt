@@ -26,7 +26,7 @@ fn of_blobs<R: Print>(teller: &Teller<'_, R>) -> Result<(), Fail> {
     call!(
         teller,
         "named_blobs",
-        [contents],
+        lent[contents],
         named_blobs(alloc, &contents),
         AllocError
     );
@@ -48,17 +48,11 @@ fn of_inputs<R: Print>(teller: &Teller<'_, R>) -> Result<(), Fail> {
     call!(
         teller,
         "line",
-        [words],
+        lent[words],
         line(alloc, &words[1..]),
         LineFault::Memory
     );
-    call!(
-        teller,
-        "read_all",
-        [],
-        read_all(alloc, &mut b"abcde".as_slice(), 5),
-        ReadFault::Memory
-    );
+    call!(teller, "read_all", lent [], read_all(alloc, &mut b"abcde".as_slice(), 5), ReadFault::Memory);
     Ok(())
 }
 
@@ -91,7 +85,7 @@ fn of_commands<R: Print + Threads + Wait + Sync>(teller: &Teller<'_, R>) -> Resu
         call!(
             teller,
             name,
-            [blobs],
+            lent[blobs],
             command(teller.rt, alloc, what, &manifests, 1, &blobs, 2, &OpenGate),
             EngineFault::Memory,
             |made| &told(alloc, made)?
@@ -105,23 +99,8 @@ fn of_manifests_let_go<R: Print + Threads + Wait + Sync>(
 ) -> Result<(), Fail> {
     let alloc = teller.alloc;
     let blobs = blobs(alloc)?;
-    call!(
-        teller,
-        "command_of",
-        [blobs],
-        given = manifests(alloc)?,
-        command_of(
-            teller.rt,
-            alloc,
-            Command::Show,
-            given,
-            1,
-            &blobs,
-            1,
-            &OpenGate
-        ),
-        EngineFault::Memory,
-        |made| &told(alloc, made)?
-    );
+    call!(teller, "command_of", lent [blobs], given given = manifests(alloc)?,
+        command_of(teller.rt, alloc, Command::Show, given, 1, &blobs, 1, &OpenGate), EngineFault::Memory,
+        |made| &told(alloc, made)?);
     Ok(())
 }

@@ -22,27 +22,15 @@ pub(crate) fn make<R: Print>(teller: &Teller<'_, R>) -> Result<(), Fail> {
 fn of_attributes<R: Print>(teller: &Teller<'_, R>) -> Result<(), Fail> {
     let alloc = teller.alloc;
     let name = AttrName::of(alloc, ATTRIBUTE)?;
-    call!(
-        teller,
-        "AttrName::of",
-        [],
-        AttrName::of(alloc, ATTRIBUTE),
-        AttrFault::Memory
-    );
+    call!(teller, "AttrName::of", lent [], AttrName::of(alloc, ATTRIBUTE), AttrFault::Memory);
     call!(
         teller,
         "AttrName::copy",
-        [name],
+        lent[name],
         name.copy(alloc),
         AllocError
     );
-    call!(
-        teller,
-        "Bytes::copy_of",
-        [],
-        Bytes::copy_of(alloc, LONG.as_bytes()),
-        AllocError
-    );
+    call!(teller, "Bytes::copy_of", lent [], Bytes::copy_of(alloc, LONG.as_bytes()), AllocError);
     Ok(())
 }
 
@@ -55,14 +43,14 @@ fn of_more_attributes<R: Print>(teller: &Teller<'_, R>) -> Result<(), Fail> {
     call!(
         teller,
         "Attrs::copy",
-        [attrs],
+        lent[attrs],
         attrs.copy(alloc),
         AllocError
     );
     call!(
         teller,
         "Attrs::visible",
-        [attrs],
+        lent[attrs],
         attrs.visible(alloc),
         AllocError
     );
@@ -70,14 +58,14 @@ fn of_more_attributes<R: Print>(teller: &Teller<'_, R>) -> Result<(), Fail> {
     call!(
         teller,
         "Attrs::put",
-        [more],
+        lent[more],
         more.put(ATTRIBUTE, b"v"),
         AttrFault::Memory
     );
     call!(
         teller,
         "Attrs::put-over",
-        [attrs],
+        lent[attrs],
         attrs.put("user.k", LONG.as_bytes()),
         AttrFault::Memory
     );
@@ -93,21 +81,21 @@ fn of_inodes<R: Print>(teller: &Teller<'_, R>) -> Result<(), Fail> {
     call!(
         teller,
         "Inode::copy",
-        [inode],
+        lent[inode],
         inode.copy(alloc),
         AllocError
     );
     call!(
         teller,
         "visible",
-        [inode],
+        lent[inode],
         visible(alloc, inode),
         AllocError
     );
     call!(
         teller,
         "mark_of",
-        [inode],
+        lent[inode],
         mark_of(alloc, inode),
         AllocError
     );
@@ -124,7 +112,7 @@ fn of_marks<R: Print>(teller: &Teller<'_, R>) -> Result<(), Fail> {
     call!(
         teller,
         "Kind::copy",
-        [link],
+        lent[link],
         link.kind.copy(alloc),
         AllocError
     );
@@ -132,7 +120,7 @@ fn of_marks<R: Print>(teller: &Teller<'_, R>) -> Result<(), Fail> {
         call!(
             teller,
             "Target::copy",
-            [target],
+            lent[target],
             target.copy(alloc),
             AllocError
         );
@@ -140,16 +128,10 @@ fn of_marks<R: Print>(teller: &Teller<'_, R>) -> Result<(), Fail> {
     call!(
         teller,
         "read_redirect",
-        [value],
+        lent[value],
         read_redirect(alloc, value.as_bytes()),
         RedirectFault::Memory
     );
-    call!(
-        teller,
-        "read_redirect-beside",
-        [],
-        read_redirect(alloc, LONG.as_bytes()),
-        RedirectFault::Memory
-    );
+    call!(teller, "read_redirect-beside", lent [], read_redirect(alloc, LONG.as_bytes()), RedirectFault::Memory);
     Ok(())
 }

@@ -42,7 +42,7 @@ fn of_manifests<R: Print>(teller: &Teller<'_, R>) -> Result<(), Fail> {
     call!(
         teller,
         "read_layer",
-        [written],
+        lent[written],
         read_layer(alloc, written.as_bytes()),
         LayerFault::Memory,
         |layer| &layer_told(alloc, layer)?
@@ -50,7 +50,7 @@ fn of_manifests<R: Print>(teller: &Teller<'_, R>) -> Result<(), Fail> {
     call!(
         teller,
         "read_sheet",
-        [written],
+        lent[written],
         read_sheet(alloc, written.as_bytes()),
         LayerFault::Memory,
         |sheet| &sheet_told(alloc, sheet)?
@@ -62,27 +62,13 @@ fn of_manifests<R: Print>(teller: &Teller<'_, R>) -> Result<(), Fail> {
 fn of_other_manifests<R: Print>(teller: &Teller<'_, R>) -> Result<(), Fail> {
     let alloc = teller.alloc;
     let spaced = TOP.as_bytes();
-    call!(
-        teller,
-        "read_layer-spaced",
-        [],
-        read_layer(alloc, spaced),
-        LayerFault::Memory,
-        |layer| &layer_told(alloc, layer)?
-    );
-    call!(
-        teller,
-        "read_sheet-spaced",
-        [],
-        read_sheet(alloc, spaced),
-        LayerFault::Memory,
-        |sheet| &sheet_told(alloc, sheet)?
-    );
+    call!(teller, "read_layer-spaced", lent [], read_layer(alloc, spaced), LayerFault::Memory, |layer| &layer_told(alloc, layer)?);
+    call!(teller, "read_sheet-spaced", lent [], read_sheet(alloc, spaced), LayerFault::Memory, |sheet| &sheet_told(alloc, sheet)?);
     let refused = TOP.replace(alloc, "\"mode\":420", "\"mode\":4096")?;
     call!(
         teller,
         "read_layer-refused",
-        [refused],
+        lent[refused],
         read_layer(alloc, refused.as_bytes()),
         LayerFault::Memory,
         |layer| &layer_told(alloc, layer)?
@@ -90,7 +76,7 @@ fn of_other_manifests<R: Print>(teller: &Teller<'_, R>) -> Result<(), Fail> {
     call!(
         teller,
         "read_sheet-refused",
-        [refused],
+        lent[refused],
         read_sheet(alloc, refused.as_bytes()),
         LayerFault::Memory,
         |sheet| &sheet_told(alloc, sheet)?
@@ -102,35 +88,16 @@ fn of_layers<R: Print>(teller: &Teller<'_, R>) -> Result<(), Fail> {
     let alloc = teller.alloc;
     let layer = layer_of(alloc, LOWER)?;
     let path = Path::root(alloc);
-    call!(
-        teller,
-        "write_layer",
-        [],
-        write_layer(alloc, &layer),
-        AllocError,
-        |made| &text_told(alloc, made)?
-    );
-    call!(
-        teller,
-        "Layer::entries",
-        [],
-        layer.entries(alloc),
-        AllocError
-    );
+    call!(teller, "write_layer", lent [], write_layer(alloc, &layer), AllocError, |made| &text_told(alloc, made)?);
+    call!(teller, "Layer::entries", lent [], layer.entries(alloc), AllocError);
     call!(
         teller,
         "Layer::children",
-        [path],
+        lent[path],
         layer.children(alloc, &path),
         AllocError
     );
-    call!(
-        teller,
-        "Cursor::names",
-        [],
-        layer.root().names(alloc),
-        AllocError
-    );
+    call!(teller, "Cursor::names", lent [], layer.root().names(alloc), AllocError);
     Ok(())
 }
 
@@ -144,27 +111,12 @@ fn built(alloc: Global, root: Inode, path: Path, inode: Inode) -> Result<Layer, 
 fn of_new_layers<R: Print>(teller: &Teller<'_, R>) -> Result<(), Fail> {
     let alloc = teller.alloc;
     let layer = layer_of(alloc, LOWER)?;
-    call!(
-        teller,
-        "from_entries",
-        [],
-        entries = layer.entries(alloc)?,
-        from_entries(alloc, entries),
-        LayerFault::Memory,
-        |made| &layer_told(alloc, made)?
-    );
+    call!(teller, "from_entries", lent [], given entries = layer.entries(alloc)?, from_entries(alloc, entries), LayerFault::Memory, |made| &layer_told(alloc, made)?);
     let text = format!(in alloc; "/{LONG}")?;
     let path = Path::parse(alloc, text.as_str())?;
     let root = layer.root().inode();
-    call!(
-        teller,
-        "LayerBuilder",
-        [],
-        parts = (root.copy(alloc)?, path.copy(alloc)?, root.copy(alloc)?),
-        built(alloc, parts.0, parts.1, parts.2),
-        LayerFault::Memory,
-        |made| &layer_told(alloc, made)?
-    );
+    call!(teller, "LayerBuilder", lent [], given parts = (root.copy(alloc)?, path.copy(alloc)?, root.copy(alloc)?),
+        built(alloc, parts.0, parts.1, parts.2), LayerFault::Memory, |made| &layer_told(alloc, made)?);
     Ok(())
 }
 
@@ -177,17 +129,11 @@ fn of_sheets<R: Print>(teller: &Teller<'_, R>) -> Result<(), Fail> {
     call!(
         teller,
         "Sheet::children",
-        [path],
+        lent[path],
         sheet.children(alloc, &path),
         AllocError
     );
-    call!(
-        teller,
-        "SheetPlace::names",
-        [],
-        sheet.root().names(alloc),
-        AllocError
-    );
+    call!(teller, "SheetPlace::names", lent [], sheet.root().names(alloc), AllocError);
     Ok(())
 }
 

@@ -1,12 +1,17 @@
-//! Makes the public call that its word names, and tells what it answers and what it was lent; without a word it prints the
-//! names of all. Each takes memory, and `bench/refusals.py` refuses each request for it.
+//! Makes the public call that takes memory whose name is its word, and tells what it answers and what it was lent; without
+//! a word it prints the names of all. `bench/refusals.py` refuses each request for memory that such a call makes.
 #![tactic(auto)]
 
-// Makes a call where it is asked for, and where its answer is `Err` of `$want` once more. It prints what it is lent, `now`
-// right before the call and `done` right behind it, `refused` where it is made again, its answer, and what it was lent.
-// What is given away is made anew for each call.
+// Makes a call where it is asked for, and where its answer is `Err` of `$want` once more. It prints what it is lent, `now` right before the call and `done` right behind it, `refused` where it is made again, its answer, and
+// what it was lent. What is given away is made anew for each call.
 macro_rules! call {
-    ($teller:expr, $name:expr, [$($lent:expr),*], $given:ident = $make:expr, $call:expr, $want:pat, |$answer:ident| $told:expr) => {
+    ($teller:expr, $name:expr, lent [$($lent:expr),*], $call:expr, $want:pat) => {
+        call!($teller, $name, lent [$($lent),*], $call, $want, |answer| answer)
+    };
+    ($teller:expr, $name:expr, lent [$($lent:expr),*], $call:expr, $want:pat, |$answer:ident| $told:expr) => {
+        call!($teller, $name, lent [$($lent),*], given _given = (), $call, $want, |$answer| $told)
+    };
+    ($teller:expr, $name:expr, lent [$($lent:expr),*], given $given:ident = $make:expr, $call:expr, $want:pat, |$answer:ident| $told:expr) => {
         if $teller.is_asked($name)? {
             $($teller.tell("lent", &$lent)?;)*
             let $given = $make;
@@ -26,12 +31,6 @@ macro_rules! call {
             }
             $($teller.tell("lent", &$lent)?;)*
         }
-    };
-    ($teller:expr, $name:expr, [$($lent:expr),*], $call:expr, $want:pat, |$answer:ident| $told:expr) => {
-        call!($teller, $name, [$($lent),*], _given = (), $call, $want, |$answer| $told)
-    };
-    ($teller:expr, $name:expr, [$($lent:expr),*], $call:expr, $want:pat) => {
-        call!($teller, $name, [$($lent),*], $call, $want, |answer| answer)
     };
 }
 

@@ -21,33 +21,39 @@ pub(crate) fn make<R: Print>(teller: &Teller<'_, R>) -> Result<(), Fail> {
 fn of_names<R: Print>(teller: &Teller<'_, R>) -> Result<(), Fail> {
     let alloc = teller.alloc;
     let name = Name::of(alloc, LONG)?;
+    call!(teller, "Name::of", lent [], Name::of(alloc, LONG), NameFault::Memory);
     call!(
         teller,
-        "Name::of",
-        [],
-        Name::of(alloc, LONG),
-        NameFault::Memory
+        "Name::copy",
+        lent[name],
+        name.copy(alloc),
+        AllocError
     );
-    call!(teller, "Name::copy", [name], name.copy(alloc), AllocError);
-    call!(teller, "Name::shown", [name], name.shown(alloc), AllocError);
+    call!(
+        teller,
+        "Name::shown",
+        lent[name],
+        name.shown(alloc),
+        AllocError
+    );
     Ok(())
 }
 
 fn of_texts<R: Print>(teller: &Teller<'_, R>) -> Result<(), Fail> {
     let alloc = teller.alloc;
     let mut text = String::from_str(alloc, LONG)?;
-    call!(teller, "escaped", [], escaped(alloc, ODD), AllocError);
+    call!(teller, "escaped", lent [], escaped(alloc, ODD), AllocError);
     call!(
         teller,
         "push_escaped",
-        [text],
+        lent[text],
         push_escaped(alloc, &mut text, ODD),
         AllocError
     );
     call!(
         teller,
         "push_escaped-plain",
-        [text],
+        lent[text],
         push_escaped(alloc, &mut text, LONG),
         AllocError
     );
@@ -61,19 +67,31 @@ fn of_paths<R: Print>(teller: &Teller<'_, R>) -> Result<(), Fail> {
     call!(
         teller,
         "Path::parse",
-        [text],
+        lent[text],
         Path::parse(alloc, text.as_str()),
         PathFault::Memory
     );
-    call!(teller, "Path::copy", [path], path.copy(alloc), AllocError);
+    call!(
+        teller,
+        "Path::copy",
+        lent[path],
+        path.copy(alloc),
+        AllocError
+    );
     call!(
         teller,
         "Path::parent",
-        [path],
+        lent[path],
         path.parent(alloc),
         AllocError
     );
-    call!(teller, "Path::shown", [path], path.shown(alloc), AllocError);
+    call!(
+        teller,
+        "Path::shown",
+        lent[path],
+        path.shown(alloc),
+        AllocError
+    );
     Ok(())
 }
 
@@ -81,27 +99,9 @@ fn of_new_paths<R: Print>(teller: &Teller<'_, R>) -> Result<(), Fail> {
     let alloc = teller.alloc;
     let path = Path::parse(alloc, "/a/b")?;
     let names = [Name::of(alloc, LONG)?, Name::of(alloc, "b")?];
-    call!(
-        teller,
-        "Path::with_room",
-        [],
-        Path::with_room(alloc, 9),
-        AllocError
-    );
-    call!(
-        teller,
-        "Path::child",
-        [path, names],
-        path.child(alloc, &names[0]),
-        AllocError
-    );
-    call!(
-        teller,
-        "Path::joined",
-        [path, names],
-        path.joined(alloc, &names),
-        AllocError
-    );
+    call!(teller, "Path::with_room", lent [], Path::with_room(alloc, 9), AllocError);
+    call!(teller, "Path::child", lent [path, names], path.child(alloc, &names[0]), AllocError);
+    call!(teller, "Path::joined", lent [path, names], path.joined(alloc, &names), AllocError);
     Ok(())
 }
 
@@ -110,24 +110,8 @@ fn of_longer_paths<R: Print>(teller: &Teller<'_, R>) -> Result<(), Fail> {
     let alloc = teller.alloc;
     let text = format!(in alloc; "/a/{LONG}")?;
     let mut path = Path::parse(alloc, text.as_str())?.copy(alloc)?;
-    call!(
-        teller,
-        "Path::push",
-        [path],
-        name = Name::of(alloc, LONG)?,
-        path.push(name),
-        AllocError,
-        |answer| answer
-    );
+    call!(teller, "Path::push", lent [path], given name = Name::of(alloc, LONG)?, path.push(name), AllocError, |answer| answer);
     let mut path = path.copy(alloc)?;
-    call!(
-        teller,
-        "Path::go_to",
-        [path],
-        name = Name::of(alloc, LONG)?,
-        path.go_to(3, name),
-        AllocError,
-        |answer| answer
-    );
+    call!(teller, "Path::go_to", lent [path], given name = Name::of(alloc, LONG)?, path.go_to(3, name), AllocError, |answer| answer);
     Ok(())
 }

@@ -20,14 +20,7 @@ pub(crate) fn make<R: Print + Threads + Wait + Sync>(teller: &Teller<'_, R>) -> 
 
 fn of_lanes<R: Print>(teller: &Teller<'_, R>) -> Result<(), Fail> {
     let alloc = teller.alloc;
-    call!(
-        teller,
-        "lanes",
-        [],
-        lanes(alloc, 2),
-        LaneFault::Memory,
-        |made| &made.is_ok()
-    );
+    call!(teller, "lanes", lent [], lanes(alloc, 2), LaneFault::Memory, |made| &made.is_ok());
     Ok(())
 }
 
@@ -91,17 +84,12 @@ fn of_runs<R: Print + Threads + Wait + Sync>(teller: &Teller<'_, R>) -> Result<(
     let tree = Tree::of(paths(alloc)?)?;
     let walk = plain_walk(alloc, &tree, root(alloc))?;
     for (name, workers) in RUNS {
-        call!(
-            teller,
-            name,
-            [],
-            run(teller.rt, alloc, &tree, root(alloc), workers, &OpenGate),
+        call!(teller, name, lent [], run(teller.rt, alloc, &tree, root(alloc), workers, &OpenGate),
             RunFault::Memory | RunFault::Board(BoardFault::Memory),
             |made| &match made {
                 Ok((parcels, count)) => Some((*parcels == walk, *count)),
                 Err(_) => None,
-            }
-        );
+            });
     }
     Ok(())
 }

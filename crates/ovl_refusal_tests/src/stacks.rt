@@ -31,24 +31,8 @@ fn told(alloc: Global, made: &Result<Stack, StackFault>) -> Result<String, Fail>
 
 fn of_layers<R: Print>(teller: &Teller<'_, R>) -> Result<(), Fail> {
     let alloc = teller.alloc;
-    call!(
-        teller,
-        "Stack::of",
-        [],
-        all = layers(alloc)?,
-        Stack::of(alloc, all),
-        StackFault::Memory,
-        |made| &told(alloc, made)?
-    );
-    call!(
-        teller,
-        "Stack::with_data",
-        [],
-        all = layers(alloc)?,
-        Stack::with_data(alloc, all, 1),
-        StackFault::Memory,
-        |made| &told(alloc, made)?
-    );
+    call!(teller, "Stack::of", lent [], given all = layers(alloc)?, Stack::of(alloc, all), StackFault::Memory, |made| &told(alloc, made)?);
+    call!(teller, "Stack::with_data", lent [], given all = layers(alloc)?, Stack::with_data(alloc, all, 1), StackFault::Memory, |made| &told(alloc, made)?);
     Ok(())
 }
 
@@ -59,11 +43,17 @@ fn of_walks<R: Print>(teller: &Teller<'_, R>, stack: &Stack) -> Result<(), Fail>
     let text = format!(in alloc; "/m/{LONG}/k")?;
     let path = Path::parse(alloc, text.as_str())?;
     let top = stack.any_sheet(0);
-    call!(teller, "walk", [path], walk(alloc, top, &path), AllocError);
+    call!(
+        teller,
+        "walk",
+        lent[path],
+        walk(alloc, top, &path),
+        AllocError
+    );
     call!(
         teller,
         "Stack::own_walk",
-        [path],
+        lent[path],
         stack.own_walk(alloc, 0, &path),
         AllocError
     );
@@ -71,7 +61,7 @@ fn of_walks<R: Print>(teller: &Teller<'_, R>, stack: &Stack) -> Result<(), Fail>
     call!(
         teller,
         "Stack::own_names",
-        [root],
+        lent[root],
         stack.own_names(alloc, 1, &root),
         AllocError
     );
@@ -86,7 +76,7 @@ fn of_directories<R: Print>(teller: &Teller<'_, R>, stack: &Stack) -> Result<(),
     call!(
         teller,
         "Stack::own_trail",
-        [path],
+        lent[path],
         stack.own_trail(alloc, 0, &path),
         AllocError
     );
@@ -96,14 +86,14 @@ fn of_directories<R: Print>(teller: &Teller<'_, R>, stack: &Stack) -> Result<(),
     call!(
         teller,
         "Trail::copy",
-        [own],
+        lent[own],
         own.next.copy(alloc),
         AllocError
     );
     call!(
         teller,
         "Trail::path",
-        [own],
+        lent[own],
         own.next.path(alloc),
         AllocError
     );
@@ -113,20 +103,8 @@ fn of_directories<R: Print>(teller: &Teller<'_, R>, stack: &Stack) -> Result<(),
         closed: false,
     };
     let name = Name::of(alloc, "m")?;
-    call!(
-        teller,
-        "OwnDirectory::step",
-        [root, name],
-        root.step(alloc, stack.any_sheet(0), &name),
-        AllocError
-    );
-    call!(
-        teller,
-        "OwnDirectory::child",
-        [root, name],
-        root.child(alloc, stack.any_sheet(0), &name),
-        AllocError
-    );
+    call!(teller, "OwnDirectory::step", lent [root, name], root.step(alloc, stack.any_sheet(0), &name), AllocError);
+    call!(teller, "OwnDirectory::child", lent [root, name], root.child(alloc, stack.any_sheet(0), &name), AllocError);
     Ok(())
 }
 
@@ -140,36 +118,36 @@ fn of_looks<R: Print>(teller: &Teller<'_, R>, stack: &Stack) -> Result<(), Fail>
     call!(
         teller,
         "Stack::look",
-        [moved],
+        lent[moved],
         stack.look(alloc, 0, &moved),
         AllocError
     );
     call!(
         teller,
         "Stack::look-data",
-        [file],
+        lent[file],
         stack.look(alloc, 0, &file),
         AllocError
     );
     call!(
         teller,
         "Stack::names",
-        [root],
+        lent[root],
         stack.names(alloc, 0, &root),
         AllocError
     );
     call!(
         teller,
         "Stack::names-moved",
-        [moved],
+        lent[moved],
         stack.names(alloc, 0, &moved),
         AllocError
     );
-    call!(teller, "Stack::list", [], stack.list(alloc), AllocError);
+    call!(teller, "Stack::list", lent [], stack.list(alloc), AllocError);
     call!(
         teller,
         "Stack::data_place",
-        [file],
+        lent[file],
         stack.data_place(alloc, &file),
         AllocError
     );

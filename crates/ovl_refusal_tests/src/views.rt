@@ -15,7 +15,7 @@ pub(crate) fn make<R: Print>(teller: &Teller<'_, R>) -> Result<(), Fail> {
     call!(
         teller,
         "DirView::of",
-        [moved],
+        lent[moved],
         DirView::of(alloc, &stack, 0, &moved),
         AllocError,
         |made| &told(made)
@@ -43,7 +43,7 @@ fn of_root<R: Print>(teller: &Teller<'_, R>, stack: &Stack, view: &DirView) -> R
     call!(
         teller,
         "DirView::child",
-        [moved],
+        lent[moved],
         view.child(alloc, stack, &moved),
         AllocError,
         |made| &told(made)
@@ -51,37 +51,25 @@ fn of_root<R: Print>(teller: &Teller<'_, R>, stack: &Stack, view: &DirView) -> R
     call!(
         teller,
         "DirView::look",
-        [moved],
+        lent[moved],
         view.look(alloc, stack, &moved),
         AllocError
     );
     call!(
         teller,
         "DirView::look-data",
-        [file],
+        lent[file],
         view.look(alloc, stack, &file),
         AllocError
     );
     call!(
         teller,
         "DirView::data",
-        [file],
+        lent[file],
         view.data(alloc, stack, &file),
         AllocError
     );
-    call!(
-        teller,
-        "DirView::names",
-        [],
-        view.names(alloc, stack),
-        AllocError
-    );
-    call!(
-        teller,
-        "DirView::looks",
-        [],
-        view.looks(alloc, stack),
-        AllocError
-    );
+    call!(teller, "DirView::names", lent [], view.names(alloc, stack), AllocError);
+    call!(teller, "DirView::looks", lent [], view.looks(alloc, stack), AllocError);
     Ok(())
 }

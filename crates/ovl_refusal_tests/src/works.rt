@@ -51,7 +51,7 @@ fn of_blobs<R: Print>(teller: &Teller<'_, R>) -> Result<(), Fail> {
     call!(
         teller,
         "BlobWork::visit",
-        [top],
+        lent[top],
         work.visit(alloc, &top),
         AllocError
     );
@@ -60,20 +60,13 @@ fn of_blobs<R: Print>(teller: &Teller<'_, R>) -> Result<(), Fail> {
         call!(
             teller,
             "BlobWork::visit-below",
-            [last],
+            lent[last],
             work.visit(alloc, &last.piece),
             AllocError
         );
     }
-    call!(
-        teller,
-        "finish_blobs",
-        [],
-        walk = plain_walk(alloc, &work, top.copy(alloc)?)?,
-        finish_blobs(alloc, &work, walk),
-        AllocError,
-        |answer| answer
-    );
+    call!(teller, "finish_blobs", lent [], given walk = plain_walk(alloc, &work, top.copy(alloc)?)?,
+        finish_blobs(alloc, &work, walk), AllocError, |answer| answer);
     Ok(())
 }
 
@@ -102,31 +95,18 @@ fn of_checks<R: Print>(teller: &Teller<'_, R>, stack: &Stack) -> Result<(), Fail
     if stack.layers() != 3 {
         return Err(Fail::new("the stack has not three layers"));
     }
-    call!(
-        teller,
-        "stated_names",
-        [],
-        stated_names(alloc, stack),
-        AllocError
-    );
+    call!(teller, "stated_names", lent [], stated_names(alloc, stack), AllocError);
     let work = CheckWork::new(stack, &[], &[]);
     let top = root(alloc);
     call!(
         teller,
         "CheckWork::visit",
-        [top],
+        lent[top],
         work.visit(alloc, &top),
         AllocError
     );
-    call!(
-        teller,
-        "finish_check",
-        [],
-        walks = walks_of(alloc, &work, 3)?,
-        finish_check(alloc, &work, walks),
-        AllocError,
-        |answer| answer
-    );
+    call!(teller, "finish_check", lent [], given walks = walks_of(alloc, &work, 3)?,
+        finish_check(alloc, &work, walks), AllocError, |answer| answer);
     Ok(())
 }
 
@@ -137,19 +117,12 @@ fn of_shows<R: Print>(teller: &Teller<'_, R>, stack: &Stack) -> Result<(), Fail>
     call!(
         teller,
         "ShowWork::visit",
-        [top],
+        lent[top],
         work.visit(alloc, &top),
         AllocError
     );
-    call!(
-        teller,
-        "finish_show",
-        [],
-        walk = plain_walk(alloc, &work, root(alloc))?,
-        finish_show(alloc, &work, walk),
-        AllocError,
-        |answer| answer
-    );
+    call!(teller, "finish_show", lent [], given walk = plain_walk(alloc, &work, root(alloc))?,
+        finish_show(alloc, &work, walk), AllocError, |answer| answer);
     Ok(())
 }
 
@@ -159,7 +132,7 @@ fn of_reports<R: Print>(teller: &Teller<'_, R>, stack: &Stack) -> Result<(), Fai
     call!(
         teller,
         "report_of",
-        [list],
+        lent[list],
         report_of(alloc, &list),
         AllocError,
         |made| &text_told(alloc, made)?
@@ -169,7 +142,7 @@ fn of_reports<R: Print>(teller: &Teller<'_, R>, stack: &Stack) -> Result<(), Fai
     call!(
         teller,
         "report_of_walk",
-        [walk],
+        lent[walk],
         report_of_walk(alloc, &work, &walk),
         AllocError,
         |made| &text_told(alloc, made)?
@@ -184,22 +157,15 @@ fn of_vacuums<R: Print>(teller: &Teller<'_, R>, stack: &Stack) -> Result<(), Fai
     call!(
         teller,
         "VacuumWork::visit",
-        [top],
+        lent[top],
         work.visit(alloc, &top),
         AllocError
     );
-    call!(
-        teller,
-        "finish_vacuum",
-        [],
-        walk = plain_walk(alloc, &work, root(alloc))?,
-        finish_vacuum(alloc, &work, walk),
-        AllocError,
-        |made| &match made {
+    call!(teller, "finish_vacuum", lent [], given walk = plain_walk(alloc, &work, root(alloc))?,
+        finish_vacuum(alloc, &work, walk), AllocError, |made| &match made {
             Ok(done) => Some((done.layer.entries(alloc)?, &done.removed)),
             Err(AllocError) => None,
-        }
-    );
+        });
     Ok(())
 }
 
@@ -210,19 +176,12 @@ fn of_derefs<R: Print>(teller: &Teller<'_, R>, stack: &Stack) -> Result<(), Fail
     call!(
         teller,
         "DerefWork::visit",
-        [top],
+        lent[top],
         work.visit(alloc, &top),
         AllocError
     );
-    call!(
-        teller,
-        "finish_deref",
-        [],
-        walk = plain_walk(alloc, &work, root(alloc))?,
-        finish_deref(alloc, &work, walk),
-        RewriteFault::Memory,
-        |made| &layer_told(alloc, made)?
-    );
+    call!(teller, "finish_deref", lent [], given walk = plain_walk(alloc, &work, root(alloc))?,
+        finish_deref(alloc, &work, walk), RewriteFault::Memory, |made| &layer_told(alloc, made)?);
     Ok(())
 }
 
@@ -233,22 +192,15 @@ fn of_merges<R: Print>(teller: &Teller<'_, R>, stack: &Stack) -> Result<(), Fail
     call!(
         teller,
         "MergeWork::visit",
-        [top],
+        lent[top],
         work.visit(alloc, &top),
         AllocError
     );
-    call!(
-        teller,
-        "finish_merge",
-        [],
-        walk = plain_walk(alloc, &work, root(alloc))?,
-        finish_merge(alloc, &work, walk),
-        MergeFault::Memory,
-        |made| &match made {
+    call!(teller, "finish_merge", lent [], given walk = plain_walk(alloc, &work, root(alloc))?,
+        finish_merge(alloc, &work, walk), MergeFault::Memory, |made| &match made {
             Ok(done) => Some((done.top.entries(alloc)?, done.lower.entries(alloc)?)),
             Err(_) => None,
-        }
-    );
+        });
     Ok(())
 }
 
@@ -261,30 +213,16 @@ fn of_rewrites<R: Print>(teller: &Teller<'_, R>, stack: &Stack) -> Result<(), Fa
         call!(
             teller,
             "directories",
-            [parcel],
+            lent[parcel],
             directories(alloc, &top, &parcel.out),
             AllocError
         );
     }
     let layer = finish_deref(alloc, &work, walk)?;
     let inode = layer.root().inode();
-    call!(
-        teller,
-        "layer_told",
-        [],
-        parts = (inode.copy(alloc)?, plain_walk(alloc, &work, root(alloc))?),
-        layer_of_parcels(alloc, parts.0, parts.1),
-        RewriteFault::Memory,
-        |made| &layer_told(alloc, made)?
-    );
-    call!(
-        teller,
-        "layer_of",
-        [],
-        entries = layer.entries(alloc)?,
-        layer_of(alloc, entries),
-        RewriteFault::Memory,
-        |made| &layer_told(alloc, made)?
-    );
+    call!(teller, "layer_told", lent [], given parts = (inode.copy(alloc)?, plain_walk(alloc, &work, root(alloc))?),
+        layer_of_parcels(alloc, parts.0, parts.1), RewriteFault::Memory, |made| &layer_told(alloc, made)?);
+    call!(teller, "layer_of", lent [], given entries = layer.entries(alloc)?,
+        layer_of(alloc, entries), RewriteFault::Memory, |made| &layer_told(alloc, made)?);
     Ok(())
 }
