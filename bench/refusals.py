@@ -180,8 +180,8 @@ def swept_call(program, library, call, way):
         full, _ = told(program, call, room, {})
         if NOW not in full or full[-1] != "status 0":
             return 0, [f"{call}, nothing refused: {full}"]
-        # What it is lent, and that it is made; behind that the answer, and what it was lent.
-        lent, made = full[:full.index(NOW)], full.index(DONE) + 1
+        # The call's name, what it is lent, and that it is made; behind that the answer, and what it was lent.
+        lent, made = full[1:full.index(NOW)], full.index(DONE) + 1
         again = [*full[:made], WANTED, *lent, *full[made:]]
         wrong = []
         for number in range(1, MOST):
@@ -197,9 +197,10 @@ def swept_call(program, library, call, way):
 
 
 def calls_of(program):
-    """The names of the calls that a program makes."""
+    """The names of the calls that a program makes: lines without a word before them."""
     ran = subprocess.run([program], stdin=subprocess.DEVNULL, capture_output=True, text=True, check=True)
-    return ran.stdout.split()
+    lines = ran.stdout.splitlines()
+    return [line for line in lines if line not in (NOW, DONE) and not line.startswith(("lent ", "answer "))]
 
 
 # ---- all of it

@@ -63,20 +63,8 @@ fn of_pieces<R: Print>(teller: &Teller<'_, R>) -> Result<(), Fail> {
         },
         root(alloc),
     ];
-    call!(
-        teller,
-        "Piece::copy",
-        lent[pieces],
-        pieces[0].copy(alloc),
-        AllocError
-    );
-    call!(
-        teller,
-        "copies",
-        lent[pieces],
-        copies(alloc, &pieces),
-        AllocError
-    );
+    call!(teller, "Piece::copy", lent [pieces], pieces[0].copy(alloc), AllocError);
+    call!(teller, "copies", lent [pieces], copies(alloc, &pieces), AllocError);
     Ok(())
 }
 
@@ -88,13 +76,7 @@ fn of_parcels<R: Print>(teller: &Teller<'_, R>) -> Result<(), Fail> {
     let tree = tree(alloc, MANY)?;
     call!(teller, "plain_walk", lent [], plain_walk(alloc, &tree, root(alloc)), AllocError);
     let mut parcels = reversed(alloc, &tree)?;
-    call!(
-        teller,
-        "sort_parcels",
-        lent[parcels],
-        sort_parcels(&mut parcels),
-        AllocError
-    );
+    call!(teller, "sort_parcels", lent [parcels], sort_parcels(&mut parcels), AllocError);
     Ok(())
 }
 
@@ -140,25 +122,16 @@ fn of_cores<R: Print>(teller: &Teller<'_, R>) -> Result<(), Fail> {
     let alloc = teller.alloc;
     let small = tree(alloc, 2)?;
     call!(teller, "Core::start", lent [], Core::start(alloc, &small, root(alloc), 2), CoreFault::Memory, |made| &made.is_ok());
-    for (number, name) in [
-        "Core::step-0",
-        "Core::step-1",
-        "Core::step-2",
-        "Core::step-3",
-        "Core::step-4",
-    ]
-    .iter()
-    .enumerate()
-    {
-        if teller.is_asked(name)? {
-            of_step(teller, &small, number)?;
+    for (number, name) in ["Core::step-0", "Core::step-1", "Core::step-2", "Core::step-3", "Core::step-4"].iter().enumerate() {
+        if teller.is_asked(name) {
+            of_step(teller, &small, name, number)?;
         }
     }
     Ok(())
 }
 
 // The step of a number, behind those before it; it is told what parcels come of it with those behind it.
-fn of_step<R: Print>(teller: &Teller<'_, R>, tree: &Tree, number: usize) -> Result<(), Fail> {
+fn of_step<R: Print>(teller: &Teller<'_, R>, tree: &Tree, name: &str, number: usize) -> Result<(), Fail> {
     let alloc = teller.alloc;
     let mut core = Core::start(alloc, tree, root(alloc), 2)?;
     for (at, event) in STEPS.iter().enumerate() {
@@ -166,6 +139,7 @@ fn of_step<R: Print>(teller: &Teller<'_, R>, tree: &Tree, number: usize) -> Resu
             core.step(alloc, *event)?;
             continue;
         }
+        teller.line(name)?;
         teller.line("now")?;
         let made = core.step(alloc, *event);
         teller.line("done")?;

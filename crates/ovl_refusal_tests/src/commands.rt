@@ -23,35 +23,14 @@ fn of_blobs<R: Print>(teller: &Teller<'_, R>) -> Result<(), Fail> {
     for text in ["b", "a", "b"] {
         contents.push(String::from_str(alloc, text)?.into_bytes())?;
     }
-    call!(
-        teller,
-        "named_blobs",
-        lent[contents],
-        named_blobs(alloc, &contents),
-        AllocError
-    );
+    call!(teller, "named_blobs", lent [contents], named_blobs(alloc, &contents), AllocError);
     Ok(())
 }
 
 fn of_inputs<R: Print>(teller: &Teller<'_, R>) -> Result<(), Fail> {
     let alloc = teller.alloc;
-    let words = [
-        "ovl_layers",
-        "vacuum",
-        "--blobs",
-        "blobs",
-        "--out",
-        "new",
-        "a.json",
-        "b.json",
-    ];
-    call!(
-        teller,
-        "line",
-        lent[words],
-        line(alloc, &words[1..]),
-        LineFault::Memory
-    );
+    let words = ["ovl_layers", "vacuum", "--blobs", "blobs", "--out", "new", "a.json", "b.json"];
+    call!(teller, "line", lent [words], line(alloc, &words[1..]), LineFault::Memory);
     call!(teller, "read_all", lent [], read_all(alloc, &mut b"abcde".as_slice(), 5), ReadFault::Memory);
     Ok(())
 }
@@ -82,21 +61,14 @@ fn of_commands<R: Print + Threads + Wait + Sync>(teller: &Teller<'_, R>) -> Resu
     let manifests = manifests(alloc)?;
     let blobs = blobs(alloc)?;
     for (name, what) in COMMANDS {
-        call!(
-            teller,
-            name,
-            lent[blobs],
-            command(teller.rt, alloc, what, &manifests, 1, &blobs, 2, &OpenGate),
-            EngineFault::Memory,
-            |made| &told(alloc, made)?
-        );
+        call!(teller, name, lent [blobs],
+            command(teller.rt, alloc, what, &manifests, 1, &blobs, 2, &OpenGate), EngineFault::Memory,
+            |made| &told(alloc, made)?);
     }
     Ok(())
 }
 
-fn of_manifests_let_go<R: Print + Threads + Wait + Sync>(
-    teller: &Teller<'_, R>,
-) -> Result<(), Fail> {
+fn of_manifests_let_go<R: Print + Threads + Wait + Sync>(teller: &Teller<'_, R>) -> Result<(), Fail> {
     let alloc = teller.alloc;
     let blobs = blobs(alloc)?;
     call!(teller, "command_of", lent [blobs], given given = manifests(alloc)?,

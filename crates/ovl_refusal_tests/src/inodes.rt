@@ -23,13 +23,7 @@ fn of_attributes<R: Print>(teller: &Teller<'_, R>) -> Result<(), Fail> {
     let alloc = teller.alloc;
     let name = AttrName::of(alloc, ATTRIBUTE)?;
     call!(teller, "AttrName::of", lent [], AttrName::of(alloc, ATTRIBUTE), AttrFault::Memory);
-    call!(
-        teller,
-        "AttrName::copy",
-        lent[name],
-        name.copy(alloc),
-        AllocError
-    );
+    call!(teller, "AttrName::copy", lent [name], name.copy(alloc), AllocError);
     call!(teller, "Bytes::copy_of", lent [], Bytes::copy_of(alloc, LONG.as_bytes()), AllocError);
     Ok(())
 }
@@ -40,35 +34,11 @@ fn of_more_attributes<R: Print>(teller: &Teller<'_, R>) -> Result<(), Fail> {
     let mut attrs = Attrs::new(alloc);
     attrs.put("user.k", b"v")?;
     attrs.put("trusted.overlay.opaque", b"y")?;
-    call!(
-        teller,
-        "Attrs::copy",
-        lent[attrs],
-        attrs.copy(alloc),
-        AllocError
-    );
-    call!(
-        teller,
-        "Attrs::visible",
-        lent[attrs],
-        attrs.visible(alloc),
-        AllocError
-    );
+    call!(teller, "Attrs::copy", lent [attrs], attrs.copy(alloc), AllocError);
+    call!(teller, "Attrs::visible", lent [attrs], attrs.visible(alloc), AllocError);
     let mut more = attrs.copy(alloc)?;
-    call!(
-        teller,
-        "Attrs::put",
-        lent[more],
-        more.put(ATTRIBUTE, b"v"),
-        AttrFault::Memory
-    );
-    call!(
-        teller,
-        "Attrs::put-over",
-        lent[attrs],
-        attrs.put("user.k", LONG.as_bytes()),
-        AttrFault::Memory
-    );
+    call!(teller, "Attrs::put", lent [more], more.put(ATTRIBUTE, b"v"), AttrFault::Memory);
+    call!(teller, "Attrs::put-over", lent [attrs], attrs.put("user.k", LONG.as_bytes()), AttrFault::Memory);
     Ok(())
 }
 
@@ -78,27 +48,9 @@ fn of_inodes<R: Print>(teller: &Teller<'_, R>) -> Result<(), Fail> {
     let Some(inode) = layer.at(&Path::parse(alloc, "/m")?) else {
         return Err(Fail::new("no directory"));
     };
-    call!(
-        teller,
-        "Inode::copy",
-        lent[inode],
-        inode.copy(alloc),
-        AllocError
-    );
-    call!(
-        teller,
-        "visible",
-        lent[inode],
-        visible(alloc, inode),
-        AllocError
-    );
-    call!(
-        teller,
-        "mark_of",
-        lent[inode],
-        mark_of(alloc, inode),
-        AllocError
-    );
+    call!(teller, "Inode::copy", lent [inode], inode.copy(alloc), AllocError);
+    call!(teller, "visible", lent [inode], visible(alloc, inode), AllocError);
+    call!(teller, "mark_of", lent [inode], mark_of(alloc, inode), AllocError);
     Ok(())
 }
 
@@ -109,29 +61,11 @@ fn of_marks<R: Print>(teller: &Teller<'_, R>) -> Result<(), Fail> {
         return Err(Fail::new("no link"));
     };
     let value = format!(in alloc; "/x/{LONG}")?;
-    call!(
-        teller,
-        "Kind::copy",
-        lent[link],
-        link.kind.copy(alloc),
-        AllocError
-    );
+    call!(teller, "Kind::copy", lent [link], link.kind.copy(alloc), AllocError);
     if let Kind::Symlink { target } = &link.kind {
-        call!(
-            teller,
-            "Target::copy",
-            lent[target],
-            target.copy(alloc),
-            AllocError
-        );
+        call!(teller, "Target::copy", lent [target], target.copy(alloc), AllocError);
     }
-    call!(
-        teller,
-        "read_redirect",
-        lent[value],
-        read_redirect(alloc, value.as_bytes()),
-        RedirectFault::Memory
-    );
+    call!(teller, "read_redirect", lent [value], read_redirect(alloc, value.as_bytes()), RedirectFault::Memory);
     call!(teller, "read_redirect-beside", lent [], read_redirect(alloc, LONG.as_bytes()), RedirectFault::Memory);
     Ok(())
 }

@@ -39,22 +39,8 @@ fn sheet_told<E: Debug>(alloc: Global, made: &Result<Sheet, E>) -> Result<String
 fn of_manifests<R: Print>(teller: &Teller<'_, R>) -> Result<(), Fail> {
     let alloc = teller.alloc;
     let written = written(alloc, TOP)?;
-    call!(
-        teller,
-        "read_layer",
-        lent[written],
-        read_layer(alloc, written.as_bytes()),
-        LayerFault::Memory,
-        |layer| &layer_told(alloc, layer)?
-    );
-    call!(
-        teller,
-        "read_sheet",
-        lent[written],
-        read_sheet(alloc, written.as_bytes()),
-        LayerFault::Memory,
-        |sheet| &sheet_told(alloc, sheet)?
-    );
+    call!(teller, "read_layer", lent [written], read_layer(alloc, written.as_bytes()), LayerFault::Memory, |layer| &layer_told(alloc, layer)?);
+    call!(teller, "read_sheet", lent [written], read_sheet(alloc, written.as_bytes()), LayerFault::Memory, |sheet| &sheet_told(alloc, sheet)?);
     Ok(())
 }
 
@@ -65,22 +51,8 @@ fn of_other_manifests<R: Print>(teller: &Teller<'_, R>) -> Result<(), Fail> {
     call!(teller, "read_layer-spaced", lent [], read_layer(alloc, spaced), LayerFault::Memory, |layer| &layer_told(alloc, layer)?);
     call!(teller, "read_sheet-spaced", lent [], read_sheet(alloc, spaced), LayerFault::Memory, |sheet| &sheet_told(alloc, sheet)?);
     let refused = TOP.replace(alloc, "\"mode\":420", "\"mode\":4096")?;
-    call!(
-        teller,
-        "read_layer-refused",
-        lent[refused],
-        read_layer(alloc, refused.as_bytes()),
-        LayerFault::Memory,
-        |layer| &layer_told(alloc, layer)?
-    );
-    call!(
-        teller,
-        "read_sheet-refused",
-        lent[refused],
-        read_sheet(alloc, refused.as_bytes()),
-        LayerFault::Memory,
-        |sheet| &sheet_told(alloc, sheet)?
-    );
+    call!(teller, "read_layer-refused", lent [refused], read_layer(alloc, refused.as_bytes()), LayerFault::Memory, |layer| &layer_told(alloc, layer)?);
+    call!(teller, "read_sheet-refused", lent [refused], read_sheet(alloc, refused.as_bytes()), LayerFault::Memory, |sheet| &sheet_told(alloc, sheet)?);
     Ok(())
 }
 
@@ -90,13 +62,7 @@ fn of_layers<R: Print>(teller: &Teller<'_, R>) -> Result<(), Fail> {
     let path = Path::root(alloc);
     call!(teller, "write_layer", lent [], write_layer(alloc, &layer), AllocError, |made| &text_told(alloc, made)?);
     call!(teller, "Layer::entries", lent [], layer.entries(alloc), AllocError);
-    call!(
-        teller,
-        "Layer::children",
-        lent[path],
-        layer.children(alloc, &path),
-        AllocError
-    );
+    call!(teller, "Layer::children", lent [path], layer.children(alloc, &path), AllocError);
     call!(teller, "Cursor::names", lent [], layer.root().names(alloc), AllocError);
     Ok(())
 }
@@ -126,13 +92,7 @@ fn of_sheets<R: Print>(teller: &Teller<'_, R>) -> Result<(), Fail> {
         return Err(Fail::new("out of memory"));
     };
     let path = Path::root(alloc);
-    call!(
-        teller,
-        "Sheet::children",
-        lent[path],
-        sheet.children(alloc, &path),
-        AllocError
-    );
+    call!(teller, "Sheet::children", lent [path], sheet.children(alloc, &path), AllocError);
     call!(teller, "SheetPlace::names", lent [], sheet.root().names(alloc), AllocError);
     Ok(())
 }
@@ -144,10 +104,11 @@ fn text_of(alloc: Global, layer: &Layer) -> Result<String, Fail> {
 // The layer comes back where there is no memory for its sheet.
 fn of_sheets_of_layers<R: Print>(teller: &Teller<'_, R>) -> Result<(), Fail> {
     let alloc = teller.alloc;
-    if !teller.is_asked("Sheet::of")? {
+    if !teller.is_asked("Sheet::of") {
         return Ok(());
     }
     let layer = layer_of(alloc, LOWER)?;
+    teller.line("Sheet::of")?;
     teller.tell("lent", &text_of(alloc, &layer)?)?;
     teller.line("now")?;
     let made = Sheet::of(alloc, layer);

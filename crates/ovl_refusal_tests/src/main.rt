@@ -1,8 +1,9 @@
-//! Makes the public call that takes memory whose name is its word, and tells what it answers and what it was lent; without
-//! a word it prints the names of all. `bench/refusals.py` refuses each request for memory that such a call makes.
+//! Makes public calls that take memory, and tells what each answers and what it was lent. With a word it makes the call
+//! of that name alone. `bench/refusals.py` refuses each request for memory that such a call makes.
 #![tactic(auto)]
 
-// Makes a call where it is asked for, and where its answer is `Err` of `$want` once more. It prints what it is lent, `now` right before the call and `done` right behind it, `refused` where it is made again, its answer, and
+// Makes a call where it is asked for, and where its answer is `Err` of `$want` once more. It prints the call's name, what
+// it is lent, `now` right before the call and `done` right behind it, `refused` where it is made again, its answer, and
 // what it was lent. What is given away is made anew for each call.
 macro_rules! call {
     ($teller:expr, $name:expr, lent [$($lent:expr),*], $call:expr, $want:pat) => {
@@ -12,7 +13,8 @@ macro_rules! call {
         call!($teller, $name, lent [$($lent),*], given _given = (), $call, $want, |$answer| $told)
     };
     ($teller:expr, $name:expr, lent [$($lent:expr),*], given $given:ident = $make:expr, $call:expr, $want:pat, |$answer:ident| $told:expr) => {
-        if $teller.is_asked($name)? {
+        if $teller.is_asked($name) {
+            $teller.line($name)?;
             $($teller.tell("lent", &$lent)?;)*
             let $given = $make;
             $teller.line("now")?;

@@ -22,20 +22,8 @@ fn of_names<R: Print>(teller: &Teller<'_, R>) -> Result<(), Fail> {
     let alloc = teller.alloc;
     let name = Name::of(alloc, LONG)?;
     call!(teller, "Name::of", lent [], Name::of(alloc, LONG), NameFault::Memory);
-    call!(
-        teller,
-        "Name::copy",
-        lent[name],
-        name.copy(alloc),
-        AllocError
-    );
-    call!(
-        teller,
-        "Name::shown",
-        lent[name],
-        name.shown(alloc),
-        AllocError
-    );
+    call!(teller, "Name::copy", lent [name], name.copy(alloc), AllocError);
+    call!(teller, "Name::shown", lent [name], name.shown(alloc), AllocError);
     Ok(())
 }
 
@@ -43,20 +31,8 @@ fn of_texts<R: Print>(teller: &Teller<'_, R>) -> Result<(), Fail> {
     let alloc = teller.alloc;
     let mut text = String::from_str(alloc, LONG)?;
     call!(teller, "escaped", lent [], escaped(alloc, ODD), AllocError);
-    call!(
-        teller,
-        "push_escaped",
-        lent[text],
-        push_escaped(alloc, &mut text, ODD),
-        AllocError
-    );
-    call!(
-        teller,
-        "push_escaped-plain",
-        lent[text],
-        push_escaped(alloc, &mut text, LONG),
-        AllocError
-    );
+    call!(teller, "push_escaped", lent [text], push_escaped(alloc, &mut text, ODD), AllocError);
+    call!(teller, "push_escaped-plain", lent [text], push_escaped(alloc, &mut text, LONG), AllocError);
     Ok(())
 }
 
@@ -64,34 +40,10 @@ fn of_paths<R: Print>(teller: &Teller<'_, R>) -> Result<(), Fail> {
     let alloc = teller.alloc;
     let text = format!(in alloc; "/a/{LONG}")?;
     let path = Path::parse(alloc, text.as_str())?;
-    call!(
-        teller,
-        "Path::parse",
-        lent[text],
-        Path::parse(alloc, text.as_str()),
-        PathFault::Memory
-    );
-    call!(
-        teller,
-        "Path::copy",
-        lent[path],
-        path.copy(alloc),
-        AllocError
-    );
-    call!(
-        teller,
-        "Path::parent",
-        lent[path],
-        path.parent(alloc),
-        AllocError
-    );
-    call!(
-        teller,
-        "Path::shown",
-        lent[path],
-        path.shown(alloc),
-        AllocError
-    );
+    call!(teller, "Path::parse", lent [text], Path::parse(alloc, text.as_str()), PathFault::Memory);
+    call!(teller, "Path::copy", lent [path], path.copy(alloc), AllocError);
+    call!(teller, "Path::parent", lent [path], path.parent(alloc), AllocError);
+    call!(teller, "Path::shown", lent [path], path.shown(alloc), AllocError);
     Ok(())
 }
 

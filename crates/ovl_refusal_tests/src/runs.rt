@@ -30,7 +30,7 @@ const SLOTS: usize = 4;
 // A lane that must grow gives the piece back where there is no memory for it.
 fn of_pushes<R: Print>(teller: &Teller<'_, R>) -> Result<(), Fail> {
     let alloc = teller.alloc;
-    if !teller.is_asked("Lane::push")? {
+    if !teller.is_asked("Lane::push") {
         return Ok(());
     }
     let Some(mut seat) = lanes(alloc, 1)?.pop() else {
@@ -44,6 +44,7 @@ fn of_pushes<R: Print>(teller: &Teller<'_, R>) -> Result<(), Fail> {
         space: 1,
         dir: Path::parse(alloc, text.as_str())?,
     };
+    teller.line("Lane::push")?;
     teller.tell("lent", &piece)?;
     teller.line("now")?;
     let pushed = seat.lane.push(piece);

@@ -13,8 +13,7 @@ use std::test::Fail;
 
 /// The topmost layer: a whiteout, a file whose contents lie in the data-only layer, a moved directory, an opaque
 /// one, and one that changes nothing. Lines end between entries for readers alone.
-pub(crate) const TOP: &str =
-    r#"{"entries":[{"gid":0,"kind":"dir","mode":493,"mtime":0,"path":"/","uid":0,"xattrs":{}},
+pub(crate) const TOP: &str = r#"{"entries":[{"gid":0,"kind":"dir","mode":493,"mtime":0,"path":"/","uid":0,"xattrs":{}},
 {"gid":0,"kind":"char","major":0,"minor":0,"mode":0,"mtime":0,"path":"/a-name-that-takes-memory-of-its-own","uid":0,"xattrs":{}},
 {"gid":0,"kind":"file","mode":420,"mtime":0,"path":"/f","size":1,"uid":0,"xattrs":{"trusted.overlay.metacopy":"","trusted.overlay.redirect":"2f636f6e74656e74732d746861742d6c69652d696e2d612d6c617965722d6f662d74686569722d6f776e"}},
 {"gid":0,"kind":"dir","mode":493,"mtime":0,"path":"/m","uid":0,"xattrs":{"trusted.overlay.redirect":"2f612d6e616d652d746861742d74616b65732d6d656d6f72792d6f662d6974732d6f776e","user.k":"76"}},
@@ -23,8 +22,7 @@ pub(crate) const TOP: &str =
 "#;
 
 /// The layer below.
-pub(crate) const LOWER: &str =
-    r#"{"entries":[{"gid":0,"kind":"dir","mode":493,"mtime":0,"path":"/","uid":0,"xattrs":{}},
+pub(crate) const LOWER: &str = r#"{"entries":[{"gid":0,"kind":"dir","mode":493,"mtime":0,"path":"/","uid":0,"xattrs":{}},
 {"gid":0,"kind":"dir","mode":493,"mtime":0,"path":"/a-name-that-takes-memory-of-its-own","uid":0,"xattrs":{}},
 {"gid":0,"kind":"dir","mode":493,"mtime":0,"path":"/a-name-that-takes-memory-of-its-own/a-name-that-takes-memory-of-its-own","uid":0,"xattrs":{}},
 {"blob":"ca978112ca1bbdcafac231b39a23dc4da786eff8147c4e72b9807785afee48bb","gid":0,"kind":"file","mode":420,"mtime":0,"path":"/a-name-that-takes-memory-of-its-own/k","size":1,"uid":0,"xattrs":{}},
@@ -35,8 +33,7 @@ pub(crate) const LOWER: &str =
 "#;
 
 /// The data-only layer.
-pub(crate) const DATA: &str =
-    r#"{"entries":[{"gid":0,"kind":"dir","mode":493,"mtime":0,"path":"/","uid":0,"xattrs":{}},
+pub(crate) const DATA: &str = r#"{"entries":[{"gid":0,"kind":"dir","mode":493,"mtime":0,"path":"/","uid":0,"xattrs":{}},
 {"blob":"ca978112ca1bbdcafac231b39a23dc4da786eff8147c4e72b9807785afee48bb","gid":0,"kind":"file","mode":420,"mtime":0,"path":"/contents-that-lie-in-a-layer-of-their-own","size":1,"uid":0,"xattrs":{}}],"overlay-layer":1}
 "#;
 
@@ -95,10 +92,7 @@ pub(crate) fn layer_told<E: Debug>(alloc: Global, made: &Result<Layer, E>) -> Re
 }
 
 /// What is told of bytes that are text, or of the fault that came instead.
-pub(crate) fn text_told<E: Debug>(
-    alloc: Global,
-    made: &Result<Vec<u8>, E>,
-) -> Result<String, Fail> {
+pub(crate) fn text_told<E: Debug>(alloc: Global, made: &Result<Vec<u8>, E>) -> Result<String, Fail> {
     match made {
         Ok(bytes) => Ok(String::from_utf8(bytes.clone()?)?),
         Err(fault) => Ok(format!(in alloc; "{fault:?}")?),

@@ -43,28 +43,10 @@ fn of_walks<R: Print>(teller: &Teller<'_, R>, stack: &Stack) -> Result<(), Fail>
     let text = format!(in alloc; "/m/{LONG}/k")?;
     let path = Path::parse(alloc, text.as_str())?;
     let top = stack.any_sheet(0);
-    call!(
-        teller,
-        "walk",
-        lent[path],
-        walk(alloc, top, &path),
-        AllocError
-    );
-    call!(
-        teller,
-        "Stack::own_walk",
-        lent[path],
-        stack.own_walk(alloc, 0, &path),
-        AllocError
-    );
+    call!(teller, "walk", lent [path], walk(alloc, top, &path), AllocError);
+    call!(teller, "Stack::own_walk", lent [path], stack.own_walk(alloc, 0, &path), AllocError);
     let root = Path::root(alloc);
-    call!(
-        teller,
-        "Stack::own_names",
-        lent[root],
-        stack.own_names(alloc, 1, &root),
-        AllocError
-    );
+    call!(teller, "Stack::own_names", lent [root], stack.own_names(alloc, 1, &root), AllocError);
     Ok(())
 }
 
@@ -73,30 +55,12 @@ fn of_directories<R: Print>(teller: &Teller<'_, R>, stack: &Stack) -> Result<(),
 {
     let alloc = teller.alloc;
     let path = Path::parse(alloc, "/m")?;
-    call!(
-        teller,
-        "Stack::own_trail",
-        lent[path],
-        stack.own_trail(alloc, 0, &path),
-        AllocError
-    );
+    call!(teller, "Stack::own_trail", lent [path], stack.own_trail(alloc, 0, &path), AllocError);
     let Some(own) = stack.own_trail(alloc, 0, &path)? else {
         return Err(Fail::new("no directory"));
     };
-    call!(
-        teller,
-        "Trail::copy",
-        lent[own],
-        own.next.copy(alloc),
-        AllocError
-    );
-    call!(
-        teller,
-        "Trail::path",
-        lent[own],
-        own.next.path(alloc),
-        AllocError
-    );
+    call!(teller, "Trail::copy", lent [own], own.next.copy(alloc), AllocError);
+    call!(teller, "Trail::path", lent [own], own.next.path(alloc), AllocError);
     let root = OwnDirectory {
         row: stack.any_sheet(0).root_number(),
         next: Path::root(alloc),
@@ -115,41 +79,11 @@ fn of_looks<R: Print>(teller: &Teller<'_, R>, stack: &Stack) -> Result<(), Fail>
     let root = Path::root(alloc);
     let moved = Path::parse(alloc, "/m")?;
     let file = Path::parse(alloc, "/f")?;
-    call!(
-        teller,
-        "Stack::look",
-        lent[moved],
-        stack.look(alloc, 0, &moved),
-        AllocError
-    );
-    call!(
-        teller,
-        "Stack::look-data",
-        lent[file],
-        stack.look(alloc, 0, &file),
-        AllocError
-    );
-    call!(
-        teller,
-        "Stack::names",
-        lent[root],
-        stack.names(alloc, 0, &root),
-        AllocError
-    );
-    call!(
-        teller,
-        "Stack::names-moved",
-        lent[moved],
-        stack.names(alloc, 0, &moved),
-        AllocError
-    );
+    call!(teller, "Stack::look", lent [moved], stack.look(alloc, 0, &moved), AllocError);
+    call!(teller, "Stack::look-data", lent [file], stack.look(alloc, 0, &file), AllocError);
+    call!(teller, "Stack::names", lent [root], stack.names(alloc, 0, &root), AllocError);
+    call!(teller, "Stack::names-moved", lent [moved], stack.names(alloc, 0, &moved), AllocError);
     call!(teller, "Stack::list", lent [], stack.list(alloc), AllocError);
-    call!(
-        teller,
-        "Stack::data_place",
-        lent[file],
-        stack.data_place(alloc, &file),
-        AllocError
-    );
+    call!(teller, "Stack::data_place", lent [file], stack.data_place(alloc, &file), AllocError);
     Ok(())
 }

@@ -4,7 +4,7 @@ use std::alloc::Global;
 use std::fmt::Debug;
 use std::io;
 
-/// Tells of the call that is asked for.
+/// Tells of the calls that are asked for.
 #[derive(Drop)]
 pub(crate) struct Teller<'a, R> {
     pub rt: &'a R,
@@ -13,19 +13,16 @@ pub(crate) struct Teller<'a, R> {
 }
 
 impl<'a, R: Print> Teller<'a, R> {
-    /// Tells of the call that is the first of the words.
+    /// Tells of the call that is the first of the words, or of all calls where there are no words.
     pub fn new(rt: &'a R, alloc: Global, words: &'a [String]) -> Teller<'a, R> {
         Teller { rt, alloc, words }
     }
 
-    /// Whether the call of this name is to be made. Where there are no words its name is printed.
-    pub fn is_asked(&self, name: &str) -> io::Result<bool> {
+    /// Whether the call of this name is to be made.
+    pub fn is_asked(&self, name: &str) -> bool {
         match self.words.first() {
-            Some(word) => Ok(word.as_str() == name),
-            None => {
-                self.line(name)?;
-                Ok(false)
-            }
+            Some(word) => word.as_str() == name,
+            None => true,
         }
     }
 

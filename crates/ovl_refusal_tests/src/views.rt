@@ -12,14 +12,7 @@ pub(crate) fn make<R: Print>(teller: &Teller<'_, R>) -> Result<(), Fail> {
     let alloc = teller.alloc;
     let stack = stack(alloc)?;
     let moved = Path::parse(alloc, "/m")?;
-    call!(
-        teller,
-        "DirView::of",
-        lent[moved],
-        DirView::of(alloc, &stack, 0, &moved),
-        AllocError,
-        |made| &told(made)
-    );
+    call!(teller, "DirView::of", lent [moved], DirView::of(alloc, &stack, 0, &moved), AllocError, |made| &told(made));
     let Some(view) = DirView::of(alloc, &stack, 0, &Path::root(alloc))? else {
         return Err(Fail::new("no view"));
     };
@@ -40,35 +33,10 @@ fn of_root<R: Print>(teller: &Teller<'_, R>, stack: &Stack, view: &DirView) -> R
     let alloc = teller.alloc;
     let moved = Name::of(alloc, "m")?;
     let file = Name::of(alloc, "f")?;
-    call!(
-        teller,
-        "DirView::child",
-        lent[moved],
-        view.child(alloc, stack, &moved),
-        AllocError,
-        |made| &told(made)
-    );
-    call!(
-        teller,
-        "DirView::look",
-        lent[moved],
-        view.look(alloc, stack, &moved),
-        AllocError
-    );
-    call!(
-        teller,
-        "DirView::look-data",
-        lent[file],
-        view.look(alloc, stack, &file),
-        AllocError
-    );
-    call!(
-        teller,
-        "DirView::data",
-        lent[file],
-        view.data(alloc, stack, &file),
-        AllocError
-    );
+    call!(teller, "DirView::child", lent [moved], view.child(alloc, stack, &moved), AllocError, |made| &told(made));
+    call!(teller, "DirView::look", lent [moved], view.look(alloc, stack, &moved), AllocError);
+    call!(teller, "DirView::look-data", lent [file], view.look(alloc, stack, &file), AllocError);
+    call!(teller, "DirView::data", lent [file], view.data(alloc, stack, &file), AllocError);
     call!(teller, "DirView::names", lent [], view.names(alloc, stack), AllocError);
     call!(teller, "DirView::looks", lent [], view.looks(alloc, stack), AllocError);
     Ok(())

@@ -48,22 +48,10 @@ fn of_blobs<R: Print>(teller: &Teller<'_, R>) -> Result<(), Fail> {
         space: BLOB_SPACE,
         dir: Path::root(alloc),
     };
-    call!(
-        teller,
-        "BlobWork::visit",
-        lent[top],
-        work.visit(alloc, &top),
-        AllocError
-    );
+    call!(teller, "BlobWork::visit", lent [top], work.visit(alloc, &top), AllocError);
     let walk = plain_walk(alloc, &work, top.copy(alloc)?)?;
     if let Some(last) = walk.last() {
-        call!(
-            teller,
-            "BlobWork::visit-below",
-            lent[last],
-            work.visit(alloc, &last.piece),
-            AllocError
-        );
+        call!(teller, "BlobWork::visit-below", lent [last], work.visit(alloc, &last.piece), AllocError);
     }
     call!(teller, "finish_blobs", lent [], given walk = plain_walk(alloc, &work, top.copy(alloc)?)?,
         finish_blobs(alloc, &work, walk), AllocError, |answer| answer);
@@ -98,13 +86,7 @@ fn of_checks<R: Print>(teller: &Teller<'_, R>, stack: &Stack) -> Result<(), Fail
     call!(teller, "stated_names", lent [], stated_names(alloc, stack), AllocError);
     let work = CheckWork::new(stack, &[], &[]);
     let top = root(alloc);
-    call!(
-        teller,
-        "CheckWork::visit",
-        lent[top],
-        work.visit(alloc, &top),
-        AllocError
-    );
+    call!(teller, "CheckWork::visit", lent [top], work.visit(alloc, &top), AllocError);
     call!(teller, "finish_check", lent [], given walks = walks_of(alloc, &work, 3)?,
         finish_check(alloc, &work, walks), AllocError, |answer| answer);
     Ok(())
@@ -114,13 +96,7 @@ fn of_shows<R: Print>(teller: &Teller<'_, R>, stack: &Stack) -> Result<(), Fail>
     let alloc = teller.alloc;
     let work = ShowWork::new(stack);
     let top = root(alloc);
-    call!(
-        teller,
-        "ShowWork::visit",
-        lent[top],
-        work.visit(alloc, &top),
-        AllocError
-    );
+    call!(teller, "ShowWork::visit", lent [top], work.visit(alloc, &top), AllocError);
     call!(teller, "finish_show", lent [], given walk = plain_walk(alloc, &work, root(alloc))?,
         finish_show(alloc, &work, walk), AllocError, |answer| answer);
     Ok(())
@@ -129,24 +105,10 @@ fn of_shows<R: Print>(teller: &Teller<'_, R>, stack: &Stack) -> Result<(), Fail>
 fn of_reports<R: Print>(teller: &Teller<'_, R>, stack: &Stack) -> Result<(), Fail> {
     let alloc = teller.alloc;
     let list = stack.list(alloc)?;
-    call!(
-        teller,
-        "report_of",
-        lent[list],
-        report_of(alloc, &list),
-        AllocError,
-        |made| &text_told(alloc, made)?
-    );
+    call!(teller, "report_of", lent [list], report_of(alloc, &list), AllocError, |made| &text_told(alloc, made)?);
     let work = ShowWork::new(stack);
     let walk = plain_walk(alloc, &work, root(alloc))?;
-    call!(
-        teller,
-        "report_of_walk",
-        lent[walk],
-        report_of_walk(alloc, &work, &walk),
-        AllocError,
-        |made| &text_told(alloc, made)?
-    );
+    call!(teller, "report_of_walk", lent [walk], report_of_walk(alloc, &work, &walk), AllocError, |made| &text_told(alloc, made)?);
     Ok(())
 }
 
@@ -154,13 +116,7 @@ fn of_vacuums<R: Print>(teller: &Teller<'_, R>, stack: &Stack) -> Result<(), Fai
     let alloc = teller.alloc;
     let work = VacuumWork::new(stack);
     let top = root(alloc);
-    call!(
-        teller,
-        "VacuumWork::visit",
-        lent[top],
-        work.visit(alloc, &top),
-        AllocError
-    );
+    call!(teller, "VacuumWork::visit", lent [top], work.visit(alloc, &top), AllocError);
     call!(teller, "finish_vacuum", lent [], given walk = plain_walk(alloc, &work, root(alloc))?,
         finish_vacuum(alloc, &work, walk), AllocError, |made| &match made {
             Ok(done) => Some((done.layer.entries(alloc)?, &done.removed)),
@@ -173,13 +129,7 @@ fn of_derefs<R: Print>(teller: &Teller<'_, R>, stack: &Stack) -> Result<(), Fail
     let alloc = teller.alloc;
     let work = DerefWork::new(stack);
     let top = root(alloc);
-    call!(
-        teller,
-        "DerefWork::visit",
-        lent[top],
-        work.visit(alloc, &top),
-        AllocError
-    );
+    call!(teller, "DerefWork::visit", lent [top], work.visit(alloc, &top), AllocError);
     call!(teller, "finish_deref", lent [], given walk = plain_walk(alloc, &work, root(alloc))?,
         finish_deref(alloc, &work, walk), RewriteFault::Memory, |made| &layer_told(alloc, made)?);
     Ok(())
@@ -189,13 +139,7 @@ fn of_merges<R: Print>(teller: &Teller<'_, R>, stack: &Stack) -> Result<(), Fail
     let alloc = teller.alloc;
     let work = MergeWork::new(stack)?;
     let top = root(alloc);
-    call!(
-        teller,
-        "MergeWork::visit",
-        lent[top],
-        work.visit(alloc, &top),
-        AllocError
-    );
+    call!(teller, "MergeWork::visit", lent [top], work.visit(alloc, &top), AllocError);
     call!(teller, "finish_merge", lent [], given walk = plain_walk(alloc, &work, root(alloc))?,
         finish_merge(alloc, &work, walk), MergeFault::Memory, |made| &match made {
             Ok(done) => Some((done.top.entries(alloc)?, done.lower.entries(alloc)?)),
@@ -210,13 +154,7 @@ fn of_rewrites<R: Print>(teller: &Teller<'_, R>, stack: &Stack) -> Result<(), Fa
     let top = root(alloc);
     let walk = plain_walk(alloc, &work, root(alloc))?;
     if let Some(parcel) = walk.first() {
-        call!(
-            teller,
-            "directories",
-            lent[parcel],
-            directories(alloc, &top, &parcel.out),
-            AllocError
-        );
+        call!(teller, "directories", lent [parcel], directories(alloc, &top, &parcel.out), AllocError);
     }
     let layer = finish_deref(alloc, &work, walk)?;
     let inode = layer.root().inode();
