@@ -7,11 +7,7 @@ for memory is refused, then all from the first on, from the second on, and so fo
 refusal; and so is each start of a thread. A run must end with its full answer, or with status 5 and `out of memory`,
 nothing on standard output, no new layer, and the one that was there as it was.
 
-So is each call that the program of `ovl_refusal_tests` makes, of which only what the call itself asks for is refused. It
-must give its full answer; or tell that memory is wanted, leave what it was lent as it was, and give that answer when it
-is made again.
-
-    python3 bench/refusals.py --program crates/ovl_layers/out/ovl_layers --calls crates/ovl_refusal_tests/out/ovl_refusal_tests
+    python3 bench/refusals.py --program crates/ovl_layers/out/ovl_layers
     python3 bench/refusals.py --library refuse.so    # builds the library alone
 """
 import argparse
@@ -157,54 +153,6 @@ def swept(program, library, sweep):
         return MOST, [*wrong, f"{how}: no run without a refusal"]
 
 
-# ---- single calls
-
-# Printed right before a call and right behind it, and where it told that memory is wanted; see crates/ovl_refusal_tests.
-NOW, DONE, WANTED = "now", "done", "refused"
-
-
-def told(program, call, room, env):
-    """What is told of a call, line by line, with the status; and whether something was refused."""
-    report = room / "told"
-    report.unlink(missing_ok=True)
-    ran = subprocess.run([program, call], env={**env, "REFUSE_TOLD": str(report)}, stdin=subprocess.DEVNULL,
-                         capture_output=True, text=True, check=False)
-    refused = int(report.read_text().split()[1]) if report.exists() else 1
-    return [*ran.stdout.splitlines(), f"{ran.stderr}status {ran.returncode}"], refused > 0
-
-
-def swept_call(program, library, call, way):
-    """How many runs there were of a call, and what is told of those that ended wrongly."""
-    with tempfile.TemporaryDirectory(prefix="ovl-refusals-") as folder:
-        room = Path(folder)
-        full, _ = told(program, call, room, {})
-        if NOW not in full or full[-1] != "status 0":
-            return 0, [f"{call}, nothing refused: {full}"]
-        # The call's name, what it is lent, and that it is made; behind that the answer, and what it was lent.
-        lent, made = full[1:full.index(NOW)], full.index(DONE) + 1
-        again = [*full[:made], WANTED, *lent, *full[made:]]
-        wrong = []
-        for number in range(1, MOST):
-            env = {"LD_PRELOAD": library, "REFUSE_BEHIND": NOW, "REFUSE_AT": str(number), **WAYS[way]}
-            lines, refused = told(program, call, room, env)
-            if lines not in ((full, again) if refused else (full,)):
-                wrong.append(f"{call}, refused {way}, number {number}: {lines}")
-            if number == 1 and not refused:
-                wrong.append(f"{call}: no request was met")
-            if not refused or len(wrong) >= ENOUGH:
-                return number, wrong
-        return MOST, [*wrong, f"{call}: no run without a refusal"]
-
-
-def calls_of(program):
-    """The names of the calls that a program makes: lines without a word before them."""
-    ran = subprocess.run([program], stdin=subprocess.DEVNULL, capture_output=True, text=True, check=True)
-    lines = ran.stdout.splitlines()
-    return [line for line in lines if line not in (NOW, DONE) and not line.startswith(("lent ", "answer "))]
-
-
-# ---- all of it
-
 def build(library):
     """Builds the library by the compiler that rt brings along."""
     page = subprocess.run(["rt", "doc"], stdin=subprocess.DEVNULL, capture_output=True, text=True, check=True).stdout
@@ -222,37 +170,25 @@ def sweeps():
             yield from (Sweep(command, name, workers, refused) for workers in stack.workers for command in COMMANDS)
 
 
-def told_of(what, runs, wrong):
-    """Prints the first wrong endings and a line of how many there are."""
-    print(*wrong[:TOLD], sep="\n", end="\n" if wrong else "")
-    print(f"{what}: {runs:,} runs, {len(wrong)} ended wrongly", flush=True)
-
-
 def main():
     words = argparse.ArgumentParser(description="Refuses the program memory, one request after the other.")
     what = words.add_mutually_exclusive_group(required=True)
     what.add_argument("--program", help="path of the program")
     what.add_argument("--library", metavar="FILE", help="build the library that refuses into this file, and nothing else")
-    words.add_argument("--calls", metavar="PROGRAM", help="path of the program that makes single calls")
     given = words.parse_args()
     if given.library:
         sys.exit(build(given.library))
-    runs, wrong = collections.Counter(), collections.defaultdict(list)
+    program, runs, wrong = os.path.abspath(given.program), collections.Counter(), collections.defaultdict(list)
     with tempfile.TemporaryDirectory(prefix="ovl-refuse-") as folder, concurrent.futures.ProcessPoolExecutor() as pool:
         library = os.path.join(folder, "refuse.so")
         build(library)
-        program = os.path.abspath(given.program)
-        started = [(it.command, pool.submit(swept, program, library, it)) for it in sweeps()]
-        if given.calls:
-            calls = os.path.abspath(given.calls)
-            ways = [it for it in WAYS if it != THREAD]
-            started += [("calls", pool.submit(swept_call, calls, library, it, way)) for it in calls_of(calls) for way in ways]
-        for sort, done in started:
-            count, found = done.result()
-            runs[sort] += count
-            wrong[sort] += found
-    for sort in (*COMMANDS, *(["calls"] if given.calls else [])):
-        told_of(sort, runs[sort], wrong[sort])
+        for sweep, done in [(it, pool.submit(swept, program, library, it)) for it in sweeps()]:
+            count, told = done.result()
+            runs[sweep.command] += count
+            wrong[sweep.command] += told
+    for command in COMMANDS:
+        print(*wrong[command][:TOLD], sep="\n", end="\n" if wrong[command] else "")
+        print(f"{command}: {runs[command]:,} runs, {len(wrong[command])} ended wrongly", flush=True)
     total = sum(map(len, wrong.values()))
     print(f"{runs.total():,} runs, {total} ended wrongly")
     sys.exit(1 if total else 0)

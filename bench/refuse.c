@@ -3,8 +3,6 @@
    REFUSE        what is refused: memory, thread (its start), open, copy (of a descriptor), stat, list, empty, read or write
    REFUSE_AT     the number of the first that is refused, counted from 1; 0, or nothing: none is
    REFUSE_ON     given: all after it are refused too
-   REFUSE_BEHIND a line: of memory only what is asked for between a write of this line alone to standard output and the
-                 next write to it counts
    REFUSE_ERROR  the number of the error; 0: the call moves no byte
    REFUSE_PATH   of the calls of files only those count whose path ends so; standard input and output have the paths
                  /dev/stdin and /dev/stdout
@@ -21,14 +19,14 @@ extern void *dlsym(void *, const char *);
 extern char **environ;
 
 enum { READ = 0, WRITE = 1, OPEN = 2, CLOSE = 3, CONTROL = 72, EMPTY = 77, LIST = 217, EXIT = 231, OPENAT = 257, STAT = 332 };
-enum { NO_MEMORY = 12, TRY_AGAIN = 11, LONGEST = 60, OUTPUT = 1, FILES = 1024, COPY = 1030 };
+enum { NO_MEMORY = 12, TRY_AGAIN = 11, LONGEST = 60, FILES = 1024, COPY = 1030 };
 /* For writing, made where it isn't there, emptied where it is. */
 enum { ANEW = 01 | 0100 | 01000 };
 
-static const char *what, *path, *told, *behind;
+static const char *what, *path, *told;
 static word at, most, met, refused;
 static long error;
-static int on, ready, counting = 1;
+static int on, ready;
 /* Of each open file, whether its path ends as REFUSE_PATH does. */
 static char meant[FILES];
 
@@ -59,13 +57,6 @@ static int is(const char *one, const char *other) {
     return *one == *other;
 }
 
-/* Whether these bytes are this line and its end. */
-static int is_line(const char *bytes, word size, const char *line) {
-    word at = 0;
-    while (line[at] && at < size && bytes[at] == line[at]) at++;
-    return !line[at] && at + 1 == size && bytes[at] == '\n';
-}
-
 static int is_meant(const char *text) {
     if (!path) return 1;
     word whole = length(text), end = length(path);
@@ -84,7 +75,7 @@ static int refuses(const char *sort) {
 }
 
 static int refuses_memory(void) {
-    if (!counting || !refuses("memory")) return 0;
+    if (!refuses("memory")) return 0;
     *__errno_location() = NO_MEMORY;
     return 1;
 }
@@ -149,7 +140,6 @@ long read(int file, void *room, word size) {
     return is_meant_file(file) && refuses("read") ? refusal() : syscall(READ, file, room, moved(size));
 }
 long write(int file, const void *bytes, word size) {
-    if (behind && file == OUTPUT) counting = is_line(bytes, size, behind);
     return is_meant_file(file) && refuses("write") ? refusal() : syscall(WRITE, file, bytes, moved(size));
 }
 
@@ -161,8 +151,6 @@ __attribute__((constructor)) static void begin(void) {
     path = value_of("REFUSE_PATH");
     most = number_of("REFUSE_MOST");
     told = value_of("REFUSE_TOLD");
-    behind = value_of("REFUSE_BEHIND");
-    counting = !behind;
     meant[0] = (char)is_meant("/dev/stdin");
     meant[1] = (char)is_meant("/dev/stdout");
     alarm(LONGEST);
