@@ -51,10 +51,10 @@ fn what_is_no_layer_is_refused(rt: HostRuntime) -> Result<(), Fail> {
 }
 
 // A manifest of this version, of a root and so many directories in each other below it; each entry has the further member.
-fn chain_of(alloc: Global, version: u8, nsec: &str, directories: usize) -> Result<String, Fail> {
+fn chain_of(alloc: Global, version: u8, nsec: &str, directories: u8) -> Result<String, Fail> {
     let mut text = String::from_str(alloc, "{\"overlay-layer\":")?;
     text.push_str(format!(in alloc; "{version},\"entries\":[")?.as_str())?;
-    for depth in 0..directories + 1 {
+    for depth in 0..usize::from(directories) + 1 {
         let path = if depth == 0 {
             String::from_str(alloc, "/")?
         } else {
