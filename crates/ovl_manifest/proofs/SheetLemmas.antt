@@ -678,6 +678,9 @@ module _ (rows : List SheetRow) (below : List (List ℕ)) (marked : List Mark) (
   named-as row None e = e ∙ sym (ap (λ n. last_name (row_path layer row.parent n)) e)
   named-as row (Some name) e = e ∙ sym (ap (λ n. last_name (row_path layer row.parent n)) e ∙ last_name-child (path_at layer row.parent) name)
 
+  pub name-at : (number : ℕ) (row : SheetRow) → slice_get rows number ≡ Some row → row.name ≡ last_name (path_at (entries_of_rows rows) number)
+  name-at number row at = named-as row row.name refl ∙ ap (λ o. last_name (path_of o)) (sym (entry-of rows is.are number row at))
+
   pub row-of : (number : ℕ) (row : SheetRow) → slice_get rows number ≡ Some row → IsRowOf (entries_of_rows rows) number row
   row-of number row at =
       let own : Entry = (row_path layer row.parent row.name, row.inode) in

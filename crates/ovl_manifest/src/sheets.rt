@@ -6,7 +6,7 @@ ghost use Rattle.ovl_names.specs.Paths.{child_path};
 ghost use Rattle.ovl_inode.specs.Marks.{mark_of as the_mark};
 ghost use Rattle.ovl_manifest.specs.Layers.{IsLayer, entry_at, names_below};
 ghost use Rattle.ovl_manifest.specs.LayerTrees.{entries_in, entries_under, entries_of_nodes};
-ghost use Rattle.ovl_manifest.specs.Sheets.{IsRowOf, AreRows, path_at, entries_of_rows, afters_from, kid_numbers, parents_of, are_earlier};
+ghost use Rattle.ovl_manifest.specs.Sheets.{IsRowOf, AreRows, path_at, last_name, entries_of_rows, afters_from, kid_numbers, parents_of, are_earlier};
 ghost use Rattle.ovl_manifest.specs.SheetPasses.{AddsParents, IsRoomFor, rows_from, kid_order, depths_of as the_depths, with_afters};
 
 use crate::trees::{Layer, Node};
@@ -133,6 +133,15 @@ impl Sheet {
         &self.rows[number as usize].inode
     }
 
+    /// The last name of the path of the row of a number, which is below the number of rows; the root has none. Takes no
+    /// memory.
+    pub fn name(&self, number: u32) -> Option<&Name>
+        requires { number < length self.now }
+        ensures { option_map (λ name. name.now) result ≡ last_name (path_at self.now number) }
+    {
+        self.rows[number as usize].name.as_ref()
+    }
+
     /// The mark of the row of a number, as its inode alone says it; the number is below that of rows. Takes no memory.
     pub fn mark(&self, number: u32) -> &Mark
         requires { number < length self.now }
@@ -238,6 +247,14 @@ impl<'a> SheetPlace<'a> {
     {
         let sheet = self.sheet;
         &sheet.rows[self.number as usize].inode
+    }
+
+    /// The mark of the place, as its inode alone says it; takes no memory.
+    pub fn mark(&self) -> &'a Mark
+        ensures { option_map the_mark (entry_at self.now []) ≡ Some result.now }
+    {
+        let sheet = self.sheet;
+        sheet.mark(self.number)
     }
 
     /// The place of the entry `name`, and `None` where there is none; takes no memory.
