@@ -1,22 +1,20 @@
 -- The findings of a stack and its blobs are those by what is told of the blobs' contents.
-use Rattle.std.proofs.Common.{◌≡◌, ℕ, ◌+◌, Bool, true, false, not, Option, Some, None, List, [], ◌∷◌, ◌++◌, refl, sym, ap, ◌∙◌, map, filter, cond, zero, suc, All, ◌<◌, arith}
+use Rattle.std.proofs.Common.{◌≡◌, ℕ, ◌+◌, Bool, true, false, not, Option, Some, None, List, [], ◌∷◌, ◌++◌, refl, sym, ap, ◌∙◌, map, filter, cond, zero, suc, All, arith}
 use Rattle.std.specs.Prelude.{⊤, ◌&&◌, MatchOption, ◌==◌, length, is_none}
-use Rattle.std.specs.List.{find, flat_map}
+use Rattle.std.specs.List.{flat_map}
 use Rattle.std.specs.Option.{option_map}
 use Rattle.std.specs.Str.{bytes_eq}
-use Rattle.ovl_inode.specs.declared.inodes.Inode.{Inode}
 use Rattle.ovl_inode.specs.Kinds.{size_of, blob_of}
 use Rattle.ovl_manifest.specs.Layers.{Entries, Entry}
 use Rattle.ovl_lookup.specs.Stacks.{StackView}
 use Rattle.ovl_check.specs.declared.contents.Content.{Content}
 use Rattle.ovl_check.specs.declared.findings.Code.{Code}
 use Rattle.ovl_check.specs.declared.findings.Code.TheVariants.{RedirectForm, RedirectLost, RedirectKind, RedirectDouble, RedirectOpen, DataMissing, DataSize, BlobMissing, BlobSize, BlobDigest, OrphanWhiteout, WhiteoutInOpaque, WhiteoutUnmarked, ImpureMissing, MarkIgnored}
-use Rattle.ovl_check.specs.declared.findings.Finding.{Finding}
 use Rattle.ovl_check.specs.Codes.{all_codes, is_blob_fault}
 use Rattle.ovl_check.specs.Blobs.{BlobView, is_wrong}
-use Rattle.ovl_check.specs.Conditions.{find_blob, has_blob, names_blob, blob_is_missing, blob_is_of_other_size, blob_is_wrong, holds}
+use Rattle.ovl_check.specs.Conditions.{find_blob, has_blob, holds}
 use Rattle.ovl_check.specs.Findings.{finding, any_code, findings_at, findings_in, data_findings_from, findings_from}
-use Rattle.ovl_check.specs.Contents.{content_of, contents_of, find_content, has_content, names_content, holds_of_contents, findings_of_contents_at, findings_of_contents_in, data_findings_of_contents_from, findings_of_contents_from, content_is_missing, TellsOfNamed, TellsOfLayers}
+use Rattle.ovl_check.specs.Contents.{content_of, contents_of, find_content, has_content, holds_of_contents, findings_of_contents_at, findings_of_contents_in, data_findings_of_contents_from, findings_of_contents_from, TellsOfNamed, TellsOfLayers}
 use Rattle.ovl_check.specs.Laws.{FindingsNeedContents, FindingsNeedNamed}
 
 -- ---- lists

@@ -1,8 +1,8 @@
 -- Contents whose names ascend.
-use Rattle.std.proofs.Common.{◌≡◌, ℕ, true, List, length}
-use Rattle.std.specs.Prelude.{◌==◌, ◌&&◌, ◌||◌, filter, AllPairs, All}
-use Rattle.std.specs.List.{AllAdjacentBelow, list_any}
-use Rattle.ovl_board.proofs.LawsOfMembers.{In, Rises, All-Every, AllPairs-Rises, In-map, In-map-cases, In-flat_map, In-flat_map-cases, Contains-In, Rises-from_adjacent, In-filter-cases, Rises-filter}
+use Rattle.std.proofs.Common.{◌≡◌, true, List, length}
+use Rattle.std.specs.Prelude.{AllPairs}
+use Rattle.std.specs.List.{AllAdjacentBelow}
+use Rattle.ovl_board.proofs.LawsOfMembers.{AllPairs-Rises, Rises-from_adjacent}
 use Rattle.std.specs.Cmp.Lexicographic.{nat_list_cmp_total}
 use Rattle.std.specs.declared.cmp.Ordering.TheVariants.{Less}
 use Rattle.ovl_check.specs.declared.contents.Content.{Content}

@@ -35,6 +35,19 @@ pub mark-child : (layer : Entries) (directory : PathNames) (name : PathName) (in
 mark-child layer [] name inode here = ap (λ (o : Option Inode). elim o as (λ _. Option Mark) [ Some i ↦ Some (mark_of i) | None ↦ None ]) here
 mark-child layer (first ∷ directory) name inode here = ap (λ (o : Option Inode). elim o as (λ _. Option Mark) [ Some i ↦ Some (mark_of i) | None ↦ None ]) here
 
+-- the mark at the root, and elsewhere that of the inode
+pub mark-root : (layer : Entries) (path : PathNames) → is_root path ≡ true → mark_at layer path ≡ Some DirPlain
+mark-root layer [] root = refl
+mark-root layer (name ∷ names) root = let bad : false ≡ true = root in cc
+
+pub mark-below : (layer : Entries) (path : PathNames) → is_root path ≡ false → mark_at layer path ≡ option_map mark_of (entry_at layer path)
+mark-below layer [] below = let bad : true ≡ false = below in cc
+mark-below layer (name ∷ names) below = by (entry_at layer (name ∷ names))
+  where
+    by : (found : Option Inode) → elim found as (λ _. Option Mark) [ Some i ↦ Some (mark_of i) | None ↦ None ] ≡ option_map mark_of found
+    by None = refl
+    by (Some inode) = refl
+
 pub root-told : (b : Bool) (path : PathNames) → IsTrue b ↔ (path ≡ []) → b ≡ is_root path
 root-told b [] told = told.1 refl
 root-told b (name ∷ path) told = false_from_ne_true b (λ t. let bad : name ∷ path ≡ [] = told.0 t in absurd (cc))
@@ -49,7 +62,7 @@ module _ (layer : Entries) (directory : Directory) (is : IsGathered layer direct
   inode = directory.inode.now
 
   abbrev mark : Mark
-  mark = directory.mark
+  mark = directory.mark.now
 
   -- its mark is that of its inode, but the root's
   own_mark : (mark ≡ DirPlain) ⊎ (mark ≡ mark_of inode)
@@ -104,7 +117,7 @@ module _ (layer : Entries) (below : StackView) (directory : Directory) (is : IsG
       parent : parent_path child ≡ dir
       parent = parent_path-child dir name
 
-      opaque : is_opaque (Some directory.mark) ≡ is_in_opaque layer child
+      opaque : is_opaque (Some directory.mark.now) ≡ is_in_opaque layer child
       opaque = ap is_opaque (sym is.mark ∙ ap (mark_at layer) (sym parent))
 
       marked : attribute_is directory.inode.now opaque_name (codes "x") ≡ is_in_marked layer child

@@ -1,6 +1,6 @@
 -- What the conditions ask of one entry of a layer, over the blobs and the stack of the layers below it, and the
 -- condition of each code by that.
-use Rattle.std.specs.Prelude.{◌≡◌, ℕ, MatchOption, Bool, true, false, ◌&&◌, ◌||◌, ◌==◌, not, Option, Some, None, List, [], ◌∷◌, if◌then◌else◌, length, map, All, codes}
+use Rattle.std.specs.Prelude.{◌≡◌, ℕ, MatchOption, Bool, true, false, ◌&&◌, ◌||◌, ◌==◌, not, Option, Some, None, List, [], ◌∷◌, if◌then◌else◌, map, All, codes}
 use Rattle.std.specs.List.{list_any, flat_map}
 use Rattle.std.specs.Option.{option_map}
 use Rattle.ovl_names.specs.Names.{PathName}
@@ -71,7 +71,7 @@ pub record IsGathered (layer : Entries) (directory : Directory) : Type 0 where
   pub layered : IsLayer layer
   pub inode : entry_at layer directory.path.now ≡ Some directory.inode.now
   pub kind : is_directory directory.inode.now ≡ true
-  pub mark : mark_at layer directory.path.now ≡ Some directory.mark
+  pub mark : mark_at layer directory.path.now ≡ Some directory.mark.now
   pub next : directory.next ≡ (walk layer directory.path.now).next
   pub closed : directory.closed ≡ (walk layer directory.path.now).closed
   pub children : map child_seen directory.children.items ≡ held_in layer directory.path.now
@@ -116,7 +116,7 @@ data_size_on below place step =
 -- a whiteout in this directory
 abbrev pub whiteout_in : StackView → Directory → PathName → KindFacts
 whiteout_in below directory name =
-    if is_opaque (Some directory.mark) then WhiteoutInOpaque
+    if is_opaque (Some directory.mark.now) then WhiteoutInOpaque
     else Whiteout (attribute_is directory.inode.now opaque_name (codes "x"))
     (not (directory.closed || is_nothing (look below (child_path directory.next name))))
 

@@ -82,7 +82,8 @@ impl<'a> Work for CheckWork<'a> {
         if i >= self.stack.layers() {
             return Ok((Vec::new(alloc), nothing(alloc)));
         }
-        let Some(directory) = directory_at(alloc, self.stack, i, &piece.dir)? else {
+        let plain = Mark::DirPlain;
+        let Some(directory) = directory_at(alloc, self.stack, i, &piece.dir, &plain)? else {
             return Ok((Vec::new(alloc), nothing(alloc)));
         };
         let kids = kids_of(alloc, piece.space, &piece.dir, &directory.children)?;
@@ -113,7 +114,7 @@ fn directory_out<'a>(
     push_directory(alloc, work, layer, &directory, &mut findings)?;
     push_files(alloc, work, layer, &directory, &mut findings)?;
     let ordinary = is_ordinary(work.stack, layer);
-    let moved = is_moved_in(ordinary, &directory.mark);
+    let moved = is_moved_in(ordinary, directory.mark);
     let Directory { next, closed, .. } = directory;
     Ok(CheckOut {
         findings,

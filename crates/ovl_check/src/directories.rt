@@ -1,22 +1,22 @@
 ghost use Rattle.std.specs.Prelude.{◌≡◌, ◌<◌, ◌++◌, false, None, All, length, map, filter, IfOk, OnOk, MatchOption};
 ghost use Rattle.std.specs.List.{list_any};
-ghost use Rattle.std.specs.Option.{option_map};
 ghost use Rattle.ovl_lookup.specs.Stacks.{all_layers};
 ghost use Rattle.ovl_names.specs.Paths.{child_path};
+ghost use Rattle.ovl_inode.specs.declared.marks.Mark.TheVariants.{DirPlain};
 ghost use Rattle.ovl_inode.specs.Attributes.{origin_name};
 ghost use Rattle.ovl_inode.specs.Marks.{has_attribute as attribute_test, is_directory as the_directory};
 ghost use Rattle.ovl_manifest.specs.Layers.{is_directory_at};
-ghost use Rattle.ovl_manifest.specs.Sheets.{path_at, last_name};
+ghost use Rattle.ovl_manifest.specs.Sheets.{path_at};
 ghost use Rattle.ovl_check.specs.Checks.{layer_at, directory_piece};
 ghost use Rattle.ovl_check.specs.Facts.{IsGathered, IsBelowOf, IsMarked, child_seen, seen_at, held_in};
 
 use crate::below::below_children;
 use crate::marks::has_attribute;
-use crate::places::mark_of_entry;
+use crate::places::mark_in;
 use ovl_board::Piece;
 use ovl_inode::{Inode, Mark, is_directory, overlay};
-use ovl_lookup::{DirView, OwnTrail, Stack, Trail};
-use ovl_manifest::{Sheet, SheetRow};
+use ovl_lookup::{DirView, OwnDirectory, Stack, Trail};
+use ovl_manifest::Sheet;
 use ovl_names::{Name, Path};
 use std::alloc::{AllocError, Global};
 
@@ -33,7 +33,7 @@ pub(crate) struct Child<'a> {
 pub(crate) struct Directory<'p, 'a> {
     pub(crate) path: &'p Path,
     pub(crate) inode: &'a Inode,
-    pub(crate) mark: Mark,
+    pub(crate) mark: &'p Mark,
     // The path by which the layers below know it, and whether they are hidden there.
     pub(crate) next: Trail<'a>,
     pub(crate) closed: bool,
@@ -42,26 +42,29 @@ pub(crate) struct Directory<'p, 'a> {
     pub(crate) below: Option<DirView>,
 }
 
-// The directory that layer `i` has at a path, and `None` where it has none.
-pub(crate) fn directory_at<'p, 'a>(
+// The directory that layer `i` has at a path, and `None` where it has none; the mark of plain directories is lent for
+// the root, which counts as one.
+pub(crate) fn directory_at<'p, 'a: 'p>(
     alloc: Global,
     stack: &'a Stack,
     i: usize,
     path: &'p Path,
+    plain: &'p Mark,
 ) -> Result<Option<Directory<'p, 'a>>, AllocError>
-    requires { i < length (all_layers stack.now) }
+    requires inside { i < length (all_layers stack.now) }
+    requires plain { plain.now ≡ DirPlain }
     ensures { IfOk result (λ found. MatchOption found
         (is_directory_at (layer_at stack.now i) path.now ≡ false)
         (λ directory. (directory.path.now ≡ path.now) × IsGathered (layer_at stack.now i) directory × IsBelowOf stack.now i directory)) }
 {
     // Each of them is a layer.
     let _layers = stack.layers();
-    let Some(OwnTrail { row, next, closed }) = stack.own_trail(alloc, i, path)? else {
+    let Some(OwnDirectory { row, next, closed }) = stack.own_trail(alloc, i, path)? else {
         return Ok(None);
     };
     let sheet = stack.any_sheet(i);
     let inode = sheet.inode(row);
-    let mark = mark_of_entry(alloc, stack, i, path, inode)?;
+    let mark = mark_in(sheet, row, path, plain);
     let children = children_in(alloc, sheet, row)?;
     let below = below_children(alloc, stack, i, &next, closed, &children)?;
     Ok(Some(Directory {
@@ -99,29 +102,13 @@ fn push_child<'a>(
     ensures seen { OnOk result (map child_seen children.new.items ≡ map child_seen children.old.items ++ seen_at sheet.now (path_at sheet.now number)) }
     ensures marks { OnOk result (All IsMarked children.old.items → All IsMarked children.new.items) }
 {
-    let Some(name) = name_at(sheet, number) else {
+    let Some(name) = sheet.name(number) else {
         return Ok(());
     };
     let inode = sheet.inode(number);
     let mark = sheet.mark(number);
     children.push(Child { name, inode, mark })?;
     Ok(())
-}
-
-// The last name of the path of a row; the root has none.
-fn name_at(sheet: &Sheet, number: u32) -> Option<&Name>
-    requires { number < length sheet.now }
-    ensures { option_map (λ name. name.now) result ≡ last_name (path_at sheet.now number) }
-{
-    match sheet.row(number) {
-        Some(
-            SheetRow {
-                name: Some(name),
-                ..
-            },
-        ) => Some(name),
-        _ => None,
-    }
 }
 
 // Whether one of these has `origin`.

@@ -4,9 +4,9 @@ ghost use Rattle.ovl_names.specs.Paths.{child_path};
 ghost use Rattle.ovl_inode.specs.Marks.{is_directory as the_directory};
 ghost use Rattle.ovl_inode.specs.declared.marks.Mark.TheVariants.{Meta};
 ghost use Rattle.ovl_manifest.specs.Layers.{entry_at};
-ghost use Rattle.ovl_lookup.specs.Walk.{walk_to_file, mark_at as the_mark};
+ghost use Rattle.ovl_lookup.specs.Walk.{walk_to_file};
 ghost use Rattle.ovl_lookup.specs.Merged.{place_of_data};
-ghost use Rattle.ovl_lookup.specs.Sound.{is_seen_there, is_plain};
+ghost use Rattle.ovl_lookup.specs.Sound.{is_seen_there};
 ghost use Rattle.ovl_check.specs.Checks.{layer_at, layers_below};
 ghost use Rattle.ovl_check.specs.CheckViews.{check_view};
 ghost use Rattle.ovl_check.specs.Facts.{IsGathered, IsBelow, IsMarked, AreFacts, asks, old_place as the_old_place, thing_shown as the_thing, whiteout_in as the_whiteout, data_size_on};
@@ -15,7 +15,7 @@ use crate::below::{data_size_in, show_in};
 use crate::directories::{Child, Directory, hold_origin};
 use crate::facts::{Facts, KindFacts, OldPlace, ThingShown};
 use crate::marks::attribute_is;
-use crate::places::{data_size_below, look_below, mark_at, step_of};
+use crate::places::{data_size_below, is_plain_at, look_below, step_of};
 use crate::subjects::CheckWork;
 use ovl_inode::{Inode, Mark, Redirect, overlay};
 use ovl_lookup::{Look, Stack, Trail};
@@ -33,7 +33,7 @@ pub(crate) fn facts_of_directory<'a>(
     requires gathered { IsGathered (layer_at work.now.stack.now i) directory.now }
     ensures { IfOk result (λ facts. (facts.inode.now ≡ directory.now.inode.now) × AreFacts (check_view work.now) i directory.now.path.now facts) }
 {
-    let kind = match &directory.mark {
+    let kind = match directory.mark {
         Mark::DirMoved(_) => KindFacts::Moved(old_place(
             alloc,
             work.stack,
@@ -46,7 +46,7 @@ pub(crate) fn facts_of_directory<'a>(
     Ok(Facts {
         is_root: directory.path.is_empty(),
         inode: directory.inode,
-        mark: &directory.mark,
+        mark: directory.mark,
         kind,
         blob: work.told.named(directory.inode),
         holds_origin: hold_origin(&directory.children),
@@ -139,16 +139,7 @@ fn is_seen(alloc: Global, stack: &Stack, i: usize, place: &Path) -> Result<bool,
     if step.found.is_none() {
         return Ok(true);
     }
-    is_plain_at(alloc, stack, i, place)
-}
-
-// Whether the layer has a directory there that hides nothing.
-fn is_plain_at(alloc: Global, stack: &Stack, i: usize, place: &Path) -> Result<bool, AllocError>
-    requires { i < length (all_layers stack.now) }
-    ensures { IfOk result (λ answer. answer ≡ is_plain (the_mark (layer_at stack.now i) place.now)) }
-{
-    let mark = mark_at(alloc, stack, i, place)?;
-    Ok(matches!(mark, Some(Mark::DirPlain)))
+    Ok(is_plain_at(stack, i, place))
 }
 
 // A whiteout in a directory of layer `i`.
@@ -157,7 +148,7 @@ fn whiteout_in(stack: &Stack, i: usize, directory: &Directory<'_, '_>, name: &Na
     requires below { directory.now.closed ≡ false → IsBelow stack.now i directory.now.next directory.now.below }
     ensures { result ≡ the_whiteout (layers_below stack.now i) directory.now name.now }
 {
-    if matches!(&directory.mark, Mark::DirOpaque) {
+    if matches!(directory.mark, Mark::DirOpaque) {
         return KindFacts::WhiteoutInOpaque;
     }
     let is_marked = attribute_is(directory.inode, overlay::OPAQUE, b"x");

@@ -1,6 +1,6 @@
 ghost use Rattle.std.specs.Prelude.{◌≡◌, ◌||◌, Some};
 ghost use Rattle.ovl_inode.specs.Marks.{has_attribute as attribute_test, attribute_is as attribute_value_test};
-ghost use Rattle.ovl_lookup.specs.Sound.{is_moved as moved_test, is_malformed as malformed_test};
+ghost use Rattle.ovl_lookup.specs.Sound.{is_moved as moved_test, is_malformed as malformed_test, is_plain as plain_test};
 ghost use Rattle.ovl_check.specs.Conditions.{is_any_meta as any_meta_test, is_empty_file as empty_file_test, metacopy_is_ignored as metacopy_ignored, whiteout_is_ignored as whiteout_ignored};
 ghost use Rattle.ovl_check.specs.Facts.{opaque_says_nothing, redirect_says_nothing, mark_says_nothing};
 
@@ -26,6 +26,13 @@ pub(crate) fn is_moved(mark: &Mark) -> bool
     ensures { result ≡ moved_test (Some mark.now) }
 {
     matches!(mark, Mark::DirMoved(_))
+}
+
+// Whether the mark is that of a directory that hides nothing.
+pub(crate) fn is_plain(mark: &Mark) -> bool
+    ensures { result ≡ plain_test (Some mark.now) }
+{
+    matches!(mark, Mark::DirPlain)
 }
 
 // Whether the mark is that of a malformed redirect.

@@ -1,24 +1,19 @@
 ghost use Rattle.std.specs.Prelude.{◌≡◌, ◌<◌, ◌≤◌, Some, IfOk, length};
-ghost use Rattle.std.specs.Option.{option_map};
 ghost use Rattle.ovl_lookup.specs.Stacks.{all_layers};
-ghost use Rattle.ovl_manifest.specs.Layers.{entry_at};
+ghost use Rattle.ovl_inode.specs.declared.marks.Mark.TheVariants.{DirPlain};
+ghost use Rattle.ovl_manifest.specs.Sheets.{path_at};
 ghost use Rattle.ovl_lookup.specs.Walk.{walk, mark_at as the_mark};
 ghost use Rattle.ovl_lookup.specs.Merged.{look as the_look};
+ghost use Rattle.ovl_lookup.specs.Sound.{is_plain as plain_test};
 ghost use Rattle.ovl_check.specs.Checks.{layer_at, first_below as the_first_below, layers_below, size_shown};
 ghost use Rattle.ovl_check.specs.Facts.{data_size};
 
-use ovl_inode::{Inode, Kind, Mark, file_size, mark_of};
+use crate::marks::is_plain;
+use ovl_inode::{Kind, Mark, file_size};
 use ovl_lookup::{Look, Stack, Step};
+use ovl_manifest::Sheet;
 use ovl_names::Path;
 use std::alloc::{AllocError, Global};
-
-// The inode that layer `i` has at a path.
-fn inode_at<'a>(stack: &'a Stack, i: usize, path: &Path) -> Option<&'a Inode>
-    requires { i < length (all_layers stack.now) }
-    ensures { option_map (λ inode. inode.now) result ≡ entry_at (layer_at stack.now i) path.now }
-{
-    stack.own_at(i, path)
-}
 
 // The walk of a path in layer `i`.
 pub(crate) fn step_of(
@@ -88,38 +83,29 @@ fn shown_size(look: &Look) -> Option<u64>
     }
 }
 
-// The mark of the entry that layer `i` has at a path.
-pub(crate) fn mark_at(
-    alloc: Global,
-    stack: &Stack,
-    i: usize,
-    path: &Path,
-) -> Result<Option<Mark>, AllocError>
+// Whether layer `i` has a directory at a path that hides nothing; the root is one.
+pub(crate) fn is_plain_at(stack: &Stack, i: usize, path: &Path) -> bool
     requires { i < length (all_layers stack.now) }
-    ensures { IfOk result (λ mark. mark ≡ the_mark (layer_at stack.now i) path.now) }
+    ensures { result ≡ plain_test (the_mark (layer_at stack.now i) path.now) }
 {
     if path.is_empty() {
-        return Ok(Some(Mark::DirPlain));
+        return true;
     }
-    match inode_at(stack, i, path) {
-        Some(inode) => Ok(Some(mark_of(alloc, inode)?)),
-        None => Ok(None),
+    match stack.any_sheet(i).place(path) {
+        Some(place) => is_plain(place.mark()),
+        None => false,
     }
 }
 
-// The mark of an entry of layer `i`.
-pub(crate) fn mark_of_entry(
-    alloc: Global,
-    _stack: &Stack,
-    _i: usize,
-    path: &Path,
-    inode: &Inode,
-) -> Result<Mark, AllocError>
-    requires { entry_at (layer_at _stack.now _i) path.now ≡ Some inode.now }
-    ensures { IfOk result (λ mark. the_mark (layer_at _stack.now _i) path.now ≡ Some mark) }
+// The mark that a layer keeps in the row of a path; the root counts as a plain directory, whose mark is lent.
+pub(crate) fn mark_in<'a>(sheet: &'a Sheet, row: u32, path: &Path, plain: &'a Mark) -> &'a Mark
+    requires row { row < length sheet.now }
+    requires path { path_at sheet.now row ≡ path.now }
+    requires plain { plain.now ≡ DirPlain }
+    ensures { the_mark sheet.now path.now ≡ Some result.now }
 {
     if path.is_empty() {
-        return Ok(Mark::DirPlain);
+        return plain;
     }
-    mark_of(alloc, inode)
+    sheet.mark(row)
 }

@@ -5,8 +5,7 @@ use Rattle.std.specs.Option.{option_map}
 use Rattle.std.specs.List.{list_any}
 use Rattle.ovl_names.specs.Names.{PathName, name_eq, name_cmp}
 use Rattle.ovl_names.specs.Order.{ascends}
-use Rattle.ovl_names.specs.Paths.{PathNames, child_path, path_cmp, depth_limit}
-use Rattle.ovl_names.proofs.Ascending.{both, is_lt-Less}
+use Rattle.ovl_names.specs.Paths.{PathNames, child_path, depth_limit}
 use Rattle.ovl_inode.specs.declared.inodes.Inode.{Inode}
 use Rattle.ovl_manifest.specs.Layers.{entry_at, names_below, IsLayer}
 use Rattle.ovl_lookup.specs.declared.looks.Look.{Look}
@@ -18,10 +17,7 @@ use Rattle.ovl_lookup.specs.Words.{over, top_layer, lower_layers}
 use Rattle.ovl_lookup.proofs.LawsOfWalks.{entry-limited, names_below-has, directory_found}
 use Rattle.ovl_lookup.proofs.LawsOfKids.{kids-ascend, kids-same, kid-names-ascend}
 use Rattle.ovl_lookup.proofs.LawsOfLooks.{ShowsWithinDepth-holds, top-over, top-layer, lower-layers}
-use Rattle.ovl_board.proofs.LawsOfMembers.{In, Rises}
-use Rattle.ovl_board.proofs.LawsOfPieces.{siblings}
 use Rattle.ovl_rewrite.specs.NewLayers.{IsTold, TellsLayer}
-use Rattle.ovl_rewrite.proofs.Ascents.{NameBefore, rising-ascend}
 use Rattle.ovl_rewrite.proofs.DirectoryLemmas.{layer-told}
 use Rattle.ovl_deref.specs.Deref.{is_in_moved, inode_shown, dereferenced_inode}
 use Rattle.ovl_deref.specs.Directories.{is_at_moved, new_at, names_in, deref_kids, deref_out, deref_depth}

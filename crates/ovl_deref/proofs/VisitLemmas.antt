@@ -11,33 +11,29 @@ use Rattle.ovl_names.specs.Order.{ascends}
 use Rattle.ovl_names.specs.Paths.{PathNames, child_path}
 use Rattle.ovl_names.proofs.Ascending.{both, ascends-across, list_all-filter}
 use Rattle.ovl_inode.specs.declared.inodes.Inode.{Inode}
-use Rattle.ovl_inode.specs.declared.marks.Mark.{Mark}
-use Rattle.ovl_inode.specs.declared.marks.Mark.TheVariants.{Meta}
-use Rattle.ovl_inode.specs.declared.marks.Redirect.{Redirect}
 use Rattle.ovl_inode.specs.Attributes.{Attributes, attribute_cmp, is_attribute, are_attributes, with_attribute, redirect_name, metacopy_name}
-use Rattle.ovl_inode.specs.Marks.{mark_of, is_metacopy_mark}
+use Rattle.ovl_inode.specs.Marks.{mark_of}
 use Rattle.ovl_manifest.specs.Layers.{Entries, IsLayer, entry_at, names_below}
 use Rattle.ovl_manifest.specs.LayerTrees.{entries_in, entries_under}
 use Rattle.ovl_manifest.proofs.NodeLemmas.{entry_at-under}
 use Rattle.ovl_manifest.proofs.SheetLemmas.{entries_under-child}
 use Rattle.ovl_manifest.proofs.ValueLemmas.{put-last}
 use Rattle.ovl_lookup.specs.declared.looks.Look.{Look}
-use Rattle.ovl_lookup.specs.declared.views.DirView.{DirView}
 use Rattle.ovl_lookup.specs.Walk.{mark_at}
-use Rattle.ovl_lookup.specs.Stacks.{StackView, from_layer}
+use Rattle.ovl_lookup.specs.Stacks.{StackView}
 use Rattle.ovl_lookup.specs.Passes.{kids_along}
 use Rattle.ovl_lookup.specs.Merged.{look, is_nothing, shows_directory}
 use Rattle.ovl_lookup.specs.ViewPasses.{AreLooks}
 use Rattle.ovl_lookup.specs.Sound.{is_moved}
-use Rattle.ovl_lookup.specs.Words.{over, top_layer, lower_layers}
+use Rattle.ovl_lookup.specs.Words.{top_layer}
 use Rattle.ovl_lookup.proofs.LawsOfPaths.{all-first, all-rest}
 use Rattle.ovl_lookup.proofs.LawsOfKids.{kids-unique}
-use Rattle.ovl_lookup.proofs.LawsOfLooks.{nothing-under, top-over}
+use Rattle.ovl_lookup.proofs.LawsOfLooks.{nothing-under}
 use Rattle.ovl_lookup.proofs.LawsOfWalks.{mark-child}
 use Rattle.ovl_rewrite.specs.Directories.{NamedInode}
-use Rattle.ovl_deref.specs.Deref.{inode_shown, unfolded, full_attributes, filled, dereferenced_inode}
+use Rattle.ovl_deref.specs.Deref.{inode_shown, full_attributes}
 use Rattle.ovl_deref.specs.Directories.{is_at_moved, new_at, names_in, named_inode, inodes_in}
-use Rattle.ovl_deref.specs.Visits.{IsSought, look_by, shown_inode}
+use Rattle.ovl_deref.specs.Visits.{shown_inode}
 use Rattle.ovl_deref.proofs.DerefLemmas.{any_prefix-child, any_prefix-under}
 use Rattle.ovl_deref.proofs.DirectoryLemmas.{new-moved}
 
@@ -102,34 +98,15 @@ module _ (top : Entries) (dir : PathNames) (i : ℕ) (name : PathName) (inside :
       ∙ stays-free top (take (i + 1) dir) (drop (i + 1) dir) (ap (λ (path : PathNames). entries_under path top) (sym prefix-next) ∙ none)
       (moved-next false (sym (ap (λ (found : Option Inode). is_moved (option_map mark_of found)) (nothing-there top (child_path (take i dir) name) none))))
 
--- ---- what is sought once in a directory
-
--- an entry in a directory, from the directory's place on
-pub entry-in : (layer : Entries) (directory : PathNames) (name : PathName) (place : Entries) → place ≡ entries_under directory layer
-    → entry_at (entries_in name place) [] ≡ entry_at layer (child_path directory name)
-entry-in layer directory name place is =
-    ap (λ (entries : Entries). entry_at (entries_in name entries) []) is
-    ∙ sym (entry_at-under (child_path directory name) layer ∙ ap (λ (entries : Entries). entry_at entries []) (entries_under-child directory name layer))
+-- ---- a directory that isn't moved
 
 module _ (stack : StackView) (path : PathNames) where
-  pub sought-look : All IsLayer stack.layers → (name : PathName) (found : Option DirView) → IsSought stack path found → look_by stack name found ≡ look stack (child_path path name)
-  sought-look each name None none = sym (nothing-under stack each path name [] none)
-  sought-look each name (Some view) is = (λ j. look (from_layer (is.starts j) stack) (child_path (is.stands j) name))
-
   -- the names in it, where neither it nor a directory above it is moved
   pub own-names : is_at_moved (top_layer stack) path ≡ false → names_in stack path ≡ names_below (top_layer stack) path
   own-names free = ap (λ b. cond b (kids_along stack path) (names_below (top_layer stack) path)) free
 
   pub none-listed : is_at_moved (top_layer stack) path ≡ false → names_below (top_layer stack) path ≡ [] → [] ≡ inodes_in stack path
   none-listed free none = sym (ap (filter_map (named_inode stack path)) (own-names free ∙ none))
-
-  -- a metacopy file is filled with what is shown
-  pub filled-there : (name : PathName) (inode : Inode) (redirect : Option Redirect) (shown : Look) → 0 < length stack.layers → entry_at (top_layer stack) (child_path path name) ≡ Some inode → mark_of inode ≡ Meta redirect → shown ≡ look stack (child_path path name)
-      → filled inode shown ≡ dereferenced_inode (top_layer stack) (lower_layers stack) (child_path path name) inode
-  filled-there name inode redirect shown some here meta is =
-      let marked : mark_at (top_layer stack) (child_path path name) ≡ Some (Meta redirect) = mark-child (top_layer stack) path name (Some inode) here ∙ ap (λ (m : Mark). Some m) meta in
-      (λ j. filled inode ((is ∙ ap (λ (s : StackView). look s (child_path path name)) (sym (top-over stack some))) j))
-      ∙ (λ j. cond (is_moved (sym marked j)) (unfolded inode) (cond (is_metacopy_mark (sym meta j)) (filled inode (look (over (top_layer stack) (lower_layers stack)) (child_path path name))) inode))
 
 -- ---- the entries of a directory, one after another
 

@@ -1,5 +1,5 @@
 -- Laws of what the walks through layers find, layer by layer, and of what is shown of it.
-use Rattle.std.proofs.Common.{◌≡◌, ◌+◌, Bool, true, false, cond, Option, Some, None, List, [], ◌∷◌, refl, sym, ap, ◌∙◌, ◌++◌, inl, inr}
+use Rattle.std.proofs.Common.{◌≡◌, Bool, true, false, cond, Option, Some, None, List, [], ◌∷◌, refl, sym, ap, ◌∙◌, ◌++◌, inl, inr}
 use Rattle.std.specs.Prelude.{not, ◌&&◌, ◌||◌}
 use Rattle.std.specs.List.{filter_map, cons_option, list_all, find, list_any, All}
 use Rattle.std.proofs.lemmas.List.Folds.{list_any-append}

@@ -1,5 +1,5 @@
 -- Laws of the names in a directory of the merged tree.
-use Rattle.std.proofs.Common.{◌≡◌, ℕ, Bool, true, false, cond, Option, Some, None, List, [], ◌∷◌, map, refl, sym, ap, ◌∙◌, suc, ◌+◌, ◌*◌, ◌≤◌, length, ◌++◌, arith, append_assoc, length-append, zero, ◌<◌, ◌-◌}
+use Rattle.std.proofs.Common.{◌≡◌, ℕ, Bool, true, false, cond, Option, Some, None, List, [], ◌∷◌, map, refl, sym, ap, ◌∙◌, suc, ◌+◌, ◌*◌, ◌≤◌, length, ◌++◌, arith, append_assoc, length-append, zero, ◌<◌}
 use Rattle.std.specs.Prelude.{slice_get, ◌||◌, ◌&&◌, not, filter}
 use Rattle.std.specs.List.{list_all, cons_option, list_any, All}
 use Rattle.std.specs.Option.{option_map}

@@ -1,5 +1,5 @@
 -- Laws of what a stack shows, and of sound stacks.
-use Rattle.std.proofs.Common.{◌≡◌, ℕ, suc, ◌+◌, ◌*◌, ◌≤◌, length, drop, Bool, true, false, cond, Option, Some, None, List, [], ◌∷◌, ◌++◌, refl, sym, ap, ◌∙◌, subst, arith, append_assoc, length-append, inl, inr, ◌⊎◌, zero, ◌<◌, ◌-◌}
+use Rattle.std.proofs.Common.{◌≡◌, ℕ, suc, ◌+◌, ◌*◌, ◌≤◌, length, drop, Bool, true, false, cond, Option, Some, None, List, [], ◌∷◌, ◌++◌, refl, sym, ap, ◌∙◌, subst, arith, append_assoc, length-append, inl, inr, ◌⊎◌, zero, ◌<◌}
 use Rattle.std.specs.Prelude.{◌||◌, ◌&&◌, not, slice_get, unwrap_or, ◌==◌, is_some, is_none}
 use Rattle.std.specs.List.{cons_option, list_any, All, list_all}
 use Rattle.std.proofs.lemmas.List.{append-nil}

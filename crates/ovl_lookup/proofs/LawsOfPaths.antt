@@ -1,5 +1,5 @@
 -- Laws of paths and of lists of entries.
-use Rattle.std.proofs.Common.{◌≡◌, ℕ, Bool, true, false, cond, Some, None, List, [], ◌∷◌, refl, sym, ap, ◌∙◌, zero, suc, ◌+◌, ◌≤◌, length, drop, Option, arith, ◌-◌, ◌++◌, take, subst, append_assoc, length-append, inl, inr, ◌⊎◌}
+use Rattle.std.proofs.Common.{◌≡◌, ℕ, Bool, true, false, cond, Some, None, List, [], ◌∷◌, refl, sym, ap, ◌∙◌, zero, suc, ◌≤◌, length, drop, Option, arith, ◌-◌, ◌++◌, take, subst, append_assoc, length-append, inl, inr, ◌⊎◌}
 use Rattle.std.specs.Prelude.{not, filter, ◌&&◌, ◌||◌}
 use Rattle.std.specs.Ordering.{is_lt, ordering_reverse}
 use Rattle.std.specs.Cmp.Lexicographic.{bytes_decides, pointwise_decides}

@@ -1,5 +1,5 @@
 -- Laws of walks: how a walk goes on by one name, what it depends on, and where it ends.
-use Rattle.std.proofs.Common.{◌≡◌, ℕ, ◌+◌, ◌-◌, Bool, true, false, cond, Option, Some, None, is_some, List, [], ◌∷◌, ◌++◌, length, drop, refl, sym, ap, ◌∙◌, subst, append_assoc, arith, ◌<◌, ◌≤◌, inl, inr, ◌⊎◌}
+use Rattle.std.proofs.Common.{◌≡◌, ℕ, Bool, true, false, cond, Option, Some, None, is_some, List, [], ◌∷◌, ◌++◌, length, drop, refl, sym, ap, ◌∙◌, subst, append_assoc, arith, ◌<◌, ◌≤◌, inl, inr, ◌⊎◌}
 use Rattle.std.specs.Prelude.{◌||◌, unwrap_or, nat_le, slice_get}
 use Rattle.std.specs.Option.{option_map}
 use Rattle.std.specs.List.{cons_option, list_any}
@@ -391,7 +391,7 @@ module _ (layer : Entries) (path : PathNames) (name : PathName) (is : IsLayer la
 pub own-mark : (inode : Inode) (mark : Mark) → Some (mark_of inode) ≡ Some mark → mark ≡ mark_of inode
 own-mark inode mark same = sym (ap (λ o. unwrap_or o mark) same)
 
-module _ (layer : Entries) (path : PathNames) (name : PathName) (is : IsLayer layer) (own : OwnDirectory) (stands : IsOwnDirectory layer path own) where
+module _ (layer : Entries) (path : PathNames) (name : PathName) (is : IsLayer layer) (own : OwnDirectory PathNames) (stands : IsOwnDirectory layer path own) where
   -- nothing is there
   pub own-missing : entries_under (child_path path name) layer ≡ [] → nothing_found (child_path own.next name) own.closed ≡ walk layer (child_path path name)
   own-missing none =

@@ -1,5 +1,5 @@
 -- The worked examples of the merged tree, by computation.
-use Rattle.std.specs.Prelude.{◌≡◌, ℕ, true, false, List, [], ◌∷◌, codes, Some, None, refl, map}
+use Rattle.std.specs.Prelude.{◌≡◌, ℕ, true, false, List, [], ◌∷◌, codes, None, refl, map}
 use Rattle.ovl_names.specs.Paths.{PathNames}
 use Rattle.ovl_inode.specs.declared.inodes.Kind.TheVariants.{File, Symlink, Char}
 use Rattle.ovl_inode.proofs.OnLiterals.{inode_on_literals}

@@ -12,7 +12,6 @@ use Rattle.ovl_manifest.specs.Layers.{Entries, IsLayer, entry_at, is_directory_a
 use Rattle.ovl_manifest.specs.Sheets.{path_at}
 use Rattle.ovl_lookup.specs.declared.steps.Descent.{Descent}
 use Rattle.ovl_lookup.specs.declared.steps.OwnDirectory.{OwnDirectory}
-use Rattle.ovl_lookup.specs.declared.steps.OwnTrail.{OwnTrail}
 use Rattle.ovl_lookup.specs.declared.steps.Step.{Step}
 use Rattle.ovl_lookup.specs.declared.steps.TrailStep.{TrailStep}
 use Rattle.ovl_lookup.specs.declared.steps.Arrival.{Arrival}
@@ -37,16 +36,12 @@ pub record IsDescent (layer : Entries) (path : PathNames) (descent : Descent) : 
   pub stops : IfSome (slice_get path descent.depth) (λ name. is_directory_at layer (child_path (take descent.depth path) name) ≡ false)
 
 -- a directory of a layer at a path, and how its walk goes on
-pub record IsOwnDirectory (layer : Entries) (path : PathNames) (own : OwnDirectory) : Type 0 where
+pub record IsOwnDirectory (layer : Entries) (path : PathNames) (own : OwnDirectory PathNames) : Type 0 where
   pub inside : own.row < length layer
   pub here : path_at layer own.row ≡ path
   pub directory : is_directory_at layer path ≡ true
   pub next : own.next ≡ (walk layer path).next
   pub closed : own.closed ≡ (walk layer path).closed
-
--- a directory with its next path in names of its own
-abbrev pub own_of : OwnTrail → OwnDirectory
-own_of own = record { row = own.row; next = own.next; closed = own.closed }
 
 -- the step that a walk along a trail gives, and that what it found has its mark
 abbrev pub step_of : TrailStep → Step

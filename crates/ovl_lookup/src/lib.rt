@@ -7,6 +7,7 @@ mod looks;
 mod own_directories;
 mod stacks;
 mod steps;
+mod top_directories;
 mod tops;
 mod trails;
 mod view_looks;
@@ -14,6 +15,7 @@ mod views;
 
 pub use looks::Look;
 pub use stacks::{LAYER_LIMIT, Stack, StackFault};
-pub use steps::{OwnDirectory, OwnTrail, Step, walk};
+pub use steps::{Found, OwnDirectory, Step, walk};
+pub use top_directories::TopDirectory;
 pub use trails::Trail;
 pub use views::DirView;

@@ -10,10 +10,10 @@ use crate::trails::Trail;
 use crate::{OwnDirectory, Step};
 use ovl_inode::is_directory;
 use ovl_manifest::Sheet;
-use ovl_names::Name;
+use ovl_names::{Name, Path};
 use std::alloc::{AllocError, Global};
 
-impl OwnDirectory {
+impl OwnDirectory<Path> {
     /// The walk of the entry `name` in this directory of the layer, which goes on from here. Fails only for want of
     /// memory. overlayfs.rst: as [`walk`](crate::walk).
     pub fn step(&self, alloc: Global, sheet: &Sheet, name: &Name) -> Result<Step, AllocError>
@@ -50,7 +50,7 @@ impl OwnDirectory {
         alloc: Global,
         sheet: &Sheet,
         name: &Name,
-    ) -> Result<Option<OwnDirectory>, AllocError>
+    ) -> Result<Option<OwnDirectory<Path>>, AllocError>
         requires { IsOwnDirectory sheet.now (path_at sheet.now self.now.row) self.now }
         ensures { IfOk result (λ found. MatchOption found
             (is_directory_at sheet.now (child_path (path_at sheet.now self.now.row) name.now) ≡ false)

@@ -2,13 +2,13 @@ ghost use Rattle.std.specs.Prelude.{◌≡◌, ◌≢◌, ◌<◌, ◌≤◌, �
 ghost use Rattle.std.specs.Option.{option_map};
 ghost use Rattle.std.specs.List.{All};
 ghost use Rattle.ovl_manifest.specs.Layers.{IsLayer, entry_at, is_directory_at, names_below};
-ghost use Rattle.ovl_lookup.specs.Passes.{IsOwnDirectory, own_of};
+ghost use Rattle.ovl_lookup.specs.Passes.{IsOwnDirectory};
 ghost use Rattle.ovl_lookup.specs.Walk.{walk as the_walk};
 ghost use Rattle.ovl_lookup.specs.declared.stacks.StackFault.TheVariants.{Layers, Memory, DataCount};
 ghost use Rattle.ovl_lookup.specs.Stacks.{layer_limit, all_layers, stack_with};
 
 use crate::steps::trail_in;
-use crate::{OwnTrail, Step, walk};
+use crate::{OwnDirectory, Step, Trail, walk};
 use ovl_inode::Inode;
 use ovl_manifest::{Layer, Sheet};
 use ovl_names::{Name, Path};
@@ -198,11 +198,11 @@ impl Stack {
         alloc: Global,
         i: usize,
         path: &Path,
-    ) -> Result<Option<OwnTrail<'a>>, AllocError>
+    ) -> Result<Option<OwnDirectory<Trail<'a>>>, AllocError>
         requires { i < length (all_layers self.now) }
         ensures { IfSome (slice_get (all_layers self.now) i) (λ layer. IfOk result (λ found. MatchOption found
             (is_directory_at layer path.now ≡ false)
-            (λ own. IsOwnDirectory layer path.now (own_of own)))) }
+            (IsOwnDirectory layer path.now))) }
     {
         trail_in(alloc, self.any_sheet(i), path)
     }

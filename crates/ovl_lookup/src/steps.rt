@@ -3,10 +3,9 @@ ghost use Rattle.ovl_names.specs.Paths.{child_path};
 ghost use Rattle.ovl_inode.specs.Marks.{mark_of as the_mark};
 ghost use Rattle.ovl_manifest.specs.Layers.{entry_at, is_directory_at};
 ghost use Rattle.ovl_manifest.specs.Sheets.{path_at};
-ghost use Rattle.ovl_lookup.specs.Passes.{IsDescent, IsArrival, IsOwnDirectory, IsMarked, own_of, step_of, entered_path, entered_closed};
+ghost use Rattle.ovl_lookup.specs.Passes.{IsDescent, IsArrival, IsOwnDirectory, IsMarked, step_of, entered_path, entered_closed};
 ghost use Rattle.ovl_lookup.specs.Walk.{walk as the_walk, walk_beyond, walk_to_file};
 
-use crate::tops::name_at;
 use crate::trails::Trail;
 use ovl_inode::{Inode, Mark, Redirect, is_directory, is_whiteout};
 use ovl_manifest::Sheet;
@@ -44,11 +43,13 @@ pub(crate) struct TrailStep<'a> {
     pub(crate) closed: bool,
 }
 
-// An inode of a layer, with its mark.
-#[derive(Drop)]
-pub(crate) struct Found<'a> {
-    pub(crate) inode: &'a Inode,
-    pub(crate) mark: &'a Mark,
+/// An inode of a layer, with its mark, which the layer keeps beside it.
+#[derive(Debug, Drop)]
+pub struct Found<'a> {
+    /// The inode, as the layer has it.
+    pub inode: &'a Inode,
+    /// What it means to the overlay.
+    pub mark: &'a Mark,
 }
 
 impl<'a> TrailStep<'a> {
@@ -170,24 +171,13 @@ pub(crate) fn descend<'a>(
     })
 }
 
-/// A directory of one layer, and how its walk goes on.
+/// A directory of one layer, and how its walk goes on, at a path of its own or a [`Trail`].
 #[derive(Debug, Drop)]
-pub struct OwnDirectory {
+pub struct OwnDirectory<N> {
     /// The number of its row in the layer's sheet.
     pub row: u32,
     /// The path by which the layer below knows it.
-    pub next: Path,
-    /// Whether the layers below are hidden there.
-    pub closed: bool,
-}
-
-/// A directory of one layer, and how its walk goes on, with no name copied.
-#[derive(Debug, Drop)]
-pub struct OwnTrail<'a> {
-    /// The number of its row in the layer's sheet.
-    pub row: u32,
-    /// The path by which the layer below knows it.
-    pub next: Trail<'a>,
+    pub next: N,
     /// Whether the layers below are hidden there.
     pub closed: bool,
 }
@@ -197,10 +187,10 @@ pub(crate) fn trail_in<'a>(
     alloc: Global,
     sheet: &'a Sheet,
     path: &Path,
-) -> Result<Option<OwnTrail<'a>>, AllocError>
+) -> Result<Option<OwnDirectory<Trail<'a>>>, AllocError>
     ensures { IfOk result (λ found. MatchOption found
         (is_directory_at sheet.now path.now ≡ false)
-        (λ own. IsOwnDirectory sheet.now path.now (own_of own))) }
+        (IsOwnDirectory sheet.now path.now)) }
 {
     let trail = Trail::of(alloc, path.names())?;
     let Descent {
@@ -212,7 +202,7 @@ pub(crate) fn trail_in<'a>(
     if depth < trail.len() {
         return Ok(None);
     }
-    Ok(Some(OwnTrail { row, next, closed }))
+    Ok(Some(OwnDirectory { row, next, closed }))
 }
 
 // Where the walk of a path in one layer leads: to a directory's row, past the layer, where `next` goes on, or no
@@ -283,7 +273,7 @@ pub(crate) fn directory_below<'a>(
         return None;
     }
     // The root alone has no name.
-    let Some(own) = name_at(sheet, child) else {
+    let Some(own) = sheet.name(child) else {
         return None;
     };
     Some(DirectoryBelow {

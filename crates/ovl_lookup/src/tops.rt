@@ -1,14 +1,11 @@
 ghost use Rattle.std.specs.Prelude.{◌≡◌, [], ◌∷◌, ◌+◌, ◌<◌, ◌^◌, length, IfOk};
-ghost use Rattle.std.specs.Option.{option_map};
 ghost use Rattle.std.specs.List.{All};
-ghost use Rattle.ovl_manifest.specs.Sheets.{path_at, last_name};
 ghost use Rattle.ovl_lookup.specs.ViewPasses.{AreInOrder, AreTops, AreMerged, tops_told};
 ghost use Rattle.ovl_lookup.specs.DirViews.{IsPlaceOver, place_in, places_in};
 
 use crate::Stack;
 use crate::views::DirPlace;
 use ovl_inode::Inode;
-use ovl_manifest::{Sheet, SheetRow};
 use ovl_names::Name;
 use std::alloc::{AllocError, Global};
 use std::cmp::Ordering;
@@ -60,7 +57,7 @@ fn tops_in<'a>(
     let kids = sheet.kids(place.row);
     let mut tops = Vec::with_capacity(alloc, kids.len())?;
     for kid in kids {
-        if let Some(name) = name_at(sheet, *kid) {
+        if let Some(name) = sheet.name(*kid) {
             tops.push(Top {
                 name,
                 inode: sheet.inode(*kid),
@@ -69,22 +66,6 @@ fn tops_in<'a>(
         }
     }
     Ok(tops)
-}
-
-// The last name of the path of a row; the root has none.
-pub(crate) fn name_at(sheet: &Sheet, number: u32) -> Option<&Name>
-    requires { number < length sheet.now }
-    ensures { option_map (λ name. name.now) result ≡ last_name (path_at sheet.now number) }
-{
-    match sheet.row(number) {
-        Some(
-            SheetRow {
-                name: Some(name),
-                ..
-            },
-        ) => Some(name),
-        _ => None,
-    }
 }
 
 // Both lists as one, in the order of names, in which each of them is; of a name that both have, the upper's stays.

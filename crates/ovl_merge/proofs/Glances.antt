@@ -56,7 +56,7 @@ plain-inode inode plain = (white (is_whiteout inode) refl, file (is_directory in
 
 -- ---- in one layer
 
-module _ (layer : Entries) (path : PathNames) (name : PathName) (is : IsLayer layer) (own : OwnDirectory) (stands : IsOwnDirectory layer path own) where
+module _ (layer : Entries) (path : PathNames) (name : PathName) (is : IsLayer layer) (own : OwnDirectory PathNames) (stands : IsOwnDirectory layer path own) where
   pub glance-plain : (inode : Inode) → entry_at layer (child_path path name) ≡ Some inode → is_plain_mark (mark_of inode) ≡ true
       → ((walk layer (child_path path name)).found ≡ Some inode) × (is_directory inode ≡ false) × (is_metacopy inode ≡ false)
   glance-plain inode here plain =

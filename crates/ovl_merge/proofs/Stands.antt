@@ -27,7 +27,7 @@ passes-same : (found : Option Inode) → directory_found found ≡ passes is_dir
 passes-same None = refl
 passes-same (Some inode) = refl
 
-inside-found : (layer : Entries) (path : PathNames) (own : OwnDirectory) → IsOwnDirectory layer path own → passes is_directory (walk layer path).found ≡ true
+inside-found : (layer : Entries) (path : PathNames) (own : OwnDirectory PathNames) → IsOwnDirectory layer path own → passes is_directory (walk layer path).found ≡ true
 inside-found layer path own is =
     ap (λ (s : Step). passes is_directory s.found) (walk-whole layer path is.directory) ∙ (sym (passes-same (entry_at layer path)) ∙ is.directory)
 

@@ -58,7 +58,7 @@ passage-open m path upper lower is opened low = record {
 }
 
 -- the root's walk
-pub root-stands : (layer : Entries) → IsLayer layer → (own : OwnDirectory) → own.row < length layer → path_at layer own.row ≡ [] → own.next ≡ [] → own.closed ≡ false → IsOwnDirectory layer [] own
+pub root-stands : (layer : Entries) → IsLayer layer → (own : OwnDirectory PathNames) → own.row < length layer → path_at layer own.row ≡ [] → own.next ≡ [] → own.closed ≡ false → IsOwnDirectory layer [] own
 root-stands layer is own inside here next closed =
     let whole = walk-whole layer [] is.rooted in
     record {
@@ -70,7 +70,7 @@ root-stands layer is own inside here next closed =
     }
 
 -- a directory of a layer is that of its row
-pub own-row : (layer : Entries) (path : PathNames) (own : OwnDirectory) → IsOwnDirectory layer path own → IsOwnDirectory layer (path_at layer own.row) own
+pub own-row : (layer : Entries) (path : PathNames) (own : OwnDirectory PathNames) → IsOwnDirectory layer path own → IsOwnDirectory layer (path_at layer own.row) own
 own-row layer path own is = subst (λ (p : PathNames). IsOwnDirectory layer p own) (sym is.here) is
 
 -- past what a layer has, everything under a name is too
@@ -88,7 +88,7 @@ past-child layer path next closed own past =
     }
 
 -- in a directory, everything under a name that is no directory is past what the layer has
-module _ (layer : Entries) (path : PathNames) (own : PathName) (is : IsLayer layer) (directory : OwnDirectory) (stands : IsOwnDirectory layer path directory) (none : is_directory_at layer (child_path path own) ≡ false) where
+module _ (layer : Entries) (path : PathNames) (own : PathName) (is : IsLayer layer) (directory : OwnDirectory PathNames) (stands : IsOwnDirectory layer path directory) (none : is_directory_at layer (child_path path own) ≡ false) where
   past-entry : (found : Option Inode) → entry_at layer (child_path path own) ≡ found → (name : PathName) (names : PathNames)
       → walk layer (child_path path own ++ name ∷ names) ≡ walk_beyond found directory.next directory.closed own (name ∷ names)
   past-entry found here name names =

@@ -23,7 +23,7 @@ pub(crate) struct Walked {
 // Where a walk stands: in a directory of the layer, or past what the layer has, where nothing more is found.
 #[derive(Drop)]
 pub(crate) enum Stand {
-    Inside(OwnDirectory),
+    Inside(OwnDirectory<Path>),
     Past { next: Path, closed: bool },
 }
 
@@ -162,7 +162,7 @@ impl Walked {
 }
 
 // The same in a directory of the layer.
-fn glance_in<'a>(sheet: &'a Sheet, own: &OwnDirectory, name: &Name) -> Glance<'a>
+fn glance_in<'a>(sheet: &'a Sheet, own: &OwnDirectory<Path>, name: &Name) -> Glance<'a>
     requires { IsOwnDirectory sheet.now (path_at sheet.now own.now.row) own.now }
     ensures { IsGlance (the_walk sheet.now (child_path (path_at sheet.now own.now.row) name.now)) result }
 {
@@ -190,7 +190,7 @@ fn glance_in<'a>(sheet: &'a Sheet, own: &OwnDirectory, name: &Name) -> Glance<'a
 fn stand_below(
     alloc: Global,
     sheet: &Sheet,
-    own: &OwnDirectory,
+    own: &OwnDirectory<Path>,
     name: &Name,
 ) -> Result<Stand, AllocError>
     requires { IsOwnDirectory sheet.now (path_at sheet.now own.now.row) own.now }

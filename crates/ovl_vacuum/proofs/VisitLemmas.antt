@@ -12,15 +12,13 @@ use Rattle.ovl_names.specs.Paths.{PathNames, child_path}
 use Rattle.ovl_inode.specs.declared.inodes.Inode.{Inode}
 use Rattle.ovl_inode.specs.Marks.{mark_of}
 use Rattle.ovl_manifest.specs.Layers.{Entries, entry_at, is_directory_at, names_below, IsLayer}
-use Rattle.ovl_manifest.specs.LayerTrees.{entries_in, entries_under}
-use Rattle.ovl_manifest.proofs.NodeLemmas.{entry_at-under}
-use Rattle.ovl_manifest.proofs.SheetLemmas.{entries_under-child}
 use Rattle.ovl_lookup.specs.declared.looks.Look.{Look}
 use Rattle.ovl_lookup.specs.declared.steps.Step.{Step}
 use Rattle.ovl_lookup.specs.declared.views.DirView.{DirView}
 use Rattle.ovl_lookup.specs.Walk.{walk}
 use Rattle.ovl_lookup.specs.Stacks.{StackView, from_layer}
 use Rattle.ovl_lookup.specs.Merged.{look}
+use Rattle.ovl_lookup.specs.TopDirectories.{IsSought}
 use Rattle.ovl_lookup.specs.Words.{over, top_layer, lower_layers}
 use Rattle.ovl_lookup.specs.Equal.{look_eq}
 use Rattle.ovl_lookup.proofs.LawsOfLooks.{nothing-under, top-over, top-layer}
@@ -31,17 +29,10 @@ use Rattle.ovl_board.specs.declared.pieces.Piece.{Piece}
 use Rattle.ovl_board.proofs.LawsOfMembers.{In}
 use Rattle.ovl_vacuum.specs.Vacuum.{may_be_idle, is_idle}
 use Rattle.ovl_vacuum.specs.Directories.{is_idle_at, IdleName, idle_name, piece_in, TellsIdle}
-use Rattle.ovl_vacuum.specs.Visits.{IsSought, look_by}
+use Rattle.ovl_vacuum.specs.Visits.{look_by}
 use Rattle.ovl_vacuum.proofs.DirectoryLemmas.{name-In, path-entry}
 
--- ---- what is sought once in a directory
-
--- an entry in a directory, from the directory's place on
-pub entry-in : (layer : Entries) (directory : PathNames) (name : PathName) (place : Entries) → place ≡ entries_under directory layer
-    → entry_at (entries_in name place) [] ≡ entry_at layer (child_path directory name)
-entry-in layer directory name place is =
-    ap (λ (entries : Entries). entry_at (entries_in name entries) []) is
-    ∙ sym (entry_at-under (child_path directory name) layer ∙ ap (λ (entries : Entries). entry_at entries []) (entries_under-child directory name layer))
+-- ---- what is sought once below a directory
 
 module _ (stack : StackView) (from : ℕ) (path : PathNames) where
   pub sought-look : All IsLayer stack.layers → (name : PathName) (found : Option DirView) → IsSought stack from path found

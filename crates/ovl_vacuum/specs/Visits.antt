@@ -1,36 +1,28 @@
 -- What a visit of vacuum knows of its directory.
-use Rattle.std.specs.Prelude.{◌≡◌, ℕ, true, false, Option, Some, None, MatchOption, ⊤}
+use Rattle.std.specs.Prelude.{◌≡◌, true, false, Option, Some, None, MatchOption, ⊤}
 use Rattle.ovl_names.specs.Names.{PathName}
 use Rattle.ovl_names.specs.Paths.{PathNames, child_path}
-use Rattle.ovl_manifest.specs.LayerTrees.{entries_under}
 use Rattle.ovl_lookup.specs.declared.looks.Look.{Look}
 use Rattle.ovl_lookup.specs.declared.looks.Look.TheVariants.{Nothing}
 use Rattle.ovl_lookup.specs.declared.views.DirView.{DirView}
 use Rattle.ovl_lookup.specs.Walk.{walk}
 use Rattle.ovl_lookup.specs.Stacks.{StackView, from_layer}
-use Rattle.ovl_lookup.specs.Merged.{look, shows_directory}
-use Rattle.ovl_lookup.specs.DirViews.{IsViewOver, IsViewOf}
-use Rattle.ovl_vacuum.specs.declared.directories.Directory.{Directory}
-use Rattle.ovl_vacuum.specs.declared.directories.Views.{Views}
+use Rattle.ovl_lookup.specs.Merged.{look}
+use Rattle.ovl_lookup.specs.DirViews.{IsViewOver}
+use Rattle.ovl_lookup.specs.TopDirectories.{IsSought}
 use Rattle.ovl_lookup.specs.Words.{top_layer}
+use Rattle.ovl_vacuum.specs.declared.directories.Below.{Below}
+use Rattle.ovl_vacuum.specs.declared.directories.Directory.{Directory}
 
--- the view of a directory of the layers from one on, and none where they show no directory there
-abbrev pub IsSought : StackView → ℕ → PathNames → Option DirView → Type 0
-IsSought stack from path found =
-    MatchOption found (shows_directory (from_layer from stack) path ≡ false) (λ view. IsViewOf stack from path view)
-
--- the views of a directory of the topmost layer: of all layers, and of those below it where the directory's walk goes
--- on; none where that is closed
-abbrev pub AreViews : StackView → PathNames → Option Views → Type 0
-AreViews stack path found =
+-- the view of the layers below the topmost one where the walk of a directory goes on; none where that is closed
+abbrev pub IsBelow : StackView → PathNames → Option Below → Type 0
+IsBelow stack path found =
     let step = walk (top_layer stack) path in
-    MatchOption found (step.closed ≡ true)
-    (λ views. (step.closed ≡ false) × IsSought stack 0 path views.shown × IsSought stack 1 step.next views.below)
+    MatchOption found (step.closed ≡ true) (λ below. (step.closed ≡ false) × IsSought stack 1 step.next below.view)
 
--- what was sought of a directory is what the topmost layer of its stack has there
-pub record IsTopDirectory (directory : Directory) : Type 0 where
-  pub place : directory.place ≡ entries_under directory.path.now (top_layer directory.stack.now)
-  pub views : AreViews directory.stack.now directory.path.now directory.views
+-- what was sought below a directory of the topmost layer is what its stack has there
+abbrev pub IsSoughtBelow : Directory → Type 0
+IsSoughtBelow directory = IsBelow directory.top.stack directory.top.path directory.below
 
 -- a view, if there is one, was made over the stack
 abbrev pub IsOver : StackView → Option DirView → Type 0

@@ -1,44 +1,37 @@
 ghost use Rattle.std.specs.Prelude.{◌≡◌, [], IfOk, MatchOption, map, filter};
-ghost use Rattle.std.specs.Option.{option_map};
 ghost use Rattle.ovl_names.specs.Paths.{child_path};
-ghost use Rattle.ovl_inode.specs.Marks.{mark_of as the_mark};
-ghost use Rattle.ovl_manifest.specs.Layers.{entry_at, is_directory_at as directory_test, names_below};
+ghost use Rattle.ovl_manifest.specs.Layers.{is_directory_at as directory_test, names_below};
 ghost use Rattle.ovl_vacuum.specs.Vacuum.{may_be_idle as idle_mark};
 ghost use Rattle.ovl_lookup.specs.Words.{top_layer};
 ghost use Rattle.ovl_vacuum.specs.Directories.{is_idle_at, idle_name, directory_piece, piece_in};
-ghost use Rattle.ovl_vacuum.specs.Visits.{IsTopDirectory, AreViews, IsOver, look_by};
+ghost use Rattle.ovl_vacuum.specs.Visits.{IsBelow, IsSoughtBelow, IsOver, look_by};
 
 use crate::places::step_of;
 use ovl_board::Piece;
-use ovl_inode::{Inode, Mark, is_directory, mark_of};
-use ovl_lookup::{DirView, Look, Stack};
-use ovl_manifest::SheetPlace;
+use ovl_inode::{Mark, is_directory};
+use ovl_lookup::{DirView, Look, Stack, TopDirectory};
 use ovl_names::{Name, Path};
 use std::alloc::{AllocError, Global};
 
-// A directory of the topmost layer, sought once for all that is in it.
+// A directory of the topmost layer, and the layers below it there, sought once for all that is in it.
 #[derive(Drop)]
 pub(crate) struct Directory<'a> {
-    stack: &'a Stack,
-    path: &'a Path,
-    // What the layer has at and under it.
-    place: SheetPlace<'a>,
-    // What is shown in it; `None` where the layers below are hidden.
-    views: Option<Views>,
+    top: TopDirectory<'a>,
+    // What lies below it; `None` where that is hidden.
+    below: Option<Below>,
 }
 
-// The views of a directory of the topmost layer: of all layers, and of those below it where the directory's walk goes
-// on; `None` where no directory is shown.
+// What the layers below the topmost one have where the walk of a directory goes on.
 #[derive(Drop)]
-pub(crate) struct Views {
-    shown: Option<DirView>,
-    below: Option<DirView>,
+pub(crate) struct Below {
+    // Its view there; `None` where no directory is shown.
+    view: Option<DirView>,
 }
 
-impl Views {
-    // The views of a directory, and `None` where the layers below are hidden there.
-    fn of(alloc: Global, stack: &Stack, path: &Path) -> Result<Option<Views>, AllocError>
-        ensures { IfOk result (AreViews stack.now path.now) }
+impl Below {
+    // What lies below a directory, and `None` where that is hidden.
+    fn of(alloc: Global, stack: &Stack, path: &Path) -> Result<Option<Below>, AllocError>
+        ensures { IfOk result (IsBelow stack.now path.now) }
     {
         // A stack has a topmost layer.
         let _layers = stack.ordinary();
@@ -46,9 +39,20 @@ impl Views {
         if step.closed {
             return Ok(None);
         }
-        let shown = DirView::of(alloc, stack, 0, path)?;
-        let below = DirView::of(alloc, stack, 1, &step.next)?;
-        Ok(Some(Views { shown, below }))
+        let view = DirView::of(alloc, stack, 1, &step.next)?;
+        Ok(Some(Below { view }))
+    }
+
+    // What is shown at a name there.
+    fn look(&self, alloc: Global, stack: &Stack, name: &Name) -> Result<Look, AllocError>
+        requires { IsOver stack.now self.now.view }
+        ensures { IfOk result (λ look. look ≡ look_by stack.now name.now self.now.view) }
+    {
+        let _layers = stack.ordinary();
+        match &self.view {
+            Some(view) => view.look(alloc, stack, name),
+            None => Ok(Look::Nothing),
+        }
     }
 }
 
@@ -61,40 +65,20 @@ impl<'a> Directory<'a> {
     ) -> Result<Option<Directory<'a>>, AllocError>
         ensures { IfOk result (λ found. MatchOption found
             (names_below (top_layer stack.now) path.now ≡ [])
-            (λ directory. (directory.stack.now ≡ stack.now) × (directory.path.now ≡ path.now) × IsTopDirectory directory)) }
+            (λ directory. (directory.top ≡ record { stack = stack.now; path = path.now }) × IsSoughtBelow directory)) }
     {
-        // A stack has a topmost layer.
-        let _layers = stack.ordinary();
-        let Some(place) = stack.sheet(0).place(path) else {
+        let Some(top) = TopDirectory::of(alloc, stack, path)? else {
             return Ok(None);
         };
-        let views = Views::of(alloc, stack, path)?;
-        Ok(Some(Directory {
-            stack,
-            path,
-            place,
-            views,
-        }))
+        let below = Below::of(alloc, stack, path)?;
+        Ok(Some(Directory { top, below }))
     }
 
     // The names in it.
     pub(crate) fn names(&self, alloc: Global) -> Result<Vec<Name>, AllocError>
-        requires { IsTopDirectory self.now }
-        ensures { IfOk result (λ names. names.items ≡ names_below (top_layer self.now.stack.now) self.now.path.now) }
+        ensures { IfOk result (λ names. names.items ≡ names_below (top_layer self.now.top.stack) self.now.top.path) }
     {
-        self.place.names(alloc)
-    }
-
-    // The inode that the topmost layer has at a name in it.
-    fn inode(&self, name: &Name) -> Option<&'a Inode>
-        requires { IsTopDirectory self.now }
-        ensures { option_map (λ inode. inode.now) result
-            ≡ entry_at (top_layer self.now.stack.now) (child_path self.now.path.now name.now) }
-    {
-        match self.place.child(name) {
-            Some(entry) => Some(entry.inode()),
-            None => None,
-        }
+        self.top.names(alloc)
     }
 
     // The pieces of those of these names in it that are directories themselves.
@@ -104,17 +88,16 @@ impl<'a> Directory<'a> {
         space: u16,
         names: &[Name],
     ) -> Result<Vec<Piece>, AllocError>
-        requires { IsTopDirectory self.now }
         ensures { IfOk result (λ kids. kids.items
-            ≡ map (piece_in (directory_piece space self.now.path.now))
-            (filter (λ name. directory_test (top_layer self.now.stack.now) (child_path self.now.path.now name)) names.now)) }
+            ≡ map (piece_in (directory_piece space self.now.top.path))
+            (filter (λ name. directory_test (top_layer self.now.top.stack) (child_path self.now.top.path name)) names.now)) }
     {
         let mut kids = Vec::new(alloc);
         for name in names {
             if self.has_directory(name) {
                 kids.push(Piece {
                     space,
-                    dir: self.path.child(alloc, name)?,
+                    dir: self.top.path().child(alloc, name)?,
                 })?;
             }
         }
@@ -123,11 +106,10 @@ impl<'a> Directory<'a> {
 
     // Whether the topmost layer has a directory at a name in it.
     fn has_directory(&self, name: &Name) -> bool
-        requires { IsTopDirectory self.now }
-        ensures { result ≡ directory_test (top_layer self.now.stack.now) (child_path self.now.path.now name.now) }
+        ensures { result ≡ directory_test (top_layer self.now.top.stack) (child_path self.now.top.path name.now) }
     {
-        match self.inode(name) {
-            Some(inode) => is_directory(inode),
+        match self.top.entry(name) {
+            Some(entry) => is_directory(entry.inode),
             None => false,
         }
     }
@@ -138,8 +120,8 @@ impl<'a> Directory<'a> {
         alloc: Global,
         names: Vec<Name>,
     ) -> Result<Vec<(Name, bool)>, AllocError>
-        requires { IsTopDirectory self.now }
-        ensures { IfOk result (λ found. found.items ≡ map (idle_name self.now.stack.now self.now.path.now) names.items) }
+        requires { IsSoughtBelow self.now }
+        ensures { IfOk result (λ found. found.items ≡ map (idle_name self.now.top.stack self.now.top.path) names.items) }
     {
         let mut found = Vec::with_capacity(alloc, names.len())?;
         for name in names {
@@ -151,49 +133,33 @@ impl<'a> Directory<'a> {
 
     // Whether the entry of a name in it is idle.
     fn is_idle(&self, alloc: Global, name: &Name) -> Result<bool, AllocError>
-        requires { IsTopDirectory self.now }
-        ensures { IfOk result (λ idle. idle ≡ is_idle_at self.now.stack.now (child_path self.now.path.now name.now)) }
+        requires { IsSoughtBelow self.now }
+        ensures { IfOk result (λ idle. idle ≡ is_idle_at self.now.top.stack (child_path self.now.top.path name.now)) }
     {
         // Each layer of a stack is one.
-        let _layers = self.stack.ordinary();
-        let Some(views) = &self.views else {
+        let stack = self.top.stack();
+        let _layers = stack.ordinary();
+        let Some(lower) = &self.below else {
             return Ok(false);
         };
-        let Some(inode) = self.inode(name) else {
+        let Some(entry) = self.top.entry(name) else {
             return Ok(false);
         };
-        if !may_be_idle(alloc, inode)? {
+        if !may_be_idle(entry.mark) {
             return Ok(false);
         }
-        let below = look_in(alloc, self.stack, &views.below, name)?;
-        let shown = look_in(alloc, self.stack, &views.shown, name)?;
+        let below = lower.look(alloc, stack, name)?;
+        let shown = self.top.look(alloc, name)?;
         Ok(below == shown)
     }
 }
 
-// Whether an entry of this inode can change nothing, by its mark.
-fn may_be_idle(alloc: Global, inode: &Inode) -> Result<bool, AllocError>
-    ensures { IfOk result (λ answer. answer ≡ idle_mark (the_mark inode.now)) }
+// Whether an entry of this mark can change nothing.
+fn may_be_idle(mark: &Mark) -> bool
+    ensures { result ≡ idle_mark mark.now }
 {
-    match mark_of(alloc, inode)? {
-        Mark::Whiteout | Mark::DirOpaque | Mark::DirMoved(_) | Mark::DirBad => Ok(false),
-        Mark::DirPlain | Mark::Meta(_) | Mark::MetaBad | Mark::Leaf => Ok(true),
-    }
-}
-
-// What is shown at a name in the directory of a view; nothing where no directory is shown.
-fn look_in(
-    alloc: Global,
-    stack: &Stack,
-    view: &Option<DirView>,
-    name: &Name,
-) -> Result<Look, AllocError>
-    requires { IsOver stack.now view.now }
-    ensures { IfOk result (λ look. look ≡ look_by stack.now name.now view.now) }
-{
-    let _layers = stack.ordinary();
-    match view {
-        Some(view) => view.look(alloc, stack, name),
-        None => Ok(Look::Nothing),
+    match mark {
+        Mark::Whiteout | Mark::DirOpaque | Mark::DirMoved(_) | Mark::DirBad => false,
+        Mark::DirPlain | Mark::Meta(_) | Mark::MetaBad | Mark::Leaf => true,
     }
 }

@@ -1,4 +1,4 @@
-use Rattle.std.proofs.Common.{◌≡◌, List, ℕ, ◌++◌, Option, Some, None, append_assoc}
+use Rattle.std.proofs.Common.{List, ℕ, ◌++◌, Option, Some, None, append_assoc}
 use Rattle.std.specs.Io.KnownBytes.{Consumes}
 use Rattle.ovl_check.proofs.tellings.digest_in.Goals as goal
 

@@ -8,7 +8,8 @@ use Rattle.ovl_lookup.specs.Stacks.{StackView, from_layer}
 use Rattle.ovl_lookup.specs.DirViews.{IsViewOf}
 use Rattle.ovl_lookup.specs.ViewPasses.{AreLooks}
 use Rattle.ovl_deref.specs.Directories.{inodes_in}
-use Rattle.ovl_deref.specs.Visits.{IsSought, shown_inode}
+use Rattle.ovl_lookup.specs.TopDirectories.{IsSought}
+use Rattle.ovl_deref.specs.Visits.{shown_inode}
 use Rattle.ovl_deref.proofs.VisitLemmas.{shown-listed, none-shown}
 use Rattle.ovl_deref.proofs.directories.shown_inodes.Goals as goal
 
@@ -18,7 +19,7 @@ returns-in_default c =
     let dir : PathNames = c.args.dir.now in
     let some : 0 < length stack.layers = subst (λ (n : ℕ). 0 < n) c.ordinary-layers.ensures.value c.ordinary-layers.ensures.some in
     c.new.ensures.items
-    ∙ none-shown stack c.ordinary-layers.ensures.each some dir c.requires (subst (IsSought stack dir) c.in_default.is c.in_ok-view.ensures)
+    ∙ none-shown stack c.ordinary-layers.ensures.each some dir c.requires (subst (IsSought stack 0 dir) c.in_default.is c.in_ok-view.ensures)
 
 pub returns : goal.returns
 returns c =
@@ -27,7 +28,7 @@ returns c =
     let some : 0 < length stack.layers = subst (λ (n : ℕ). 0 < n) c.ordinary-layers.ensures.value c.ordinary-layers.ensures.some in
     let looks : List (PathName × Look) = c.in_ok-looks.looks.items in
     let view : DirView = c.in-Some.view in
-    let is : IsViewOf stack 0 dir view = subst (IsSought stack dir) c.in-Some.is c.in_ok-view.ensures in
+    let is : IsViewOf stack 0 dir view = subst (IsSought stack 0 dir) c.in-Some.is c.in_ok-view.ensures in
     let placed : AreLooks (from_layer view.from stack) dir looks = subst (λ (path : PathNames). AreLooks (from_layer view.from stack) path looks) is.stands c.in_ok-looks.ensures in
     let same : inodes_in stack dir ≡ filter_map shown_inode looks =
     sym (shown-listed stack c.ordinary-layers.ensures.each some dir c.requires looks (subst (λ (from : ℕ). AreLooks (from_layer from stack) dir looks) is.starts placed)) in

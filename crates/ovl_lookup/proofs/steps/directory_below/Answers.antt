@@ -15,15 +15,15 @@ returns-in_default c =
     ap (λ (o : Option Inode). elim o as (λ _. Bool) [ Some inode ↦ is_directory inode | None ↦ false ])
     (entry_at-under path c.args.sheet.now ∙ ap (λ (entries : Entries). entry_at entries []) c.in_default.ensures)
 
-pub returns-in_default-name_at : goal.returns-in_default-name_at
-returns-in_default-name_at c =
+pub returns-in_default-name : goal.returns-in_default-name
+returns-in_default-name c =
     let path : PathNames = path_at c.args.sheet.now c.args.row in
-    let bad : None ≡ Some c.args.name.now = c.in_default-name_at.ensures ∙ (ap last_name c.in-Some.ensures.1 ∙ last_name-child path c.args.name.now) in
+    let bad : None ≡ Some c.args.name.now = c.in_default-name.ensures ∙ (ap last_name c.in-Some.ensures.1 ∙ last_name-child path c.args.name.now) in
     cc
 
 pub returns : goal.returns
 returns c =
     let path : PathNames = path_at c.args.sheet.now c.args.row in
-    let named : Some c.in-Some-name_at.own.now ≡ Some c.args.name.now = c.in-Some-name_at.ensures ∙ (ap last_name c.in-Some.ensures.1 ∙ last_name-child path c.args.name.now) in
+    let named : Some c.in-Some-name.own.now ≡ Some c.args.name.now = c.in-Some-name.ensures ∙ (ap last_name c.in-Some.ensures.1 ∙ last_name-child path c.args.name.now) in
     let directory = ap (λ (o : Option Inode). elim o as (λ _. Bool) [ Some inode ↦ is_directory inode | None ↦ false ]) c.inode.ensures ∙ sym c.if-not-is_directory.ensures in
-    (c.in-Some.ensures.0, c.in-Some.ensures.1, directory, ap (λ o. unwrap_or o c.in-Some-name_at.own.now) named)
+    (c.in-Some.ensures.0, c.in-Some.ensures.1, directory, ap (λ o. unwrap_or o c.in-Some-name.own.now) named)

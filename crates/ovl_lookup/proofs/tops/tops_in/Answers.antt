@@ -17,7 +17,7 @@ loop-kid-preserved c =
     let stack : StackView = c.args.stack.now in
     let place : Reached = place_in stack c.args.place.now in
     let j = c.loop-kid.kid-index in
-    elim c.match-name_at.branch [
+    elim c.match-name.branch [
       | in-Some+in_ok-push w ↦
           let top : Top = record { name = w.in-Some.name; inode = w.inode.result; place = c.args.number } in
           let own = kid-stands stack c.args.place.now c.sheet-sheet.result.now c.sheet-sheet.ensures c.kids-kids.result.now c.kids-kids.ensures.paths j c.loop-kid-test.true top.name.now w.in-Some.ensures top.inode.now w.inode.ensures in

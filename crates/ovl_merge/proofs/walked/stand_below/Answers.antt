@@ -19,7 +19,7 @@ returns-in-Some-child c =
     let path : PathNames = path_at layer c.args.own.now.row in
     let below : PathNames = child_path path c.args.name.now in
     let is = c.root_number-root.ensures.layer in
-    let none : is_directory_at layer below ≡ false = subst (λ (found : Option OwnDirectory). MatchOption found (is_directory_at layer below ≡ false) (λ own. IsOwnDirectory layer below own)) (not-some c.in_ok-directory.field-0 c.in_default.not-Some) c.in_ok-directory.ensures in
+    let none : is_directory_at layer below ≡ false = subst (λ (found : Option (OwnDirectory PathNames)). MatchOption found (is_directory_at layer below ≡ false) (λ own. IsOwnDirectory layer below own)) (not-some c.in_ok-directory.field-0 c.in_default.not-Some) c.in_ok-directory.ensures in
     let entry = entry-of_row layer c.in-Some-child._file is c.in-Some-child.ensures.0 in
     subst (λ (n : PathNames). IsStand layer below (Past n true)) (sym c.in_ok-next.ensures)
     (past-file layer path c.args.name.now is c.args.own.now c.requires none entry.0 (ap (entry_at layer) (sym c.in-Some-child.ensures.1) ∙ entry.1))
@@ -30,6 +30,6 @@ returns-in-None c =
     let path : PathNames = path_at layer c.args.own.now.row in
     let below : PathNames = child_path path c.args.name.now in
     let is = c.root_number-root.ensures.layer in
-    let none : is_directory_at layer below ≡ false = subst (λ (found : Option OwnDirectory). MatchOption found (is_directory_at layer below ≡ false) (λ own. IsOwnDirectory layer below own)) (not-some c.in_ok-directory.field-0 c.in_default.not-Some) c.in_ok-directory.ensures in
+    let none : is_directory_at layer below ≡ false = subst (λ (found : Option (OwnDirectory PathNames)). MatchOption found (is_directory_at layer below ≡ false) (λ own. IsOwnDirectory layer below own)) (not-some c.in_ok-directory.field-0 c.in_default.not-Some) c.in_ok-directory.ensures in
     subst (λ (n : PathNames). IsStand layer below (Past n c.args.own.now.closed)) (sym c.in_ok-next.ensures)
     (past-nothing layer path c.args.name.now is c.args.own.now c.requires none (entry_at-under below layer ∙ ap (λ (entries : Entries). entry_at entries []) c.in-None.ensures))

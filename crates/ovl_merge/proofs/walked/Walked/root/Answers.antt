@@ -9,6 +9,6 @@ use Rattle.ovl_merge.proofs.walked.Walked.root.Goals as goal
 pub returns-clause-walked : goal.returns-clause-walked
 returns-clause-walked c =
     let layer = c.args.sheet.now in
-    let own : OwnDirectory = record { row = c.root_number.result; next = c.root.result; closed = false } in
+    let own : OwnDirectory PathNames = record { row = c.root_number.result; next = c.root.result; closed = false } in
     subst (λ (p : PathNames). IsStand layer p (Inside own)) (sym c.root-2.ensures)
     (root-stands layer c.root_number.ensures.layer own c.root_number.ensures.inside c.root_number.ensures.path c.root.ensures refl)

@@ -9,5 +9,5 @@ use Rattle.ovl_vacuum.proofs.directories.Directory.kids.Given as goal
 abbrev pub invariant-loop-name : goal.invariant-loop-name
 invariant-loop-name l =
     l.kids.items
-    ≡ map (piece_in (directory_piece l.space l.self.path.now))
-    (filter (λ name. is_directory_at (top_layer l.self.stack.now) (child_path l.self.path.now name)) (take l.name-index l.names))
+    ≡ map (piece_in (directory_piece l.space l.self.top.path))
+    (filter (λ name. is_directory_at (top_layer l.self.top.stack) (child_path l.self.top.path name)) (take l.name-index l.names))

@@ -7,7 +7,7 @@ use Rattle.ovl_manifest.specs.Sheets.{path_at}
 use Rattle.ovl_lookup.specs.declared.steps.Entered.{Entered}
 use Rattle.ovl_lookup.specs.Passes.{IsOwnDirectory, entered_path, entered_closed}
 use Rattle.ovl_lookup.proofs.LawsOfWalks.{own-child}
-use Rattle.ovl_lookup.proofs.steps.OwnDirectory.child.Goals as goal
+use Rattle.ovl_lookup.proofs.own_directories.OwnDirectory+Path.child.Goals as goal
 
 pub returns : goal.returns
 returns c =

@@ -7,7 +7,7 @@ use Rattle.ovl_lookup.specs.declared.steps.Step.{Step}
 use Rattle.ovl_lookup.specs.Walk.{nothing_found, walk_beyond}
 use Rattle.ovl_lookup.specs.Passes.{entered_path, entered_closed}
 use Rattle.ovl_lookup.proofs.LawsOfWalks.{own-missing, own-file, own-entered}
-use Rattle.ovl_lookup.proofs.steps.OwnDirectory.step.Goals as goal
+use Rattle.ovl_lookup.proofs.own_directories.OwnDirectory+Path.step.Goals as goal
 
 pub returns-in_default : goal.returns-in_default
 returns-in_default c =
