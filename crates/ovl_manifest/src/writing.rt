@@ -1,7 +1,6 @@
-ghost use Rattle.std.specs.Prelude.{◌≡◌, true, false, ◌∷◌, ◌++◌, Ok, IfOk, OnOk, string_bytes};
+ghost use Rattle.std.specs.Prelude.{◌≡◌, true, false, ◌++◌, Ok, IfOk, OnOk, string_bytes};
 ghost use Rattle.serde_json.specs.Written.{compact_text};
 ghost use Rattle.ovl_names.specs.Paths.{PathNames, child_path};
-ghost use Rattle.ovl_names.specs.Names.{slash};
 ghost use Rattle.ovl_manifest.specs.Compact.{entries_text};
 ghost use Rattle.ovl_manifest.specs.LayerTrees.{entries_from, placed};
 ghost use Rattle.ovl_manifest.specs.Manifest.{read_layer};
@@ -42,35 +41,33 @@ fn push_entries(alloc: Global, text: &mut String, layer: &Layer) -> Result<(), A
     ensures { OnOk result (string_bytes text.new ≡ string_bytes text.old ++ entries_text written false layer.now) }
 {
     push_entry(alloc, text, "/", &layer.inode)?;
+    let mut path = String::new(alloc);
     for child in &layer.children {
-        push_under(alloc, text, "", child)?;
+        push_under(alloc, text, &mut path, child)?;
     }
     Ok(())
 }
 
-// The entries at and under a node, each behind a comma; `above` is the text of its directory's path, where that of the root
-// is empty.
-fn push_under(alloc: Global, text: &mut String, above: &str, node: &Node) -> Result<(), AllocError>
-    ensures { OnOk result ((directory : PathNames) → above.now ≡ slashed directory → string_bytes text.new ≡ string_bytes text.old
+// The entries at and under a node, each behind a comma. The path is the text of its directory's, where that of the root is
+// empty, and is left so.
+fn push_under(
+    alloc: Global,
+    text: &mut String,
+    path: &mut String,
+    node: &Node,
+) -> Result<(), AllocError>
+    ensures text { OnOk result ((directory : PathNames) → string_bytes path.old ≡ slashed directory → string_bytes text.new ≡ string_bytes text.old
         ++ entries_text written true (placed (child_path directory node.now.name) (entries_from node.now.inode node.now.below))) }
+    ensures path { OnOk result (string_bytes path.new ≡ string_bytes path.old) }
 {
-    let path = path_below(alloc, above, node.name.as_str())?;
+    let length = path.len();
+    path.push_str("/")?;
+    path.push_str(node.name.as_str())?;
     text.push_str(",")?;
     push_entry(alloc, text, path.as_str(), &node.inode)?;
     for child in &node.children {
-        push_under(alloc, text, path.as_str(), child)?;
+        push_under(alloc, text, path, child)?;
     }
+    path.truncate(length);
     Ok(())
-}
-
-// The text of the path of a name in a directory, by that of the directory.
-fn path_below(alloc: Global, above: &str, name: &str) -> Result<String, AllocError>
-    ensures { IfOk result (λ text. string_bytes text ≡ above.now ++ slash ∷ name.now) }
-{
-    let room = above.len().saturating_add(1).saturating_add(name.len());
-    let mut text = String::with_capacity(alloc, room)?;
-    text.push_str(above)?;
-    text.push_str("/")?;
-    text.push_str(name)?;
-    Ok(text)
 }
