@@ -1,9 +1,10 @@
 -- The text of a layer, put together piece by piece, and read back.
-use Rattle.std.proofs.Common.{◌≡◌, ◌∙◌, ℕ, zero, suc, ◌+◌, ◌-◌, ◌*◌, ◌/◌, ◌%◌, ◌≤◌, ◌<◌, ◌^◌, append-nil, List, [], ◌∷◌, ◌++◌, length, length-take, take, take_all, get_or, Bool, true, false, Option, Some, None, Result, Ok, Err, refl, sym, ap, ap₂, subst, append_assoc, arith, ltb-true, eqb-true, decimal}
+use Rattle.std.proofs.Common.{◌≡◌, ◌∙◌, ℕ, ℤ, pos, negsuc, zero, suc, ◌+◌, ◌-◌, ◌*◌, ◌/◌, ◌%◌, ◌≤◌, ◌<◌, ◌^◌, append-nil, List, [], ◌∷◌, ◌++◌, length, length-take, take, take_all, get_or, Bool, true, false, Option, Some, None, Result, Ok, Err, refl, sym, ap, ap₂, subst, append_assoc, arith, ltb-true, eqb-true, decimal}
 use Rattle.std.specs.Prelude.{◌==◌, not, ◌&&◌, ◌||◌, nat_eq, nat_lt, slice_index, codes, slice_get, option_and_then, if◌then◌else◌, is_some, unwrap_or, MatchOption}
 use Rattle.std.specs.List.{list_all}
 use Rattle.std.specs.Ordering.{is_lt}
 use Rattle.std.specs.Cmp.Lexicographic.{nat_list_cmp_total}
+use Rattle.std.specs.Fmt.{signed_decimal}
 use Rattle.std.specs.Str.{IsUtf8}
 use Rattle.std.proofs.lemmas.Option.{option_and_then_some}
 use Rattle.std.specs.Str.Parse.{AllDigits, digits_value}
@@ -64,6 +65,10 @@ none-taken B None is none = is
 none-taken B (Some own) is none = let bad : true ≡ false = none in cc
 
 -- ---- numbers
+
+pub seconds_text : (seconds : ℤ) → number_text (of_integer seconds) ≡ signed_decimal seconds
+seconds_text (pos n) = refl
+seconds_text (negsuc n) = refl
 
 pub digits-below : (ds : List ℕ) (count : ℕ) → AllDigits 10 ds → length ds ≤ count → digits_value 10 ds < 10 ^ count
 digits-below ds count all short = digits_value_short (numerals_by_value (AllDigits 10) tells_digits) ds count all short
@@ -232,6 +237,15 @@ kind_text Two path inode Socket rest = simp append_assoc
 pub entry_text : (version : Version) (path : PathNames) (inode : Inode) (rest : List ℕ) → pieces version path inode inode.kind rest ≡ compact_text (entry_value version (path, inode)) ++ rest
 entry_text version path inode rest = kind_text version path inode inode.kind rest
 
+-- ---- piece after piece
+
+-- what is put after pieces of a text
+pub record Grows (before piece after : List ℕ) : Type 0 where
+  pub is : after ≡ before ++ piece
+
+pub onto : {before middle after first more : List ℕ} → Grows before first middle → Grows middle more after → Grows before (first ++ more) after
+onto {before} {middle} {after} {first} {more} one next = record { is = next.is ∙ (ap (λ (t : List ℕ). t ++ more) one.is ∙ append_assoc before first more) }
+
 -- ---- attributes
 
 members-attributes : (before : Bool) (attrs : Attributes) → members_text before (attributes_in_turn attrs) ≡ attributes_text before attrs ++ 125 ∷ []
@@ -248,6 +262,13 @@ attributes-more (first ∷ attrs) attr some = ap (λ (t : List ℕ). attribute_t
     behind : (attrs : Attributes) → attributes_text true (attrs ++ attr ∷ []) ≡ attributes_text true attrs ++ 44 ∷ attribute_text attr
     behind [] = ap (λ (t : List ℕ). 44 ∷ t) (append-nil (attribute_text attr))
     behind (next ∷ attrs) = ap (λ (t : List ℕ). 44 ∷ (attribute_text next ++ t)) (behind attrs) ∙ ap (λ (t : List ℕ). 44 ∷ t) (sym (append_assoc (attribute_text next) (attributes_text true attrs) (44 ∷ attribute_text attr)))
+
+-- one attribute more, behind others or first
+pub attributes-next : (attrs : Attributes) (attr : List ℕ × List ℕ) → attributes_text false (attrs ++ attr ∷ []) ≡ attributes_text false attrs ++ (comma_if (nat_lt 0 (length attrs)) ++ attribute_text attr)
+attributes-next [] attr = append-nil (attribute_text attr)
+attributes-next (first ∷ attrs) attr =
+    let some : nat_lt 0 (length (first ∷ attrs)) ≡ true = grind (arith, nat_tests) in
+    attributes-more (first ∷ attrs) attr (omega arith) ∙ ap (λ (b : Bool). attributes_text false (first ∷ attrs) ++ (comma_if b ++ attribute_text attr)) (sym some)
 
 -- the same in front of what follows
 pub attributes-onto : (attrs : Attributes) (attr : List ℕ × List ℕ) (rest : List ℕ) → 0 < length attrs → attributes_text false attrs ++ 44 ∷ (attribute_text attr ++ rest) ≡ attributes_text false (attrs ++ attr ∷ []) ++ rest
@@ -295,6 +316,13 @@ entries-more version (first ∷ entries) entry some = ap (λ (t : List ℕ). com
     behind : (entries : Entries) → entries_text version true (entries ++ entry ∷ []) ≡ entries_text version true entries ++ 44 ∷ compact_text (entry_value version entry)
     behind [] = ap (λ (t : List ℕ). 44 ∷ t) (append-nil (compact_text (entry_value version entry)))
     behind (next ∷ entries) = ap (λ (t : List ℕ). 44 ∷ (compact_text (entry_value version next) ++ t)) (behind entries) ∙ ap (λ (t : List ℕ). 44 ∷ t) (sym (append_assoc (compact_text (entry_value version next)) (entries_text version true entries) (44 ∷ compact_text (entry_value version entry))))
+
+-- entries behind others, all of them behind commas
+pub entries-append : (version : Version) (entries more : Entries) → entries_text version true (entries ++ more) ≡ entries_text version true entries ++ entries_text version true more
+entries-append version [] more = refl
+entries-append version (entry ∷ entries) more =
+    ap (λ (t : List ℕ). 44 ∷ (compact_text (entry_value version entry) ++ t)) (entries-append version entries more)
+    ∙ ap (λ (t : List ℕ). 44 ∷ t) (sym (append_assoc (compact_text (entry_value version entry)) (entries_text version true entries) (entries_text version true more)))
 
 -- the same in front of what follows
 pub entries-onto : (version : Version) (entries : Entries) (entry : Entry) (rest : List ℕ) → 0 < length entries → entries_text version false entries ++ 44 ∷ (compact_text (entry_value version entry) ++ rest) ≡ entries_text version false (entries ++ entry ∷ []) ++ rest

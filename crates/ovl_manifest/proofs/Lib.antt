@@ -10,7 +10,6 @@ mod RowsText
 pub mod ReadLemmas
 pub mod EntryLemmas
 pub mod TextLemmas
-pub mod TokenLemmas
 pub mod WrittenBackLemmas
 pub mod TailLemmas
 pub mod ValueLemmas

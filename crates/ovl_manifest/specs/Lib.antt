@@ -13,5 +13,4 @@ pub mod Sheets
 pub mod SheetPasses
 pub mod SheetDrafts
 pub mod Compact
-pub mod Tokens
 pub mod PlainRuns

@@ -1,18 +1,16 @@
-ghost use Rattle.std.specs.Prelude.{◌≡◌, ◌∷◌, ◌++◌, Ok, IfOk, OnOk, string_bytes};
-ghost use Rattle.serde_json.specs.Data.{array};
+ghost use Rattle.std.specs.Prelude.{◌≡◌, true, false, ◌++◌, Ok, IfOk, OnOk, string_bytes};
+ghost use Rattle.serde_json.specs.Written.{compact_text};
 ghost use Rattle.ovl_names.specs.Paths.{PathNames, child_path};
-ghost use Rattle.ovl_names.specs.Names.{slash};
+ghost use Rattle.ovl_manifest.specs.Compact.{entries_text};
 ghost use Rattle.ovl_manifest.specs.LayerTrees.{entries_from, placed};
 ghost use Rattle.ovl_manifest.specs.Manifest.{read_layer};
-ghost use Rattle.ovl_manifest.specs.Text.{manifest_text, layer_value, entry_items};
+ghost use Rattle.ovl_manifest.specs.Text.{manifest_text, layer_value};
 ghost use Rattle.ovl_manifest.specs.Versions.{written};
 ghost use Rattle.ovl_manifest.specs.TextPaths.{slashed};
-ghost use Rattle.ovl_manifest.specs.Tokens.{value_tokens, entries_tokens};
 
 use crate::trees::{Layer, Node};
 use crate::versions::Version;
-use crate::written_entries::put_entry;
-use json::Writer;
+use crate::written_entries::{push_entry, push_number};
 use std::alloc::{AllocError, Global};
 
 /// The manifest of a layer: compact JSON whose objects have their members in the byte order of their names, and a
@@ -23,60 +21,53 @@ pub fn write_layer(alloc: Global, layer: &Layer) -> Result<Vec<u8>, AllocError>
 {
     // The type keeps that it is a layer.
     let _root = layer.root();
-    let mut out = Writer::new(Vec::new(alloc));
-    put_layer(alloc, &mut out, layer)?;
-    let mut bytes = out.into_inner();
-    bytes.push(b'\n')?;
-    Ok(bytes)
+    let mut text = String::new(alloc);
+    push_layer(alloc, &mut text, layer)?;
+    text.push_str("\n")?;
+    Ok(text.into_bytes())
 }
 
-fn put_layer(alloc: Global, out: &mut Writer, layer: &Layer) -> Result<(), AllocError>
-    ensures tokens { OnOk result (out.new.tokens ≡ out.old.tokens ++ value_tokens (layer_value written layer.now)) }
-    ensures before { out.new.before ≡ out.old.before }
+fn push_layer(alloc: Global, text: &mut String, layer: &Layer) -> Result<(), AllocError>
+    ensures { OnOk result (string_bytes text.new ≡ string_bytes text.old ++ compact_text (layer_value written layer.now)) }
 {
-    out.begin_object()?;
-    out.key("entries")?;
-    put_entries(alloc, out, layer)?;
-    out.key("overlay-layer")?;
-    out.u64(Version::Two.number())?;
-    out.end_object()
+    text.push_str("{\"entries\":[")?;
+    push_entries(alloc, text, layer)?;
+    push_number(text, "],\"overlay-layer\":", Version::Two.number())?;
+    text.push_str("}")
 }
 
-// The list of all entries, in path order.
-fn put_entries(alloc: Global, out: &mut Writer, layer: &Layer) -> Result<(), AllocError>
-    ensures tokens { OnOk result (out.new.tokens ≡ out.old.tokens ++ value_tokens (array (entry_items written layer.now))) }
-    ensures before { out.new.before ≡ out.old.before }
+// All entries, in path order.
+fn push_entries(alloc: Global, text: &mut String, layer: &Layer) -> Result<(), AllocError>
+    ensures { OnOk result (string_bytes text.new ≡ string_bytes text.old ++ entries_text written false layer.now) }
 {
-    out.begin_array()?;
-    put_entry(alloc, out, "/", &layer.inode)?;
+    push_entry(alloc, text, "/", &layer.inode)?;
+    let mut path = String::new(alloc);
     for child in &layer.children {
-        put_under(alloc, out, "", child)?;
-    }
-    out.end_array()
-}
-
-// The entries at and under a node; `above` is the text of its directory's path, where that of the root is empty.
-fn put_under(alloc: Global, out: &mut Writer, above: &str, node: &Node) -> Result<(), AllocError>
-    ensures tokens { OnOk result ((directory : PathNames) → above.now ≡ slashed directory → out.new.tokens ≡ out.old.tokens
-        ++ entries_tokens (placed (child_path directory node.now.name) (entries_from node.now.inode node.now.below))) }
-    ensures before { out.new.before ≡ out.old.before }
-{
-    let path = path_below(alloc, above, node.name.as_str())?;
-    put_entry(alloc, out, path.as_str(), &node.inode)?;
-    for child in &node.children {
-        put_under(alloc, out, path.as_str(), child)?;
+        push_under(alloc, text, &mut path, child)?;
     }
     Ok(())
 }
 
-// The text of the path of a name in a directory, by that of the directory.
-fn path_below(alloc: Global, above: &str, name: &str) -> Result<String, AllocError>
-    ensures { IfOk result (λ text. string_bytes text ≡ above.now ++ slash ∷ name.now) }
+// The entries at and under a node, each behind a comma. The path is the text of its directory's, where that of the root is
+// empty, and is left so.
+fn push_under(
+    alloc: Global,
+    text: &mut String,
+    path: &mut String,
+    node: &Node,
+) -> Result<(), AllocError>
+    ensures text { OnOk result ((directory : PathNames) → string_bytes path.old ≡ slashed directory → string_bytes text.new ≡ string_bytes text.old
+        ++ entries_text written true (placed (child_path directory node.now.name) (entries_from node.now.inode node.now.below))) }
+    ensures path { OnOk result (string_bytes path.new ≡ string_bytes path.old) }
 {
-    let room = above.len().saturating_add(1).saturating_add(name.len());
-    let mut text = String::with_capacity(alloc, room)?;
-    text.push_str(above)?;
-    text.push_str("/")?;
-    text.push_str(name)?;
-    Ok(text)
+    let length = path.len();
+    path.push_str("/")?;
+    path.push_str(node.name.as_str())?;
+    text.push_str(",")?;
+    push_entry(alloc, text, path.as_str(), &node.inode)?;
+    for child in &node.children {
+        push_under(alloc, text, path, child)?;
+    }
+    path.truncate(length);
+    Ok(())
 }

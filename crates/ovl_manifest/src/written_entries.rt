@@ -1,123 +1,160 @@
-//! Entries as JSON, written member by member in the byte order of the members' names.
-ghost use Rattle.std.specs.Prelude.{◌≡◌, ◌++◌, OnOk};
-ghost use Rattle.serde_json.specs.Data.{object};
+//! Entries as their texts are written: members in the byte order of their names, without space.
+ghost use Rattle.std.specs.Prelude.{◌≡◌, ◌++◌, OnOk, decimal, nat_lt, string_bytes};
 ghost use Rattle.hex.specs.Hex.{encode_lower};
+ghost use Rattle.json.specs.Print.{quoted};
+ghost use Rattle.serde_json.specs.Data.{object};
+ghost use Rattle.serde_json.specs.Written.{comma_if, compact_text};
 ghost use Rattle.ovl_names.specs.Paths.{PathNames, path_text as text_of_path};
-ghost use Rattle.ovl_manifest.specs.Text.{entry_value, attribute_members};
+ghost use Rattle.ovl_manifest.specs.Compact.{group_text, device_text, contents_text, blob_of_kind, device_of_kind};
+ghost use Rattle.ovl_manifest.specs.Text.{attribute_members, entry_value};
 ghost use Rattle.ovl_manifest.specs.Versions.{written};
-ghost use Rattle.ovl_manifest.specs.Tokens.{value_tokens, number_member, text_member, blob_tokens, device_tokens, contents_tokens};
 
+use crate::plain_runs::plain_length;
 use json::Writer;
 use ovl_inode::{Attrs, Digest, Inode, Kind};
 use std::alloc::{AllocError, Global};
 
-/// Writes the object of an entry by the text of its path; fails only for want of memory.
-pub(crate) fn put_entry(
+/// Appends the text of an entry, by the text of its path; fails only for want of memory.
+pub(crate) fn push_entry(
     alloc: Global,
-    out: &mut Writer,
+    text: &mut String,
     path: &str,
     inode: &Inode,
 ) -> Result<(), AllocError>
-    ensures tokens { OnOk result ((own : PathNames) → path.now ≡ text_of_path own
-        → out.new.tokens ≡ out.old.tokens ++ value_tokens (entry_value written (own, inode.now))) }
-    ensures before { out.new.before ≡ out.old.before }
+    ensures { OnOk result ((own : PathNames) → path.now ≡ text_of_path own
+        → string_bytes text.new ≡ string_bytes text.old ++ compact_text (entry_value written (own, inode.now))) }
 {
-    out.begin_object()?;
-    put_blob(out, &inode.kind)?;
-    put_number(out, "gid", u64::from(inode.gid))?;
-    put_text(out, "kind", inode.kind.word())?;
-    put_device(out, &inode.kind)?;
-    put_number(out, "mode", u64::from(inode.mode))?;
-    out.key("mtime")?;
-    out.i64(inode.mtime)?;
-    put_number(out, "mtime-nsec", u64::from(inode.nsec))?;
-    put_text(out, "path", path)?;
-    put_contents(out, &inode.kind)?;
-    put_number(out, "uid", u64::from(inode.uid))?;
-    out.key("xattrs")?;
-    put_attributes(alloc, out, &inode.attrs)?;
-    out.end_object()
+    push_group(alloc, text, &inode.kind, inode.gid)?;
+    push_text(alloc, text, ",\"kind\":", inode.kind.word())?;
+    push_device(text, &inode.kind)?;
+    push_number(text, ",\"mode\":", u64::from(inode.mode))?;
+    text.push_str(",\"mtime\":")?;
+    text.push_str(itoa::Buffer::new().format(inode.mtime))?;
+    push_number(text, ",\"mtime-nsec\":", u64::from(inode.nsec))?;
+    push_text(alloc, text, ",\"path\":", path)?;
+    push_contents(alloc, text, &inode.kind)?;
+    push_number(text, ",\"uid\":", u64::from(inode.uid))?;
+    text.push_str(",\"xattrs\":")?;
+    push_attributes(alloc, text, &inode.attrs)?;
+    text.push_str("}")
 }
 
-fn put_number(out: &mut Writer, name: &str, number: u64) -> Result<(), AllocError>
-    ensures tokens { OnOk result (out.new.tokens ≡ out.old.tokens ++ number_member name.now number) }
-    ensures before { out.new.before ≡ out.old.before }
+/// Appends a name, as it stands, and a whole number.
+pub(crate) fn push_number(text: &mut String, name: &str, number: u64) -> Result<(), AllocError>
+    ensures { OnOk result (string_bytes text.new ≡ string_bytes text.old ++ (name.now ++ decimal number)) }
 {
-    out.key(name)?;
-    out.u64(number)
+    text.push_str(name)?;
+    text.push_str(itoa::Buffer::new().format(number))
 }
 
-fn put_text(out: &mut Writer, name: &str, text: &str) -> Result<(), AllocError>
-    ensures tokens { OnOk result (out.new.tokens ≡ out.old.tokens ++ text_member name.now text.now) }
-    ensures before { out.new.before ≡ out.old.before }
+// Appends a name, as it stands, and a string.
+fn push_text(alloc: Global, text: &mut String, name: &str, string: &str) -> Result<(), AllocError>
+    ensures { OnOk result (string_bytes text.new ≡ string_bytes text.old ++ (name.now ++ quoted string.now)) }
 {
-    out.key(name)?;
-    out.string(text)
+    text.push_str(name)?;
+    push_string(alloc, text, string)
 }
 
-// The blob of a file that has one.
-fn put_blob(out: &mut Writer, kind: &Kind) -> Result<(), AllocError>
-    ensures tokens { OnOk result (out.new.tokens ≡ out.old.tokens ++ blob_tokens kind.now) }
-    ensures before { out.new.before ≡ out.old.before }
+// Appends a string with its quotation marks, as it is where nothing in it is escaped.
+fn push_string(alloc: Global, text: &mut String, string: &str) -> Result<(), AllocError>
+    ensures { OnOk result (string_bytes text.new ≡ string_bytes text.old ++ quoted string.now) }
+{
+    if plain_length(string.as_bytes()) != string.len() {
+        return push_escaped(alloc, text, string);
+    }
+    text.push_str("\"")?;
+    text.push_str(string)?;
+    text.push_str("\"")
+}
+
+// Appends a string of which some bytes are escaped.
+fn push_escaped(alloc: Global, text: &mut String, string: &str) -> Result<(), AllocError>
+    ensures { OnOk result (string_bytes text.new ≡ string_bytes text.old ++ quoted string.now) }
+{
+    let mut out = Writer::new(Vec::new(alloc));
+    out.string(string)?;
+    match String::from_utf8(out.into_inner()) {
+        Ok(written) => text.push_str(written.as_str()),
+        // What is written is a text, so that there is no other fault.
+        Err(_) => Err(AllocError),
+    }
+}
+
+// Appends the beginning of an entry: the blob of a file that has one, and the owning group.
+fn push_group(alloc: Global, text: &mut String, kind: &Kind, gid: u32) -> Result<(), AllocError>
+    ensures { OnOk result (string_bytes text.new ≡ string_bytes text.old ++ group_text (blob_of_kind kind.now) gid) }
 {
     match kind {
         Kind::File {
             blob: Some(blob),
             ..
-        } => put_digest(out, "blob", blob),
-        _ => Ok(()),
+        } => {
+            push_digest(alloc, text, "{\"blob\":", blob)?;
+            push_number(text, ",\"gid\":", u64::from(gid))
+        }
+        _ => push_number(text, "{\"gid\":", u64::from(gid)),
     }
 }
 
-// A digest by its 64 digits.
-fn put_digest(out: &mut Writer, name: &str, digest: &Digest) -> Result<(), AllocError>
-    ensures tokens { OnOk result (out.new.tokens ≡ out.old.tokens ++ text_member name.now (encode_lower digest.now)) }
-    ensures before { out.new.before ≡ out.old.before }
+// Appends a name, as it stands, and the 64 digits of a digest as a string.
+fn push_digest(
+    alloc: Global,
+    text: &mut String,
+    name: &str,
+    digest: &Digest,
+) -> Result<(), AllocError>
+    ensures { OnOk result (string_bytes text.new ≡ string_bytes text.old ++ (name.now ++ quoted (encode_lower digest.now))) }
 {
     let mut digits = [0; 64];
     let _ = hex::encode_to_slice(digest.as_bytes().as_slice(), &mut digits);
     match std::str::from_utf8(&digits) {
-        Ok(text) => put_text(out, name, text),
+        Ok(string) => push_text(alloc, text, name, string),
         // Digits are a text, so that there is no other fault.
         Err(_) => Err(AllocError),
     }
 }
 
-// The numbers of a device.
-fn put_device(out: &mut Writer, kind: &Kind) -> Result<(), AllocError>
-    ensures tokens { OnOk result (out.new.tokens ≡ out.old.tokens ++ device_tokens kind.now) }
-    ensures before { out.new.before ≡ out.old.before }
+// Appends the numbers of a device.
+fn push_device(text: &mut String, kind: &Kind) -> Result<(), AllocError>
+    ensures { OnOk result (string_bytes text.new ≡ string_bytes text.old ++ device_text (device_of_kind kind.now)) }
 {
     match kind {
         Kind::Char { major, minor } | Kind::Block { major, minor } => {
-            put_number(out, "major", u64::from(*major))?;
-            put_number(out, "minor", u64::from(*minor))
+            push_number(text, ",\"major\":", u64::from(*major))?;
+            push_number(text, ",\"minor\":", u64::from(*minor))
         }
         _ => Ok(()),
     }
 }
 
-// The size of a file, and the target of a symlink.
-fn put_contents(out: &mut Writer, kind: &Kind) -> Result<(), AllocError>
-    ensures tokens { OnOk result (out.new.tokens ≡ out.old.tokens ++ contents_tokens kind.now) }
-    ensures before { out.new.before ≡ out.old.before }
+// Appends the size of a file, and the target of a symlink.
+fn push_contents(alloc: Global, text: &mut String, kind: &Kind) -> Result<(), AllocError>
+    ensures { OnOk result (string_bytes text.new ≡ string_bytes text.old ++ contents_text kind.now) }
 {
     match kind {
-        Kind::File { size, .. } => put_number(out, "size", *size),
-        Kind::Symlink { target } => put_text(out, "target", target.as_str()),
+        Kind::File { size, .. } => push_number(text, ",\"size\":", *size),
+        Kind::Symlink { target } => push_text(alloc, text, ",\"target\":", target.as_str()),
         _ => Ok(()),
     }
 }
 
-// The attributes as an object, each value by its digits.
-fn put_attributes(alloc: Global, out: &mut Writer, attrs: &Attrs) -> Result<(), AllocError>
-    ensures tokens { OnOk result (out.new.tokens ≡ out.old.tokens ++ value_tokens (object (attribute_members attrs.now))) }
-    ensures before { out.new.before ≡ out.old.before }
+// Appends the attributes as an object, each value by its digits.
+fn push_attributes(alloc: Global, text: &mut String, attrs: &Attrs) -> Result<(), AllocError>
+    ensures { OnOk result (string_bytes text.new ≡ string_bytes text.old ++ compact_text (object (attribute_members attrs.now))) }
 {
-    out.begin_object()?;
-    for (name, value) in attrs.pairs() {
+    text.push_str("{")?;
+    for (place, attribute) in attrs.pairs().iter().enumerate() {
+        let (name, value) = attribute;
         let digits = hex::encode(alloc, value.as_slice())?;
-        put_text(out, name.as_str(), digits.as_str())?;
+        push_text(alloc, text, comma_before(place), name.as_str())?;
+        push_text(alloc, text, ":", digits.as_str())?;
     }
-    out.end_object()
+    text.push_str("}")
+}
+
+// A comma, but not before the first.
+fn comma_before(place: usize) -> &'static str
+    ensures { result.now ≡ comma_if (nat_lt 0 place) }
+{
+    if place > 0 { "," } else { "" }
 }

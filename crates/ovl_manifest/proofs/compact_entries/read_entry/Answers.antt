@@ -9,8 +9,7 @@ use Rattle.serde_json.specs.Written.{compact_text}
 use Rattle.ovl_inode.specs.declared.inodes.Inode.{Inode}
 use Rattle.ovl_manifest.specs.Text.{attribute_members, entry_value}
 use Rattle.ovl_manifest.specs.Compact.{group_text, device_text, nsec_text, contents_text}
-use Rattle.ovl_manifest.proofs.TokenLemmas.{seconds_text}
-use Rattle.ovl_manifest.proofs.CompactLemmas.{in_turn, pieces, entry_text}
+use Rattle.ovl_manifest.proofs.CompactLemmas.{in_turn, pieces, entry_text, seconds_text}
 use Rattle.ovl_manifest.proofs.compact_entries.read_entry.Goals as goal
 
 -- piece after piece

@@ -1,0 +1,78 @@
+use Rattle.std.proofs.Common.{◌≡◌, ℕ, ◌∷◌, [], ◌++◌, ◌∙◌, List, true, take, sym, ap, append_assoc, string_bytes}
+use Rattle.std.specs.Prelude.{codes}
+use Rattle.std.proofs.lemmas.List.Concat.{flat_map-append}
+use Rattle.std.proofs.lemmas.List.{append-nil, take_all}
+use Rattle.serde_json.specs.Written.{compact_text}
+use Rattle.ovl_names.specs.Names.{slash}
+use Rattle.ovl_names.specs.Paths.{PathNames, child_path, path_text}
+use Rattle.ovl_inode.specs.declared.inodes.Inode.{Inode}
+use Rattle.ovl_manifest.specs.Compact.{entries_text}
+use Rattle.ovl_manifest.specs.Layers.{Entries}
+use Rattle.ovl_manifest.specs.LayerTrees.{NodeView, entries_of_nodes, under, entries_from, placed}
+use Rattle.ovl_manifest.specs.Text.{entry_value}
+use Rattle.ovl_manifest.specs.TextPaths.{slashed}
+use Rattle.ovl_manifest.specs.Versions.{written}
+use Rattle.ovl_manifest.proofs.NodeLemmas.{entries_of_nodes-more, placed-under, placed-append}
+use Rattle.ovl_manifest.proofs.CompactLemmas.{Grows, onto, entries-append}
+use Rattle.ovl_manifest.proofs.writing.+push_under.Goals as goal
+
+slashed-below : (directory : PathNames) (name : List ℕ) → slashed directory ++ slash ∷ name ≡ slashed (child_path directory name)
+slashed-below directory name = sym (flat_map-append (λ own. slash ∷ own) directory (name ∷ []) ∙ ap (λ (t : List ℕ). slashed directory ++ t) (append-nil (slash ∷ name)))
+
+text-below : (directory : PathNames) (name : List ℕ) → slashed directory ++ slash ∷ name ≡ path_text (child_path directory name)
+text-below [] name = slashed-below [] name
+text-below (first ∷ names) name = slashed-below (first ∷ names) name
+
+-- the text of the node's path, by that of its directory
+abbrev LiesIn : List ℕ → List ℕ → List ℕ → Type 0
+LiesIn path above name = path ≡ (above ++ codes "/") ++ name
+
+spelled : (path above name : List ℕ) (directory : PathNames) → LiesIn path above name → above ≡ slashed directory → path ≡ slashed (child_path directory name)
+spelled path above name directory is same = is ∙ (append_assoc above (codes "/") name ∙ (ap (λ (t : List ℕ). t ++ slash ∷ name) same ∙ slashed-below directory name))
+
+spelled-whole : (path above name : List ℕ) (directory : PathNames) → LiesIn path above name → above ≡ slashed directory → path ≡ path_text (child_path directory name)
+spelled-whole path above name directory is same = is ∙ (append_assoc above (codes "/") name ∙ (ap (λ (t : List ℕ). t ++ slash ∷ name) same ∙ text-below directory name))
+
+pub loop-child-preserved : goal.loop-child-preserved
+loop-child-preserved n c = (
+  λ directory same.
+      let nodes : List NodeView = c.deref-child-items.result.now in
+      let node : NodeView = c.child-item.result in
+      let path : PathNames = child_path directory c.args.node.now.name in
+      let done : Entries = entries_of_nodes (take c.loop-child.child-index nodes) in
+      let own : Entries = under node.name (entries_from node.inode node.below) in
+      let before : List ℕ = string_bytes c.push_entry.new.text in
+      let more = entries_of_nodes-more nodes c.loop-child.child-index node c.loop-child-test.true c.child-item.is in
+      let lies : LiesIn (string_bytes c.push_str-2.new.self) (string_bytes c.args.path.now) c.args.node.now.name =
+      c.in_ok-push_str-2.ensures.bytes ∙ (λ j. c.in_ok-push_str.ensures.bytes j ++ (c.as_str.ensures.value ∙ ap (λ (own : NodeView). own.name) c.node.view_is) j) in
+      let text : string_bytes c.loop-child.path ≡ slashed path =
+      c.loop-child.invariant.1 ∙ spelled (string_bytes c.push_str-2.new.self) (string_bytes c.args.path.now) c.args.node.now.name directory lies same in
+      let below = sym (placed-under path node.name (entries_from node.inode node.below)) in
+      let both : entries_text written true (placed path done) ++ entries_text written true (placed path own) ≡ entries_text written true (placed path (done ++ own)) =
+      sym (ap (entries_text written true) (placed-append path done own) ∙ entries-append written (placed path done) (placed path own)) in
+      c.in_ok-push_under.ensures.text path text
+      ∙ ((λ j. c.loop-child.invariant.0 directory same j ++ entries_text written true (below j))
+      ∙ (append_assoc before (entries_text written true (placed path done)) (entries_text written true (placed path own))
+      ∙ ap (λ (t : List ℕ). before ++ t) (both ∙ ap (λ (es : Entries). entries_text written true (placed path es)) (sym more)))),
+  c.in_ok-push_under.ensures.path ∙ c.loop-child.invariant.1,
+)
+
+pub returns-clause-text : goal.returns-clause-text
+returns-clause-text n c directory same =
+    let nodes : List NodeView = c.deref-child-items.result.now in
+    let path : PathNames = child_path directory c.args.node.now.name in
+    let inode : Inode = c.node.inside.inode in
+    let before : List ℕ = string_bytes c.args.text.now in
+    let below : Entries = entries_of_nodes (take c.loop-child.child-index nodes) in
+    let lies : LiesIn (string_bytes c.push_str-2.new.self) (string_bytes c.args.path.now) c.args.node.now.name =
+    c.in_ok-push_str-2.ensures.bytes ∙ (λ j. c.in_ok-push_str.ensures.bytes j ++ (c.as_str.ensures.value ∙ ap (λ (own : NodeView). own.name) c.node.view_is) j) in
+    let text : c.as_str-2.result.now ≡ path_text path =
+    c.as_str-2.ensures.value ∙ spelled-whole (string_bytes c.push_str-2.new.self) (string_bytes c.args.path.now) c.args.node.now.name directory lies same in
+    let whole : (path, inode) ∷ placed path below ≡ placed path (entries_from c.args.node.now.inode c.args.node.now.below) =
+    ap (λ (ns : List NodeView). (path, inode) ∷ placed path (entries_of_nodes ns)) (take_all c.loop-child.child-index nodes c.loop-child-test.false ∙ c.deref-child-items.ensures.value)
+    ∙ (ap (λ (p : PathNames). (p, inode) ∷ placed path (entries_of_nodes c.node.inside.children.items)) (sym (append-nil path))
+    ∙ ap (λ (own : NodeView). placed path (entries_from own.inode own.below)) c.node.view_is) in
+    let comma : Grows before (codes ",") (string_bytes c.push_str-3.new.self) = record { is = c.in_ok-push_str-3.ensures.bytes } in
+    let first : Grows (string_bytes c.push_str-3.new.self) (compact_text (entry_value written (path, inode))) (string_bytes c.push_entry.new.text) = record { is = c.in_ok-push_entry.ensures path text } in
+    let rest : Grows (string_bytes c.push_entry.new.text) (entries_text written true (placed path below)) (string_bytes c.loop-child.text) = record { is = c.loop-child.invariant.0 directory same } in
+    (onto comma (onto first rest)).is ∙ ap (λ (es : Entries). before ++ entries_text written true es) whole
