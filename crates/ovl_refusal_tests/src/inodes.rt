@@ -1,5 +1,6 @@
-//! Attributes, what is copied and shown of inodes, redirects and marks.
+//! Attributes, inodes, redirects and marks.
 
+use crate::names::LONG;
 use ovl_inode::{
     AttrFault, AttrName, Attrs, Bytes, Inode, Kind, Mark, Redirect, RedirectFault, Target, mark_of,
     overlay, read_redirect, visible,
@@ -7,95 +8,72 @@ use ovl_inode::{
 use std::alloc::{AllocError, Global};
 use std::test::Fail;
 
+fn is_put(alloc: Global, attrs: &mut Attrs, name: &str, value: &[u8]) -> Result<bool, AttrFault> {
+    let before = attrs.copy(alloc)?;
+    if attrs.put(name, value).is_err() {
+        if *attrs != before {
+            return Ok(false);
+        }
+        attrs.put(name, value)?;
+    }
+    Ok(attrs.get(name) == Some(value))
+}
+
+fn are_parts_copied(alloc: Global) -> Result<bool, AttrFault> {
+    let name = AttrName::of(alloc, LONG)?;
+    let same = name.copy(alloc)?;
+    let value = Bytes::copy_of(alloc, LONG.as_bytes())?;
+    Ok(same == name && value.as_slice() == LONG.as_bytes())
+}
+
+// Of an inode with two attributes, one of them the overlay's.
+fn is_inode_told(alloc: Global, inode: &Inode) -> Result<bool, AllocError> {
+    let copy = inode.copy(alloc)?;
+    let kind = inode.kind.copy(alloc)?;
+    let attrs = inode.attrs.copy(alloc)?;
+    let shown = visible(alloc, inode)?;
+    Ok(
+        copy == *inode
+            && inode.attrs == attrs
+            && shown.kind == kind
+            && shown.attrs.pairs().len() == 1,
+    )
+}
+
+fn is_read(alloc: Global, moved: &Inode) -> Result<bool, RedirectFault> {
+    let to = read_redirect(alloc, b"/x/y")?;
+    let beside = read_redirect(alloc, LONG.as_bytes())?;
+    let mark = mark_of(alloc, moved)?;
+    let is_mark = matches!(&mark, Mark::DirMoved(Redirect::To(path)) if path.len() == 2);
+    let is_to = matches!(&to, Redirect::To(path) if path.len() == 2);
+    let is_beside = matches!(&beside, Redirect::Beside(name) if name.as_str() == LONG);
+    Ok(is_mark && is_to && is_beside)
+}
+
 #[test]
-fn attributes_are_put_and_copied(rt: HostRuntime) -> Result<(), Fail> {
+fn inodes_are_told(rt: HostRuntime) -> Result<(), Fail> {
     let alloc = rt.alloc();
     let mut attrs = Attrs::new(alloc);
     for (name, value) in [
         ("user.k", b"v".as_slice()),
-        (overlay::OPAQUE, b"y".as_slice()),
-        ("user.k", b"of some length".as_slice()),
+        (overlay::REDIRECT, b"/x/y".as_slice()),
+        ("user.k", b"w".as_slice()),
     ] {
-        let copy = again!(attrs.copy(alloc), AllocError)?;
-        again!(
-            attrs.put(name, value),
-            AttrFault::Memory,
-            assert_eq!(rt; attrs, copy)
-        )?;
-        assert_eq!(rt; attrs.get(name), Some(value));
+        assert!(rt; again!(is_put(alloc, &mut attrs, name, value), AttrFault::Memory)?);
     }
-    assert_eq!(rt; attrs.put("", b"v"), Err(AttrFault::Name));
-    assert_eq!(rt; attrs.pairs().len(), 2);
-    let shown = again!(attrs.visible(alloc), AllocError)?;
-    assert_eq!(rt; shown.pairs().len(), 1);
-    Ok(())
-}
-
-#[test]
-fn names_and_values_of_attributes_are_copied(rt: HostRuntime) -> Result<(), Fail> {
-    let alloc = rt.alloc();
-    let name = again!(AttrName::of(alloc, "user.k"), AttrFault::Memory)?;
-    let same = again!(name.copy(alloc), AllocError)?;
-    assert_eq!(rt; same.as_str(), "user.k");
-    let value = again!(Bytes::copy_of(alloc, b"v"), AllocError)?;
-    assert_eq!(rt; value.as_slice(), b"v".as_slice());
-    Ok(())
-}
-
-// An inode of this kind with a redirect to `/x/y`.
-fn inode_of(alloc: Global, kind: Kind) -> Result<Inode, AttrFault> {
-    let mut attrs = Attrs::new(alloc);
-    attrs.put(overlay::REDIRECT, b"/x/y")?;
-    attrs.put("user.k", b"v")?;
-    Ok(Inode {
-        kind,
+    assert!(rt; again!(are_parts_copied(alloc), AttrFault::Memory)?);
+    let mut inode = Inode {
+        kind: Kind::Dir,
         mode: 0o755,
         uid: 1,
         gid: 2,
         mtime: 3,
         nsec: 4,
         attrs,
-    })
-}
-
-#[test]
-fn inodes_are_copied_and_shown(rt: HostRuntime) -> Result<(), Fail> {
-    let alloc = rt.alloc();
-    let target = Target::from(again!(String::from_str(alloc, "a b"), AllocError)?);
-    let same = again!(target.copy(alloc), AllocError)?;
-    assert_eq!(rt; same, target);
-    let kind = Kind::Symlink { target };
-    let same = again!(kind.copy(alloc), AllocError)?;
-    assert_eq!(rt; same, kind);
-    let mut inode = again!(inode_of(alloc, Kind::Dir), AttrFault::Memory)?;
-    inode.kind = kind;
-    let same = again!(inode.copy(alloc), AllocError)?;
-    assert_eq!(rt; same, inode);
-    let shown = again!(visible(alloc, &inode), AllocError)?;
-    assert_eq!(rt; shown.kind, inode.kind);
-    assert_eq!(rt; shown.attrs.pairs().len(), 1);
-    Ok(())
-}
-
-#[test]
-fn redirects_and_marks_are_read(rt: HostRuntime) -> Result<(), Fail> {
-    let alloc = rt.alloc();
-    let read = again!(read_redirect(alloc, b"/x/y"), RedirectFault::Memory)?;
-    assert!(rt; matches!(&read, Redirect::To(path) if path.len() == 2));
-    let name = "name of more than 24 bytes";
-    let read = again!(read_redirect(alloc, name.as_bytes()), RedirectFault::Memory)?;
-    assert!(rt; matches!(&read, Redirect::Beside(own) if own.as_str() == name));
-    for (value, fault) in [
-        (b"".as_slice(), RedirectFault::Empty),
-        (b"\xff".as_slice(), RedirectFault::Text),
-        (b"/x/".as_slice(), RedirectFault::Slash),
-        (b"/x/..".as_slice(), RedirectFault::Part),
-    ] {
-        let refused = read_redirect(alloc, value);
-        assert_eq!(rt; refused.err(), Some(fault), "at {value:?}");
-    }
-    let inode = again!(inode_of(alloc, Kind::Dir), AttrFault::Memory)?;
-    let mark = again!(mark_of(alloc, &inode), AllocError)?;
-    assert!(rt; matches!(&mark, Mark::DirMoved(Redirect::To(path)) if path.len() == 2));
+    };
+    assert!(rt; again!(is_read(alloc, &inode), RedirectFault::Memory)?);
+    let target = Target::from(again!(String::from_str(alloc, LONG), AllocError)?);
+    inode.kind = Kind::Symlink { target };
+    assert!(rt; again!(is_inode_told(alloc, &inode), AllocError)?);
     Ok(())
 }

@@ -1,23 +1,16 @@
-//! Tests of public calls that want memory: where a call wants it, what it was lent is looked at, and the call is made
-//! again, which then has memory. As they run in the gate all calls have memory: `bench/refusals.py` runs each test again
-//! and again, with the first, the second and each later request for memory refused, and with no other.
+//! Tests of public calls that want memory. A function here makes calls and says whether each gives what it should; where one
+//! of them tells that it wants memory, the function is called again with the same arguments, and then has memory. So it is
+//! seen that no call gives anything else than its answer or its want of memory, and that what it was lent is as it was.
+//! As the gate runs them all calls have memory. `bench/refusals.py` runs each test again and again, with the first, the
+//! second and each later request for memory refused, and no other.
 #![tactic(auto)]
 
-// What a call gives: where it told its want of memory, and after a look at what it was lent, what it gives then.
+// What a call gives, the second time where it wanted memory.
 #[cfg(test)]
 macro_rules! again {
     ($call:expr, $want:pat) => {
         match $call {
             Err($want) => $call,
-            answer => answer,
-        }
-    };
-    ($call:expr, $want:pat, $look:expr) => {
-        match $call {
-            Err($want) => {
-                $look;
-                $call
-            }
             answer => answer,
         }
     };
