@@ -17,6 +17,12 @@ macro_rules! again {
 }
 
 #[cfg(test)]
+mod board;
+#[cfg(test)]
 mod inodes;
 #[cfg(test)]
+mod manifests;
+#[cfg(test)]
 mod names;
+#[cfg(test)]
+mod samples;
