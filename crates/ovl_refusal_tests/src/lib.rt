@@ -21,6 +21,8 @@ mod board;
 #[cfg(test)]
 mod inodes;
 #[cfg(test)]
+mod lookups;
+#[cfg(test)]
 mod manifests;
 #[cfg(test)]
 mod names;
