@@ -1,4 +1,5 @@
 //! Walks of a work, its machine of steps, lanes, and runs by several workers.
+ghost use Rattle.std.specs.Prelude.{◌≡◌, []};
 
 use ovl_board::{
     BoardFault, Core, CoreFault, Event, Parcel, Piece, Tree, copies, plain_walk, sort_parcels,
@@ -22,7 +23,9 @@ const STEPS: [Event; 8] = [
     Event::Work(1),
 ];
 
-fn root_of(alloc: Global, space: u16) -> Piece {
+pub(crate) fn root_of(alloc: Global, space: u16) -> Piece
+    ensures { result ≡ record { space = space; dir = [] } }
+{
     Piece {
         space,
         dir: Path::root(alloc),

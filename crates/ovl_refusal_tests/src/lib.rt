@@ -27,4 +27,6 @@ mod manifests;
 #[cfg(test)]
 mod names;
 #[cfg(test)]
+mod rewrites;
+#[cfg(test)]
 mod samples;
