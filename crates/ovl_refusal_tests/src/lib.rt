@@ -19,6 +19,8 @@ macro_rules! again {
 #[cfg(test)]
 mod board;
 #[cfg(test)]
+mod checks;
+#[cfg(test)]
 mod inodes;
 #[cfg(test)]
 mod lookups;

@@ -6,6 +6,7 @@ use ovl_board::plain_walk;
 use ovl_deref::{DerefWork, finish_deref};
 use ovl_lookup::Stack;
 use ovl_manifest::Layer;
+use ovl_merge::{MergeFault, MergeWork, finish_merge};
 use ovl_rewrite::RewriteFault;
 use ovl_vacuum::{VacuumWork, finish_vacuum};
 use std::alloc::{AllocError, Global};
@@ -29,11 +30,19 @@ fn is_dereferenced(alloc: Global, stack: &Stack) -> Result<bool, RewriteFault> {
     Ok(has_entries(alloc, &layer, 7)?)
 }
 
+fn is_merged(alloc: Global, stack: &Stack) -> Result<bool, MergeFault> {
+    let work = MergeWork::new(stack)?;
+    let parcels = plain_walk(alloc, &work, root_of(alloc, 0))?;
+    let done = finish_merge(alloc, &work, parcels)?;
+    Ok(has_entries(alloc, &done.top, 1)? && has_entries(alloc, &done.lower, 6)?)
+}
+
 #[test]
 fn layers_are_rewritten(rt: HostRuntime) -> Result<(), Fail> {
     let alloc = rt.alloc();
     let stack = again!(stack_of(alloc, MOVED), AllocError)?;
     assert!(rt; again!(is_vacuumed(alloc, &stack), AllocError)?);
     assert!(rt; again!(is_dereferenced(alloc, &stack), RewriteFault::Memory)?);
+    assert!(rt; again!(is_merged(alloc, &stack), MergeFault::Memory)?);
     Ok(())
 }
