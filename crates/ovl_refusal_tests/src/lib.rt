@@ -21,6 +21,8 @@ mod board;
 #[cfg(test)]
 mod checks;
 #[cfg(test)]
+mod commands;
+#[cfg(test)]
 mod inodes;
 #[cfg(test)]
 mod lookups;
