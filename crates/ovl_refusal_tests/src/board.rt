@@ -12,14 +12,15 @@ use std::sync::Wait;
 use std::test::Fail;
 use std::thread::Threads;
 
+// Those of two workers over the tree of `/`, `/a` and `/a/a`.
 const STEPS: [Event; 8] = [
     Event::Pop(0),
     Event::Work(0),
     Event::Push(0),
-    Event::Push(0),
     Event::Steal(1, 0),
-    Event::Pop(0),
-    Event::Work(0),
+    Event::Work(1),
+    Event::Push(1),
+    Event::Pop(1),
     Event::Work(1),
 ];
 

@@ -33,7 +33,7 @@ fn walks_of<'a>(
     Ok(layers)
 }
 
-// Nothing is found in the stack, which states one blob.
+// The blob of three files isn't there.
 fn is_checked(alloc: Global, stack: &Stack) -> Result<bool, AllocError> {
     if stack.layers() != 2 {
         return Ok(false);
@@ -42,7 +42,7 @@ fn is_checked(alloc: Global, stack: &Stack) -> Result<bool, AllocError> {
     let work = CheckWork::new(stack, &[], &[]);
     let layers = walks_of(alloc, &work, 2)?;
     let found = finish_check(alloc, &work, layers)?;
-    Ok(names.len() == 1 && found.is_empty())
+    Ok(names.len() == 1 && found.len() == 3)
 }
 
 // Of blobs that all have other bytes than their names say.
