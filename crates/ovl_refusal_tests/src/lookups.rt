@@ -26,19 +26,27 @@ fn is_shown(alloc: Global, stack: &Stack, path: &Path) -> Result<bool, AllocErro
     Ok(look.is_shown_directory() && names.len() == 1 && list.len() == 6)
 }
 
-// Of the root, by a metacopy file and a directory in it.
-fn is_viewed(alloc: Global, stack: &Stack, file: &Name, dir: &Name) -> Result<bool, AllocError> {
+// A metacopy file in the root.
+fn is_viewed(alloc: Global, stack: &Stack, file: &Name) -> Result<bool, AllocError> {
     let Some(view) = DirView::of(alloc, stack, 0, &Path::root(alloc))? else {
         return Ok(false);
     };
     let look = view.look(alloc, stack, file)?;
     let data = view.data(alloc, stack, file)?;
+    Ok(matches!(&look, Look::Shown(_)) && data.is_some())
+}
+
+// A directory in the root.
+fn is_entered(alloc: Global, stack: &Stack, dir: &Name) -> Result<bool, AllocError> {
+    let Some(view) = DirView::of(alloc, stack, 0, &Path::root(alloc))? else {
+        return Ok(false);
+    };
     let Some(child) = view.child(alloc, stack, dir)? else {
         return Ok(false);
     };
     let names = child.names(alloc, stack)?;
     let looks = child.looks(alloc, stack)?;
-    Ok(matches!(&look, Look::Shown(_)) && data.is_some() && names.len() == 2 && looks.len() == 2)
+    Ok(names.len() == 2 && looks.len() == 2)
 }
 
 #[test]
@@ -50,6 +58,7 @@ fn stacks_are_shown(rt: HostRuntime) -> Result<(), Fail> {
     assert!(rt; again!(is_shown(alloc, &stack, &path), AllocError)?);
     let file = again!(Name::of(alloc, "m"), NameFault::Memory)?;
     let dir = again!(Name::of(alloc, "n"), NameFault::Memory)?;
-    assert!(rt; again!(is_viewed(alloc, &stack, &file, &dir), AllocError)?);
+    assert!(rt; again!(is_viewed(alloc, &stack, &file), AllocError)?);
+    assert!(rt; again!(is_entered(alloc, &stack, &dir), AllocError)?);
     Ok(())
 }

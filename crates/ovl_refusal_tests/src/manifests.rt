@@ -2,9 +2,7 @@
 
 use crate::samples::MOVED;
 use ovl_json::is_json;
-use ovl_manifest::{
-    Layer, LayerBuilder, LayerFault, Sheet, from_entries, read_layer, read_sheet, write_layer,
-};
+use ovl_manifest::{Layer, LayerFault, Sheet, from_entries, read_layer, read_sheet, write_layer};
 use ovl_names::Path;
 use std::alloc::{AllocError, Global};
 use std::test::Fail;
@@ -24,20 +22,6 @@ fn is_layer_told(alloc: Global, manifest: &str) -> Result<bool, LayerFault> {
             && is_written(alloc, &layer, manifest)?
             && is_written(alloc, &same, manifest)?,
     )
-}
-
-fn is_built(alloc: Global, manifest: &str) -> Result<bool, LayerFault> {
-    let layer = read_layer(alloc, manifest.as_bytes())?;
-    let mut entries = layer.entries(alloc)?.into_iter();
-    let Some((_, root)) = entries.next() else {
-        return Ok(false);
-    };
-    let mut builder = LayerBuilder::new(alloc, root)?;
-    for (path, inode) in entries {
-        builder = builder.with_entry(alloc, path, inode)?;
-    }
-    let built = builder.finish()?;
-    Ok(is_written(alloc, &built, manifest)?)
 }
 
 // A manifest as it is written is read at once, and one with a space before it item by item.
@@ -63,7 +47,6 @@ fn layers_are_told(rt: HostRuntime) -> Result<(), Fail> {
     let alloc = rt.alloc();
     for manifest in MOVED.lines() {
         assert!(rt; again!(is_layer_told(alloc, manifest), LayerFault::Memory)?);
-        assert!(rt; again!(is_built(alloc, manifest), LayerFault::Memory)?);
     }
     Ok(())
 }
