@@ -1,5 +1,5 @@
 #!/usr/bin/env python3
-"""Refuses the program memory, one request after the other, and looks at how it ends.
+"""Refuses the program and a program of tests memory, one request after the other, and looks at how they end.
 
 Python 3.11, standard library, and `rt`, whose compiler builds refuse.c. Each command is run on small stacks by 1 and by
 2 workers, and on one of 40 directories by 7, again and again: the first, the second, the third and each later request
@@ -7,7 +7,11 @@ for memory is refused, then all from the first on, from the second on, and so fo
 refusal; and so is each start of a thread. A run must end with its full answer, or with status 5 and `out of memory`,
 nothing on standard output, no new layer, and the one that was there as it was.
 
-    python3 bench/refusals.py --program crates/ovl_layers/out/ovl_layers
+Each test of the other program runs in a process of its own, again and again, with one request for memory or one start of a
+thread refused: it must pass each time, as it makes what wanted memory again.
+
+    python3 bench/refusals.py --program crates/ovl_layers/out/ovl_layers \
+        --tests crates/ovl_refusal_tests/out/ovl_refusal_tests_tests
     python3 bench/refusals.py --library refuse.so    # builds the library alone
 """
 import argparse
@@ -32,6 +36,9 @@ WAYS = {"a request": {"REFUSE": "memory"}, "a request and all after it": {"REFUS
         THREAD: {"REFUSE": "thread"}}
 # No run meets so many requests. A sweep ends with so many wrong endings; of a command so many are told.
 MOST, ENOUGH, TOLD = 50_000, 40, 5
+# So many processes share the requests of a test.
+SHARES = 8
+TESTS = "tests"
 OLD = b"what was there before\n"
 
 
@@ -153,6 +160,39 @@ def swept(program, library, sweep):
         return MOST, [*wrong, f"{how}: no run without a refusal"]
 
 
+@dataclass(frozen=True)
+class Trial:
+    """A test, and what it is refused: the first of these numbers, and each that comes SHARES later."""
+
+    test: str
+    first: int
+    refused: str
+    command = TESTS
+
+
+def tried(program, library, trial):
+    """How many runs of a test there were, and what is told of those that didn't pass."""
+    wrong = []
+    with tempfile.TemporaryDirectory(prefix="ovl-refusals-") as folder:
+        for runs, number in enumerate(range(trial.first, MOST, SHARES), 1):
+            env = {"LD_PRELOAD": library, "REFUSE_AT": str(number), **WAYS[trial.refused]}
+            ending, refused = run([program, trial.test], Path(folder), env)
+            if ending.status != 0:
+                wrong.append(f"{trial.test}, refused {trial.refused}, number {number}: {ending}")
+            if number == 1 and not refused and trial.refused != THREAD:
+                wrong.append(f"{trial.test}: no request was met")
+            if not refused or len(wrong) >= ENOUGH:
+                return runs, wrong
+    return runs, [*wrong, f"{trial.test}: no run without a refusal"]
+
+
+def trials(program):
+    listed = subprocess.run([program, "--list"], stdin=subprocess.DEVNULL, capture_output=True, text=True, check=True).stdout
+    for test in listed.split(": test\n")[:-1]:
+        yield Trial(test, 1, THREAD)
+        yield from (Trial(test, first, "a request") for first in range(1, SHARES + 1))
+
+
 def build(library):
     """Builds the library by the compiler that rt brings along."""
     page = subprocess.run(["rt", "doc"], stdin=subprocess.DEVNULL, capture_output=True, text=True, check=True).stdout
@@ -171,22 +211,27 @@ def sweeps():
 
 
 def main():
-    words = argparse.ArgumentParser(description="Refuses the program memory, one request after the other.")
+    words = argparse.ArgumentParser(description="Refuses programs memory, one request after the other.")
     what = words.add_mutually_exclusive_group(required=True)
     what.add_argument("--program", help="path of the program")
     what.add_argument("--library", metavar="FILE", help="build the library that refuses into this file, and nothing else")
+    words.add_argument("--tests", metavar="PROGRAM", help="path of a program of tests, which is refused memory too")
     given = words.parse_args()
     if given.library:
         sys.exit(build(given.library))
     program, runs, wrong = os.path.abspath(given.program), collections.Counter(), collections.defaultdict(list)
+    todo = [(swept, program, it) for it in sweeps()]
+    if given.tests:
+        tests = os.path.abspath(given.tests)
+        todo += [(tried, tests, it) for it in trials(tests)]
     with tempfile.TemporaryDirectory(prefix="ovl-refuse-") as folder, concurrent.futures.ProcessPoolExecutor() as pool:
         library = os.path.join(folder, "refuse.so")
         build(library)
-        for sweep, done in [(it, pool.submit(swept, program, library, it)) for it in sweeps()]:
+        for it, done in [(it, pool.submit(how, path, library, it)) for how, path, it in todo]:
             count, told = done.result()
-            runs[sweep.command] += count
-            wrong[sweep.command] += told
-    for command in COMMANDS:
+            runs[it.command] += count
+            wrong[it.command] += told
+    for command in (*COMMANDS, *([TESTS] if given.tests else [])):
         print(*wrong[command][:TOLD], sep="\n", end="\n" if wrong[command] else "")
         print(f"{command}: {runs[command]:,} runs, {len(wrong[command])} ended wrongly", flush=True)
     total = sum(map(len, wrong.values()))

@@ -1,0 +1,81 @@
+//! The works of the check, walked by one thread.
+ghost use Rattle.std.specs.Prelude.{◌≡◌, IfOk, length, map};
+ghost use Rattle.ovl_board.specs.Parcels.{parcel_views};
+ghost use Rattle.ovl_check.specs.Checks.{check_seen};
+ghost use Rattle.ovl_check.specs.CheckViews.{check_view};
+ghost use Rattle.ovl_check.specs.Walks.{AreLayerWalks};
+
+use crate::board::root_of;
+use crate::samples::{MOVED, stack_of};
+use ovl_board::{Parcel, plain_walk};
+use ovl_check::{
+    BLOB_SPACE, Blob, BlobWork, CheckOut, CheckWork, blobs_in_order, finish_blobs, finish_check,
+    stated_names,
+};
+use ovl_inode::Digest;
+use ovl_lookup::Stack;
+use std::alloc::{AllocError, Global};
+use std::test::Fail;
+
+// The plain walks of the first `count` layers, each from its root.
+fn walks_of<'a>(
+    alloc: Global,
+    work: &CheckWork<'a>,
+    count: u16,
+) -> Result<Vec<Vec<Parcel<CheckOut<'a>>>>, AllocError>
+    ensures count { IfOk result (λ layers. length layers.items ≡ count) }
+    ensures walks { IfOk result (λ layers. AreLayerWalks (check_view work.now) 0 (map (λ parcels. parcel_views check_seen parcels.items) layers.items)) }
+{
+    let mut layers = Vec::new(alloc);
+    for i in 0..count {
+        layers.push(plain_walk(alloc, work, root_of(alloc, i))?)?;
+    }
+    Ok(layers)
+}
+
+// The blob of three files isn't there.
+fn is_checked(alloc: Global, stack: &Stack) -> Result<bool, AllocError> {
+    if stack.layers() != 2 {
+        return Ok(false);
+    }
+    let names = stated_names(alloc, stack)?;
+    let work = CheckWork::new(stack, &[], &[]);
+    let layers = walks_of(alloc, &work, 2)?;
+    let found = finish_check(alloc, &work, layers)?;
+    Ok(names.len() == 1 && found.len() == 3)
+}
+
+// Of blobs that all have other bytes than their names say.
+fn are_digested(alloc: Global, blobs: &[Blob]) -> Result<bool, AllocError> {
+    if !blobs_in_order(blobs) {
+        return Ok(false);
+    }
+    let work = BlobWork::new(blobs);
+    let parcels = plain_walk(alloc, &work, root_of(alloc, BLOB_SPACE))?;
+    let wrong = finish_blobs(alloc, &work, parcels)?;
+    Ok(wrong.len() == blobs.len())
+}
+
+fn blobs_of(alloc: Global) -> Result<Vec<Blob>, AllocError> {
+    let mut blobs = Vec::new(alloc);
+    for digits in [
+        "ca978112ca1bbdcafac231b39a23dc4da786eff8147c4e72b9807785afee48bb",
+        "fb8e20fc2e4c3f248c60c39bd652f3c1347298bb977b8b4d5903b85055620603",
+    ] {
+        if let Ok(name) = Digest::parse(digits) {
+            let bytes = Vec::new(alloc);
+            blobs.push(Blob { name, bytes })?;
+        }
+    }
+    Ok(blobs)
+}
+
+#[test]
+fn stacks_and_blobs_are_checked(rt: HostRuntime) -> Result<(), Fail> {
+    let alloc = rt.alloc();
+    let stack = again!(stack_of(alloc, MOVED), AllocError)?;
+    assert!(rt; again!(is_checked(alloc, &stack), AllocError)?);
+    let blobs = again!(blobs_of(alloc), AllocError)?;
+    assert!(rt; again!(are_digested(alloc, &blobs), AllocError)?);
+    Ok(())
+}

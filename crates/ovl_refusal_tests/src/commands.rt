@@ -1,0 +1,136 @@
+//! The work of `show`, walked by one thread, and commands by one worker and by two.
+
+use crate::board::root_of;
+use crate::samples::{MOVED, stack_of};
+use ovl_board::plain_walk;
+use ovl_check::{Blob, Content};
+use ovl_engine::{
+    Command, CommandFault, Contents, EngineFault, ShowWork, command, command_of, command_over,
+    finish_show, named_blobs, report_of, report_of_walk,
+};
+use ovl_inode::Digest;
+use ovl_lookup::Stack;
+use ovl_pool::OpenGate;
+use std::alloc::{AllocError, Global};
+use std::sync::Wait;
+use std::test::Fail;
+use std::thread::Threads;
+
+// By each call that lists the merged tree.
+fn is_listed(alloc: Global, stack: &Stack) -> Result<bool, AllocError> {
+    let work = ShowWork::new(stack);
+    let parcels = plain_walk(alloc, &work, root_of(alloc, 0))?;
+    let report = report_of_walk(alloc, &work, &parcels)?;
+    let looks = finish_show(alloc, &work, parcels)?;
+    let same = report_of(alloc, &looks)?;
+    Ok(report == same && report.ends_with(b"\nentries 6\n"))
+}
+
+#[test]
+fn a_merged_tree_is_listed(rt: HostRuntime) -> Result<(), Fail> {
+    let alloc = rt.alloc();
+    let stack = again!(stack_of(alloc, MOVED), AllocError)?;
+    assert!(rt; again!(is_listed(alloc, &stack), AllocError)?);
+    Ok(())
+}
+
+fn manifests_of(alloc: Global, lines: &str) -> Result<Vec<Vec<u8>>, AllocError> {
+    let mut manifests = Vec::new(alloc);
+    for line in lines.lines() {
+        manifests.push(String::from_str(alloc, line)?.into_bytes())?;
+    }
+    Ok(manifests)
+}
+
+// There are no contents.
+#[derive(Drop)]
+struct Nothing;
+
+impl Contents for Nothing {
+    type Fault = AllocError;
+
+    ghost may_be = { λ _ _ _. Unit {0} };
+
+    ghost may_fail = { λ _ _. Unit {0} };
+
+    fn tell(&self, alloc: Global, _names: &[Digest]) -> Result<Vec<Content>, AllocError> {
+        Ok(Vec::new(alloc))
+    }
+}
+
+// Whether a command answers a report with this end, by each call that gives one.
+fn is_answered<R: Threads + Wait + Sync>(
+    rt: &R,
+    alloc: Global,
+    what: Command,
+    workers: usize,
+    end: &str,
+) -> Result<bool, EngineFault> {
+    let blobs = named_blobs(alloc, &manifests_of(alloc, "a")?)?;
+    let manifests = manifests_of(alloc, MOVED)?;
+    let answer = command(rt, alloc, what, &manifests, 0, &blobs, workers, &OpenGate)?;
+    let same = command_of(rt, alloc, what, manifests, 0, &blobs, workers, &OpenGate)?;
+    Ok(answer == same && answer.report.ends_with(end.as_bytes()))
+}
+
+fn is_answered_over<R: Threads + Wait + Sync>(
+    rt: &R,
+    alloc: Global,
+    what: Command,
+    workers: usize,
+    end: &str,
+) -> Result<bool, CommandFault<AllocError>> {
+    let manifests = manifests_of(alloc, MOVED)?;
+    let answer = command_over(rt, alloc, what, manifests, 0, &Nothing, workers, &OpenGate)?;
+    Ok(answer.report.ends_with(end.as_bytes()))
+}
+
+fn are_answered<R: Threads + Wait + Sync>(
+    rt: &R,
+    alloc: Global,
+    workers: usize,
+) -> Result<bool, Fail> {
+    for (what, end) in [
+        (Command::Show, "\nentries 6\n"),
+        (Command::Fsck, "faults 0 notes 0\n"),
+        (Command::Vacuum, "\nremoved 1 kept 5\n"),
+        (Command::Deref, "\nentries 7\n"),
+        (Command::Merge, "\nentries 6\n"),
+    ] {
+        let is = again!(
+            is_answered(rt, alloc, what, workers, end),
+            EngineFault::Memory
+        )?;
+        if !is {
+            return Ok(false);
+        }
+    }
+    Ok(true)
+}
+
+#[test]
+fn commands_are_answered_by_one_worker(rt: HostRuntime) -> Result<(), Fail> {
+    assert!(rt; are_answered(&rt, rt.alloc(), 1)?);
+    Ok(())
+}
+
+#[test]
+fn commands_are_answered_by_two_workers(rt: HostRuntime) -> Result<(), Fail> {
+    assert!(rt; are_answered(&rt, rt.alloc(), 2)?);
+    Ok(())
+}
+
+#[test]
+fn commands_over_contents_are_answered(rt: HostRuntime) -> Result<(), Fail> {
+    for (what, end) in [
+        (Command::Show, "\nentries 6\n"),
+        (Command::Fsck, "\nfaults 3 notes 0\n"),
+    ] {
+        let is = again!(
+            is_answered_over(&rt, rt.alloc(), what, 2, end),
+            CommandFault::Engine(EngineFault::Memory)
+        );
+        assert!(rt; is == Ok(true), "{what:?}");
+    }
+    Ok(())
+}

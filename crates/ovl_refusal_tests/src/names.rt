@@ -1,0 +1,73 @@
+//! Names, paths, and texts as reports show them.
+
+use ovl_names::{Name, NameFault, Path, PathFault, escaped, push_escaped};
+use std::alloc::{AllocError, Global};
+use std::test::Fail;
+
+// A name that takes memory of its own.
+pub(crate) const LONG: &str = "name-of-more-than-24-bytes";
+
+fn is_name_told(alloc: Global, name: &Name) -> Result<bool, AllocError> {
+    let copy = name.copy(alloc)?;
+    let shown = name.shown(alloc)?;
+    Ok(copy == *name && shown.as_str() == LONG)
+}
+
+// Of a path of nine names.
+fn is_path_told(alloc: Global, path: &Path, name: &Name) -> Result<bool, AllocError> {
+    let copy = path.copy(alloc)?;
+    let shown = path.shown(alloc)?;
+    let child = path.child(alloc, name)?;
+    let parent = child.parent(alloc)?;
+    let joined = path.joined(alloc, path.names())?;
+    Ok(
+        copy == *path
+            && shown.as_str() == "/a/b/c/d/e/f/g/h/i"
+            && child.len() == 10
+            && parent == Some(copy)
+            && joined.len() == 18,
+    )
+}
+
+fn is_pushed(alloc: Global, path: &mut Path, name: &Name) -> Result<bool, AllocError> {
+    let before = path.copy(alloc)?;
+    let wanted = path.child(alloc, name)?;
+    let (first, second) = (name.copy(alloc)?, name.copy(alloc)?);
+    if path.push(first).is_err() {
+        if *path != before {
+            return Ok(false);
+        }
+        path.push(second)?;
+    }
+    Ok(*path == wanted)
+}
+
+fn is_appended(alloc: Global, written: &mut String, text: &str) -> Result<bool, AllocError> {
+    let before = String::from_str(alloc, written.as_str())?;
+    let escapes = escaped(alloc, text)?;
+    if push_escaped(alloc, written, text).is_err() {
+        if *written != before {
+            return Ok(false);
+        }
+        push_escaped(alloc, written, text)?;
+    }
+    Ok(written.as_str().ends_with(escapes.as_str()))
+}
+
+#[test]
+fn names_are_told(rt: HostRuntime) -> Result<(), Fail> {
+    let alloc = rt.alloc();
+    let name = again!(Name::of(alloc, LONG), NameFault::Memory)?;
+    assert!(rt; again!(is_name_told(alloc, &name), AllocError)?);
+    let mut path = again!(Path::parse(alloc, "/a/b/c/d/e/f/g/h/i"), PathFault::Memory)?;
+    assert!(rt; again!(is_path_told(alloc, &path, &name), AllocError)?);
+    for _ in 0..9 {
+        assert!(rt; again!(is_pushed(alloc, &mut path, &name), AllocError)?);
+    }
+    let mut written = String::new(alloc);
+    for text in ["-plain-", " \u{e9}"] {
+        assert!(rt; again!(is_appended(alloc, &mut written, text), AllocError)?);
+    }
+    assert_eq!(rt; written.as_str(), "-plain-\\x20\\xc3\\xa9");
+    Ok(())
+}

@@ -1,0 +1,48 @@
+//! The works of commands that make new layers, walked by one thread.
+
+use crate::board::root_of;
+use crate::samples::{MOVED, stack_of};
+use ovl_board::plain_walk;
+use ovl_deref::{DerefWork, finish_deref};
+use ovl_lookup::Stack;
+use ovl_manifest::Layer;
+use ovl_merge::{MergeFault, MergeWork, finish_merge};
+use ovl_rewrite::RewriteFault;
+use ovl_vacuum::{VacuumWork, finish_vacuum};
+use std::alloc::{AllocError, Global};
+use std::test::Fail;
+
+fn has_entries(alloc: Global, layer: &Layer, count: usize) -> Result<bool, AllocError> {
+    Ok(layer.entries(alloc)?.len() == count)
+}
+
+fn is_vacuumed(alloc: Global, stack: &Stack) -> Result<bool, AllocError> {
+    let work = VacuumWork::new(stack);
+    let parcels = plain_walk(alloc, &work, root_of(alloc, 0))?;
+    let done = finish_vacuum(alloc, &work, parcels)?;
+    Ok(done.removed.len() == 1 && has_entries(alloc, &done.layer, 5)?)
+}
+
+fn is_dereferenced(alloc: Global, stack: &Stack) -> Result<bool, RewriteFault> {
+    let work = DerefWork::new(stack);
+    let parcels = plain_walk(alloc, &work, root_of(alloc, 0))?;
+    let layer = finish_deref(alloc, &work, parcels)?;
+    Ok(has_entries(alloc, &layer, 7)?)
+}
+
+fn is_merged(alloc: Global, stack: &Stack) -> Result<bool, MergeFault> {
+    let work = MergeWork::new(stack)?;
+    let parcels = plain_walk(alloc, &work, root_of(alloc, 0))?;
+    let done = finish_merge(alloc, &work, parcels)?;
+    Ok(has_entries(alloc, &done.top, 1)? && has_entries(alloc, &done.lower, 6)?)
+}
+
+#[test]
+fn layers_are_rewritten(rt: HostRuntime) -> Result<(), Fail> {
+    let alloc = rt.alloc();
+    let stack = again!(stack_of(alloc, MOVED), AllocError)?;
+    assert!(rt; again!(is_vacuumed(alloc, &stack), AllocError)?);
+    assert!(rt; again!(is_dereferenced(alloc, &stack), RewriteFault::Memory)?);
+    assert!(rt; again!(is_merged(alloc, &stack), MergeFault::Memory)?);
+    Ok(())
+}
