@@ -6,6 +6,7 @@ pub mod LayerReports
 pub mod Listings
 pub mod NamedBlobs
 pub mod Outcomes
+pub mod Questions
 pub mod Refusals
 pub mod Reports
 pub mod Requests

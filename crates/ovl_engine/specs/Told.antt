@@ -12,12 +12,12 @@ use Rattle.ovl_check.specs.Findings.{findings}
 use Rattle.ovl_check.specs.Stated.{IsStated}
 use Rattle.ovl_engine.specs.declared.requests.Command.{Command}
 use Rattle.ovl_engine.specs.declared.requests.Answer.{Answer}
-use Rattle.ovl_engine.specs.declared.faults.EngineFault.TheVariants.{Memory}
+use Rattle.ovl_engine.specs.declared.faults.EngineFault.{EngineFault}
 use Rattle.ovl_engine.specs.declared.contents.CommandFault.{CommandFault}
 use Rattle.ovl_engine.specs.declared.contents.CommandFault.TheVariants.{Engine, Contents as ContentsFault}
 use Rattle.ovl_engine.specs.Commands.{checks}
 use Rattle.ovl_engine.specs.Requests.{Request}
-use Rattle.ovl_engine.specs.Outcomes.{IsAccepted, IsAnswerOf, IsFailure, IsRefusal, MayRefuseLayers, MayRefuseOwn, stack_of}
+use Rattle.ovl_engine.specs.Outcomes.{IsAccepted, IsRefusal, IsRun, MayRefuseLayers, MayRefuseOwn, stack_of}
 
 -- the bytes of a name, among blobs
 abbrev pub bytes_named : List BlobView → List ℕ → Option (List ℕ)
@@ -45,22 +45,21 @@ pub record HoldsOfFound (may_be : List ℕ → Option (List ℕ) → Type 0) (co
 abbrev pub MayRefuseTold : Command → StackView → (Piece → Type 0) → Type 0
 MayRefuseTold command stack may_refuse = ((checks command ≡ true) × MayRefuseLayers stack may_refuse) ⊎ MayRefuseOwn command stack may_refuse
 
--- what comes of a command over a stack and contents that are told; that they aren't is told as such
-abbrev pub IsRunOver : {F : Type 0} → Command → StackView → (List ℕ → Option (List ℕ) → Type 0) → (F → Type 0) → (Piece → Type 0) → Result Answer (CommandFault F) → Type 0
-IsRunOver command stack may_be may_fail may_refuse (Ok answer) = HoldsOfFound may_be command stack (λ found. IsAnswerOf command stack found answer)
-IsRunOver command stack may_be may_fail may_refuse (Err (ContentsFault fault)) = (checks command ≡ true) × may_fail fault
-IsRunOver command stack may_be may_fail may_refuse (Err (Engine fault)) =
-    (fault ≡ Memory)
-    ⊎ HoldsOfFound may_be command stack (λ found. IsFailure command stack found (MayRefuseTold command stack may_refuse) fault)
+-- what comes of a command over a stack and contents that are told
+abbrev pub IsRunTold : Command → StackView → (List ℕ → Option (List ℕ) → Type 0) → (Piece → Type 0) → Result Answer EngineFault → Type 0
+IsRunTold command stack may_be may_refuse result =
+    HoldsOfFound may_be command stack (λ found. IsRun command stack found (MayRefuseTold command stack may_refuse) result)
 
--- no work is done for a request over contents, which has no blobs
-abbrev pub IsRefusedOver : {F : Type 0} → Request → Result Answer (CommandFault F) → Type 0
-IsRefusedOver request (Ok answer) = ⊥
-IsRefusedOver request (Err (ContentsFault fault)) = ⊥
-IsRefusedOver request (Err (Engine fault)) = IsRefusal request fault
+-- what comes of a request over contents that are told, which has no blobs; want of memory may come at any time
+abbrev pub IsOutcomeTold : Request → (List ℕ → Option (List ℕ) → Type 0) → (Piece → Type 0) → Result Answer EngineFault → Type 0
+IsOutcomeTold request may_be may_refuse (Ok answer) =
+    IsAccepted request × IsRunTold request.what (stack_of request) may_be may_refuse (Ok answer)
+IsOutcomeTold request may_be may_refuse (Err fault) =
+    IsRefusal request fault ⊎ (IsAccepted request × IsRunTold request.what (stack_of request) may_be may_refuse (Err fault))
 
--- what comes of a request over contents; want of memory may come at any time
+-- the same where it may be that they can't be told, for such a fault
 abbrev pub IsOutcomeOver : {F : Type 0} → Request → (List ℕ → Option (List ℕ) → Type 0) → (F → Type 0) → (Piece → Type 0) → Result Answer (CommandFault F) → Type 0
-IsOutcomeOver request may_be may_fail may_refuse result =
-    IsRefusedOver request result
-    ⊎ (IsAccepted request × IsRunOver request.what (stack_of request) may_be may_fail may_refuse result)
+IsOutcomeOver request may_be may_fail may_refuse (Ok answer) = IsOutcomeTold request may_be may_refuse (Ok answer)
+IsOutcomeOver request may_be may_fail may_refuse (Err (Engine fault)) = IsOutcomeTold request may_be may_refuse (Err fault)
+IsOutcomeOver request may_be may_fail may_refuse (Err (ContentsFault fault)) =
+    IsAccepted request × (checks request.what ≡ true) × may_fail fault

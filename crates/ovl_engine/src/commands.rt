@@ -11,12 +11,10 @@ ghost use Rattle.ovl_engine.specs.declared.faults.EngineFault.TheVariants.{Worke
 ghost use Rattle.ovl_engine.specs.Requests.{request_of};
 ghost use Rattle.ovl_engine.specs.Refusals.{is_outside as outside_test, blob_limit, blob_bytes};
 ghost use Rattle.ovl_engine.specs.Outcomes.{IsAccepted, IsRefusal, IsOutcome, IsRun, IsFailedWalk, MayRefuse, MayRefuseCheck, MayRefuseOwn};
-ghost use Rattle.ovl_engine.specs.Told.{HoldsOfFound, IsOutcomeOver, IsRunOver};
 ghost use Rattle.ovl_engine.specs.Commands.{checks as checks_test, makes_layers, stays_sound, wants_lower as lower_test};
 ghost use Rattle.ovl_engine.specs.Kept.{KeepsTree, KeepsTreeOf, KeepsSoundness, HasSoundStack, IsRequestOf, after};
 
-use crate::checks::{findings_by, findings_of};
-use crate::contents::{CommandFault, Contents};
+use crate::checks::findings_of;
 use crate::derefs::deref;
 use crate::faults::EngineFault;
 use crate::fsck_reports::{fsck_report_by, is_clean};
@@ -28,7 +26,7 @@ use crate::teams::Team;
 use crate::vacuums::vacuum;
 use crate::works::ShowWork;
 use ovl_board::WORKER_LIMIT;
-use ovl_check::{Blob, Finding, blobs_in_order, stated_names};
+use ovl_check::{Blob, Finding, blobs_in_order};
 use ovl_lookup::{LAYER_LIMIT, Stack};
 use ovl_pool::Gate;
 use std::alloc::Global;
@@ -117,40 +115,8 @@ pub fn command_of<G: Gate + Sync, R: Threads + Wait + Sync>(
     answer_of(&team, what, stack, blobs)
 }
 
-/// What [`command_of`] gives, with contents that needn't be held in memory in place of blobs: where the command checks the
-/// layers, [`Contents::tell`] is asked once, for the names of blobs that they state, each once, after all that is refused
-/// before any work. There is no limit of their bytes. The answer is that with blobs that may be what `tell` told of,
-/// whatever is under names that no layer states, see [`findings_need_named`](ovl_check::laws::findings_need_named); the gate
-/// is asked for directories alone. Where contents can't be told, that fault is told.
-pub fn command_over<C: Contents, G: Gate + Sync, R: Threads + Wait + Sync>(
-    rt: &R,
-    alloc: Global,
-    what: Command,
-    manifests: Vec<Vec<u8>>,
-    bottom: u16,
-    contents: &C,
-    workers: usize,
-    gate: &G,
-) -> Result<Answer, CommandFault<C::Fault>>
-    ensures outcome { IsOutcomeOver (request_of what manifests.items bottom [] workers) (C.may_be contents.now) (C.may_fail contents.now) (G.may_refuse gate.now) result }
-    ensures keeps { IfOk result (λ answer. makes_layers what ≡ true
-        → let request = request_of what manifests.items bottom [] workers in KeepsTree request (after request answer)) }
-    ensures sound { IfOk result (λ answer. stays_sound what ≡ true
-        → HasSoundStack (after (request_of what manifests.items bottom [] workers) answer)) }
-{
-    let stack = stack_for(rt, alloc, what, &manifests, bottom, &[], workers)?;
-    drop(manifests);
-    let team = Team {
-        rt,
-        alloc,
-        workers,
-        gate,
-    };
-    answer_over(&team, what, stack, contents)
-}
-
-// The stack of the layers that the manifests state, where nothing refuses the command before its work.
-fn stack_for<R: Threads + Sync>(
+/// The stack of the layers that the manifests state, where nothing refuses the command before its work.
+pub(crate) fn stack_for<R: Threads + Sync>(
     rt: &R,
     alloc: Global,
     what: Command,
@@ -233,49 +199,8 @@ fn found_in<G: Gate + Sync, R: Threads + Wait + Sync>(
     findings_of(team, stack, blobs)
 }
 
-// What the command gives of a stack that it isn't refused for, with contents that are told.
-fn answer_over<C: Contents, G: Gate + Sync, R: Threads + Wait + Sync>(
-    team: &Team<'_, G, R>,
-    what: Command,
-    stack: Stack,
-    contents: &C,
-) -> Result<Answer, CommandFault<C::Fault>>
-    requires number { (0 < team.now.workers) × (team.now.workers ≤ worker_limit) }
-    requires several { lower_test what ≡ true → 1 < length stack.layers }
-    ensures outcome { IsRunOver what stack (C.may_be contents.now) (C.may_fail contents.now) (G.may_refuse team.now.gate.now) result }
-    ensures keeps { IfOk result (λ answer. makes_layers what ≡ true → KeepsTreeOf stack answer) }
-    ensures sound { IfOk result (λ answer. stays_sound what ≡ true → KeepsSoundness stack answer) }
-{
-    let found = found_over(team, what, &stack, contents)?;
-    Ok(answer(team, what, stack, found)?)
-}
-
-// What is found in a stack with contents that are told, where the command checks it.
-fn found_over<C: Contents, G: Gate + Sync, R: Threads + Wait + Sync>(
-    team: &Team<'_, G, R>,
-    what: Command,
-    stack: &Stack,
-    contents: &C,
-) -> Result<Vec<Finding>, CommandFault<C::Fault>>
-    requires number { (0 < team.now.workers) × (team.now.workers ≤ worker_limit) }
-    ensures found { IfOk result (λ found. HoldsOfFound (C.may_be contents.now) what stack.now (λ all. checks_test what ≡ true → found.items ≡ all)) }
-    ensures sound { IfOk result (λ found. checks_test what ≡ true → clean_test found.items ≡ true → IsSoundStack stack.now) }
-    ensures fault { IfErr result (λ fault. IsRunOver what stack.now (C.may_be contents.now) (C.may_fail contents.now) (G.may_refuse team.now.gate.now) (Err fault)) }
-{
-    if !checks(what) {
-        return Ok(Vec::new(team.alloc));
-    }
-    let names = stated_names(team.alloc, stack)?;
-    let told = match contents.tell(team.alloc, &names) {
-        Ok(told) => told,
-        Err(fault) => return Err(CommandFault::Contents(fault)),
-    };
-    drop(names);
-    Ok(findings_by(team, stack, &told)?)
-}
-
-// What the command gives of a stack that it isn't refused for, by all that is found in it where the command checks.
-fn answer<G: Gate + Sync, R: Threads + Wait + Sync>(
+/// What the command gives of a stack that it isn't refused for, by all that is found in it where the command checks.
+pub(crate) fn answer<G: Gate + Sync, R: Threads + Wait + Sync>(
     team: &Team<'_, G, R>,
     what: Command,
     stack: Stack,
@@ -298,8 +223,8 @@ fn answer<G: Gate + Sync, R: Threads + Wait + Sync>(
     }
 }
 
-// Whether a command checks the layers with the contents of their files.
-fn checks(what: Command) -> bool
+/// Whether a command checks the layers with the contents of their files.
+pub(crate) fn checks(what: Command) -> bool
     ensures { result ≡ checks_test what }
 {
     match what {

@@ -7,9 +7,6 @@ use Rattle.ovl_manifest.specs.Text.{manifest_text}
 use Rattle.ovl_lookup.specs.Stacks.{StackView}
 use Rattle.ovl_check.specs.declared.findings.Finding.{Finding}
 use Rattle.ovl_check.specs.Blobs.{BlobView}
-use Rattle.ovl_board.specs.declared.pieces.Piece.{Piece}
-use Rattle.ovl_engine.specs.declared.contents.CommandFault.TheVariants.{Contents as OfContents}
-use Rattle.ovl_engine.specs.Told.{IsOutcomeOver}
 use Rattle.ovl_engine.specs.Outcomes.{IsAnswerOf, IsRewritten}
 use Rattle.ovl_engine.specs.declared.requests.Command.{Command}
 use Rattle.ovl_engine.specs.declared.requests.Command.TheVariants.{Show, Fsck, Vacuum, Deref, Merge}
@@ -128,15 +125,8 @@ few_coming request (Ok answer) is = few_layers _ _ _ answer is.1
 few_coming request (Err fault) is = tt
 
 pub few_coming_over : (request : Request) (answered : Result Answer EngineFault) → IsComingOver request answered → IfOk answered (λ answer. length answer.layers.items ≤ 255)
-few_coming_over request (Ok answer) (inl refused) = elim refused [ ]
-few_coming_over request (Ok answer) (inr run) = few_layers _ _ _ answer run.1.is
+few_coming_over request (Ok answer) is = few_layers _ _ _ answer is.1.is
 few_coming_over request (Err fault) is = tt
-
--- why contents aren't told
-pub untold : (request : Request) (may_be : List ℕ → Option (List ℕ) → Type 0) (may_fail : ProgramFault → Type 0) (may_refuse : Piece → Type 0) (fault : ProgramFault)
-    → IsOutcomeOver {F = ProgramFault} request may_be may_fail may_refuse (Err (OfContents fault)) → may_fail fault
-untold request may_be may_fail may_refuse fault (inl refused) = elim refused [ ]
-untold request may_be may_fail may_refuse fault (inr run) = run.1.1
 
 -- a writer that isn't written to
 pub stays : (before : Option (List ℕ)) → Keeps before before

@@ -9,7 +9,7 @@ use Rattle.std.specs.declared.cmp.Ordering.TheVariants.{Less, Equal}
 use Rattle.std.proofs.lemmas.Cmp.{tied_itself}
 use Rattle.std.proofs.lemmas.List.{map-append, take_more, take-append-drop}
 use Rattle.std.proofs.lemmas.List.Folds.{find-append}
-use Rattle.std.proofs.lemmas.List.Elements.{All-nil, All-push, Contains-append_left, Contains-append_right, Contains-push_cases}
+use Rattle.std.proofs.lemmas.List.Elements.{All-push, Contains-append_left, Contains-append_right, Contains-push_cases}
 use Rattle.ovl_names.specs.Order.{ascends}
 use Rattle.ovl_names.proofs.Ascending.{ascends-across, ascends-more, both, is_lt-Less, list_all-front}
 use Rattle.ovl_board.proofs.LawsOfMembers.{Every, Every-All, Contains-In, In-Contains, In-map}
@@ -76,16 +76,6 @@ module _ (blobs : List BlobView) (name bytes : List ℕ) where
       ∙ ap (λ b. option_or None (cond b (Some (record { name = name; bytes = bytes })) None)) ((bytes_decides name name).1 refl)))
 
 -- ---- one more name
-
--- no name, and nothing is told
-pub told_of_none : (may_be : List ℕ → Option (List ℕ) → Type 0) → AreTold may_be [] []
-told_of_none may_be = record {
-  blobs = [];
-  contents = refl;
-  ascend = refl;
-  asked = All-nil _;
-  each = λ name inside. absurd (In-Contains name [] inside);
-}
 
 module _ (may_be : List ℕ → Option (List ℕ) → Type 0) (names : List (List ℕ)) (name : List ℕ) (up : ascends digest_cmp (names ++ name ∷ []) ≡ true) (told : List Content) (are : AreTold may_be names told) where
   before : (other : List ℕ) → Contains names other → is_lt (digest_cmp other name) ≡ true

@@ -7,3 +7,4 @@ pub mod Lines
 pub mod Programs
 pub mod Reported
 pub mod Status
+pub mod Tellings

@@ -9,8 +9,7 @@ use Rattle.ovl_engine.specs.declared.faults.EngineFault.{EngineFault}
 use Rattle.ovl_engine.specs.declared.faults.EngineFault.TheVariants.{Faulty as FaultyLayers}
 use Rattle.ovl_engine.specs.Requests.{Request}
 use Rattle.ovl_engine.specs.Outcomes.{IsOutcome}
-use Rattle.ovl_engine.specs.Told.{IsOutcomeOver}
-use Rattle.ovl_engine.specs.declared.contents.CommandFault.TheVariants.{Engine as OfEngine}
+use Rattle.ovl_engine.specs.Told.{IsOutcomeTold}
 use Rattle.ovl_program.specs.declared.output.status.Ending.{Ending}
 use Rattle.ovl_program.specs.declared.output.status.Ending.TheVariants.{Faulty}
 use Rattle.ovl_program.specs.declared.faults.ProgramFault.{ProgramFault}
@@ -25,18 +24,13 @@ use Rattle.ovl_program.specs.LayerFiles.{IsOutFile}
 abbrev pub refuses_nothing : Piece → Type 0
 refuses_nothing piece = ⊥
 
--- contents that are told have no fault
-abbrev pub no_fault : ProgramFault → Type 0
-no_fault fault = ⊥
-
 -- this may come of a request
 abbrev pub IsComing : Request → Result Answer EngineFault → Type 0
 IsComing request result = IsOutcome request refuses_nothing result
 
 -- this may come of a request over contents that are told of the files of a folder
 abbrev pub IsComingOver : Request → Result Answer EngineFault → Type 0
-IsComingOver request (Ok answer) = IsOutcomeOver {F = ProgramFault} request anything no_fault refuses_nothing (Ok answer)
-IsComingOver request (Err fault) = IsOutcomeOver {F = ProgramFault} request anything no_fault refuses_nothing (Err (OfEngine fault))
+IsComingOver request result = IsOutcomeTold request anything refuses_nothing result
 
 -- the fault is told by a report
 abbrev pub has_report : EngineFault → Bool

@@ -5,3 +5,4 @@ pub mod folder_in_parts;
 pub mod held_blobs;
 pub mod manifests;
 pub mod reads;
+pub mod tellings;

@@ -13,7 +13,7 @@ pub use command_line::parser::line;
 pub use faults::ProgramFault;
 pub use files::blob_folder::read_blobs;
 pub use files::blob_parts::tell_file;
-pub use files::folder_in_parts::FolderInParts;
+pub use files::folder_in_parts::tell_blobs;
 pub use files::manifests::{SharedFiles, read_file, read_files};
 pub use files::reads::{INPUT_LIMIT, ReadFault, read_all, read_expected};
 pub use output::hand_out::{OutFault, hand_out};

@@ -1,4 +1,6 @@
-use ovl_program::{ProgramFault, SharedFiles, read_file};
+use ovl_engine::Content;
+use ovl_inode::Digest;
+use ovl_program::{ProgramFault, ReadFault, SharedFiles, read_file, tell_file};
 use std::alloc::Allocator;
 use std::fs::{Metadata, OpenFile, OpenOptions};
 use std::io;
@@ -230,5 +232,9 @@ impl<R> Files for Disk<'_, R> {
 impl<R: AllocGlobal> SharedFiles for Disk<'_, R> {
     fn read_shared(&self, path: &str) -> Result<Vec<u8>, ProgramFault> {
         read_file(self, path)
+    }
+
+    fn tell_shared(&self, path: &str, name: Digest) -> Result<Option<Content>, ReadFault> {
+        tell_file(self, path, name)
     }
 }

@@ -179,7 +179,7 @@ fn contents_of_any_size_are_those_of_the_files(rt: HostRuntime) -> Result<(), Fa
             rt: &rt,
             things: &things,
         };
-        for workers in [1, 2, 64] {
+        for workers in [1, 2, 7, 64] {
             let mut asked = line(alloc, Some("b"), &["low"])?;
             asked.any_size = true;
             asked.workers = workers;
@@ -189,6 +189,58 @@ fn contents_of_any_size_are_those_of_the_files(rt: HostRuntime) -> Result<(), Fa
                 Ok(report) => assert_eq!(rt; output.as_slice(), report.as_bytes()),
                 Err(path) => assert_eq!(rt; fault, unread(alloc, path)?),
             }
+        }
+    }
+    Ok(())
+}
+
+// A root with eight files, whose blobs' names have one digit each.
+const EIGHT: &[u8] = b"{\"entries\":[\
+    {\"gid\":0,\"kind\":\"dir\",\"mode\":493,\"mtime\":0,\"path\":\"/\",\"uid\":0,\"xattrs\":{}},\
+    {\"blob\":\"0000000000000000000000000000000000000000000000000000000000000000\",\"gid\":0,\"kind\":\"file\",\"mode\":420,\"mtime\":0,\"path\":\"/0\",\"size\":1,\"uid\":0,\"xattrs\":{}},\
+    {\"blob\":\"1111111111111111111111111111111111111111111111111111111111111111\",\"gid\":0,\"kind\":\"file\",\"mode\":420,\"mtime\":0,\"path\":\"/1\",\"size\":1,\"uid\":0,\"xattrs\":{}},\
+    {\"blob\":\"2222222222222222222222222222222222222222222222222222222222222222\",\"gid\":0,\"kind\":\"file\",\"mode\":420,\"mtime\":0,\"path\":\"/2\",\"size\":1,\"uid\":0,\"xattrs\":{}},\
+    {\"blob\":\"3333333333333333333333333333333333333333333333333333333333333333\",\"gid\":0,\"kind\":\"file\",\"mode\":420,\"mtime\":0,\"path\":\"/3\",\"size\":1,\"uid\":0,\"xattrs\":{}},\
+    {\"blob\":\"4444444444444444444444444444444444444444444444444444444444444444\",\"gid\":0,\"kind\":\"file\",\"mode\":420,\"mtime\":0,\"path\":\"/4\",\"size\":1,\"uid\":0,\"xattrs\":{}},\
+    {\"blob\":\"5555555555555555555555555555555555555555555555555555555555555555\",\"gid\":0,\"kind\":\"file\",\"mode\":420,\"mtime\":0,\"path\":\"/5\",\"size\":1,\"uid\":0,\"xattrs\":{}},\
+    {\"blob\":\"6666666666666666666666666666666666666666666666666666666666666666\",\"gid\":0,\"kind\":\"file\",\"mode\":420,\"mtime\":0,\"path\":\"/6\",\"size\":1,\"uid\":0,\"xattrs\":{}},\
+    {\"blob\":\"7777777777777777777777777777777777777777777777777777777777777777\",\"gid\":0,\"kind\":\"file\",\"mode\":420,\"mtime\":0,\"path\":\"/7\",\"size\":1,\"uid\":0,\"xattrs\":{}}],\"overlay-layer\":1}";
+
+const EIGHT_BLOBS: [&str; 8] = [
+    "b/0000000000000000000000000000000000000000000000000000000000000000",
+    "b/1111111111111111111111111111111111111111111111111111111111111111",
+    "b/2222222222222222222222222222222222222222222222222222222222222222",
+    "b/3333333333333333333333333333333333333333333333333333333333333333",
+    "b/4444444444444444444444444444444444444444444444444444444444444444",
+    "b/5555555555555555555555555555555555555555555555555555555555555555",
+    "b/6666666666666666666666666666666666666666666666666666666666666666",
+    "b/7777777777777777777777777777777777777777777777777777777777777777",
+];
+
+#[test]
+fn the_first_blob_that_cannot_be_read_is_told_by_any_number_of_workers(
+    rt: HostRuntime,
+) -> Result<(), Fail> {
+    let alloc = rt.alloc();
+    for (one, other) in [(0, 7), (2, 3), (6, 1), (5, 5)] {
+        let mut things = [("b", Folder(b"")); 10];
+        things[9] = ("low", File(EIGHT));
+        for (i, path) in EIGHT_BLOBS.iter().enumerate() {
+            let torn = i == one || i == other;
+            things[i] = (*path, if torn { TornFile(b"a") } else { File(b"a") });
+        }
+        let disk = Disk {
+            rt: &rt,
+            things: &things,
+        };
+        for workers in [1, 2, 7] {
+            let mut asked = line(alloc, Some("b"), &["low"])?;
+            asked.any_size = true;
+            asked.workers = workers;
+            let mut output = Vec::new(alloc);
+            let fault = perform(&disk, &asked, &mut output).err();
+            assert_eq!(rt; fault, unread(alloc, EIGHT_BLOBS[one.min(other)])?);
+            assert!(rt; output.is_empty());
         }
     }
     Ok(())

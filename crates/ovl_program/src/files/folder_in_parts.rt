@@ -1,43 +1,48 @@
 //! A folder of blobs of any size, which are read in parts.
-ghost use Rattle.std.specs.Prelude.{◌≡◌, true, IfOk, IfErr};
+ghost use Rattle.std.specs.Prelude.{◌≡◌, ◌∷◌, ◌++◌, [], Option, true, IfOk, IfErr, IfSome, OnOk, All};
+ghost use Rattle.std.specs.Thread.{IsSync};
 ghost use Rattle.ovl_names.specs.Order.{ascends};
 ghost use Rattle.ovl_check.specs.Blobs.{digest_cmp};
 ghost use Rattle.ovl_engine.specs.Told.{AreTold};
 ghost use Rattle.ovl_program.specs.Faults.{IsUnread};
-ghost use Rattle.ovl_program.specs.BlobFolders.{anything, IsInFolder, IsToldOf};
+ghost use Rattle.ovl_program.specs.BlobFolders.{anything, IsInFolder};
+ghost use Rattle.ovl_program.specs.declared.files.tellings.Held.{Held};
+ghost use Rattle.ovl_program.specs.Tellings.{AreSlotsOf, IsHeldUnder, IsShareOf};
 
 use crate::faults::ProgramFault;
 use crate::files::blob_folder::blob_path;
-use crate::files::blob_parts::tell_file;
+use crate::files::manifests::SharedFiles;
 use crate::files::reads::ReadFault;
-use ovl_engine::{Content, Contents};
+use crate::files::tellings::{Held, Slots, Stop, Told, held_by, joined};
+use ovl_engine::Content;
 use ovl_inode::Digest;
-use std::alloc::Global;
+use std::alloc::{AllocError, Global};
 use std::fs;
 use std::rt::Files;
+use std::sync::atomic::{AtomicUsize, Ordering};
+use std::thread::{Threads, map_indices};
 
-/// A folder of blobs, of which each is read in parts where it is asked for. What a name leads to in the folder is its blob
-/// where it is a regular file itself; where it isn't, a link too, or nothing is there, the name has none. Other names of the
-/// folder aren't looked at. The first blob, in the order of names, that can't be read is told.
-#[derive(Drop)]
-pub struct FolderInParts<'a, R> {
-    pub files: &'a R,
-    pub path: &'a str,
-}
-
-impl<R: Files + AllocGlobal> Contents for FolderInParts<'_, R> {
-    type Fault = ProgramFault;
-
-    ghost may_be = { λ _. anything };
-
-    ghost may_fail = { λ folder fault. IsUnread (IsInFolder folder.path.now) fault };
-
-    fn tell(&self, alloc: Global, names: &[Digest]) -> Result<Vec<Content>, ProgramFault> {
-        if let Err(fault) = find_folder(self.files, self.path) {
-            return Err(ProgramFault::unread(alloc, self.path, fault));
-        }
-        tell_all(self.files, alloc, self.path, names)
+/// The contents of the blobs of these names in a folder, in their order. What a name leads to there is its blob where it is
+/// a regular file itself, and is read in parts to its end; where it isn't, a link too, or nothing is there, the name has
+/// none. Other names of the folder aren't looked at. At most as many threads read as there are workers, each the file of the
+/// next name that none has taken. The first blob, in the order of names, that can't be read is told.
+pub fn tell_blobs<R: Files + SharedFiles + AllocGlobal + Threads + Sync>(
+    rt: &R,
+    folder: &str,
+    names: &[Digest],
+    workers: usize,
+) -> Result<Vec<Content>, ProgramFault>
+    requires ascend { ascends digest_cmp names.now ≡ true }
+    ensures told { IfOk result (λ told. AreTold anything names.now told.items) }
+    ensures fault { IfErr result (λ fault. IsUnread (IsInFolder folder.now) fault) }
+{
+    let alloc = rt.alloc();
+    if let Err(fault) = find_folder(rt, folder) {
+        return Err(ProgramFault::unread(alloc, folder, fault));
     }
+    let shares = shares_of(rt, alloc, folder, names, workers)?;
+    let slots = joined(alloc, folder, names, shares)?;
+    contents_of(rt, alloc, folder, names, &slots)
 }
 
 // That the path leads to a folder.
@@ -49,39 +54,120 @@ fn find_folder(files: &impl Files, path: &str) -> Result<(), ReadFault> {
     }
 }
 
-// What is told of the blobs of these names in a folder, in their order.
-fn tell_all<R: Files + AllocGlobal>(
+// What the workers tell of these names, each of those that it takes; no more of them than there are names.
+fn shares_of<R: SharedFiles + Threads + Sync>(
     rt: &R,
     alloc: Global,
     folder: &str,
     names: &[Digest],
+    workers: usize,
+) -> Result<Vec<Result<Vec<Told>, Stop>>, AllocError>
+    ensures { IfOk result (λ shares. All (IsShareOf folder.now names.now) shares.items) }
+{
+    let next = AtomicUsize::new(0);
+    let share = |_: usize| -> Result<Vec<Told>, Stop>
+        requires { IsSync R.row }
+        ensures { IsShareOf folder.entry.now names.entry.now result }
+    { tell_share(rt, alloc, folder, names, &next) };
+    map_indices(rt, alloc, workers.min(names.len()), &share)
+}
+
+// What one worker tells: again and again of the next name that none has taken. Where it stops, no further name is taken;
+// all before that one are by then.
+fn tell_share<R: SharedFiles>(
+    rt: &R,
+    alloc: Global,
+    folder: &str,
+    names: &[Digest],
+    next: &AtomicUsize,
+) -> Result<Vec<Told>, Stop>
+    ensures { IsShareOf folder.now names.now result }
+{
+    let mut told = Vec::new(alloc);
+    for _ in 0..names.len() {
+        let number = next.fetch_add(1, Ordering::Relaxed);
+        let Some(name) = names.get(number) else {
+            break;
+        };
+        if let Err(fault) = tell_next(rt, alloc, folder, *name, number, &mut told) {
+            next.store(names.len(), Ordering::Relaxed);
+            return Err(Stop { number, fault });
+        }
+    }
+    Ok(told)
+}
+
+// Tells of the name of this number, behind the others.
+fn tell_next<R: SharedFiles>(
+    rt: &R,
+    alloc: Global,
+    folder: &str,
+    name: Digest,
+    number: usize,
+    told: &mut Vec<Told>,
+) -> Result<(), ProgramFault>
+    ensures told { OnOk result ((held : Option Held)
+        × ((told.new.items ≡ told.old.items ++ record { number = number; held = held } ∷ []) × IsHeldUnder name held)) }
+    ensures fault { IfErr result (λ fault. IsUnread (IsInFolder folder.now) fault) }
+{
+    let held = tell_blob(rt, alloc, folder, name)?;
+    told.push(Told { number, held })?;
+    Ok(())
+}
+
+// The contents of these names by what is told of them.
+fn contents_of<R: SharedFiles>(
+    rt: &R,
+    alloc: Global,
+    folder: &str,
+    names: &[Digest],
+    slots: &Slots,
 ) -> Result<Vec<Content>, ProgramFault>
-    requires { ascends digest_cmp names.now ≡ true }
+    requires ascend { ascends digest_cmp names.now ≡ true }
+    requires slots { AreSlotsOf names.now slots.now }
     ensures told { IfOk result (λ told. AreTold anything names.now told.items) }
     ensures fault { IfErr result (λ fault. IsUnread (IsInFolder folder.now) fault) }
 {
     let mut contents = Vec::with_capacity(alloc, names.len())?;
-    for name in names {
-        if let Some(content) = tell_blob(rt, alloc, folder, *name)? {
-            contents.push(content)?;
+    for (number, name) in names.iter().enumerate() {
+        if let Some(held) = told_or_now(rt, alloc, folder, *name, slots.get(number))? {
+            contents.push(held.under(*name))?;
         }
     }
     Ok(contents)
 }
 
-// What is told of the blob of a name in a folder, if it has one.
-fn tell_blob<R: Files + AllocGlobal>(
+// What is told of a name: by a worker, or where none did, now.
+fn told_or_now<R: SharedFiles>(
     rt: &R,
     alloc: Global,
     folder: &str,
     name: Digest,
-) -> Result<Option<Content>, ProgramFault>
-    ensures told { IfOk result (IsToldOf name) }
+    told: Option<Option<Held>>,
+) -> Result<Option<Held>, ProgramFault>
+    requires { IfSome told (IsHeldUnder name) }
+    ensures told { IfOk result (IsHeldUnder name) }
+    ensures fault { IfErr result (λ fault. IsUnread (IsInFolder folder.now) fault) }
+{
+    match told {
+        Some(held) => Ok(held),
+        None => tell_blob(rt, alloc, folder, name),
+    }
+}
+
+// What the file of the blob of a name in a folder holds, if it has one.
+fn tell_blob<R: SharedFiles>(
+    rt: &R,
+    alloc: Global,
+    folder: &str,
+    name: Digest,
+) -> Result<Option<Held>, ProgramFault>
+    ensures told { IfOk result (IsHeldUnder name) }
     ensures fault { IfErr result (λ fault. IsUnread (IsInFolder folder.now) fault) }
 {
     let path = blob_path(alloc, folder, &name)?;
-    match tell_file(rt, path.as_str(), name) {
-        Ok(content) => Ok(content),
+    match rt.tell_shared(path.as_str(), name) {
+        Ok(content) => Ok(held_by(content)),
         Err(fault) => Err(ProgramFault::unread(alloc, path.as_str(), fault)),
     }
 }

@@ -1,9 +1,13 @@
 ghost use Rattle.std.specs.Prelude.{◌≡◌, ◌≤◌, IfOk, IfErr, MatchResult, string_bytes, vec_len, length, map, All, Contains};
 ghost use Rattle.std.specs.Thread.{IsSync};
+ghost use Rattle.ovl_program.specs.BlobFolders.{IsToldOf};
 ghost use Rattle.ovl_program.specs.Faults.{IsUnread};
 
 use crate::faults::ProgramFault;
+use crate::files::blob_parts::tell_file;
 use crate::files::reads::{INPUT_LIMIT, ReadFault, read_expected};
+use ovl_engine::Content;
+use ovl_inode::Digest;
 use std::alloc::Global;
 use std::fs::{self, OpenFile};
 use std::rt::Files;
@@ -38,11 +42,19 @@ pub trait SharedFiles {
         ensures { MatchResult result
             (λ bytes. vec_len bytes ≤ INPUT_LIMIT)
             (λ fault. IsUnread (λ told. told ≡ path.now) fault) };
+
+    /// What [`tell_file`] gives.
+    fn tell_shared(&self, path: &str, name: Digest) -> Result<Option<Content>, ReadFault>
+        ensures { IfOk result (IsToldOf name) };
 }
 
 impl SharedFiles for HostRuntime {
     fn read_shared(&self, path: &str) -> Result<Vec<u8>, ProgramFault> {
         read_file(self, path)
+    }
+
+    fn tell_shared(&self, path: &str, name: Digest) -> Result<Option<Content>, ReadFault> {
+        tell_file(self, path, name)
     }
 }
 

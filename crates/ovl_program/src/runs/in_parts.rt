@@ -6,18 +6,20 @@ ghost use Rattle.ovl_program.specs.Programs.{IsOfBlobs, IsPerformed, folder_in_p
 
 use crate::command_line::options::Line;
 use crate::faults::ProgramFault;
-use crate::files::folder_in_parts::FolderInParts;
+use crate::files::folder_in_parts::tell_blobs;
+use crate::files::manifests::SharedFiles;
 use crate::output::report::write_report;
 use crate::output::status::Ending;
-use ovl_engine::{Answer, CommandFault, EngineFault, command_over};
+use ovl_engine::{Answer, EngineFault, answer_told, question_of};
 use ovl_pool::OpenGate;
 use std::io::Write;
 use std::rt::Files;
 use std::sync::Wait;
 use std::thread::Threads;
 
-/// Does what a line asks for with its manifests and the blobs of this folder of it, which are read in parts.
-pub fn perform_in_parts<R: Files + AllocGlobal + Threads + Wait + Sync, W: Write>(
+/// Does what a line asks for with its manifests and the blobs of this folder of it, which are read in parts once nothing
+/// refuses the command before its work.
+pub fn perform_in_parts<R: Files + SharedFiles + AllocGlobal + Threads + Wait + Sync, W: Write>(
     rt: &R,
     line: &Line,
     folder: &String,
@@ -33,7 +35,7 @@ pub fn perform_in_parts<R: Files + AllocGlobal + Threads + Wait + Sync, W: Write
 }
 
 // What the line's command gives of these manifests and the blobs of this folder, where it can be told what these are.
-fn answer_in_parts<R: Files + AllocGlobal + Threads + Wait + Sync>(
+fn answer_in_parts<R: Files + SharedFiles + AllocGlobal + Threads + Wait + Sync>(
     rt: &R,
     line: &Line,
     folder: &String,
@@ -44,22 +46,18 @@ fn answer_in_parts<R: Files + AllocGlobal + Threads + Wait + Sync>(
         (request_of line.now.what manifests.items line.now.data_layers [] line.now.workers)) }
     ensures fault { IfErr result (λ fault. IsUnread (IsOfBlobs line.now) fault) }
 {
-    let contents = FolderInParts {
-        files: rt,
-        path: folder.as_str(),
-    };
-    match command_over(
+    let alloc = rt.alloc();
+    let question = match question_of(
         rt,
-        rt.alloc(),
+        alloc,
         line.what,
         manifests,
         line.data_layers,
-        &contents,
         line.workers,
-        &OpenGate,
     ) {
-        Ok(answer) => Ok(Ok(answer)),
-        Err(CommandFault::Engine(fault)) => Ok(Err(fault)),
-        Err(CommandFault::Contents(fault)) => Err(fault),
-    }
+        Ok(question) => question,
+        Err(fault) => return Ok(Err(fault)),
+    };
+    let told = tell_blobs(rt, folder.as_str(), &question.names, line.workers)?;
+    Ok(answer_told(rt, alloc, question, told, line.workers, &OpenGate))
 }

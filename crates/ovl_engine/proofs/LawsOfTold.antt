@@ -1,0 +1,62 @@
+-- What comes of a command over contents that are told.
+use Rattle.std.proofs.Common.{◌≡◌, ℕ, Bool, true, false, Option, Result, Ok, Err, List, [], inr, refl, subst, sym}
+use Rattle.std.proofs.lemmas.List.Elements.{All-nil}
+use Rattle.ovl_names.specs.Order.{ascends}
+use Rattle.ovl_lookup.specs.Stacks.{StackView}
+use Rattle.ovl_board.proofs.LawsOfMembers.{In-Contains}
+use Rattle.ovl_board.specs.declared.pieces.Piece.{Piece}
+use Rattle.ovl_check.specs.declared.contents.Content.{Content}
+use Rattle.ovl_check.specs.Blobs.{BlobView, digest_cmp}
+use Rattle.ovl_check.specs.Contents.{contents_of}
+use Rattle.ovl_check.specs.Findings.{findings}
+use Rattle.ovl_engine.specs.declared.requests.Command.{Command}
+use Rattle.ovl_engine.specs.declared.requests.Answer.{Answer}
+use Rattle.ovl_engine.specs.declared.faults.EngineFault.{EngineFault}
+use Rattle.ovl_engine.specs.declared.questions.Question.{Question}
+use Rattle.ovl_engine.specs.Commands.{checks}
+use Rattle.ovl_engine.specs.Requests.{Request}
+use Rattle.ovl_engine.specs.Outcomes.{IsAccepted, IsRun, stack_of}
+use Rattle.ovl_engine.specs.Questions.{AreAsked, IsQuestionOf}
+use Rattle.ovl_engine.specs.Told.{AreTold, IsOutcomeTold, IsRunTold, MayRefuseTold}
+
+module _ (may_be : List ℕ → Option (List ℕ) → Type 0) where
+  -- of no names nothing is told
+  pub nothing_told : AreTold may_be [] []
+  nothing_told = record {
+    blobs = [];
+    contents = refl;
+    ascend = refl;
+    asked = All-nil _;
+    each = λ name inside. absurd (In-Contains name [] inside);
+  }
+
+  -- where the names that are asked for are told, what comes with blobs of these contents comes over what may be there
+  pub run_told : (command : Command) (stack : StackView) (may_refuse : Piece → Type 0) (names : List (List ℕ)) (told : List Content) (result : Result Answer EngineFault)
+      → AreAsked command stack names → AreTold may_be names told
+      → ((blobs : List BlobView) → contents_of blobs ≡ told → IsRun command stack (findings blobs stack) (MayRefuseTold command stack may_refuse) result)
+      → IsRunTold command stack may_be may_refuse result
+  run_told command stack may_refuse names told result asked of run = record {
+    blobs = of.blobs;
+    there = λ checking name stated. of.each name (((asked.stated checking).same name).1 stated);
+    is = run of.blobs (sym of.contents);
+  }
+
+  -- the same of a request and its question
+  pub outcome_told : (request : Request) (question : Question) (may_refuse : Piece → Type 0) (result : Result Answer EngineFault)
+      → IsAccepted request → IsQuestionOf request question → IsRunTold question.what question.stack may_be may_refuse result
+      → IsOutcomeTold request may_be may_refuse result
+  outcome_told request question may_refuse result accepted of run =
+      by result (subst (λ (stack : StackView). IsRunTold request.what stack may_be may_refuse result) of.stack.same
+      (subst (λ (what : Command). IsRunTold what question.stack may_be may_refuse result) of.what run))
+    where
+      by : (told : Result Answer EngineFault) → IsRunTold request.what (stack_of request) may_be may_refuse told → IsOutcomeTold request may_be may_refuse told
+      by (Ok answer) run = (accepted, run)
+      by (Err fault) run = inr (accepted, run)
+
+-- the names that are asked for ascend
+pub asked_ascend : (command : Command) (stack : StackView) (names : List (List ℕ)) → AreAsked command stack names → ascends digest_cmp names ≡ true
+asked_ascend command stack names asked = by (checks command) refl
+  where
+    by : (b : Bool) → checks command ≡ b → ascends digest_cmp names ≡ true
+    by true checking = (asked.stated checking).ascend
+    by false not_checking = subst (λ (ns : List (List ℕ)). ascends digest_cmp ns ≡ true) (sym (asked.none not_checking)) refl
