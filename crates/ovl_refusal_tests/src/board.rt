@@ -1,8 +1,11 @@
 //! Walks of a work, its machine of steps, lanes, and runs by several workers.
-ghost use Rattle.std.specs.Prelude.{◌≡◌, []};
+ghost use Rattle.std.specs.Prelude.{◌≡◌, IfOk, []};
+ghost use Rattle.ovl_board.specs.Balance.{AllLawful};
+ghost use Rattle.ovl_board.specs.Assembly.{bare};
 
 use ovl_board::{
-    BoardFault, Core, CoreFault, Event, Parcel, Piece, Tree, copies, plain_walk, sort_parcels,
+    BoardFault, Core, CoreFault, Event, Parcel, Piece, Tree, assemble, copies, kids_lawful,
+    plain_walk, sort_parcels,
 };
 use ovl_lanes::{LaneFault, lanes};
 use ovl_names::Path;
@@ -77,6 +80,28 @@ fn is_sorted(alloc: Global, work: &Tree) -> Result<bool, AllocError> {
     Ok(parcels == walk)
 }
 
+// These parcels, each tested for lawful kids.
+fn checked(alloc: Global, parcels: Vec<Parcel<()>>) -> Result<Vec<Parcel<()>>, AllocError>
+    ensures { IfOk result (λ lawful. AllLawful (bare lawful.items)) }
+{
+    let mut lawful = Vec::new(alloc);
+    for parcel in parcels {
+        if !kids_lawful(&parcel) {
+            return Err(AllocError);
+        }
+        lawful.push(parcel)?;
+    }
+    Ok(lawful)
+}
+
+fn is_assembled(alloc: Global, work: &Tree) -> Result<bool, BoardFault> {
+    let walk = plain_walk(alloc, work, root_of(alloc, 0))?;
+    let mut parcels = plain_walk(alloc, work, root_of(alloc, 0))?;
+    parcels.reverse();
+    let assembled = assemble(alloc, &root_of(alloc, 0), checked(alloc, parcels)?)?;
+    Ok(assembled == walk)
+}
+
 fn are_copied(alloc: Global, parcels: &[Parcel<()>]) -> Result<bool, AllocError> {
     for parcel in parcels {
         let piece = parcel.piece.copy(alloc)?;
@@ -125,6 +150,7 @@ fn works_are_walked(rt: HostRuntime) -> Result<(), Fail> {
     let alloc = rt.alloc();
     let large = again!(tree_of(alloc, 30), AllocError)?;
     assert!(rt; again!(is_sorted(alloc, &large), AllocError)?);
+    assert!(rt; again!(is_assembled(alloc, &large), BoardFault::Memory)?);
     let small = again!(tree_of(alloc, 3), AllocError)?;
     assert!(rt; again!(is_stepped(alloc, &small), CoreFault::Memory)?);
     assert!(rt; again!(are_pushed(alloc), LaneFault::Memory)?);
