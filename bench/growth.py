@@ -160,6 +160,61 @@ def one_directory(size):
     return [files("", size)]
 
 
+def whiteout(path):
+    return entry(path, "char", major=0, minor=0)
+
+
+def directories(directory, count, attrs=None):
+    return [entry(f"{directory}/d{n:07d}", attrs=attrs) for n in range(count)]
+
+
+def at_the_end_of_chains(size):
+    below = [lambda: chain("x", 62)] * (size - 1)
+    return [*below, lambda: chain("x", 62) + directories("/x" * 62, 2_000)]
+
+
+def directories_under_a_chain(size):
+    return [chain("x", 63) + directories("/x" * 63, size), chain("x", 63)]
+
+
+def equal_chains(size):
+    moved = [entry("/m", attrs={REDIRECT: "/z"}), whiteout("/z")]
+    equal = [entry(f"/c{n:05d}" + "/a" * names) for n in range(size) for names in range(63)]
+    return [moved + equal, [entry("/z")]]
+
+
+def alike_redirects(size):
+    layer = []
+    for n in range(size):
+        top = f"/m{n:05d}"
+        layer += [entry(top, attrs={REDIRECT: f"/{n:05d}" + "/a" * (20 * size - 1)})] + directories(top, size)
+    return [layer, []]
+
+
+def moved_in_redirected(size):
+    return [[entry("/m", attrs={REDIRECT: "/a" * (20 * size)})]
+            + [entry(f"/m/d{n:07d}", attrs={REDIRECT: f"x{n:07d}"}) for n in range(size)], []]
+
+
+def whiteouts_in_redirected(size):
+    inside = directories("/m", size)
+    return [[entry("/m", attrs={REDIRECT: "/a" * (20 * size)})] + inside + [whiteout(it["path"] + "/w") for it in inside], []]
+
+
+def empty_over_directories(size):
+    return [*[[]] * (size - 1), lambda: directories("", 5_000)]
+
+
+def redirected_to_themselves(size):
+    own = [entry("/d", attrs={REDIRECT: "/d"})]
+    return [*[own] * (size - 1), lambda: [entry("/d")] + files("/d", 1_000)]
+
+
+def attributes_and_whiteouts(size):
+    return [[entry("/d", attrs={f"user.a{n}": "v" for n in range(size)})] + [whiteout(f"/d/w{n:07d}") for n in range(size)],
+            [entry("/d")] + files("/d", 1)]
+
+
 # ---- manifests that state no layer, and are to be refused without a value of all that they hold
 
 def manifest(entries):
@@ -225,6 +280,19 @@ CASES = [
     Case("a directory with a redirect of N names, and N directories in it", "show", redirected_directories, (250, 500, 1_000, 2_000)),
     # The redirect leads nowhere, which is a fault.
     Case("a directory with a redirect of N names, and N directories in it", "fsck", redirected_directories, (250, 500, 1_000, 2_000), status=1),
+    # Each directory's row is sought in each layer: at most layers times directories.
+    Case("N layers of 62 directories in each other, the lowest with 2,000 at their end", "show", at_the_end_of_chains, (8, 32, 127), 2.2),
+    Case("N - 1 layers of a root alone over one of 5,000 directories", "show", empty_over_directories, (8, 32, 127), 2.2),
+    Case("N layers in which a directory is redirected to itself, the lowest with 1,000 files in it", "show", redirected_to_themselves,
+         (8, 32, 127), 2.2),
+    Case("N directories under 63 in each other, over these 63", "merge", directories_under_a_chain, (500, 1_000, 2_000, 4_000)),
+    Case("N chains of 62 directories of equal names, and a moved directory", "fsck", equal_chains, (50, 100, 200)),
+    Case("N directories with redirects of 20 N names that differ in the first alone, and N directories in each", "fsck", alike_redirects,
+         (16, 32, 64), status=1),
+    Case("a directory with a redirect of 20 N names, and N moved directories in it", "fsck", moved_in_redirected, (50, 100, 200, 400), status=1),
+    Case("a directory with a redirect of 20 N names, and N directories of a whiteout in it", "fsck", whiteouts_in_redirected,
+         (50, 100, 200, 400), status=1),
+    Case("a directory with N attributes and N whiteouts", "fsck", attributes_and_whiteouts, (500, 1_000, 2_000)),
     # What anyone may hand in: the status is that of a manifest that is refused.
     Case("N objects that are no entries", "show", no_entries, (1_000_000, 2_000_000), status=REFUSED, most=MOST),
     Case("a list of N numbers as the whole manifest", "show", numbers_alone, (4_000_000, 8_000_000), status=REFUSED, most=MOST),
@@ -252,8 +320,10 @@ def cost(program, case, size, longest, unsorted=False):
         with open(os.path.join(blobs, BLOB), "wb") as out:
             out.write(CONTENTS)
         layers, report = write(folder, case.make(size), unsorted or case.unsorted), os.path.join(folder, "report")
-        command = [program, case.command, *(["--blobs", blobs] if case.command == "fsck" else []), "--workers", "1", "--data-layers",
-                   str(case.data_only(size)), *layers]
+        places = ["--blobs", blobs] if case.command != "show" else []
+        if case.command not in ("show", "fsck"):
+            places += ["--out", folder]
+        command = [program, case.command, *places, "--workers", "1", "--data-layers", str(case.data_only(size)), *layers]
         seconds, peak, status = run.one_run(command, os.devnull, report)
         if status != case.status:
             sys.exit(f"growth.py: {case.name}: status {status} at {size}")

@@ -77,7 +77,7 @@ fn assemble_unordered<T: Drop>(
     Ok(parcels)
 }
 
-/// Puts parcels into the order of their pieces; fails, with nothing changed, only for want of memory.
+/// Puts parcels into the order of their pieces; fails, with nothing changed, only when out of memory.
 pub fn sort_parcels<T>(parcels: &mut Vec<Parcel<T>>) -> Result<(), AllocError>
     ensures same { IsPermutation parcels.old.items parcels.new.items }
     ensures sorted { OnOk result (IsSorted piece_cmp (pieces_of (bare parcels.new.items))) }

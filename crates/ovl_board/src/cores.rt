@@ -46,7 +46,7 @@ impl<'a, W: Work> Core<'a, W> {
     ghost use Rattle.ovl_board.specs.Cores.{work_of, root_of, parcels_of, state_of};
 
     /// A core of 1 to [`WORKER_LIMIT`] workers, whose first lane holds the root of the work; everything else is empty.
-    /// Refuses every other number of workers as not possible, and fails otherwise only for want of memory.
+    /// Refuses every other number of workers as not possible, and fails otherwise only when out of memory.
     pub fn start(
         alloc: Global,
         work: &'a W,
@@ -69,7 +69,7 @@ impl<'a, W: Work> Core<'a, W> {
         })
     }
 
-    /// Does one event exactly, or refuses it: as not possible where it isn't, else for want of memory. A refused
+    /// Does one event exactly, or refuses it: as not possible where it isn't, else where memory runs out. A refused
     /// step changes nothing: its parcels are the same ones, outputs and all.
     pub fn step(&mut self, alloc: Global, event: Event) -> Result<(), CoreFault>
         ensures done { OnOk result

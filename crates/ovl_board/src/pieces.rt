@@ -17,7 +17,7 @@ pub struct Piece {
 impl Piece {
     ghost use Rattle.ovl_board.specs.Pieces.{IsOneBelow};
 
-    /// A piece equal to this one; fails only for want of memory.
+    /// A piece equal to this one; fails only when out of memory.
     pub fn copy(&self, alloc: Global) -> Result<Piece, AllocError>
         ensures { IfOk result (λ piece. piece ≡ self.now) }
     {
@@ -45,7 +45,7 @@ pub(crate) fn lies_below(dir: &Path, path: &Path) -> bool
     }
 }
 
-/// Pieces equal to these, in their order; fails only for want of memory.
+/// Pieces equal to these, in their order; fails only when out of memory.
 pub fn copies(alloc: Global, pieces: &[Piece]) -> Result<Vec<Piece>, AllocError>
     ensures { IfOk result (λ copied. copied.items ≡ pieces.now) }
 {

@@ -9,7 +9,7 @@ use std::alloc::{AllocError, Global};
 
 /// The plain walk of a work: the parcels of all pieces that kids lead to from `root`, in the order of pieces,
 /// each once. The root's parcel comes first, and then the walk from each kid in turn.
-/// It goes as deep as the work says, a call for each name. Fails only for want of memory.
+/// It goes as deep as the work says, a call for each name. Fails only when out of memory.
 pub fn plain_walk<W: Work>(
     alloc: Global,
     work: &W,

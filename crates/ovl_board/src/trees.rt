@@ -45,7 +45,7 @@ impl Model for Tree {
 
 impl Tree {
     /// The tree of these paths, of which the first is `/`; they ascend strictly, and the parent of each is listed.
-    /// A path of 2^32 names or more is refused as want of memory, since its tree has as many paths.
+    /// A path of 2^32 names or more is refused as out of memory, since its tree has as many paths.
     pub fn of(paths: Vec<Path>) -> Result<Tree, TreeFault>
         ensures tree { IfOk result (λ tree. (tree ≡ paths.items) × HasTreeShape paths.items) }
         ensures refused { (result ≡ Err Shape) ↔ (HasTreeShape paths.items → ⊥) }

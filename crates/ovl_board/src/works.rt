@@ -26,7 +26,7 @@ pub trait Work {
     ghost deepest_of: { Self → ℕ };
 
     /// The kids and the output of a piece. Kids have the piece's space, lie one name below it, ascend
-    /// strictly, and have at most as many names as [`Work::deepest`] says. Fails only for want of memory.
+    /// strictly, and have at most as many names as [`Work::deepest`] says. Fails only when out of memory.
     fn visit(&self, alloc: Global, piece: &Piece) -> Result<(Vec<Piece>, Self::Out), AllocError>
         ensures kids { IfOk result (λ r. r.0.items ≡ kids_of self.now piece.now) }
         ensures out { IfOk result (λ r. seen r.1 ≡ out_of self.now piece.now) };

@@ -125,7 +125,7 @@ impl<'a> Work for BlobWork<'a> {
 }
 
 /// The names of the blobs whose bytes have another SHA-256 digest, ascending, where the blobs' names ascend strictly.
-/// The parcels are the plain walk of the work from `/` of its space. Fails only for want of memory.
+/// The parcels are the plain walk of the work from `/` of its space. Fails only when out of memory.
 pub fn finish_blobs(
     alloc: Global,
     _work: &BlobWork<'_>,

@@ -17,7 +17,7 @@ use std::alloc::{AllocError, Global};
 use std::collections::BTreeSet;
 
 /// All that is found in a stack and its blobs, by layer, then by path, then by code, each once. The lists of parcels
-/// are the plain walks of the work from the root of each layer, in order. Fails only for want of memory.
+/// are the plain walks of the work from the root of each layer, in order. Fails only when out of memory.
 pub fn finish_check(
     alloc: Global,
     _work: &CheckWork<'_>,

@@ -17,7 +17,7 @@ use ovl_rewrite::{RewriteFault, layer_told};
 use std::alloc::Global;
 
 /// The topmost layer without redirects and metacopy files. The parcels are the plain walk of the work from `/` of
-/// space 0. Over a sound stack it is refused, but for want of memory, exactly where it passes a limit of manifests.
+/// space 0. Over a sound stack it is refused, unless memory runs out, exactly where it passes a limit of manifests.
 pub fn finish_deref(
     alloc: Global,
     work: &DerefWork<'_>,

@@ -136,7 +136,7 @@ abbrev pub MayRefuse : Command → StackView → List BlobView → (Piece → Ty
 MayRefuse command stack blobs may_refuse =
     ((checks command ≡ true) × MayRefuseCheck stack blobs may_refuse) ⊎ MayRefuseOwn command stack may_refuse
 
--- a run fails by its gate alone, where that may refuse a piece; want of memory is told apart
+-- a run fails by its gate alone, where that may refuse a piece; that memory ran out is told apart
 abbrev pub IsFailedRun : Type 0 → RunFault → Type 0
 IsFailedRun refused RunWorkers = ⊥
 IsFailedRun refused Gate = refused
@@ -158,7 +158,7 @@ PassesNewLimit Merge stack = PassesLimitMerged (merge_of stack)
 abbrev pub IsLimitedOut : Command → StackView → List Finding → Type 0
 IsLimitedOut command stack found = (is_clean found ≡ true) × PassesNewLimit command stack
 
--- why a walk isn't done, where the gate may refuse a piece of it; want of memory may come at any time
+-- why a walk isn't done, where the gate may refuse a piece of it; out of memory may come at any time
 abbrev pub IsFailedWalk : Type 0 → EngineFault → Type 0
 IsFailedWalk refused (Run fault) = IsFailedRun refused fault
 IsFailedWalk refused Memory = ⊤
@@ -186,7 +186,7 @@ IsFailure command stack found refused BlobSize = ⊥
 IsFailure command stack found refused NoLower = ⊥
 IsFailure command stack found refused DataLayers = ⊥
 
--- why new layers aren't made of a stack of which this is found, before any is; want of memory may come at any time
+-- why new layers aren't made of a stack of which this is found, before any is; out of memory may come at any time
 abbrev pub IsUnclean : List Finding → EngineFault → Type 0
 IsUnclean found (Faulty report) = (is_clean found ≡ false) × (report.items ≡ fsck_report found)
 IsUnclean found Memory = ⊤
@@ -213,7 +213,7 @@ IsAccepted request = first_refusal request ≡ None
 abbrev pub IsRefused : Request → EngineFault → Type 0
 IsRefused request fault = first_refusal request ≡ Some fault
 
--- why no work is done for a request; want of memory may come at any time
+-- why no work is done for a request; out of memory may come at any time
 abbrev pub IsRefusal : Request → EngineFault → Type 0
 IsRefusal request Memory = ⊤
 IsRefusal request (Faulty report) = ⊥
@@ -231,7 +231,7 @@ IsRefusal request DataLayers = IsRefused request DataLayers
 abbrev pub found_in : Request → List Finding
 found_in request = findings request.blobs (stack_of request)
 
--- what comes of a request, by a gate that may refuse these pieces; want of memory may come at any time
+-- what comes of a request, by a gate that may refuse these pieces; out of memory may come at any time
 abbrev pub IsOutcome : Request → (Piece → Type 0) → Result Answer EngineFault → Type 0
 IsOutcome request may_refuse (Ok answer) =
     IsAccepted request × IsAnswer request.what (stack_of request) request.blobs answer

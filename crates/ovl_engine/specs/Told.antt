@@ -50,7 +50,7 @@ abbrev pub IsRunTold : Command → StackView → (List ℕ → Option (List ℕ)
 IsRunTold command stack may_be may_refuse result =
     HoldsOfFound may_be command stack (λ found. IsRun command stack found (MayRefuseTold command stack may_refuse) result)
 
--- what comes of a request over contents that are told, which has no blobs; want of memory may come at any time
+-- what comes of a request over contents that are told, which has no blobs; out of memory may come at any time
 abbrev pub IsOutcomeTold : Request → (List ℕ → Option (List ℕ) → Type 0) → (Piece → Type 0) → Result Answer EngineFault → Type 0
 IsOutcomeTold request may_be may_refuse (Ok answer) =
     IsAccepted request × IsRunTold request.what (stack_of request) may_be may_refuse (Ok answer)

@@ -11,7 +11,7 @@ use std::alloc::{AllocError, Global};
 use std::collections::BTreeMap;
 
 /// The contents as blobs, each named by its SHA-256 digest (FIPS 180-4): ascending by name, each name once, with the
-/// first contents that have this digest. Fails only for want of memory.
+/// first contents that have this digest. Fails only when out of memory.
 pub fn named_blobs(alloc: Global, contents: &[Vec<u8>]) -> Result<Vec<Blob>, AllocError>
     ensures { IfOk result (λ blobs. AreNamed (map (λ bytes. bytes.items) contents.now) (blob_views blobs.items)) }
 {

@@ -63,7 +63,7 @@ fn run_word(fault: &RunFault) -> &'static str {
 }
 
 impl EngineFault {
-    /// The fault where the manifest of this index states no layer. Want of memory is told as such.
+    /// The fault where the manifest of this index states no layer. Out of memory is told as such.
     pub(crate) fn unread(index: usize, fault: LayerFault) -> EngineFault
         ensures { result ≡ unread_layer index fault }
     {

@@ -12,7 +12,7 @@ use std::marker::Model;
 use std::thread::{Threads, map_chunks};
 
 /// The report of `fsck`: a line for each finding, in their order, and how many are faults and how many notes.
-/// Fails only for want of memory.
+/// Fails only when out of memory.
 pub(crate) fn fsck_report_of(alloc: Global, found: &[Finding]) -> Result<Vec<u8>, AllocError>
     ensures { IfOk result (λ report. report.items ≡ fsck_report found.now) }
 {

@@ -15,7 +15,7 @@ use ovl_names::push_escaped;
 use std::alloc::{AllocError, Global};
 
 /// The report of a new layer: a line for each entry below its root, in their order, by what it means to the overlay, and
-/// the number of all entries. Fails only for want of memory.
+/// the number of all entries. Fails only when out of memory.
 pub(crate) fn layer_report_of(alloc: Global, layer: &Layer) -> Result<Vec<u8>, AllocError>
     ensures value { IfOk result (λ report. report.items ≡ layer_report layer.now) }
     ensures layer { OnOk result (IsLayer layer.now) }

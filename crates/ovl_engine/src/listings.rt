@@ -21,7 +21,7 @@ use std::alloc::{AllocError, Global};
 use std::thread::{Threads, map_indices};
 
 /// The report of `show` of the whole merged tree, with no list of its paths: see [`crate::report_of`].
-/// The parcels are the plain walk of the work from `/` of space 0. Fails only for want of memory.
+/// The parcels are the plain walk of the work from `/` of space 0. Fails only when out of memory.
 pub fn report_of_walk(
     alloc: Global,
     work: &ShowWork<'_>,

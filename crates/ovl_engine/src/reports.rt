@@ -11,7 +11,7 @@ use ovl_names::{Path, push_escaped};
 use std::alloc::{AllocError, Global};
 
 /// The report of `show`: a line for each path of the merged tree, in their order, and their number.
-/// Fails only for want of memory.
+/// Fails only when out of memory.
 pub fn report_of(alloc: Global, looks: &[(Path, Look)]) -> Result<Vec<u8>, AllocError>
     ensures { IfOk result (λ report. report.items ≡ show_report looks.now) }
 {

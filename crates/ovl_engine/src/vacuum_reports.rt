@@ -6,7 +6,7 @@ use ovl_names::Path;
 use std::alloc::{AllocError, Global};
 
 /// The report of `vacuum`: a line for each path that is removed, in their order, how many these are, and how many
-/// entries are kept. Fails only for want of memory.
+/// entries are kept. Fails only when out of memory.
 pub(crate) fn vacuum_report_of(
     alloc: Global,
     removed: &[Path],

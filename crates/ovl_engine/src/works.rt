@@ -117,7 +117,7 @@ fn directories_in(
 }
 
 /// The whole merged tree in path order: each path at which something is shown once, with what is shown there.
-/// The parcels are the plain walk of the work from `/` of space 0. Fails only for want of memory.
+/// The parcels are the plain walk of the work from `/` of space 0. Fails only when out of memory.
 pub fn finish_show(
     alloc: Global,
     work: &ShowWork<'_>,

@@ -28,7 +28,7 @@ attribute_fault name =
     else if list_any (λ byte. byte == 0) name then Some Name
     else None
 
--- what a refusal says of the name: want of memory says that it has no fault
+-- what a refusal says of the name: out of memory says that it has no fault
 abbrev pub attribute_refusal : AttrFault → Option AttrFault
 attribute_refusal Name = Some Name
 attribute_refusal Memory = None

@@ -38,7 +38,7 @@ redirect_fault value =
     else if list_any is_bad_part (redirect_parts value) then Some Part
     else None
 
--- what a refusal says of the value: want of memory says that it has no fault
+-- what a refusal says of the value: out of memory says that it has no fault
 abbrev pub redirect_refusal : RedirectFault → Option RedirectFault
 redirect_refusal Memory = None
 redirect_refusal Empty = Some Empty

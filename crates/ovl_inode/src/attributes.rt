@@ -89,7 +89,7 @@ impl AttrName {
         self.text.as_str()
     }
 
-    /// A name equal to this one; fails only for want of memory.
+    /// A name equal to this one; fails only when out of memory.
     pub fn copy(&self, alloc: Global) -> Result<AttrName, AllocError>
         ensures { IfOk result (λ name. name ≡ self.now) }
     {
@@ -155,7 +155,7 @@ impl Model for Bytes {
 }
 
 impl Bytes {
-    /// These bytes in memory of their own; fails only for want of memory.
+    /// These bytes in memory of their own; fails only when out of memory.
     pub fn copy_of(alloc: Global, bytes: &[u8]) -> Result<Bytes, AllocError>
         ensures { IfOk result (λ copy. copy ≡ bytes.now) }
     {
@@ -227,7 +227,7 @@ impl Attrs {
     }
 
     /// Sets the value of the attribute `name`; the other names stay as they are.
-    /// Refused, with nothing changed, where the name has not 1 to 255 bytes without NUL, and for want of memory.
+    /// Refused, with nothing changed, where the name has not 1 to 255 bytes without NUL, and where memory runs out.
     pub fn put(&mut self, name: &str, value: &[u8]) -> Result<(), AttrFault>
         ensures { MatchResult result
             (λ _. (self.new ≡ with_attribute self.old name.now value.now) × IsTrue (is_attribute_name name.now))
@@ -251,7 +251,7 @@ impl Attrs {
         &self.pairs
     }
 
-    /// Attributes equal to these; fails only for want of memory.
+    /// Attributes equal to these; fails only when out of memory.
     pub fn copy(&self, alloc: Global) -> Result<Attrs, AllocError>
         ensures { IfOk result (λ attrs. attrs ≡ self.now) }
     {
@@ -263,7 +263,7 @@ impl Attrs {
     }
 
     /// The attributes that the merged tree shows: those whose name doesn't begin with `trusted.overlay.`.
-    /// Fails only for want of memory.
+    /// Fails only when out of memory.
     pub fn visible(&self, alloc: Global) -> Result<Attrs, AllocError>
         ensures { IfOk result (λ attrs. attrs ≡ visible_attributes self.now) }
     {

@@ -46,7 +46,7 @@ impl Target {
         self.text.as_str()
     }
 
-    /// A target equal to this one; fails only for want of memory.
+    /// A target equal to this one; fails only when out of memory.
     pub fn copy(&self, alloc: Global) -> Result<Target, AllocError>
         ensures { IfOk result (λ target. target ≡ self.now) }
     {
@@ -113,7 +113,7 @@ impl Kind {
         }
     }
 
-    /// A kind equal to this one; fails only for want of memory.
+    /// A kind equal to this one; fails only when out of memory.
     pub fn copy(&self, alloc: Global) -> Result<Kind, AllocError>
         ensures { IfOk result (λ kind. kind ≡ self.now) }
     {
@@ -200,7 +200,7 @@ pub struct Inode {
 }
 
 impl Inode {
-    /// An inode equal to this one; fails only for want of memory.
+    /// An inode equal to this one; fails only when out of memory.
     pub fn copy(&self, alloc: Global) -> Result<Inode, AllocError>
         ensures { IfOk result (λ inode. inode ≡ self.now) }
     {
@@ -264,7 +264,7 @@ pub fn blob_of(inode: &Inode) -> Option<Digest>
 }
 
 /// The inode as the merged tree shows it: without the attributes whose name begins with `trusted.overlay.`.
-/// Fails only for want of memory.
+/// Fails only when out of memory.
 pub fn visible(alloc: Global, inode: &Inode) -> Result<Inode, AllocError>
     ensures { IfOk result (λ shown. shown ≡ visible_inode inode.now) }
 {

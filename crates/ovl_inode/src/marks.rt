@@ -161,7 +161,7 @@ fn is_bad_part(part: &str) -> bool
     part == "." || part == ".." || part.len() > NAME_LIMIT
 }
 
-/// What an inode means to the overlay, see [`Mark`]; fails only for want of memory.
+/// What an inode means to the overlay, see [`Mark`]; fails only when out of memory.
 pub fn mark_of(alloc: Global, inode: &Inode) -> Result<Mark, AllocError>
     ensures { IfOk result (λ mark. mark ≡ the_mark inode.now) }
 {

@@ -98,7 +98,7 @@ impl<'a> Object<'a> {
 }
 
 /// What is kept of the value that stands next and nests at most `depth` deep; `None` where it is no object, or has more
-/// than [`MEMBER_LIMIT`] names. Fails only for want of memory where there is a value.
+/// than [`MEMBER_LIMIT`] names. Fails only when out of memory where there is a value.
 pub fn read_object<'a>(
     alloc: Global,
     reader: &mut Reader<'a>,

@@ -4,8 +4,11 @@ ghost use Rattle.std.specs.Prelude.{◌≡◌, ◌+◌};
 /// those left.
 #[derive(Drop)]
 pub struct Gathered {
+    /// How many pieces were pushed.
     pub pushed: u64,
+    /// How many of them were taken.
     pub taken: u64,
+    /// How many of them are left.
     pub left: u64,
     ghost whole: { pushed ≡ taken + left },
 }

@@ -14,7 +14,9 @@ use thiserror::Error;
 /// Both ends of one lane.
 #[derive(Drop)]
 pub struct Seat {
+    /// The owner's end.
     pub lane: Lane,
+    /// The end at which others take.
     pub thief: Thief,
 }
 
@@ -62,7 +64,7 @@ impl<T: Drop> From<AllocFailed<T>> for LaneFault {
 }
 
 /// Empty lanes, `n` of them, one for each worker. Refuses every number outside 1 to [`WORKER_LIMIT`], and fails otherwise
-/// only for want of memory.
+/// only when out of memory.
 pub fn lanes(alloc: Global, n: usize) -> Result<Vec<Seat>, LaneFault>
     ensures refused { (result ≡ Err Count) ↔ ((n < 1) ⊎ (worker_limit < n)) }
     ensures one_each { IfOk result (λ seats. vec_len seats ≡ n) }

@@ -10,7 +10,7 @@ use std::collections::BTreeSet;
 
 impl Stack {
     /// The names that a directory has in the merged tree of the layers with index `from` and up, in order; none where
-    /// no directory is shown. `from` is at most the number of layers that aren't data-only. Fails only for want of
+    /// no directory is shown. `from` is at most the number of layers that aren't data-only. Fails only when out of
     /// memory. overlayfs.rst: "Directories", "readdir".
     pub fn names(&self, alloc: Global, from: usize, path: &Path) -> Result<Vec<Name>, AllocError>
         requires { from ≤ length self.now.layers }
@@ -25,7 +25,7 @@ impl Stack {
     }
 
     /// The whole merged tree in path order: each path at which something is shown once, with what is shown there.
-    /// Fails only for want of memory.
+    /// Fails only when out of memory.
     pub fn list(&self, alloc: Global) -> Result<Vec<(Path, Look)>, AllocError>
         ensures { IfOk result (λ looks. IsMerged self.now looks.items) }
     {

@@ -71,7 +71,7 @@ impl Look {
 
 impl Stack {
     /// What the layers with index `from` and up show at a path, over the data-only ones; `from` is at most the number of
-    /// the others. Fails only for want of memory. overlayfs.rst: "Directories", "Multiple lower layers", "Metadata only
+    /// the others. Fails only when out of memory. overlayfs.rst: "Directories", "Multiple lower layers", "Metadata only
     /// copy up", "Data-only lower layers".
     pub fn look(&self, alloc: Global, from: usize, path: &Path) -> Result<Look, AllocError>
         requires { from ≤ length self.now.layers }
@@ -194,7 +194,7 @@ impl Stack {
     }
 
     /// Where data-only layers have the data of what is found at a path, if that is metacopy files alone: where the last of
-    /// them says. Fails only for want of memory. overlayfs.rst: "Data-only lower layers".
+    /// them says. Fails only when out of memory. overlayfs.rst: "Data-only lower layers".
     pub fn data_place(&self, alloc: Global, path: &Path) -> Result<Option<Path>, AllocError>
         ensures { IfOk result (λ place. place ≡ the_place_told (things_found self.now.layers path.now)) }
     {

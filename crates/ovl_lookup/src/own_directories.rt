@@ -14,7 +14,7 @@ use ovl_names::{Name, Path};
 use std::alloc::{AllocError, Global};
 
 impl OwnDirectory<Path> {
-    /// The walk of the entry `name` in this directory of the layer, which goes on from here. Fails only for want of
+    /// The walk of the entry `name` in this directory of the layer, which goes on from here. Fails only when out of
     /// memory. overlayfs.rst: as [`walk`](crate::walk).
     pub fn step(&self, alloc: Global, sheet: &Sheet, name: &Name) -> Result<Step, AllocError>
         requires { IsOwnDirectory sheet.now (path_at sheet.now self.now.row) self.now }
@@ -44,7 +44,7 @@ impl OwnDirectory<Path> {
         step.copied(alloc)
     }
 
-    /// The directory `name` in this one, and `None` where the layer has none there. Fails only for want of memory.
+    /// The directory `name` in this one, and `None` where the layer has none there. Fails only when out of memory.
     pub fn child(
         &self,
         alloc: Global,

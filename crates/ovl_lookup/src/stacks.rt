@@ -173,7 +173,7 @@ impl Stack {
     }
 
     /// The names directly below a path in layer `i`, in order; none where it has no directory. `i` is below the number
-    /// of layers. Fails only for want of memory.
+    /// of layers. Fails only when out of memory.
     pub fn own_names(&self, alloc: Global, i: usize, path: &Path) -> Result<Vec<Name>, AllocError>
         requires { i < length (all_layers self.now) }
         ensures all { IfSome (slice_get (all_layers self.now) i) (λ layer. IfOk result (λ names. names.items ≡ names_below layer path.now)) }
@@ -182,7 +182,7 @@ impl Stack {
         self.any_sheet(i).children(alloc, path)
     }
 
-    /// The walk of a path in layer `i`, see [`walk`]; `i` is below the number of layers. Fails only for want of memory.
+    /// The walk of a path in layer `i`, see [`walk`]; `i` is below the number of layers. Fails only when out of memory.
     pub fn own_walk(&self, alloc: Global, i: usize, path: &Path) -> Result<Step, AllocError>
         requires { i < length (all_layers self.now) }
         ensures { IfSome (slice_get (all_layers self.now) i) (λ layer. IfOk result (λ step. step ≡ the_walk layer path.now)) }
@@ -191,7 +191,7 @@ impl Stack {
     }
 
     /// The directory that layer `i` has at a path, with how its walk goes on, and `None` where it has none; `i` is below
-    /// the number of layers. No name is copied. Fails only for want of memory. overlayfs.rst: "renaming directories",
+    /// the number of layers. No name is copied. Fails only when out of memory. overlayfs.rst: "renaming directories",
     /// "whiteouts and opaque directories".
     pub fn own_trail<'a>(
         &'a self,

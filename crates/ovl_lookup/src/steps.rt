@@ -24,7 +24,7 @@ pub struct Step {
 }
 
 /// The walk of a path in one layer: what is found there, the path that goes on in the layer below, and whether it is
-/// closed. A path may have any number of names. Fails only for want of memory.
+/// closed. A path may have any number of names. Fails only when out of memory.
 /// overlayfs.rst: "whiteouts and opaque directories", "renaming directories", "Metadata only copy up", "Data-only lower
 /// layers"; a redirect of one name, beside the old one, is this profile's.
 pub fn walk(alloc: Global, sheet: &Sheet, path: &Path) -> Result<Step, AllocError>

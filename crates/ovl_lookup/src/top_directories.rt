@@ -36,7 +36,7 @@ impl<'a> Model for TopDirectory<'a> {
 
 impl<'a> TopDirectory<'a> {
     /// What the topmost layer of a stack has at a path as a directory, and `None` where it has nothing there. Fails only
-    /// for want of memory.
+    /// when out of memory.
     pub fn of(
         alloc: Global,
         stack: &'a Stack,
@@ -74,7 +74,7 @@ impl<'a> TopDirectory<'a> {
         self.path
     }
 
-    /// The names that the layer has in it, in order. Fails only for want of memory.
+    /// The names that the layer has in it, in order. Fails only when out of memory.
     pub fn names(&self, alloc: Global) -> Result<Vec<Name>, AllocError>
         ensures { IfOk result (λ names. names.items ≡ names_below (top_layer self.now.stack) self.now.path) }
     {
@@ -97,7 +97,7 @@ impl<'a> TopDirectory<'a> {
         }
     }
 
-    /// What the stack shows at a name in it. Fails only for want of memory.
+    /// What the stack shows at a name in it. Fails only when out of memory.
     pub fn look(&self, alloc: Global, name: &Name) -> Result<Look, AllocError>
         ensures { IfOk result (λ look. look ≡ the_look self.now.stack (child_path self.now.path name.now)) }
     {

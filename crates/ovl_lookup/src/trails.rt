@@ -115,14 +115,14 @@ impl<'a> Trail<'a> {
         Ok(trail)
     }
 
-    /// A trail equal to this one; fails only for want of memory.
+    /// A trail equal to this one; fails only when out of memory.
     pub fn copy(&self, alloc: Global) -> Result<Trail<'a>, AllocError>
         ensures { IfOk result (λ trail. trail ≡ self.now) }
     {
         self.onward(Trail::root(alloc), 0)
     }
 
-    /// The path, in names of its own; fails only for want of memory.
+    /// The path, in names of its own; fails only when out of memory.
     pub fn path(&self, alloc: Global) -> Result<Path, AllocError>
         ensures { IfOk result (λ path. path ≡ self.now) }
     {

@@ -21,7 +21,7 @@ use std::alloc::{AllocError, Global};
 
 impl DirView {
     /// What is shown at a name in this directory. The name is sought in the directory of each layer; a layer is walked
-    /// from its root only below an absolute redirect. Fails only for want of memory.
+    /// from its root only below an absolute redirect. Fails only when out of memory.
     pub fn look(&self, alloc: Global, stack: &Stack, name: &Name) -> Result<Look, AllocError>
         requires { IsViewOver stack.now self.now }
         ensures { IfOk result (λ look. look ≡ the_look (from_layer self.now.from stack.now) (child_path self.now.path name.now)) }
@@ -40,7 +40,7 @@ impl DirView {
     }
 
     /// The data that there is at a name in this directory below a metacopy file that doesn't say itself where data-only
-    /// layers have it. Fails only for want of memory.
+    /// layers have it. Fails only when out of memory.
     /// overlayfs.rst: "Metadata only copy up".
     pub fn data(
         &self,
@@ -57,7 +57,7 @@ impl DirView {
     }
 
     /// The names in this directory at which something is shown, in order, each with what is shown there, in one pass
-    /// over the directories of all layers. Fails only for want of memory.
+    /// over the directories of all layers. Fails only when out of memory.
     pub fn looks(&self, alloc: Global, stack: &Stack) -> Result<Vec<(Name, Look)>, AllocError>
         requires { IsViewOver stack.now self.now }
         ensures { IfOk result (λ looks. AreLooks (from_layer self.now.from stack.now) self.now.path looks.items) }
@@ -73,7 +73,7 @@ impl DirView {
         Ok(looks)
     }
 
-    /// The names in this directory at which something is shown, in order. Fails only for want of memory.
+    /// The names in this directory at which something is shown, in order. Fails only when out of memory.
     pub fn names(&self, alloc: Global, stack: &Stack) -> Result<Vec<Name>, AllocError>
         requires { IsViewOver stack.now self.now }
         ensures { IfOk result (λ names. AreKids (from_layer self.now.from stack.now) self.now.path names.items) }

@@ -61,7 +61,7 @@ impl DirPlace {
 impl DirView {
     /// The view of a path of the merged tree of the layers with index `from` and up, and `None` where they show no
     /// directory there; `from` is at most the number of layers that aren't data-only. Each of these is walked at most
-    /// once. Fails only for want of memory.
+    /// once. Fails only when out of memory.
     pub fn of(
         alloc: Global,
         stack: &Stack,
@@ -91,7 +91,7 @@ impl DirView {
     }
 
     /// The view of the directory `name` in this one, and `None` where no directory is shown there. It goes on from the
-    /// rows of this one; a layer is walked from its root only below an absolute redirect. Fails only for want of memory.
+    /// rows of this one; a layer is walked from its root only below an absolute redirect. Fails only when out of memory.
     pub fn child(
         &self,
         alloc: Global,

@@ -57,7 +57,7 @@ IsProgress Nothing count = count ≡ 0
 IsProgress (Made draft) count = IsDraft draft × (length (draft_entries draft) ≡ count)
 IsProgress (Refused fault) count = 0 < count
 
--- the progress that a draft with one more entry is, or its fault; want of memory is none
+-- the progress that a draft with one more entry is, or its fault; out of memory is none
 abbrev pub IsProgressOf : Result Draft LayerFault → Progress → Type 0
 IsProgressOf (Ok draft) progress = progress ≡ Made draft
 IsProgressOf (Err Memory) progress = ⊥

@@ -113,7 +113,7 @@ layer_of_value value =
 abbrev pub read_layer : List ℕ → Result Entries LayerFault
 read_layer bytes = elim (if is_utf8 bytes then read bytes else None) [ None ↦ Err NotJson | Some value ↦ layer_of_value value ]
 
--- the fault that was told is the one that is stated; want of memory may come at any time
+-- the fault that was told is the one that is stated; out of memory may come at any time
 abbrev pub IsFaultOf : Result Entries LayerFault → LayerFault → Type 0
 IsFaultOf stated Memory = ⊤
 IsFaultOf stated fault = stated ≡ Err fault

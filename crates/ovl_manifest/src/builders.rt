@@ -65,7 +65,7 @@ impl LayerBuilder {
         })
     }
 
-    /// The finished layer; fails only for want of memory.
+    /// The finished layer; fails only when out of memory.
     pub fn finish(self) -> Result<Layer, AllocError>
         ensures { IfOk result (λ layer. layer ≡ self) }
     {

@@ -27,7 +27,7 @@ use std::borrow::CowStr;
 
 /// The sheet of the layer whose manifest these bytes are, byte for byte as [`write_layer`](crate::write_layer) writes
 /// it, or wrote it in the first version; the newline at its end may be missing. Gives none of manifests that are
-/// written in another way, of any fault and for want of memory.
+/// written in another way, of any fault and where memory runs out.
 pub(crate) fn read_compact(alloc: Global, bytes: &[u8]) -> Option<Sheet>
     ensures { IfSome result (λ sheet. layer_stated bytes.now ≡ Ok sheet) }
 {

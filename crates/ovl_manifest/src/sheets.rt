@@ -214,7 +214,7 @@ impl Sheet {
         }
     }
 
-    /// The names directly below a path, in order; none where there is no directory. Fails only for want of memory.
+    /// The names directly below a path, in order; none where there is no directory. Fails only when out of memory.
     pub fn children(&self, alloc: Global, path: &Path) -> Result<Vec<Name>, AllocError>
         ensures { IfOk result (λ names. names.items ≡ names_below self.now path.now) }
     {
@@ -271,7 +271,7 @@ impl<'a> SheetPlace<'a> {
         }
     }
 
-    /// The names directly below the place, in order; fails only for want of memory.
+    /// The names directly below the place, in order; fails only when out of memory.
     pub fn names(&self, alloc: Global) -> Result<Vec<Name>, AllocError>
         ensures { IfOk result (λ names. names.items ≡ names_below self.now []) }
     {

@@ -139,7 +139,7 @@ impl Layer {
     }
 
     /// The names directly below a path, in order; none where there is no directory.
-    /// Fails only for want of memory.
+    /// Fails only when out of memory.
     pub fn children(&self, alloc: Global, path: &Path) -> Result<Vec<Name>, AllocError>
         ensures { IfOk result (λ names. names.items ≡ names_below self.now path.now) }
     {
@@ -149,7 +149,7 @@ impl Layer {
         }
     }
 
-    /// All entries in path order, which make this layer; fails only for want of memory.
+    /// All entries in path order, which make this layer; fails only when out of memory.
     pub fn entries(&self, alloc: Global) -> Result<Vec<(Path, Inode)>, AllocError>
         ensures value { IfOk result (λ entries. entries.items ≡ self.now) }
         ensures layer { OnOk result (IsLayer self.now) }
@@ -219,7 +219,7 @@ impl<'a> Cursor<'a> {
         self.children
     }
 
-    /// The names directly below the place, in order; fails only for want of memory.
+    /// The names directly below the place, in order; fails only when out of memory.
     pub fn names(&self, alloc: Global) -> Result<Vec<Name>, AllocError>
         ensures { IfOk result (λ names. names.items ≡ names_below self.now []) }
     {

@@ -14,7 +14,7 @@ use crate::written_entries::{push_entry, push_number};
 use std::alloc::{AllocError, Global};
 
 /// The manifest of a layer: compact JSON whose objects have their members in the byte order of their names, and a
-/// newline. Reading it gives the layer back. Fails only for want of memory. The format is told in `docs/FORMATS.md`.
+/// newline. Reading it gives the layer back. Fails only when out of memory. The format is told in `docs/FORMATS.md`.
 pub fn write_layer(alloc: Global, layer: &Layer) -> Result<Vec<u8>, AllocError>
     ensures text { IfOk result (λ bytes. bytes.items ≡ manifest_text layer.now) }
     ensures back { IfOk result (λ bytes. read_layer bytes.items ≡ Ok layer.now) }

@@ -14,7 +14,7 @@ use json::Writer;
 use ovl_inode::{Attrs, Digest, Inode, Kind};
 use std::alloc::{AllocError, Global};
 
-/// Appends the text of an entry, by the text of its path; fails only for want of memory.
+/// Appends the text of an entry, by the text of its path; fails only when out of memory.
 pub(crate) fn push_entry(
     alloc: Global,
     text: &mut String,

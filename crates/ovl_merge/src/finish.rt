@@ -29,7 +29,7 @@ pub struct MergeDone {
 }
 
 /// The two topmost layers as one, below a topmost layer that has its root alone. The parcels are the plain walk of the
-/// work from `/` of space 0. Over a sound stack it is refused, but for want of memory, exactly where the new lower layer
+/// work from `/` of space 0. Over a sound stack it is refused, unless memory runs out, exactly where the new lower layer
 /// passes a limit of manifests.
 pub fn finish_merge(
     alloc: Global,

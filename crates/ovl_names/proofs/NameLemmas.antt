@@ -70,7 +70,7 @@ path_fault-none rest parts some split named shallow short =
     let clean = no_fault-names parts named in
     rw (same, clean.0, clean.1, shallow, short) refl
 
--- a fault of a text is told as it is, and none as want of memory
+-- a fault of a text is told as it is, and none as out of memory
 first_told : (bare empty bad deep long : Bool) → (if bare then Some NotAbsolute else if empty then Some EmptyPart else if bad then Some BadPart else if deep then Some TooDeep else if long then Some TooLong else None) ≡ path_refusal (unwrap_or (if bare then Some NotAbsolute else if empty then Some EmptyPart else if bad then Some BadPart else if deep then Some TooDeep else if long then Some TooLong else None) Memory)
 first_told true empty bad deep long = refl
 first_told false true bad deep long = refl

@@ -47,7 +47,7 @@ name_fault bytes =
 abbrev pub is_name : List ℕ → Bool
 is_name bytes = is_none (name_fault bytes) && is_utf8 bytes
 
--- what a refusal says of the text: want of memory says that it has no fault
+-- what a refusal says of the text: out of memory says that it has no fault
 abbrev pub name_refusal : NameFault → Option NameFault
 name_refusal Memory = None
 name_refusal Empty = Some Empty

@@ -77,7 +77,7 @@ path_fault depth text =
     else if nat_lt text_limit (length text) then Some TooLong
     else None
 
--- what a refusal says of the text: want of memory says that it has no fault
+-- what a refusal says of the text: out of memory says that it has no fault
 abbrev pub path_refusal : PathFault → Option PathFault
 path_refusal Memory = None
 path_refusal NotAbsolute = Some NotAbsolute

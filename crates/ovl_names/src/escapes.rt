@@ -4,7 +4,7 @@ ghost use Rattle.ovl_names.specs.Escapes.{escaped as escaped_text, escaped_byte,
 use std::alloc::{AllocError, Global};
 
 /// A text as reports write it: each byte outside 0x21 to 0x7E, and each backslash, as `\xHH` in lower case.
-/// Fails only for want of memory.
+/// Fails only when out of memory.
 pub fn escaped(alloc: Global, text: &str) -> Result<String, AllocError>
     ensures { IfOk result (λ written. string_bytes written ≡ escaped_text text.now) }
 {
@@ -16,7 +16,7 @@ pub fn escaped(alloc: Global, text: &str) -> Result<String, AllocError>
     Ok(written)
 }
 
-/// Appends a text as [`escaped`] gives it; fails, with nothing changed, only for want of memory.
+/// Appends a text as [`escaped`] gives it; fails, with nothing changed, only when out of memory.
 pub fn push_escaped(alloc: Global, written: &mut String, text: &str) -> Result<(), AllocError>
     ensures appended { OnOk result (string_bytes written.new ≡ string_bytes written.old ++ escaped_text text.now) }
     ensures same { OnErr result (string_bytes written.new ≡ string_bytes written.old) }

@@ -80,7 +80,7 @@ impl Name {
         Ok(Name { text })
     }
 
-    /// A name equal to this one; fails only for want of memory.
+    /// A name equal to this one; fails only when out of memory.
     pub fn copy(&self, alloc: Global) -> Result<Name, AllocError>
         ensures { IfOk result (λ name. name ≡ self.now) }
     {
@@ -97,7 +97,7 @@ impl Name {
         self.text.as_str()
     }
 
-    /// The name as reports write it, see [`escaped`]; fails only for want of memory.
+    /// The name as reports write it, see [`escaped`]; fails only when out of memory.
     pub fn shown(&self, alloc: Global) -> Result<String, AllocError>
         ensures { IfOk result (λ text. string_bytes text ≡ escaped_text self.now) }
     {

@@ -91,7 +91,7 @@ impl Path {
         }
     }
 
-    /// The root, with room for so many names below it; fails only for want of memory.
+    /// The root, with room for so many names below it; fails only when out of memory.
     pub fn with_room(alloc: Global, names: usize) -> Result<Path, AllocError>
         ensures { IfOk result (λ path. path ≡ []) }
     {
@@ -116,7 +116,7 @@ impl Path {
         }
         match read_names(alloc, rest) {
             Some(names) => Ok(Path { names }),
-            // Without a fault of the text it fails only for want of memory.
+            // Without a fault of the text it fails only when out of memory.
             None => Err(parts_fault(rest).unwrap_or(PathFault::Memory)),
         }
     }
@@ -143,7 +143,7 @@ impl Path {
         &self.names
     }
 
-    /// A path equal to this one; fails only for want of memory.
+    /// A path equal to this one; fails only when out of memory.
     pub fn copy(&self, alloc: Global) -> Result<Path, AllocError>
         ensures { IfOk result (λ path. path ≡ self.now) }
     {
@@ -162,7 +162,7 @@ impl Path {
         Ok(Path { names })
     }
 
-    /// The path of the entry `name` in this directory; fails only for want of memory.
+    /// The path of the entry `name` in this directory; fails only when out of memory.
     pub fn child(&self, alloc: Global, name: &Name) -> Result<Path, AllocError>
         ensures { IfOk result (λ path. path ≡ child_path self.now name.now) }
     {
@@ -171,7 +171,7 @@ impl Path {
         Ok(path)
     }
 
-    /// The path that goes down these names from this one; fails only for want of memory.
+    /// The path that goes down these names from this one; fails only when out of memory.
     pub fn joined(&self, alloc: Global, names: &[Name]) -> Result<Path, AllocError>
         ensures { IfOk result (λ path. path ≡ self.now ++ names.now) }
     {
@@ -182,7 +182,7 @@ impl Path {
         Ok(path)
     }
 
-    /// Goes down to the entry `name` of this directory; fails, with nothing changed, only for want of memory.
+    /// Goes down to the entry `name` of this directory; fails, with nothing changed, only when out of memory.
     pub fn push(&mut self, name: Name) -> Result<(), AllocError>
         ensures { MatchResult result
             (λ _. self.new ≡ child_path self.old name)
@@ -193,7 +193,7 @@ impl Path {
     }
 
     /// Goes up to the directory of the first `depth` names, and down to its entry `name`; fails, with nothing changed,
-    /// only for want of memory, and never where it goes up.
+    /// only when out of memory, and never where it goes up.
     pub fn go_to(&mut self, depth: usize, name: Name) -> Result<(), AllocError>
         ensures there { MatchResult result
             (λ _. self.new ≡ child_path (take depth self.old) name)
@@ -206,7 +206,7 @@ impl Path {
         Ok(())
     }
 
-    /// The path of the directory that holds this entry, and `None` for the root; fails only for want of memory.
+    /// The path of the directory that holds this entry, and `None` for the root; fails only when out of memory.
     pub fn parent(&self, alloc: Global) -> Result<Option<Path>, AllocError>
         ensures { IfOk result (λ parent. parent ≡ parent_of self.now) }
     {
@@ -219,7 +219,7 @@ impl Path {
     }
 
     /// The path as reports write it: `/` before each name, see [`escaped`](crate::escaped), and `/` for the root.
-    /// Fails only for want of memory.
+    /// Fails only when out of memory.
     pub fn shown(&self, alloc: Global) -> Result<String, AllocError>
         ensures { IfOk result (λ text. string_bytes text ≡ shown_path self.now) }
     {
@@ -235,7 +235,7 @@ impl Path {
     }
 }
 
-// The names that parts with `/` before each spell, if they are a path within the limits; none also for want of memory.
+// The names that parts with `/` before each spell, if they are a path within the limits; none also where memory runs out.
 fn read_names(alloc: Global, rest: &str) -> Option<Vec<Name>>
     requires { 0 < length rest.now }
     ensures names { IfSome result (λ names. names.items ≡ parts_between rest.now) }

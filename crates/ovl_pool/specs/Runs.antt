@@ -18,7 +18,7 @@ no_lanes LaneMemory = Memory
 abbrev pub MayBeRefused : (Piece → List Piece) → (Piece → Type 0) → Piece → Type 0
 MayBeRefused kids may_refuse root = (p : Piece) × (Reached (ToKid kids) root p × may_refuse p)
 
--- a fault of the board is want of memory
+-- a fault of the board is out of memory
 abbrev pub IsBoardMemory : RunFault → Type 0
 IsBoardMemory (Board fault) = fault ≡ BoardMemory
 IsBoardMemory Workers = Unit {0}

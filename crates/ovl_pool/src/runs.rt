@@ -201,7 +201,7 @@ fn counted<K: Ledger, D: Ledger>(
 }
 
 // What came of a run that met no fault: the parcels in order, with the numbers of the run. Where fewer pieces were delivered
-// than are known the workers ended too early, which no run has shown; it is told as want of memory.
+// than are known the workers ended too early, which no run has shown; it is told as out of memory.
 fn told<T: Drop>(
     alloc: Global,
     root: &Piece,

@@ -230,7 +230,7 @@ fn attend<W: Work, G: Gate, R: Wait, K: Ledger, D: Ledger>(
     serve(alloc, work, notes, lane, piece, &mut haul.parcels)
 }
 
-// Visits a piece, keeps its parcel, notes it, and only then pushes its kids. Fails for want of memory, or where a lane or
+// Visits a piece, keeps its parcel, notes it, and only then pushes its kids. Fails where memory runs out, or where a lane or
 // the tally is at its end.
 fn serve<W: Work, R: Wait, K: Ledger, D: Ledger>(
     alloc: Global,

@@ -13,7 +13,7 @@ unread_input Device = Input
 unread_input TooLong = Input
 unread_input ReadMemory = Engine Memory
 
--- a command's fault is want of memory
+-- a command's fault is out of memory
 abbrev pub IsMemory : EngineFault → Type 0
 IsMemory Memory = ⊤
 IsMemory Workers = ⊥
@@ -27,7 +27,7 @@ IsMemory LimitOut = ⊥
 IsMemory (Run fault) = ⊥
 IsMemory DataLayers = ⊥
 
--- a file or folder isn't read, of which this holds of the path; want of memory may come at any time
+-- a file or folder isn't read, of which this holds of the path; out of memory may come at any time
 abbrev pub IsUnread : (List ℕ → Type 0) → ProgramFault → Type 0
 IsUnread P (Unread path) = P (string_bytes path)
 IsUnread P (Engine fault) = IsMemory fault

@@ -28,7 +28,7 @@ IsLeftOut answer before after fault =
     ⊎ ((fault.part < length answer.layers.items) × Keeps before after)
 
 -- the program's fault where an answer isn't written whole: fewer bytes of the report are; or nothing of it, where a new layer
--- isn't written whole, or memory is wanting
+-- isn't written whole, or memory runs out
 abbrev pub IsUnfinished : List ℕ → Answer → Option (List ℕ) → Option (List ℕ) → ProgramFault → Type 0
 IsUnfinished folder answer before after Output =
     (count : ℕ) × ((count < length answer.report.items) × Appends before after (take count answer.report.items))

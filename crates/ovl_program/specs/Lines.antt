@@ -88,7 +88,7 @@ IsLineOf words line = (rows : List Row) × (subcommand_of tool_app words ≡ Som
 abbrev pub AsksForText : ErrorKind → Type 0
 AsksForText kind = (kind ≡ DisplayHelp) ⊎ (kind ≡ DisplayVersion)
 
--- the words give the text that they ask for, and else a usage fault; want of memory may come at any time
+-- the words give the text that they ask for, and else a usage fault; out of memory may come at any time
 abbrev pub IsFaultBy : Kinds → LineFault → Type 0
 IsFaultBy kinds (Help text) = (kind : ErrorKind) × (AsksForText kind × IsAmong kind kinds)
 IsFaultBy kinds (Usage text) = (kind : ErrorKind) × ((¬ AsksForText kind) × IsAmong kind kinds)

@@ -50,7 +50,7 @@ abbrev pub IsDone : Line → Option (List ℕ) → Option (List ℕ) → Result 
 IsDone line before after result =
     (request : Request) × (IsRequestFor line request × IsReported (IsComingFor line request) line.out before after result)
 
--- what comes of a line: it is done; or a file or a folder of it isn't read, or memory is wanting, and nothing is written
+-- what comes of a line: it is done; or a file or a folder of it isn't read, or memory runs out, and nothing is written
 abbrev pub IsPerformed : Line → Option (List ℕ) → Option (List ℕ) → Result Ending ProgramFault → Type 0
 IsPerformed line before after (Ok ending) = IsDone line before after (Ok ending)
 IsPerformed line before after (Err Output) = IsDone line before after (Err Output)

@@ -47,7 +47,7 @@ IsTold may_come report ending =
 
 -- what comes of a command of which this may come, whose report goes to a writer, and whose new layers go to a folder if there
 -- is one: the whole report is written; or where a write fails, fewer of its bytes; or nothing, where a new layer isn't written,
--- memory is wanting or there is no answer
+-- memory runs out or there is no answer
 abbrev pub IsReported : (Result Answer EngineFault → Type 0) → Option (String Global) → Option (List ℕ) → Option (List ℕ) → Result Ending ProgramFault → Type 0
 IsReported may_come out before after (Ok ending) =
     (report : List ℕ) × (IsTold may_come report ending × Appends before after report)

@@ -30,7 +30,7 @@ impl Read for Slow<'_> {
 #[test]
 fn an_input_is_read_up_to_its_limit(rt: HostRuntime) -> Result<(), Fail> {
     assert_eq!(rt; INPUT_LIMIT, 268_435_456);
-    // Of the errors, 4 is that of an interrupted read, and 12 the system's own want of memory.
+    // Of the errors, 4 is that of an interrupted read, and 12 that the system is out of memory.
     for (text, at_a_time, error, limit, fault, reads) in [
         ("abcd", 1, None, 4, None, 5),
         ("abcd", 9, None, 4, None, 2),

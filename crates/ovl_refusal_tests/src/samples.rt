@@ -4,7 +4,7 @@ use ovl_lookup::Stack;
 use ovl_manifest::read_layer;
 use std::alloc::{AllocError, Global};
 
-// The stack of these manifests; what refuses it but want of memory is told as that too.
+// The stack of these manifests; what refuses it but out of memory is told as that too.
 pub(crate) fn stack_of(alloc: Global, manifests: &str) -> Result<Stack, AllocError> {
     let mut layers = Vec::new(alloc);
     for manifest in manifests.lines() {

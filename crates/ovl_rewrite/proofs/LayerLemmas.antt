@@ -39,7 +39,7 @@ pairs-are pairs layer e = by (is_miscounted (length (map stated_pair pairs))) e
     by true e = let bad : Err Count ≡ Ok layer = e in cc
     by false e = pairs-given [] pairs layer e
 
--- no fault but want of memory is told of a layer
+-- no fault but out of memory is told of a layer
 told-memory : (layer : Entries) (fault : LayerFault) → IsFaultOf (Ok layer) fault → fault ≡ Memory
 told-memory layer Memory told = refl
 told-memory layer NotJson told = let bad : Ok layer ≡ Err NotJson = told in cc
@@ -52,7 +52,7 @@ told-memory layer (NoParent n) told = let bad : Ok layer ≡ Err (NoParent n) = 
 told-memory layer Root told = let bad : Ok layer ≡ Err Root = told in cc
 told-memory layer (Escaped n) told = let bad : Ok layer ≡ Err (Escaped n) = told in cc
 
--- entries that are a layer's are refused for want of memory alone
+-- entries that are a layer's are refused only when out of memory
 pub layer-refused : (entries : Entries) (fault : LayerFault) → IsLayer entries → IsFaultOf (layer_of_pairs entries) fault → fault ≡ Memory
 layer-refused entries fault is told = told-memory entries fault (subst (λ (r : Result Entries LayerFault). IsFaultOf r fault) (pairs-back entries is) told)
 

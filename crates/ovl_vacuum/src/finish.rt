@@ -26,7 +26,7 @@ pub struct VacuumDone {
 }
 
 /// The topmost layer without each entry at and under which all are idle, and the paths of those. The parcels are the
-/// plain walk of the work from `/` of space 0. Fails only for want of memory.
+/// plain walk of the work from `/` of space 0. Fails only when out of memory.
 pub fn finish_vacuum(
     alloc: Global,
     work: &VacuumWork<'_>,
@@ -143,7 +143,7 @@ fn layer_of(alloc: Global, stack: &Stack, left: Vec<Path>) -> Result<Layer, Allo
     requires { left.items ≡ map (λ entry. entry.0) (vacuumed_layer (top_layer stack.now) (lower_layers stack.now)) }
     ensures { IfOk result (λ layer. layer ≡ vacuumed_layer (top_layer stack.now) (lower_layers stack.now)) }
 {
-    // Without what goes, the topmost layer is one, so that only want of memory can stand in the way.
+    // Without what goes, the topmost layer is one, so that nothing but memory can stand in the way.
     let _layers = stack.ordinary();
     let entries = entries_of(alloc, stack, left)?;
     match from_entries(alloc, entries) {

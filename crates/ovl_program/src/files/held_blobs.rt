@@ -34,7 +34,7 @@ impl HeldBlobs {
         }
     }
 
-    /// Adds a blob behind the others; without its bytes where theirs are over [`BLOB_LIMIT`] already. Where memory is wanting
+    /// Adds a blob behind the others; without its bytes where theirs are over [`BLOB_LIMIT`] already. Where memory runs out
     /// nothing changes.
     pub fn push(&mut self, name: Digest, bytes: Vec<u8>) -> Result<(), AllocError>
         requires within { vec_len bytes ≤ INPUT_LIMIT }
@@ -53,7 +53,7 @@ impl HeldBlobs {
         Ok(())
     }
 
-    /// Adds other blobs behind these, each as [`HeldBlobs::push`] does. Where memory is wanting nothing changes.
+    /// Adds other blobs behind these, each as [`HeldBlobs::push`] does. Where memory runs out nothing changes.
     pub fn append(&mut self, others: HeldBlobs) -> Result<(), AllocError>
         ensures added { OnOk result (map (λ blob. blob.name) self.new.blobs.items
             ≡ map (λ blob. blob.name) self.old.blobs.items ++ map (λ blob. blob.name) others.blobs.items) }

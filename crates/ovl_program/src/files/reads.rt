@@ -103,7 +103,7 @@ impl From<Error> for ReadFault {
     ghost from_gives = { λ error fault. (fault ≢ TooLong)
         × ((fault ≡ Memory) ↔ ((raw_os_error error ≡ None) × (error_kind error ≡ OutOfMemory))) };
 
-    // A system call's own want of memory is the device's.
+    // Where the system itself is out of memory, that is the device's fault.
     fn from(error: Error) -> ReadFault {
         if error.raw_os_error().is_none() && error.kind() == ErrorKind::OutOfMemory {
             ReadFault::Memory
