@@ -1,4 +1,4 @@
-use Rattle.std.proofs.Common.{All, length, refl}
+use Rattle.std.proofs.Common.{length, refl}
 use Rattle.std.proofs.lemmas.List.Elements.{All-push}
 use Rattle.std.proofs.lemmas.Option.{slice_get_read}
 use Rattle.ovl_program.specs.Tellings.{IsToldAmong}

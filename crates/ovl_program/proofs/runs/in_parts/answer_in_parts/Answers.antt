@@ -1,4 +1,4 @@
-use Rattle.std.proofs.Common.{[], subst}
+use Rattle.std.proofs.Common.{[]}
 use Rattle.std.proofs.lemmas.Result.{err_from_is_err_and}
 use Rattle.ovl_engine.proofs.LawsOfTold.{asked_ascend, outcome_told, run_told}
 use Rattle.ovl_engine.specs.Requests.{Request, request_of}
