@@ -1,7 +1,7 @@
-use Rattle.std.proofs.Common.{rules, ◌≡◌, ◌++◌, ◌∷◌, [], ◌∙◌, ℕ, List, false, sym, ap, append-nil, append_assoc, string_bytes}
+use Rattle.std.proofs.Common.{rules, ◌≡◌, ◌++◌, [], ◌∙◌, ℕ, List, false, sym, ap, append-nil, append_assoc, string_bytes}
 use Rattle.std.specs.Prelude.{codes, decimal}
 use Rattle.std.proofs.lemmas.Result.{on_ok_weaker}
-use Rattle.serde_json.specs.Written.{compact_text, items_text}
+use Rattle.serde_json.specs.Written.{compact_text}
 use Rattle.ovl_manifest.specs.Compact.{entries_text}
 use Rattle.ovl_manifest.specs.Layers.{Entries}
 use Rattle.ovl_manifest.specs.Text.{layer_value}

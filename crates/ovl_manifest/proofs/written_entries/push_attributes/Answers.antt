@@ -1,16 +1,14 @@
-use Rattle.std.proofs.Common.{rules, ◌≡◌, ◌∙◌, ◌+◌, ◌++◌, ◌∷◌, [], ℕ, List, false, length, take, length-take, string_bytes, append-nil, append_assoc, arith, sym, ap, ap₂, refl}
+use Rattle.std.proofs.Common.{rules, ◌≡◌, ◌∙◌, ◌+◌, ◌++◌, ◌∷◌, [], ℕ, List, false, length, take, length-take, string_bytes, append-nil, append_assoc, arith, sym, ap, ap₂}
 use Rattle.std.specs.Prelude.{codes, nat_lt}
 use Rattle.std.proofs.Math.Seq.{take-length}
 use Rattle.std.proofs.lemmas.List.{take_more}
 use Rattle.std.proofs.lemmas.Result.{on_ok_weaker}
 use Rattle.hex.specs.Hex.{encode_lower}
 use Rattle.json.specs.Print.{quoted}
-use Rattle.serde_json.specs.Data.{object}
-use Rattle.serde_json.specs.Written.{comma_if, compact_text}
+use Rattle.serde_json.specs.Written.{comma_if}
 use Rattle.ovl_names.proofs.Ascending.{both}
 use Rattle.ovl_inode.specs.Attributes.{Attributes}
-use Rattle.ovl_manifest.specs.Compact.{attribute_text, attributes_text}
-use Rattle.ovl_manifest.specs.Text.{attribute_members}
+use Rattle.ovl_manifest.specs.Compact.{attributes_text}
 use Rattle.ovl_manifest.proofs.CompactLemmas.{Grows, onto, attributes-next, attributes_object}
 use Rattle.ovl_manifest.proofs.written_entries.push_attributes.Goals as goal
 

@@ -5,9 +5,9 @@ use Rattle.std.proofs.lemmas.Result.{on_ok_weaker}
 use Rattle.json.specs.Print.{quoted}
 use Rattle.serde_json.specs.Data.{object}
 use Rattle.serde_json.specs.Written.{compact_text}
-use Rattle.ovl_names.specs.Paths.{PathNames, path_text}
+use Rattle.ovl_names.specs.Paths.{path_text}
 use Rattle.ovl_inode.specs.Kinds.{kind_word}
-use Rattle.ovl_manifest.specs.Compact.{group_text, device_text, nsec_text, contents_text, blob_of_kind, device_of_kind}
+use Rattle.ovl_manifest.specs.Compact.{group_text, device_text, contents_text, blob_of_kind, device_of_kind}
 use Rattle.ovl_manifest.specs.Text.{attribute_members, entry_value}
 use Rattle.ovl_manifest.specs.Versions.{written}
 use Rattle.ovl_manifest.proofs.CompactLemmas.{Grows, onto, in_turn, entry_text, seconds_text}

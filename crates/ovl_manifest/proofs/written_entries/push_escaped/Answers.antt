@@ -1,4 +1,4 @@
-use Rattle.std.proofs.Common.{rules, ◌≡◌, ◌∙◌, ◌++◌, ◌∷◌, [], List, ℕ, string_bytes, Vec, append-nil, sym, ap}
+use Rattle.std.proofs.Common.{rules, ◌≡◌, ◌∙◌, ◌++◌, ◌∷◌, [], List, ℕ, string_bytes, Vec, append-nil, ap}
 use Rattle.std.specs.Global.{Global}
 use Rattle.json.specs.Token.{Token}
 use Rattle.json.specs.Print.{quoted, print, print_from}
