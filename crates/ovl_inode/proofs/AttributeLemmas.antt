@@ -9,7 +9,7 @@ use Rattle.std.specs.Cmp.Lexicographic.{nat_list_cmp_total, bytes_decides}
 use Rattle.std.specs.declared.cmp.Ordering.{Ordering}
 use Rattle.std.specs.declared.cmp.Ordering.TheVariants.{Less, Equal, Greater}
 use Rattle.std.proofs.lemmas.Bool.{lt-ltb}
-use Rattle.std.proofs.lemmas.Option.{slice_get_read}
+use Rattle.std.specs.Option.{option_map}
 use Rattle.std.proofs.lemmas.List.{take_more}
 use Rattle.std.proofs.lemmas.List.Elements.{filter-append}
 use Rattle.std.proofs.Math.Dec.{eqb-suc-zero}
@@ -184,12 +184,14 @@ IsAt attrs name place =
 pub belongs_first : (attrs : Attributes) (name : List ℕ) → IfSome (slice_get attrs 0) (λ own. name_cmp own.0 name ≡ Greater) → Belongs attrs name 0
 belongs_first attrs name after = (later_than (slice_get attrs 0) name after, omega arith, refl)
 
-module _ (attrs : Attributes) (name : List ℕ) (place last : ℕ) (own : List ℕ × List ℕ) (are : are_attributes attrs ≡ true) (next : place ≡ suc last) (inside : place ≤ length attrs) (is : own ≡ get_or attrs last own) where
+-- what has a part has a whole
+pub whole : {X Y : Type 0} (f : X → Y) (o : Option X) (y : Y) → option_map f o ≡ Some y → (x : X) × (o ≡ Some x) × (f x ≡ y)
+whole f None y e = let bad : None ≡ Some y = e in cc
+whole f (Some x) y e = (x, refl, Some_injective e)
+
+module _ (attrs : Attributes) (name : List ℕ) (place last : ℕ) (own : List ℕ × List ℕ) (are : are_attributes attrs ≡ true) (next : place ≡ suc last) (inside : place ≤ length attrs) (at : slice_get attrs last ≡ Some own) where
   up : ascends attribute_cmp attrs ≡ true
   up = (both {a = list_all is_attribute attrs} {b = ascends attribute_cmp attrs} are).1
-
-  at : slice_get attrs last ≡ Some own
-  at = slice_get_read attrs (length attrs) last own refl (omega arith) is
 
   pub belongs_after : IfSome (slice_get attrs place) (λ own. name_cmp own.0 name ≡ Greater) → Less ≡ name_cmp own.0 name → Belongs attrs name place
   belongs_after after before = (

@@ -9,3 +9,4 @@ pub mod Kinds
 pub mod Equal
 pub mod EqualLaws
 pub mod DigitLanes
+pub mod Tables

@@ -7,8 +7,9 @@ mod digit_lanes;
 mod inodes;
 mod marks;
 pub mod overlay;
+mod tables;
 
-pub use attributes::{ATTR_NAME_LIMIT, AttrFault, AttrName, Attrs, Bytes};
+pub use attributes::{ATTR_NAME_LIMIT, AttrFault, Attrs};
 pub use digests::{Digest, DigestFault};
 pub use digit_lanes::are_lower_digits;
 pub use inodes::{
@@ -18,3 +19,4 @@ pub use inodes::{
 pub use marks::{
     Mark, Redirect, RedirectFault, is_data, is_directory, is_whiteout, mark_of, read_redirect,
 };
+pub use tables::Pairs;

@@ -2,7 +2,7 @@ use Rattle.std.proofs.Common.{◌≡◌, ◌≤◌, length}
 use Rattle.std.specs.Prelude.{IfSome, slice_get}
 use Rattle.std.specs.declared.cmp.Ordering.TheVariants.{Greater}
 use Rattle.ovl_names.specs.Names.{name_cmp}
-use Rattle.ovl_inode.proofs.attributes.Attrs.search.Given as goal
+use Rattle.ovl_inode.proofs.tables.Table.search.Given as goal
 
 abbrev pub invariant-loop-place : goal.invariant-loop-place
 invariant-loop-place l = record {

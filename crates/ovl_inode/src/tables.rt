@@ -1,0 +1,254 @@
+ghost use Rattle.std.specs.Prelude.{◌≡◌, ◌==◌, ◌<◌, ◌≤◌, ◌+◌, ◌^◌, Some, [], length, insert, set, slice_get, IfOk, OnOk, OnErr, IsTrue, MatchResult, IfSome, take};
+ghost use Rattle.std.specs.declared.cmp.Ordering.TheVariants.{Less};
+ghost use Rattle.std.specs.Iterator.{YieldsFirstBy, YieldsLastBy, item_count};
+ghost use Rattle.ovl_names.specs.Names.{name_cmp};
+ghost use Rattle.ovl_inode.specs.Attributes.{all_before, are_attributes};
+ghost use Rattle.std.specs.Option.{option_map};
+ghost use Rattle.std.specs.Str.{IsCharBoundary};
+ghost use Rattle.ovl_inode.specs.Tables.{IsPlace, bytes_of, attribute_of};
+
+use std::alloc::{AllocError, Global};
+use std::cmp::Ordering;
+use std::marker::Model;
+
+/// A part of some bytes: where it starts, and where it ends.
+#[derive(Clone, Copy, Debug)]
+pub(crate) struct Part {
+    start: u32,
+    end: u32,
+}
+
+impl Part {
+    // The part of so many bytes behind others; none where it ends past the greatest number.
+    fn behind(before: usize, count: usize) -> Result<Part, AllocError>
+        requires { before + count < 2 ^ 64 }
+        ensures { IfOk result (λ part. (part.start ≡ before) × (part.end ≡ before + count)) }
+    {
+        match (u32::try_from(before), u32::try_from(before + count)) {
+            (Ok(start), Ok(end)) => Ok(Part { start, end }),
+            _ => Err(AllocError),
+        }
+    }
+
+    fn of_bytes(self, bytes: &[u8]) -> &[u8]
+        requires order { self.start ≤ self.end }
+        requires inside { self.end ≤ length bytes.now }
+        ensures { result.now ≡ bytes_of bytes.now self }
+    {
+        &bytes[self.start as usize..self.end as usize]
+    }
+
+    fn of_text(self, text: &str) -> &str
+        requires order { self.start ≤ self.end }
+        requires first { IsCharBoundary text.now self.start }
+        requires last { IsCharBoundary text.now self.end }
+        ensures { result.now ≡ bytes_of text.now self }
+    {
+        &text[self.start as usize..self.end as usize]
+    }
+}
+
+/// Where the name and the value of an attribute are.
+#[derive(Clone, Copy, Debug)]
+pub(crate) struct Place {
+    name: Part,
+    value: Part,
+}
+
+/// Attributes as places in the bytes of all their names and of all their values, in any order there.
+#[derive(Debug, Drop)]
+pub(crate) struct Table {
+    names: String,
+    values: Vec<u8>,
+    places: Vec<Place>,
+}
+
+impl Model for Table {
+    ghost use Rattle.std.specs.Prelude.{string_bytes};
+    ghost use Rattle.ovl_inode.specs.Attributes.{Attributes};
+    ghost use Rattle.ovl_inode.specs.Tables.{ArePlaces, attributes_of};
+
+    ghost Value = { Attributes };
+
+    ghost view = { λ a. attributes_of (string_bytes a.names) a.values.items a.places.items };
+
+    ghost invariant = { λ a. ArePlaces (string_bytes a.names) a.values.items a.places.items };
+}
+
+/// Attributes in their order, each its name and its value, from the front or from the back.
+#[derive(Drop)]
+pub struct Pairs<'a> {
+    names: &'a str,
+    values: &'a [u8],
+    places: &'a [Place],
+}
+
+impl<'a> Model for Pairs<'a> {
+    ghost use Rattle.ovl_inode.specs.Attributes.{Attributes};
+    ghost use Rattle.ovl_inode.specs.Tables.{ArePlaces, attributes_of};
+
+    ghost Value = { Attributes };
+
+    ghost view = { λ a. attributes_of a.names.now a.values.now a.places.now };
+
+    ghost invariant = { λ a. ArePlaces a.names.now a.values.now a.places.now };
+}
+
+impl Table {
+    /// No attributes.
+    pub(crate) fn new(alloc: Global) -> Table
+        ensures { result ≡ [] }
+    {
+        Table {
+            names: String::new(alloc),
+            values: Vec::new(alloc),
+            places: Vec::new(alloc),
+        }
+    }
+
+    /// How many attributes there are.
+    pub(crate) fn len(&self) -> usize
+        ensures { result ≡ length self.now }
+    {
+        self.places.len()
+    }
+
+    /// Whether there are no attributes.
+    pub(crate) fn is_empty(&self) -> bool
+        ensures { result ≡ (length self.now == 0) }
+    {
+        self.places.is_empty()
+    }
+
+    /// The attributes in their order.
+    pub(crate) fn pairs(&self) -> Pairs<'_>
+        ensures { result ≡ self.now }
+    {
+        Pairs {
+            names: self.names.as_str(),
+            values: &self.values,
+            places: &self.places,
+        }
+    }
+
+    /// Puts an attribute between others; where a growth is refused, all stays as it was.
+    pub(crate) fn insert(
+        &mut self,
+        place: usize,
+        name: &str,
+        value: &[u8],
+    ) -> Result<(), AllocError>
+        requires { place ≤ length self.old }
+        ensures done { OnOk result (self.new ≡ insert self.old place (name.now, value.now)) }
+        ensures kept { OnErr result (self.new ≡ self.old) }
+    {
+        let own = Place {
+            name: Part::behind(self.names.len(), name.len())?,
+            value: Part::behind(self.values.len(), value.len())?,
+        };
+        self.names.push_str(name)?;
+        self.values.extend_from_slice(value)?;
+        self.places.insert(place, own)?;
+        Ok(())
+    }
+
+    /// Sets the value of the attribute at a place; where a growth is refused, all stays as it was.
+    pub(crate) fn set_value(&mut self, place: usize, value: &[u8]) -> Result<(), AllocError>
+        requires { place < length self.old }
+        ensures done { OnOk result
+            (option_map (λ own. set self.old place (own.0, value.now)) (slice_get self.old place) ≡ Some self.new) }
+        ensures kept { OnErr result (self.new ≡ self.old) }
+    {
+        let own = Place {
+            name: self.places[place].name,
+            value: Part::behind(self.values.len(), value.len())?,
+        };
+        self.values.extend_from_slice(value)?;
+        self.places[place] = own;
+        Ok(())
+    }
+
+    /// A table equal to this one; fails only when out of memory.
+    pub(crate) fn copy(&self, alloc: Global) -> Result<Table, AllocError>
+        ensures { IfOk result (λ table. table ≡ self.now) }
+    {
+        Ok(Table {
+            names: String::from_str(alloc, self.names.as_str())?,
+            values: Vec::from_slice(alloc, &self.values)?,
+            places: Vec::from_slice(alloc, &self.places)?,
+        })
+    }
+
+    /// Where the attribute `name` is, or where it belongs. Ascending names are put from the end on.
+    pub(crate) fn search(&self, name: &str) -> Result<usize, usize>
+        requires { IsTrue (are_attributes self.now) }
+        ensures { MatchResult result
+            (λ place. IfSome (slice_get self.now place) (λ own. own.0 ≡ name.now)
+            × (place < length self.now) × IsTrue (all_before (take place self.now) name.now))
+            (λ place. IfSome (slice_get self.now place) (λ own. name_cmp name.now own.0 ≡ Less)
+            × (place ≤ length self.now) × IsTrue (all_before (take place self.now) name.now)) }
+    {
+        let mut place = self.places.len();
+        while place > 0 {
+            match self.name(place - 1).as_bytes().cmp(name.as_bytes()) {
+                Ordering::Less => return Err(place),
+                Ordering::Equal => return Ok(place - 1),
+                Ordering::Greater => place -= 1,
+            }
+        }
+        Err(0)
+    }
+
+    // The name of the attribute at a place.
+    fn name(&self, place: usize) -> &str
+        requires { place < length self.now }
+        ensures { option_map (λ own. own.0) (slice_get self.now place) ≡ Some result.now }
+    {
+        self.places[place].name.of_text(self.names.as_str())
+    }
+}
+
+impl<'a> Pairs<'a> {
+    /// No attributes.
+    pub(crate) fn none() -> Pairs<'a>
+        ensures { result ≡ [] }
+    {
+        Pairs {
+            names: "",
+            values: &[],
+            places: &[],
+        }
+    }
+}
+
+impl<'a> Iterator for Pairs<'a> {
+    type Item = (&'a str, &'a [u8]);
+
+    ghost next_gives = { YieldsFirstBy (λ pair. (pair.0.now, pair.1.now)) (λ pairs. pairs) };
+
+    ghost remaining = { item_count (λ pairs. pairs) };
+
+    fn next(&mut self) -> Option<(&'a str, &'a [u8])> {
+        let (first, others) = self.places.split_first()?;
+        self.places = others;
+        Some(attribute_at(self.names, self.values, *first))
+    }
+}
+
+impl<'a> DoubleEndedIterator for Pairs<'a> {
+    ghost next_back_gives = { YieldsLastBy (λ pair. (pair.0.now, pair.1.now)) (λ pairs. pairs) };
+
+    fn next_back(&mut self) -> Option<(&'a str, &'a [u8])> {
+        let (last, others) = self.places.split_last()?;
+        self.places = others;
+        Some(attribute_at(self.names, self.values, *last))
+    }
+}
+
+// The attribute at a place, its name and its value.
+fn attribute_at<'a>(names: &'a str, values: &'a [u8], place: Place) -> (&'a str, &'a [u8])
+    requires { IsPlace names.now values.now place }
+    ensures { (result.0.now, result.1.now) ≡ attribute_of names.now values.now place }
+{
+    (place.name.of_text(names), place.value.of_bytes(values))
+}
