@@ -9,7 +9,7 @@ use Rattle.std.proofs.lemmas.List.Elements.{filter-append, filter_map-append}
 use Rattle.ovl_names.specs.Names.{PathName, name_eq}
 use Rattle.ovl_names.specs.Order.{ascends}
 use Rattle.ovl_names.specs.Paths.{PathNames, child_path}
-use Rattle.ovl_names.proofs.Ascending.{both, ascends-across, list_all-filter}
+use Rattle.ovl_names.proofs.Ascending.{both, ascends-across, ascends-filter}
 use Rattle.ovl_inode.specs.declared.inodes.Inode.{Inode}
 use Rattle.ovl_inode.specs.Attributes.{Attributes, attribute_cmp, is_attribute, are_attributes, with_attribute, redirect_name, metacopy_name}
 use Rattle.ovl_inode.specs.Marks.{mark_of}
@@ -39,25 +39,11 @@ use Rattle.ovl_deref.proofs.DirectoryLemmas.{new-moved}
 
 -- ---- the attributes of a full file, one after another
 
-module _ (attrs : Attributes) (i : ℕ) (attr : List ℕ × List ℕ) (inside : i < length attrs) (is : attr ≡ get_or attrs i attr) where
-  abbrev keeps : List ℕ × List ℕ → Bool
-  keeps other = not (name_eq other.0 metacopy_name || name_eq other.0 redirect_name)
-
-  next : take (i + 1) attrs ≡ take i attrs ++ attr ∷ []
-  next = take_more attrs i attr inside ∙ ap (λ (a : List ℕ × List ℕ). take i attrs ++ a ∷ []) (sym is)
-
-  full-next : (b : Bool) → keeps attr ≡ b → full_attributes (take (i + 1) attrs) ≡ full_attributes (take i attrs) ++ cond b (attr ∷ []) []
-  full-next b e = ap full_attributes next ∙ (filter-append keeps (take i attrs) (attr ∷ []) ∙ ap (λ c. full_attributes (take i attrs) ++ cond c (attr ∷ []) []) e)
-
-  pub full-put : (full : Attributes) → are_attributes attrs ≡ true → full ≡ full_attributes (take i attrs) → (name_eq attr.0 metacopy_name || name_eq attr.0 redirect_name) ≡ false
-      → with_attribute full attr.0 attr.1 ≡ full_attributes (take (i + 1) attrs)
-  full-put full are so_far free =
-      let up : ascends attribute_cmp attrs ≡ true = (both {a = list_all is_attribute attrs} {b = ascends attribute_cmp attrs} are).1 in
-      let whole : take i attrs ++ attr ∷ drop (i + 1) attrs ≡ attrs = ap (λ (rest : Attributes). take i attrs ++ rest) (sym (drop_more attrs i attr inside ∙ ap (λ (a : List ℕ × List ℕ). a ∷ drop (i + 1) attrs) (sym is))) ∙ take-append-drop i attrs in
-      let before : list_all (λ other. is_lt (attribute_cmp other attr)) (take i attrs) ≡ true = ascends-across attribute_cmp (take i attrs) attr (drop (i + 1) attrs) (ap (ascends attribute_cmp) whole ∙ up) in
-      ap (λ (a : Attributes). with_attribute a attr.0 attr.1) so_far
-      ∙ (put-last (full_attributes (take i attrs)) attr.0 attr.1 (list_all-filter (λ other. is_lt (attribute_cmp other attr)) keeps (take i attrs) before)
-      ∙ sym (full-next true (ap not free)))
+-- an attribute that is kept is put behind those kept before it
+pub full-put : (attrs full rest : Attributes) (attr : List ℕ × List ℕ) → are_attributes attrs ≡ true → full ++ attr ∷ full_attributes rest ≡ full_attributes attrs → with_attribute full attr.0 attr.1 ≡ full ++ attr ∷ []
+full-put attrs full rest attr are whole =
+    let up : ascends attribute_cmp (full_attributes attrs) ≡ true = ascends-filter attribute_cmp (λ other. not (name_eq other.0 metacopy_name || name_eq other.0 redirect_name)) attrs (both {a = list_all is_attribute attrs} {b = ascends attribute_cmp attrs} are).1 in
+    put-last full attr.0 attr.1 (ascends-across attribute_cmp full attr (full_attributes rest) (ap (ascends attribute_cmp) whole ∙ up))
 
 -- ---- the directories above one
 

@@ -37,10 +37,10 @@ fn full_attrs(alloc: Global, attrs: &Attrs) -> Result<Attrs, AllocError>
 {
     let mut full = Attrs::new(alloc);
     for (name, value) in attrs.pairs() {
-        if ties_to_data(name.as_str()) {
+        if ties_to_data(name) {
             continue;
         }
-        let Ok(()) = full.put(name.as_str(), value.as_slice()) else {
+        let Ok(()) = full.put(name, value) else {
             return Err(AllocError);
         };
     }

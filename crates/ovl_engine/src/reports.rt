@@ -229,7 +229,7 @@ pub(crate) fn push_attributes(
     ensures { OnOk result (string_bytes report.new ≡ string_bytes report.old ++ flat_map attribute_word attrs.now) }
 {
     for (name, value) in attrs.pairs() {
-        push_attribute(alloc, report, name.as_str(), value.as_slice())?;
+        push_attribute(alloc, report, name, value)?;
     }
     Ok(())
 }

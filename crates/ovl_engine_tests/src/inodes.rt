@@ -45,7 +45,7 @@ fn attributes_are_put_in_order_and_found(rt: HostRuntime) -> Result<(), Fail> {
     assert_eq!(rt; attrs.get("user.b"), None);
     let mut names = String::new(alloc);
     for (name, _) in attrs.pairs() {
-        names.push_str(name.as_str())?;
+        names.push_str(name)?;
     }
     assert_eq!(rt; names.as_str(), "user.auser.kuser.l");
     let too_long = "a".repeat(alloc, 256)?;
@@ -76,7 +76,7 @@ fn inodes_are_copied_and_shown_without_the_overlays_attributes(
     let shown = visible(alloc, inode)?;
     assert_eq!(rt; shown.attrs.get(overlay::OPAQUE), None);
     assert_eq!(rt; shown.attrs.get("user.k"), Some(b"v".as_slice()));
-    assert_eq!(rt; (shown.mode, shown.attrs.pairs().len()), (0o755, 1));
+    assert_eq!(rt; (shown.mode, shown.attrs.pairs().count()), (0o755, 1));
     Ok(())
 }
 

@@ -31,13 +31,12 @@ use Rattle.serde_json.proofs.Texts.{print-outline}
 use Rattle.ovl_names.specs.Names.{name_cmp}
 use Rattle.ovl_names.specs.Order.{ascends}
 use Rattle.ovl_names.specs.Paths.{PathNames, path_text}
-use Rattle.ovl_names.proofs.Ascending.{both, reversed}
+use Rattle.ovl_names.proofs.Ascending.{both, reversed, ascends-across, is_lt-Less}
 use Rattle.ovl_inode.specs.declared.digests.Digest.{Digest}
 use Rattle.ovl_inode.specs.declared.inodes.Inode.{Inode}
 use Rattle.ovl_inode.specs.declared.inodes.Kind.{Kind}
 use Rattle.ovl_inode.specs.declared.inodes.Kind.TheVariants.{Dir, File, Symlink, Char, Block, Fifo, Socket}
 use Rattle.ovl_inode.specs.Attributes.{Attributes, attribute_cmp, all_before, is_attribute_name, with_attribute}
-use Rattle.ovl_inode.proofs.AttributeLemmas.{list_all-take}
 use Rattle.ovl_inode.specs.Hexadecimal.{is_lower_digit, bytes_of_digits, digest_of_text}
 use Rattle.ovl_inode.specs.Kinds.{kind_word}
 use Rattle.ovl_manifest.specs.Layers.{Entry, Entries, IsLayer}
@@ -276,12 +275,15 @@ attributes-onto attrs attr rest some =
     sym (append_assoc (attributes_text false attrs) (44 ∷ attribute_text attr) rest) ∙ ap (λ (t : List ℕ). t ++ rest) (sym (attributes-more attrs attr some))
 
 -- where the last name comes before another, all do
-pub all_before-last : (attrs : Attributes) (last : List ℕ × List ℕ) (name : List ℕ) → ascends attribute_cmp attrs ≡ true → slice_get attrs (length attrs - 1) ≡ Some last → is_lt (name_cmp last.0 name) ≡ true → all_before attrs name ≡ true
-all_before-last [] last name up at before = refl
-all_before-last (attr ∷ attrs) last name up at before =
-    let count : length (attr ∷ attrs) - 1 ≡ length attrs = omega arith in
-    let here : slice_get (attr ∷ attrs) (length attrs) ≡ Some last = ap (slice_get (attr ∷ attrs)) (sym count) ∙ at in
-    subst (λ (all : Attributes). all_before all name ≡ true) (take_all (suc (length attrs)) (attr ∷ attrs) (omega arith)) (list_all-take (attr ∷ attrs) (length attrs) last name up here before)
+pub all_before-last : (front : Attributes) (last : List ℕ × List ℕ) (name : List ℕ) → ascends attribute_cmp (front ++ last ∷ []) ≡ true → is_lt (name_cmp last.0 name) ≡ true → all_before (front ++ last ∷ []) name ≡ true
+all_before-last front last name up before = through front (ascends-across attribute_cmp front last [] up)
+  where
+    through : (attrs : Attributes) → list_all (λ other. is_lt (attribute_cmp other last)) attrs ≡ true → all_before (attrs ++ last ∷ []) name ≡ true
+    through [] all = rw before refl
+    through (attr ∷ attrs) all =
+        let parts = both {a = is_lt (attribute_cmp attr last)} {b = list_all (λ other. is_lt (attribute_cmp other last)) attrs} all in
+        let less : is_lt (name_cmp attr.0 name) ≡ true = ap is_lt (nat_list_cmp_total.trans attr.0 last.0 name (is_lt-Less (name_cmp attr.0 last.0) parts.0) (is_lt-Less (name_cmp last.0 name) before)) in
+        rw less (through attrs parts.1)
 
 put-behind : (attrs : Attributes) (name value : List ℕ) → all_before attrs name ≡ true → with_attribute attrs name value ≡ attrs ++ (name, value) ∷ []
 put-behind [] name value before = refl

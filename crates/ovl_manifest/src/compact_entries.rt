@@ -180,8 +180,8 @@ fn read_attribute(alloc: Global, rest: &mut Rest<'_>, attrs: &mut Attrs) -> Opti
 fn are_before(attrs: &Attrs, name: &str) -> bool
     ensures { IsTrue result → IsTrue (all_before attrs.now name.now) }
 {
-    match attrs.pairs().last() {
-        Some((last, _)) => last.as_str().as_bytes().cmp(name.as_bytes()).is_lt(),
+    match attrs.pairs().next_back() {
+        Some((last, _)) => last.as_bytes().cmp(name.as_bytes()).is_lt(),
         None => true,
     }
 }

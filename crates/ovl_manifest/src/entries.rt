@@ -122,10 +122,7 @@ fn is_within_limits(path: &Path) -> bool
 pub(crate) fn has_escaped_name(attrs: &Attrs) -> bool
     ensures { result ≡ escaped_test attrs.now }
 {
-    attrs
-        .pairs()
-        .iter()
-        .any(|(name, _)| is_escaped_name(name.as_str()))
+    attrs.pairs().any(|(name, _)| is_escaped_name(name))
 }
 
 fn is_escaped_name(name: &str) -> bool

@@ -1,9 +1,9 @@
 //! Entries as their texts are written: members in the byte order of their names, without space.
-ghost use Rattle.std.specs.Prelude.{◌≡◌, ◌++◌, OnOk, decimal, nat_lt, string_bytes};
+ghost use Rattle.std.specs.Prelude.{◌≡◌, ◌++◌, OnOk, decimal, string_bytes};
 ghost use Rattle.hex.specs.Hex.{encode_lower};
 ghost use Rattle.json.specs.Print.{quoted};
 ghost use Rattle.serde_json.specs.Data.{object};
-ghost use Rattle.serde_json.specs.Written.{comma_if, compact_text};
+ghost use Rattle.serde_json.specs.Written.{compact_text};
 ghost use Rattle.ovl_names.specs.Paths.{PathNames, path_text as text_of_path};
 ghost use Rattle.ovl_manifest.specs.Compact.{group_text, device_text, contents_text, blob_of_kind, device_of_kind};
 ghost use Rattle.ovl_manifest.specs.Text.{attribute_members, entry_value};
@@ -143,18 +143,12 @@ fn push_attributes(alloc: Global, text: &mut String, attrs: &Attrs) -> Result<()
     ensures { OnOk result (string_bytes text.new ≡ string_bytes text.old ++ compact_text (object (attribute_members attrs.now))) }
 {
     text.push_str("{")?;
-    for (place, attribute) in attrs.pairs().iter().enumerate() {
-        let (name, value) = attribute;
-        let digits = hex::encode(alloc, value.as_slice())?;
-        push_text(alloc, text, comma_before(place), name.as_str())?;
+    let mut comma = "";
+    for (name, value) in attrs.pairs() {
+        let digits = hex::encode(alloc, value)?;
+        push_text(alloc, text, comma, name)?;
         push_text(alloc, text, ":", digits.as_str())?;
+        comma = ",";
     }
     text.push_str("}")
-}
-
-// A comma, but not before the first.
-fn comma_before(place: usize) -> &'static str
-    ensures { result.now ≡ comma_if (nat_lt 0 place) }
-{
-    if place > 0 { "," } else { "" }
 }

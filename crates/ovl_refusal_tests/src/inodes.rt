@@ -2,8 +2,8 @@
 
 use crate::names::LONG;
 use ovl_inode::{
-    AttrFault, AttrName, Attrs, Bytes, Inode, Kind, Mark, Redirect, RedirectFault, Target, mark_of,
-    overlay, read_redirect, visible,
+    AttrFault, Attrs, Inode, Kind, Mark, Redirect, RedirectFault, Target, mark_of, overlay,
+    read_redirect, visible,
 };
 use std::alloc::{AllocError, Global};
 use std::test::Fail;
@@ -19,13 +19,6 @@ fn is_put(alloc: Global, attrs: &mut Attrs, name: &str, value: &[u8]) -> Result<
     Ok(attrs.get(name) == Some(value))
 }
 
-fn are_parts_copied(alloc: Global) -> Result<bool, AttrFault> {
-    let name = AttrName::of(alloc, LONG)?;
-    let same = name.copy(alloc)?;
-    let value = Bytes::copy_of(alloc, LONG.as_bytes())?;
-    Ok(same == name && value.as_slice() == LONG.as_bytes())
-}
-
 // Of an inode with two attributes, one of them the overlay's.
 fn is_inode_told(alloc: Global, inode: &Inode) -> Result<bool, AllocError> {
     let copy = inode.copy(alloc)?;
@@ -36,7 +29,7 @@ fn is_inode_told(alloc: Global, inode: &Inode) -> Result<bool, AllocError> {
         copy == *inode
             && inode.attrs == attrs
             && shown.kind == kind
-            && shown.attrs.pairs().len() == 1,
+            && shown.attrs.pairs().count() == 1,
     )
 }
 
@@ -61,7 +54,6 @@ fn inodes_are_told(rt: HostRuntime) -> Result<(), Fail> {
     ] {
         assert!(rt; again!(is_put(alloc, &mut attrs, name, value), AttrFault::Memory)?);
     }
-    assert!(rt; again!(are_parts_copied(alloc), AttrFault::Memory)?);
     let mut inode = Inode {
         kind: Kind::Dir,
         mode: 0o755,

@@ -1,17 +1,19 @@
-use Rattle.std.proofs.Common.{◌≡◌, ◌∙◌, ℕ, ◌<◌, List, length, get_or, sym, ap, arith}
+use Rattle.std.proofs.Common.{◌≡◌, ◌∙◌, ◌++◌, ◌∷◌, [], ℕ, List, false, refl, sym, ap, append_assoc}
 use Rattle.std.specs.Prelude.{◌||◌}
 use Rattle.ovl_names.specs.Names.{name_eq}
-use Rattle.ovl_inode.specs.Attributes.{Attributes, with_attribute, redirect_name, metacopy_name}
+use Rattle.ovl_inode.specs.Attributes.{Attributes, redirect_name, metacopy_name}
+use Rattle.ovl_deref.specs.Deref.{full_attributes}
 use Rattle.ovl_deref.proofs.VisitLemmas.{full-put}
 use Rattle.ovl_deref.proofs.inodes.full_attrs.Goals as goal
 
 pub loop-name-preserved : goal.loop-name-preserved
 loop-name-preserved c =
-    let items = c.pairs-name-items.ensures.value in
-    let attr : List ℕ × List ℕ = c.loop-name-item.result in
-    let inside : c.loop-name.name-index < length c.args.attrs.now = omega (arith, c.loop-name-test.true, ap length items) in
-    let is : attr ≡ get_or c.args.attrs.now c.loop-name.name-index attr = c.loop-name-item.is ∙ ap (λ (attrs : Attributes). get_or attrs c.loop-name.name-index attr) items in
-    c.in-Ok.ensures.0
-    ∙ ((λ j. with_attribute c.loop-name.full (c.as_str-in-loop-name.ensures.value j) (c.as_slice.ensures.value j))
-    ∙ full-put c.args.attrs.now c.loop-name.name-index attr inside is c.loop-name.full c.pairs-name-items.ensures.attributes c.loop-name.invariant
-    ((λ j. name_eq (sym c.as_str.ensures.value j) metacopy_name || name_eq (sym c.as_str.ensures.value j) redirect_name) ∙ (sym c.ties_to_data.ensures ∙ c.if-ties_to_data.false)))
+    let attr : List ℕ × List ℕ = (c.in-Some.name.now, c.in-Some.value.now) in
+    let full : Attributes = c.loop-name.full in
+    let rest : Attributes = c.next.new.self in
+    let free : (name_eq attr.0 metacopy_name || name_eq attr.0 redirect_name) ≡ false = sym c.ties_to_data.ensures ∙ c.if-ties_to_data.false in
+    let split : full_attributes (attr ∷ rest) ≡ attr ∷ full_attributes rest = rw free refl in
+    let whole : full ++ attr ∷ full_attributes rest ≡ full_attributes c.args.attrs.now =
+    ap (λ (t : Attributes). full ++ t) (sym split ∙ ap full_attributes (sym c.in-Some.ensures.steps)) ∙ c.loop-name.invariant in
+    let put = c.in-Ok.ensures.0 ∙ full-put c.args.attrs.now full rest attr c.pairs-name-items.ensures.attributes whole in
+    ap (λ (t : Attributes). t ++ full_attributes rest) put ∙ (append_assoc full (attr ∷ []) (full_attributes rest) ∙ whole)

@@ -1,9 +1,11 @@
-use Rattle.std.proofs.Common.{◌≡◌, ◌++◌, false, take, string_bytes}
+use Rattle.std.proofs.Common.{◌≡◌, ◌++◌, Bool, false, string_bytes}
 use Rattle.std.specs.Prelude.{codes}
+use Rattle.serde_json.specs.Written.{comma_if}
 use Rattle.ovl_manifest.specs.Compact.{attributes_text}
 use Rattle.ovl_manifest.proofs.written_entries.push_attributes.Given as goal
 
--- the attributes so far
-abbrev pub invariant-loop-place : goal.invariant-loop-place
-invariant-loop-place l =
-    string_bytes l.text ≡ (string_bytes l.fn.text ++ codes "{") ++ attributes_text false (take l.place l.attribute-items)
+-- the attributes that are left, behind a comma where others stand before them, make the text whole
+abbrev pub invariant-loop-name : goal.invariant-loop-name
+invariant-loop-name l =
+    (before : Bool) × (l.comma ≡ comma_if before)
+    × (string_bytes l.text ++ attributes_text before l.name-iterator ≡ (string_bytes l.fn.text ++ codes "{") ++ attributes_text false l.attrs)
