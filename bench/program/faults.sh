@@ -178,17 +178,19 @@ printf '{"entries":[%s%s],"overlay-layer":2}\n' "$root" "$pipes" > pipes.json
 printf '[]' > shape.json
 : > empty.json
 python3 -B "$bench/refusals.py" --library refuse.so || exit 1
-mkdir blobs wrong none bad.utf8 large flood closed folder.json
+mkdir blobs wrong short most eight none bad.utf8 large flood closed folder.json
 printf abc > "blobs/$abc"
 printf note > blobs/note
 mkdir "blobs/${abc//b/f}"
 ln -s "$abc" "blobs/${abc//b/0}"
 printf abd > "wrong/$abc"
+printf ab > "short/$abc"
 : > $'bad.utf8/\xff'
 truncate -s 268435457 long.json
 truncate -s 268435456 most.json
 head -c 5000 /dev/zero | tr '\0' ' ' | cat - root.json > padded.json
 truncate -s 134217729 "large/$abc" "large/${abc//b/0}"
+truncate -s 268435456 "most/${abc//b/0}"
 for ((i = 0; i < 24; i++)); do
     printf -v name '%064x' "$i"
     truncate -s 200000000 "flood/$name"
@@ -211,16 +213,37 @@ at file /k '"size":3,"xattrs":{"trusted.overlay.metacopy":""}' | sed 's/493/420/
     at dir /p/q '"xattrs":{"trusted.overlay.redirect":"2f78"}'
     at char /x "$plain"',"major":0,"minor":0'
 } | layer > moved.json
+# Directories of a name, so many in each other, below a path.
 chain() {
-    local deep=/x
-    at dir $deep "$plain"
-    for ((i = 0; i < $1; i++)); do
-        deep+=/d
-        at dir $deep "$plain"
+    local deep=$1
+    for ((i = 0; i < $3; i++)); do
+        deep+=/$2
+        at dir "$deep" "$plain"
     done
 }
-chain 126 | layer > deep.json
-chain 127 | layer > deeper.json
+below() {
+    at dir /x "$plain"
+    chain /x "$@"
+}
+below d 63 | layer > half.json
+below d 126 | layer > deep.json
+below d 127 | layer > deeper.json
+# Sixty-four directories in each other, of which the last goes on at the old place; and a directory of a name of 255 bytes,
+# which the longer of two chains of such names makes longer than 4,095 bytes.
+moved=('"xattrs":{"trusted.overlay.redirect":"2f78"}' "$plain"',"major":0,"minor":0')
+printf -v name_255 '%0255d' 0
+{
+    chain '' d 63
+    deepest=$(printf '/d%.0s' {1..64})
+    at dir "$deepest" "${moved[0]}"
+    at char /x "${moved[1]}"
+} | layer > chained.json
+{
+    at dir "/$name_255" "${moved[0]}"
+    at char /x "${moved[1]}"
+} | layer > long_named.json
+below "$name_255" 14 | layer > long.fits.json
+below "$name_255" 15 | layer > long.over.json
 # A redirect of 100,000 names; and a chain of as many directories as a path may have names, the last of which goes on at the
 # chain of deeper.json.
 at dir /m "\"xattrs\":{\"trusted.overlay.redirect\":\"$(printf '2f61%.0s' {1..100000})\"}" | layer > far.json
@@ -243,10 +266,15 @@ prints 0 'faults 0 notes 0\n' fsck --blobs blobs k.json
 prints 0 'faults 0 notes 0\n' fsck --blobs blobs/ --workers 1 root.json k.json
 prints 1 'fault blob-digest 0 /k\nfaults 1 notes 0\n' fsck --blobs wrong k.json
 prints 1 'fault blob-missing 1 /k\nfaults 1 notes 0\n' fsck --blobs none root.json k.json
+prints 1 'fault blob-size 0 /k\nfault blob-digest 0 /k\nfaults 2 notes 0\n' fsck --blobs short k.json
+prints 0 'faults 0 notes 0\n' fsck --blobs most root.json
 
 # Files and folders.
 refuses 3 'cannot read missing.json' show missing.json
-refuses 3 'cannot read missing.json' show root.json missing.json lost.json
+for workers in 1 2 64; do
+    refuses 3 'cannot read missing.json' show --workers "$workers" root.json missing.json lost.json
+done
+refuses 3 'cannot read missing' fsck --blobs missing shape.json
 refuses 3 'cannot read folder.json' show folder.json
 refuses 3 'cannot read long.json' show long.json
 refuses 3 'layer 0: not JSON' show most.json
@@ -330,7 +358,9 @@ each open "/$abc" 4 prints 0 "$clean" fsck --blobs blobs k.json
 parts=(fsck --any-size --blobs)
 prints 0 "$clean" "${parts[@]}" blobs k.json
 prints 0 "$clean" "${parts[@]}" blobs/ --workers 1 root.json k.json
-prints 0 "$clean" "${parts[@]}" linked --workers 64 k.json
+for workers in 1 2 7 64; do
+    prints 0 "$clean" "${parts[@]}" linked --workers "$workers" k.json
+done
 prints 1 'fault blob-digest 0 /k\nfaults 1 notes 0\n' "${parts[@]}" wrong k.json
 prints 1 'fault blob-missing 1 /k\nfaults 1 notes 0\n' "${parts[@]}" none root.json k.json
 prints 1 'fault blob-missing 0 /k\nfaults 1 notes 0\n' "${parts[@]}" bad.utf8 k.json
@@ -373,6 +403,23 @@ for most in 1 2 100; do
     over='failing read no-file 0 0' prints 0 "$clean" "${parts[@]}" blobs k.json
 done
 most=
+# (Of eight contents two can't be read, whose names end otherwise: the first of them is told by any number of workers.)
+for pair in '0 7' '2 3' '1 6' '5 5'; do
+    entries='' told_first=''
+    for ((i = 0; i < 8; i++)); do
+        [[ " $pair " == *" $i "* ]] && end=ff || end=00
+        printf -v name '%d%061d%s' "$i" 0 "$end"
+        printf a > "eight/$name"
+        entries+=',{"blob":"'$name'","gid":0,"kind":"file","mode":420,"mtime":0,"mtime-nsec":0,"path":"/'$i'","size":1,"uid":0,"xattrs":{}}'
+        [[ $end == ff ]] && told_first=${told_first:-$name}
+    done
+    printf '{"entries":[%s%s],"overlay-layer":2}\n' "$root" "$entries" > eight.json
+    for workers in 1 2 7; do
+        over='failing open ff 1 5' REFUSE_ON=1 refuses 3 "cannot read eight/$told_first" "${parts[@]}" eight --workers "$workers" eight.json
+        over='failing read ff 1 5' REFUSE_ON=1 refuses 3 "cannot read eight/$told_first" "${parts[@]}" eight --workers "$workers" eight.json
+    done
+    rm eight/*
+done
 # (It grows, shrinks and is emptied while it is read, and never has the three bytes of its name.)
 mkdir restless new && printf abcd > "restless/$abc"
 (while :; do
@@ -405,6 +452,7 @@ for ((i = 0; i < 129; i++)); do
 done
 refuses 3 'layers must be 1 to 128' show "${layers[@]}"
 prints 0 'dir 0755 0 0 0 - - /\nentries 1\n' show "${layers[@]:1}"
+refuses 3 'data layers must leave a layer' show --data-layers 1 root.json
 
 # Words.
 for workers in 0 65 -1 x '' 4.0 18446744073709551616; do
@@ -489,10 +537,26 @@ prints 1 'fault blob-missing 1 /k\nfaults 1 notes 0\n' deref --blobs none --out 
 gives new
 prints 0 'leaf /k\nentries 2\n' deref --blobs blobs --out new meta.json k.json
 gives new k.json
-if ends 0 told deref --blobs none --out new/ moved.json deep.json; then
-    tail -n 2 printed > last
-    printf 'whiteout /x\nentries 130\n' | cmp -s - last && same=$((same + 1)) || differs 'another end' deref moved.json deep.json
-fi
+# By the words after LINES: status 0, and these last lines of the report.
+closes() {
+    local text
+    printf -v text '%b' "$1"
+    shift
+    ends 0 told "$@" || return
+    tail -n "$(printf '%s' "$text" | wc -l)" printed > last
+    says last "$text" "$@"
+}
+rewritten=(--blobs none --out new)
+closes 'whiteout /x\nentries 67\n' deref "${rewritten[@]}" moved.json half.json
+closes 'whiteout /x\nentries 130\n' deref "${rewritten[@]}" moved.json deep.json
+closes 'whiteout /x\nentries 17\n' deref "${rewritten[@]}" long_named.json long.fits.json
+rm -f new/layer-0.json
+refuses 5 'result over the limits' deref "${rewritten[@]}" long_named.json long.over.json
+gives new
+closes 'entries 130\n' show moved.json deeper.json
+closes 'entries 129\n' merge "${rewritten[@]}" moved.json deep.json
+closes 'entries 128\n' merge "${rewritten[@]}" chained.json half.json
+rm -f new/layer-*.json
 
 prints 1 'fault redirect-lost 0 /m\nfault redirect-open 0 /m\nfaults 2 notes 0\n' fsck --blobs none far.json root.json
 prints 0 'faults 0 notes 0\n' fsck --blobs none moved_deeper.json deeper.json

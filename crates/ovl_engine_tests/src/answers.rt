@@ -3,7 +3,7 @@
 use crate::samples::manifests_of;
 use ovl_engine::{Answer, Blob, Command, EngineFault, command, command_of, named_blobs};
 use ovl_pool::OpenGate;
-use std::alloc::Global;
+use std::alloc::{AllocError, Global};
 use std::sync::Wait;
 use std::test::Fail;
 use std::thread::Threads;
@@ -12,19 +12,18 @@ use std::thread::Threads;
 // `[a]` stands for the digest of `a`, `[f]` and `[d]` for what is shown of a file of these contents and of a directory.
 pub(crate) fn in_full(alloc: Global, wanted: &str) -> Result<String, Fail> {
     let (report, layers) = wanted.split_once(" => ").unwrap_or((wanted, ""));
-    let mut text = format!(in alloc; "{report}\n")?;
-    for (short, full) in [
-        ("; ", "\n"),
-        ("[d]", "dir 0755 0 0 0 - -"),
-        ("[f]", "file 0644 0 0 0 1 [a]"),
-        (
-            "[a]",
-            "ca978112ca1bbdcafac231b39a23dc4da786eff8147c4e72b9807785afee48bb",
-        ),
-    ] {
-        text = text.as_str().replace(alloc, short, full)?;
-    }
+    let report = format!(in alloc; "{report}\n")?;
+    let lines = replaced(alloc, report, "; ", "\n")?;
+    let directories = replaced(alloc, lines, "[d]", "dir 0755 0 0 0 - -")?;
+    let files = replaced(alloc, directories, "[f]", "file 0644 0 0 0 1 [a]")?;
+    let text = replaced(alloc, files, "[a]", DIGEST_OF_A)?;
     with_manifests(text, &manifests_of(alloc, layers)?.0)
+}
+
+const DIGEST_OF_A: &str = "ca978112ca1bbdcafac231b39a23dc4da786eff8147c4e72b9807785afee48bb";
+
+fn replaced(alloc: Global, text: String, short: &str, full: &str) -> Result<String, AllocError> {
+    text.as_str().replace(alloc, short, full)
 }
 
 // A text with these manifests behind it.

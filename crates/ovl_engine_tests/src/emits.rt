@@ -1,10 +1,16 @@
 //! Bytes that go out whole, or those that a fault counts
 //! where a write fails; and blobs that are named.
 
-use ovl_engine::{EmitFault, emit, named_blobs};
-use ovl_inode::Digest;
+use crate::tables::same;
+use ovl_engine::{Blob, EmitFault, emit, named_blobs};
+use std::alloc::{AllocError, Global};
 use std::io::{self, Error, Write};
 use std::test::Fail;
+
+// The blobs of `abc` and of `a`.
+const NAMED: &str =
+    "ba7816bf8f01cfea414140de5dae2223b00361a396177a9cb410ff61f20015ad [97, 98, 99]; \
+    ca978112ca1bbdcafac231b39a23dc4da786eff8147c4e72b9807785afee48bb [97]; ";
 
 // Takes a few bytes in all, one or two at a time, is interrupted before each, and then fails, or takes none.
 #[derive(Drop)]
@@ -37,47 +43,59 @@ impl Write for Narrow {
     }
 }
 
+// How much is written by a writer of this room, or where it fails, and what that took.
+fn told(alloc: Global, room: usize, fails: bool) -> Result<String, AllocError> {
+    let taken = Vec::new(alloc);
+    let interrupts = false;
+    let mut narrow = Narrow {
+        room,
+        taken,
+        interrupts,
+        fails,
+    };
+    match emit(&mut narrow, b"abcde".as_slice()) {
+        Ok(()) => format!(in alloc; "all {:?}", narrow.taken),
+        Err(EmitFault { written }) => format!(in alloc; "{written} {:?}", narrow.taken),
+    }
+}
+
 #[test]
 fn all_bytes_go_out_or_those_that_the_fault_counts(rt: HostRuntime) -> Result<(), Fail> {
-    for (room, fails, wanted) in [
-        (5, true, Ok(())),
-        (3, true, Err(EmitFault { written: 3 })),
-        (3, false, Err(EmitFault { written: 3 })),
-        (0, false, Err(EmitFault { written: 0 })),
-    ] {
-        let mut narrow = Narrow {
-            room,
-            taken: Vec::new(rt.alloc()),
-            interrupts: false,
-            fails,
-        };
-        assert_eq!(rt; emit(&mut narrow, b"abcde".as_slice()), wanted, "of {room}");
-        assert_eq!(rt; narrow.taken.as_slice(), &b"abcde".as_slice()[..room]);
+    let alloc = rt.alloc();
+    same(
+        "room",
+        told(alloc, 5, true)?.as_str(),
+        "all [97, 98, 99, 100, 101]",
+    )?;
+    same("no room", told(alloc, 3, true)?.as_str(), "3 [97, 98, 99]")?;
+    same(
+        "none taken",
+        told(alloc, 3, false)?.as_str(),
+        "3 [97, 98, 99]",
+    )?;
+    same("nothing", told(alloc, 0, false)?.as_str(), "0 []")
+}
+
+// The names of the blobs of these words, and their bytes.
+fn named(alloc: Global, words: &str) -> Result<String, Fail> {
+    let mut contents = Vec::new(alloc);
+    for word in words.split_whitespace() {
+        contents.push(String::from_str(alloc, word)?.into_bytes())?;
     }
-    Ok(())
+    told_of(alloc, &named_blobs(alloc, &contents)?)
+}
+
+fn told_of(alloc: Global, blobs: &[Blob]) -> Result<String, Fail> {
+    let mut text = String::new(alloc);
+    for Blob { name, bytes } in blobs {
+        let name = hex::encode(alloc, name.as_bytes())?;
+        text.push_str(format!(in alloc; "{name} {bytes:?}; ")?.as_str())?;
+    }
+    Ok(text)
 }
 
 #[test]
 fn blobs_are_named_by_their_digests_and_each_once(rt: HostRuntime) -> Result<(), Fail> {
-    let alloc = rt.alloc();
-    let mut contents = Vec::new(alloc);
-    for text in ["abc", "a", "abc"] {
-        contents.push(String::from_str(alloc, text)?.into_bytes())?;
-    }
-    let blobs = named_blobs(alloc, &contents)?;
-    assert_eq!(rt; blobs.len(), 2);
-    for (blob, (name, bytes)) in blobs.iter().zip([
-        (
-            "ba7816bf8f01cfea414140de5dae2223b00361a396177a9cb410ff61f20015ad",
-            "abc",
-        ),
-        (
-            "ca978112ca1bbdcafac231b39a23dc4da786eff8147c4e72b9807785afee48bb",
-            "a",
-        ),
-    ]) {
-        assert_eq!(rt; blob.name, Digest::parse(name)?);
-        assert_eq!(rt; blob.bytes.as_slice(), bytes.as_bytes());
-    }
-    Ok(())
+    let found = named(rt.alloc(), "abc a abc")?;
+    same("abc a abc", found.as_str(), NAMED)
 }

@@ -3,7 +3,9 @@ ghost use Rattle.std.specs.Prelude.{◌≡◌, []};
 
 use crate::answers::blobs_of;
 use crate::commands::{of_forty, text_of};
+use crate::rows::command_of_word;
 use crate::samples::{manifests_of, stack_of};
+use crate::tables::{parts_of, same};
 use ovl_board::{BoardFault, Piece};
 use ovl_engine::{Command, EngineFault, ShowWork, command};
 use ovl_names::Path;
@@ -116,80 +118,111 @@ fn fault_of<R: Threads + Wait + Sync, G: Gate + Sync>(
     stack: &str,
     workers: usize,
     gate: &G,
-) -> Result<Option<EngineFault>, Fail> {
+) -> Result<String, Fail> {
     let (manifests, bottom) = manifests_of(alloc, stack)?;
     let blobs = blobs_of(alloc, "abc ab")?;
-    Ok(command(rt, alloc, what, &manifests, bottom, &blobs, workers, gate).err())
+    let ended = command(rt, alloc, what, &manifests, bottom, &blobs, workers, gate);
+    text_of(alloc, ended.err())
 }
 
 const TWO: &str = "/a /b";
 
-// The blobs of `abc` and of `ab`, by the first digits of their names.
-const BLOBS: &str = "/ba /fb";
+// A command, its stack, and pieces of one of its spaces: a layer, or that of the blobs, where `/ba` and `/fb` are those of
+// `abc` and of `ab`. The last two lines are of directories of the new layer alone, which no check visits.
+const SHARED: &str = "\
+show of dir /a, dir /b | root -> 0 /a /b
+fsck of dir /a, dir /b | root -> 0 /a /b
+fsck of root | dir /a, dir /b -> 1 /a /b
+fsck of root | root -> 128 /ba /fb
+vacuum of dir /a, dir /b | root -> 0 /a /b
+deref of dir /a, dir /b | root -> 0 /a /b
+merge of dir /a, dir /b | root -> 0 /a /b
+merge of root | dir /a, dir /b -> 0 /a /b
+deref of dir /p redirect=/x, whiteout /x | dir /x, dir /x/a, dir /x/b -> 0 /p/a /p/b
+";
+
+// How a command ends of which the pieces are to meet.
+fn met<R: Threads + Wait + Sync>(
+    rt: &R,
+    alloc: Global,
+    row: &str,
+    workers: usize,
+) -> Result<String, Fail> {
+    let (asked, shared) = parts_of(row);
+    let (word, stack) = asked.split_once(" of ").unwrap_or((asked, ""));
+    let (space, pieces) = shared.split_once(' ').unwrap_or((shared, ""));
+    let gate = Meeting(Asked::none_of(rt, alloc, space.parse()?, pieces)?);
+    fault_of(rt, alloc, command_of_word(word)?, stack, workers, &gate)
+}
 
 #[test]
 fn two_workers_of_a_command_meet_and_one_is_refused(rt: HostRuntime) -> Result<(), Fail> {
-    let alloc = rt.alloc();
-    let moved = "dir /p redirect=/x, whiteout /x | dir /x, dir /x/a, dir /x/b";
-    for (what, stack, space, pieces) in [
-        (Command::Show, "dir /a, dir /b | root", 0, TWO),
-        (Command::Fsck, "dir /a, dir /b | root", 0, TWO),
-        (Command::Fsck, "root | dir /a, dir /b", 1, TWO),
-        (Command::Fsck, "root | root", 128, BLOBS),
-        (Command::Vacuum, "dir /a, dir /b | root", 0, TWO),
-        (Command::Deref, "dir /a, dir /b | root", 0, TWO),
-        (Command::Merge, "dir /a, dir /b | root", 0, TWO),
-        // Directories of the new layer alone, which no check visits.
-        (Command::Merge, "root | dir /a, dir /b", 0, TWO),
-        (Command::Deref, moved, 0, "/p/a /p/b"),
-    ] {
-        for (workers, fault) in [(2, None), (1, Some(EngineFault::Run(RunFault::Gate)))] {
-            let gate = Meeting(Asked::none_of(&rt, alloc, space, pieces)?);
-            let ended = fault_of(&rt, alloc, what, stack, workers, &gate)?;
-            assert_eq!(rt; ended, fault, "{what:?} of {stack:?} by {workers}");
-        }
+    for row in SHARED.lines() {
+        same(row, met(&rt, rt.alloc(), row, 2)?.as_str(), "none")?;
+        same(row, met(&rt, rt.alloc(), row, 1)?.as_str(), "gate")?;
     }
     Ok(())
+}
+
+// Each directory is asked for by the check, and by the work of the command where the check finds no fault. Before the stack
+// stands from how many times on a directory is refused.
+const REFUSED: &str = "\
+3 of dir /a, dir /b | root -> none
+2 of dir /a, dir /b | root -> gate
+2 of dir /a, dir /b, dir /c redirect=/ | root -> the layers or the blobs have faults
+";
+
+// How a command ends that is refused a directory.
+fn refused<R: Threads + Wait + Sync>(
+    rt: &R,
+    alloc: Global,
+    what: Command,
+    row: &str,
+) -> Result<(), Fail> {
+    let (asked, wanted) = parts_of(row);
+    let (times, stack) = asked.split_once(" of ").unwrap_or((asked, ""));
+    let (asked, from) = (Asked::none_of(rt, alloc, 0, TWO)?, times.parse()?);
+    let ended = fault_of(rt, alloc, what, stack, 2, &Refusing { asked, from })?;
+    same(row, ended.as_str(), wanted)
 }
 
 #[test]
 fn a_new_layer_is_made_by_asked_visits_once_the_check_has_found_no_fault(
     rt: HostRuntime,
 ) -> Result<(), Fail> {
-    let alloc = rt.alloc();
-    let faulty = "dir /a, dir /b, dir /c redirect=/ | root";
-    for what in [Command::Vacuum, Command::Deref, Command::Merge] {
-        // Each directory is asked for by the check, and by the work of the command where the check finds no fault.
-        for (stack, from, wanted) in [
-            ("dir /a, dir /b | root", 3, "none"),
-            ("dir /a, dir /b | root", 2, "gate"),
-            (faulty, 2, "the layers or the blobs have faults"),
-        ] {
-            let asked = Asked::none_of(&rt, alloc, 0, TWO)?;
-            let gate = Refusing { asked, from };
-            let ended = fault_of(&rt, alloc, what, stack, 2, &gate)?;
-            assert_eq!(rt;
-                text_of(alloc, ended)?.as_str(),
-                wanted,
-                "{what:?} of {stack:?}"
-            );
-        }
+    for row in REFUSED.lines() {
+        refused(&rt, rt.alloc(), Command::Vacuum, row)?;
+        refused(&rt, rt.alloc(), Command::Deref, row)?;
+        refused(&rt, rt.alloc(), Command::Merge, row)?;
     }
     Ok(())
+}
+
+// What is told of a fault of a run.
+fn run_told(alloc: Global, fault: RunFault) -> Result<String, Fail> {
+    text_of(alloc, Some(EngineFault::from(fault)))
 }
 
 #[test]
 fn faults_of_a_run_have_their_texts(rt: HostRuntime) -> Result<(), Fail> {
     let alloc = rt.alloc();
     let missing = BoardFault::Missing(root_piece(alloc));
-    for (fault, text) in [
-        (RunFault::Memory, "out of memory"),
-        (RunFault::Board(missing), "board"),
-        (RunFault::Board(BoardFault::Memory), "out of memory"),
-    ] {
-        assert_eq!(rt; EngineFault::from(fault).to_string(alloc)?.as_str(), text);
-    }
-    Ok(())
+    same(
+        "memory",
+        run_told(alloc, RunFault::Memory)?.as_str(),
+        "out of memory",
+    )?;
+    same(
+        "board",
+        run_told(alloc, RunFault::Board(missing))?.as_str(),
+        "board",
+    )?;
+    let full = RunFault::Board(BoardFault::Memory);
+    same(
+        "memory of the board",
+        run_told(alloc, full)?.as_str(),
+        "out of memory",
+    )
 }
 
 // How many parcels a run over the merged tree of a layer gives, with its numbers, or how it ends.
@@ -199,23 +232,23 @@ fn counted<R: Threads + Wait + Sync, G: Gate + Sync>(
     layer: &str,
     workers: usize,
     gate: &G,
-) -> Result<Result<(usize, RunCount), RunFault>, Fail> {
+) -> Result<String, Fail> {
     let stack = stack_of(alloc, layer)?;
     let work = ShowWork::new(&stack);
-    let ran = run(rt, alloc, &work, root_piece(alloc), workers, gate);
-    Ok(ran.map(|(parcels, count)| (parcels.len(), count)))
+    match run(rt, alloc, &work, root_piece(alloc), workers, gate) {
+        Ok((parcels, count)) => count_told(alloc, parcels.len(), count),
+        Err(fault) => Ok(format!(in alloc; "{fault:?}")?),
+    }
 }
 
-// The parcels and numbers of a run over this many directories.
-fn all_of(directories: usize) -> Result<(usize, RunCount), RunFault> {
-    let pieces = directories as u64;
-    let count = RunCount {
-        known: pieces,
-        delivered: pieces,
-        taken: pieces,
-        left: 0,
-    };
-    Ok((directories, count))
+fn count_told(alloc: Global, parcels: usize, count: RunCount) -> Result<String, Fail> {
+    let RunCount {
+        known,
+        delivered,
+        taken,
+        left,
+    } = count;
+    Ok(format!(in alloc; "{parcels}: {known} {delivered} {taken} {left}")?)
 }
 
 // The entries of directories at these paths.
@@ -227,41 +260,53 @@ fn directories(alloc: Global, paths: &str) -> Result<String, Fail> {
     Ok(entries)
 }
 
+// Workers and the directories that are to meet, and behind them the parcels, and what is known, delivered, taken and left.
+const RUNS: &str = "\
+2 /a /b -> 3: 3 3 3 0
+1 /a /b -> Gate
+4 /a /b /c /d -> 5: 5 5 5 0
+3 /a /b /c /d -> Gate
+7 /a /b /c /d /e /f /g -> 8: 8 8 8 0
+";
+
+fn row_met<R: Threads + Wait + Sync>(rt: &R, alloc: Global, row: &str) -> Result<(), Fail> {
+    let (asked, wanted) = parts_of(row);
+    let (workers, paths) = asked.split_once(' ').unwrap_or((asked, ""));
+    let layer = directories(alloc, paths)?;
+    let gate = Meeting(Asked::none_of(rt, alloc, 0, paths)?);
+    let found = counted(rt, alloc, layer.as_str(), workers.parse()?, &gate)?;
+    same(row, found.as_str(), wanted)
+}
+
 #[test]
 fn workers_meet_over_the_merged_tree(rt: HostRuntime) -> Result<(), Fail> {
-    let alloc = rt.alloc();
-    let four = "/a /b /c /d";
-    let seven = "/a /b /c /d /e /f /g";
-    for (paths, workers, wanted) in [
-        (TWO, 2, all_of(3)),
-        (TWO, 1, Err(RunFault::Gate)),
-        (four, 4, all_of(5)),
-        (four, 3, Err(RunFault::Gate)),
-        (seven, 7, all_of(8)),
-    ] {
-        let layer = directories(alloc, paths)?;
-        let gate = Meeting(Asked::none_of(&rt, alloc, 0, paths)?);
-        let counted = counted(&rt, alloc, layer.as_str(), workers, &gate)?;
-        assert_eq!(rt; counted, wanted, "of {paths:?} by {workers}");
-    }
-    for (workers, wanted) in [(1, all_of(3)), (0, Err(RunFault::Workers))] {
-        let counted = counted(&rt, alloc, "dir /a, dir /b", workers, &OpenGate)?;
-        assert_eq!(rt; counted, wanted, "by {workers}");
+    for row in RUNS.lines() {
+        row_met(&rt, rt.alloc(), row)?;
     }
     Ok(())
 }
 
 #[test]
-fn each_directory_is_asked_for_once(rt: HostRuntime) -> Result<(), Fail> {
-    let alloc = rt.alloc();
-    let layer = of_forty(alloc, ", dir DIR, file DIR/k")?;
-    let layer = format!(in alloc; "root{layer}")?;
+fn a_run_has_a_worker_at_least(rt: HostRuntime) -> Result<(), Fail> {
+    let alone = counted(&rt, rt.alloc(), "dir /a, dir /b", 1, &OpenGate)?;
+    same("one worker", alone.as_str(), "3: 3 3 3 0")?;
+    let none = counted(&rt, rt.alloc(), "dir /a, dir /b", 0, &OpenGate)?;
+    same("no worker", none.as_str(), "Workers")
+}
+
+// The paths of forty directories and of the root, each asked for once where a run asks through this gate.
+fn forty_asked<R: Wait>(rt: &R, alloc: Global) -> Result<Asked<'_, R>, Fail> {
     let paths = of_forty(alloc, " DIR")?;
-    let paths = format!(in alloc; "/{paths}")?;
-    let gate = Asked::none_of(&rt, alloc, 0, paths.as_str())?;
-    let counted = counted(&rt, alloc, layer.as_str(), 7, &gate)?;
-    assert_eq!(rt; counted, all_of(41));
-    let asked = gate.times.lock(&rt);
-    assert!(rt; asked.iter().all(|(_, times)| *times == 1));
+    Asked::none_of(rt, alloc, 0, format!(in alloc; "/{paths}")?.as_str())
+}
+
+#[test]
+fn each_directory_is_asked_for_once(rt: HostRuntime) -> Result<(), Fail> {
+    let layer = of_forty(rt.alloc(), ", dir DIR, file DIR/k")?;
+    let layer = format!(in rt.alloc(); "root{layer}")?;
+    let gate = forty_asked(&rt, rt.alloc())?;
+    let found = counted(&rt, rt.alloc(), layer.as_str(), 7, &gate)?;
+    same("forty", found.as_str(), "41: 41 41 41 0")?;
+    assert!(rt; gate.times.lock(&rt).iter().all(|(_, times)| *times == 1));
     Ok(())
 }

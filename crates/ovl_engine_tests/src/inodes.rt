@@ -1,12 +1,57 @@
 //! Digests, attributes, redirects, marks, and what is copied or shown of inodes.
 
 use crate::samples::layer_of;
+use crate::tables::{parts_of, repeated, same};
 use ovl_inode::{
-    Attrs, Digest, Redirect, is_directory, is_whiteout, mark_of, overlay, read_redirect, visible,
+    Attrs, Digest, Inode, Mark, Redirect, is_directory, is_whiteout, mark_of, read_redirect,
+    visible,
 };
 use ovl_names::Path;
 use std::alloc::{AllocError, Global};
 use std::test::Fail;
+
+// In a redirect each letter stands for the byte of its number. A mark stands before whether it is told as a whiteout and as
+// a directory.
+const ROWS: &str = "\
+digest: ca978112ca1bbdcafac231b39a23dc4da786eff8147c4e72b9807785afee48bb -> ca978112ca1bbdcafac231b39a23dc4da786eff8147c4e72b9807785afee48bb
+digest: ca978112ca1bbdcafac231b39a23dc4da786eff8147c4e72b9807785afee48b -> the digest has not 64 digits
+digest: CA -> the digest has not 64 digits
+digest: 64*A -> the digest has a byte that is no lower-case hexadecimal digit
+attrs: user.k=1 user.l=3 user.a=4 -> user.a user.k user.l
+attrs: user.k=1 user.k=2 -> user.k
+attr: user.k -> put
+attr: 255*a -> put
+attr:  -> the attribute's name has not 1 to 255 bytes without NUL
+attr: user\0 -> the attribute's name has not 1 to 255 bytes without NUL
+attr: 256*a -> the attribute's name has not 1 to 255 bytes without NUL
+copied: console /c, disk /d, file /f, link /l user.k=v, fifo /p, socket /s -> 7 entries
+visible: dir /a opaque=y user.k=v -> 493 user.k
+redirect: /x/y -> /x/y
+redirect: r -> r
+redirect:  -> the redirect is empty
+redirect: \u{ff} -> the redirect is not UTF-8 text without NUL
+redirect: a\0 -> the redirect is not UTF-8 text without NUL
+redirect: / -> the redirect has a separator out of place
+redirect: /a/ -> the redirect has a separator out of place
+redirect: //a -> the redirect has a separator out of place
+redirect: a/b -> the redirect has a separator out of place
+redirect: /a/.. -> the redirect has a part that is no name
+redirect: .. -> the redirect has a part that is no name
+redirect: 256*a -> the redirect has a part that is no name
+mark: dir /a opaque=y -> DirOpaque false true
+mark: dir /a opaque=y redirect=/x -> DirOpaque false true
+mark: dir /a opaque=x -> DirPlain false true
+mark: dir /a redirect=/x -> DirMoved to /x false true
+mark: dir /a redirect=r metacopy= -> DirMoved to r false true
+mark: dir /a redirect= -> DirBad false true
+mark: whiteout /a -> Whiteout true false
+mark: empty /a whiteout= -> Whiteout true false
+mark: file /a whiteout= -> Leaf false false
+mark: console /a -> Leaf false false
+mark: bare /a metacopy= -> Meta(None) false false
+mark: bare /a metacopy= redirect=/x -> Meta to /x false false
+mark: bare /a metacopy= redirect=a/b -> MetaBad false false
+";
 
 // A digest's digits, or what is told of its fault.
 fn digest_told(alloc: Global, text: &str) -> Result<String, AllocError> {
@@ -16,148 +61,139 @@ fn digest_told(alloc: Global, text: &str) -> Result<String, AllocError> {
     }
 }
 
-#[test]
-fn digests_are_read_or_refused_by_their_first_fault(rt: HostRuntime) -> Result<(), Fail> {
-    let alloc = rt.alloc();
-    let of_a = "ca978112ca1bbdcafac231b39a23dc4da786eff8147c4e72b9807785afee48bb";
-    let too_short = "ca978112ca1bbdcafac231b39a23dc4da786eff8147c4e72b9807785afee48b";
-    let upper = of_a.to_ascii_uppercase(alloc)?;
-    let upper_case = "the digest has a byte that is no lower-case hexadecimal digit";
-    for (text, wanted) in [
-        (of_a, of_a),
-        (too_short, "the digest has not 64 digits"),
-        ("CA", "the digest has not 64 digits"),
-        (upper.as_str(), upper_case),
-    ] {
-        assert_eq!(rt; digest_told(alloc, text)?.as_str(), wanted, "at {text:?}");
-    }
-    Ok(())
-}
-
-#[test]
-fn attributes_are_put_in_order_and_found(rt: HostRuntime) -> Result<(), Fail> {
-    let alloc = rt.alloc();
-    let mut attrs = Attrs::new(alloc);
-    for (name, value) in [("user.k", 1), ("user.l", 3), ("user.a", 4)] {
-        assert_eq!(rt; attrs.put(name, &[value]), Ok(()));
-        assert_eq!(rt; attrs.get(name), Some([value].as_slice()));
-    }
-    assert_eq!(rt; attrs.get("user.b"), None);
+fn names_of(alloc: Global, attrs: &Attrs) -> Result<String, AllocError> {
     let mut names = String::new(alloc);
     for (name, _) in attrs.pairs() {
+        if !names.is_empty() {
+            names.push_str(" ")?;
+        }
         names.push_str(name)?;
     }
-    assert_eq!(rt; names.as_str(), "user.auser.kuser.l");
-    let too_long = "a".repeat(alloc, 256)?;
-    for name in ["", "user\0", too_long.as_str()] {
-        let told = match attrs.put(name, &[2]) {
-            Ok(()) => String::new(alloc),
-            Err(fault) => fault.to_string(alloc)?,
-        };
-        let wanted = "the attribute's name has not 1 to 255 bytes without NUL";
-        assert_eq!(rt; told.as_str(), wanted, "at {name:?}");
-    }
-    Ok(())
+    Ok(names)
 }
 
-#[test]
-fn inodes_are_copied_and_shown_without_the_overlays_attributes(
-    rt: HostRuntime,
-) -> Result<(), Fail> {
-    let alloc = rt.alloc();
-    let kinds = "console /c, disk /d, file /f, link /l user.k=v, fifo /p, socket /s";
-    for (path, inode) in &layer_of(alloc, kinds)?.entries(alloc)? {
-        assert_eq!(rt; inode.copy(alloc)?, *inode, "at {path:?}");
-    }
-    let layer = layer_of(alloc, "dir /n opaque=y user.k=v")?;
-    let Some(inode) = layer.at(&Path::parse(alloc, "/n")?) else {
-        return Err(Fail::from("no directory"));
-    };
-    let shown = visible(alloc, inode)?;
-    assert_eq!(rt; shown.attrs.get(overlay::OPAQUE), None);
-    assert_eq!(rt; shown.attrs.get("user.k"), Some(b"v".as_slice()));
-    assert_eq!(rt; (shown.mode, shown.attrs.pairs().count()), (0o755, 1));
-    Ok(())
+// Whether an attribute is found as it was put, and no other.
+fn is_put(attrs: &mut Attrs, word: &str) -> Result<bool, Fail> {
+    let (name, value) = word.split_once('=').unwrap_or((word, ""));
+    attrs.put(name, value.as_bytes())?;
+    Ok(attrs.get(name) == Some(value.as_bytes()) && attrs.get("user.b").is_none())
 }
 
-// A path or a name, as reports show it, or what is told of a redirect's fault.
-fn redirect_told(alloc: Global, value: &[u8]) -> Result<String, AllocError> {
-    match read_redirect(alloc, value) {
-        Ok(Redirect::To(path)) => path.shown(alloc),
-        Ok(Redirect::Beside(name)) => name.shown(alloc),
+// The names of attributes that are put one after another.
+fn attrs_told(alloc: Global, words: &str) -> Result<String, Fail> {
+    let mut attrs = Attrs::new(alloc);
+    for word in words.split_whitespace() {
+        if !is_put(&mut attrs, word)? {
+            return Err(Fail::new("an attribute is not as it was put"));
+        }
+    }
+    Ok(names_of(alloc, &attrs)?)
+}
+
+fn attr_told(alloc: Global, name: &str) -> Result<String, AllocError> {
+    let mut attrs = Attrs::new(alloc);
+    match attrs.put(name, b"v") {
+        Ok(()) => String::from_str(alloc, "put"),
         Err(fault) => fault.to_string(alloc),
     }
 }
 
-#[test]
-fn redirects_are_read_or_refused_by_their_first_fault(rt: HostRuntime) -> Result<(), Fail> {
-    let alloc = rt.alloc();
-    let long = [b'a'; 256];
-    let no_text = "the redirect is not UTF-8 text without NUL";
-    let separator = "the redirect has a separator out of place";
-    let no_name = "the redirect has a part that is no name";
-    for (value, wanted) in [
-        (b"/x/y".as_slice(), "/x/y"),
-        (b"r".as_slice(), "r"),
-        (b"".as_slice(), "the redirect is empty"),
-        (b"\xff".as_slice(), no_text),
-        (b"a\0".as_slice(), no_text),
-        (b"/".as_slice(), separator),
-        (b"/a/".as_slice(), separator),
-        (b"//a".as_slice(), separator),
-        (b"a/b".as_slice(), separator),
-        (b"/a/..".as_slice(), no_name),
-        (b"..".as_slice(), no_name),
-        (long.as_slice(), no_name),
-    ] {
-        assert_eq!(rt;
-            redirect_told(alloc, value)?.as_str(),
-            wanted,
-            "at {value:?}"
-        );
+// How many entries there are, all of which are copied as they are.
+fn copied_told(alloc: Global, entries: &str) -> Result<String, Fail> {
+    let entries = layer_of(alloc, entries)?.entries(alloc)?;
+    for (_, inode) in &entries {
+        if inode.copy(alloc)? != *inode {
+            return Err(Fail::new("a copy is another inode"));
+        }
     }
-    Ok(())
+    Ok(format!(in alloc; "{} entries", entries.len())?)
 }
 
-// The mark of an entry at `/a`.
-fn mark_told(alloc: Global, entry: &str) -> Result<String, Fail> {
+// The inode of the entry at `/a`.
+fn inode_of(alloc: Global, entry: &str) -> Result<Inode, Fail> {
     let layer = layer_of(alloc, entry)?;
-    let Some(inode) = layer.at(&Path::parse(alloc, "/a")?) else {
-        return Err(Fail::new("no entry"));
-    };
-    let mark = mark_of(alloc, inode)?;
-    let mark = format!(in alloc; "{mark:?}")?;
-    let is_told = is_whiteout(inode) == (mark.as_str() == "Whiteout")
-        && is_directory(inode) == mark.as_str().starts_with("Dir");
-    if !is_told {
-        return Err(Fail::new("the tests of one mark differ from it"));
+    match layer.at(&Path::parse(alloc, "/a")?) {
+        Some(inode) => Ok(inode.copy(alloc)?),
+        None => Err(Fail::new("no entry")),
     }
-    Ok(mark)
+}
+
+fn visible_told(alloc: Global, entry: &str) -> Result<String, Fail> {
+    let shown = visible(alloc, &inode_of(alloc, entry)?)?;
+    let names = names_of(alloc, &shown.attrs)?;
+    Ok(format!(in alloc; "{} {names}", shown.mode)?)
+}
+
+fn bytes_of(alloc: Global, text: &str) -> Result<Vec<u8>, AllocError> {
+    let mut bytes = Vec::new(alloc);
+    for letter in text.chars() {
+        bytes.push(u8::try_from(u32::from(letter)).unwrap_or(0))?;
+    }
+    Ok(bytes)
+}
+
+fn shown_place(alloc: Global, redirect: &Redirect) -> Result<String, AllocError> {
+    match redirect {
+        Redirect::To(path) => path.shown(alloc),
+        Redirect::Beside(name) => name.shown(alloc),
+    }
+}
+
+// A path or a name, as reports show it, or what is told of a redirect's fault.
+fn redirect_told(alloc: Global, text: &str) -> Result<String, AllocError> {
+    match read_redirect(alloc, &bytes_of(alloc, text)?) {
+        Ok(redirect) => shown_place(alloc, &redirect),
+        Err(fault) => fault.to_string(alloc),
+    }
+}
+
+fn word_of(alloc: Global, mark: &Mark) -> Result<String, AllocError> {
+    match mark {
+        Mark::DirMoved(to) => {
+            let to = shown_place(alloc, to)?;
+            format!(in alloc; "DirMoved to {to}")
+        }
+        Mark::Meta(Some(to)) => {
+            let to = shown_place(alloc, to)?;
+            format!(in alloc; "Meta to {to}")
+        }
+        other => format!(in alloc; "{other:?}"),
+    }
+}
+
+fn mark_told(alloc: Global, entry: &str) -> Result<String, Fail> {
+    let inode = inode_of(alloc, entry)?;
+    let word = word_of(alloc, &mark_of(alloc, &inode)?)?;
+    let (whiteout, directory) = (is_whiteout(&inode), is_directory(&inode));
+    Ok(format!(in alloc; "{word} {whiteout} {directory}")?)
+}
+
+fn told(alloc: Global, call: &str, text: &str) -> Result<String, Fail> {
+    match call {
+        "digest" => Ok(digest_told(alloc, text)?),
+        "attrs" => attrs_told(alloc, text),
+        "attr" => Ok(attr_told(alloc, text)?),
+        "copied" => copied_told(alloc, text),
+        "visible" => visible_told(alloc, text),
+        "redirect" => Ok(redirect_told(alloc, text)?),
+        "mark" => mark_told(alloc, text),
+        _ => Err(Fail::new("no call has this word")),
+    }
+}
+
+fn row_told(alloc: Global, row: &str) -> Result<(), Fail> {
+    let (words, wanted) = parts_of(row);
+    let (call, text) = words.split_once(": ").unwrap_or((words, ""));
+    let found = told(alloc, call, repeated(alloc, text)?.as_str())?;
+    same(row, found.as_str(), wanted)
 }
 
 #[test]
-fn marks_are_the_first_case_that_holds(rt: HostRuntime) -> Result<(), Fail> {
-    let alloc = rt.alloc();
-    let to_x = "To(Path { names: [Name { text: \"x\" }] })";
-    let moved = format!(in alloc; "DirMoved({to_x})")?;
-    let meta = format!(in alloc; "Meta(Some({to_x}))")?;
-    let beside = "DirMoved(Beside(Name { text: \"r\" }))";
-    for (entry, wanted) in [
-        ("dir /a opaque=y", "DirOpaque"),
-        ("dir /a opaque=y redirect=/x", "DirOpaque"),
-        ("dir /a opaque=x", "DirPlain"),
-        ("dir /a redirect=/x", moved.as_str()),
-        ("dir /a redirect=r metacopy=", beside),
-        ("dir /a redirect=", "DirBad"),
-        ("whiteout /a", "Whiteout"),
-        ("empty /a whiteout=", "Whiteout"),
-        ("file /a whiteout=", "Leaf"),
-        ("console /a", "Leaf"),
-        ("bare /a metacopy=", "Meta(None)"),
-        ("bare /a metacopy= redirect=/x", meta.as_str()),
-        ("bare /a metacopy= redirect=a/b", "MetaBad"),
-    ] {
-        assert_eq!(rt; mark_told(alloc, entry)?.as_str(), wanted, "of {entry:?}");
+fn inodes_and_their_parts_are_told_or_refused_by_their_first_fault(
+    rt: HostRuntime,
+) -> Result<(), Fail> {
+    for row in ROWS.lines() {
+        row_told(rt.alloc(), row)?;
     }
     Ok(())
 }

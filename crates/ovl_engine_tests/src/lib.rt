@@ -25,4 +25,6 @@ mod rows;
 #[cfg(test)]
 mod samples;
 #[cfg(test)]
+mod tables;
+#[cfg(test)]
 mod works;

@@ -4,6 +4,7 @@ ghost use Rattle.ovl_lookup.specs.Stacks.{all_layers};
 ghost use Rattle.ovl_lookup.specs.DirViews.{IsViewOver};
 
 use crate::samples::{layer_of, stack_of};
+use crate::tables::{parts_of, same};
 use ovl_inode::Kind;
 use ovl_lookup::{DirView, Look, Stack, StackFault, Step, walk};
 use ovl_manifest::Layer;
@@ -242,16 +243,24 @@ fn called(alloc: Global, stack: &Stack, line: &str) -> Result<String, Fail> {
     told(alloc, stack, call, &Path::parse(alloc, path)?)
 }
 
+// What the line of a call tells.
+fn line_told(alloc: Global, stack: &Stack, line: &str) -> Result<(), Fail> {
+    let (call, wanted) = line.split_once(':').unwrap_or((line, ""));
+    same(
+        line,
+        called(alloc, stack, call)?.as_str(),
+        wanted.trim_start(),
+    )
+}
+
 #[test]
 fn stacks_show_what_is_written(rt: HostRuntime) -> Result<(), Fail> {
-    let alloc = rt.alloc();
-    let mut stack = stack_of(alloc, "root")?;
+    let mut stack = stack_of(rt.alloc(), "root")?;
     for line in ROWS.lines() {
-        if let Some((call, wanted)) = line.split_once(':') {
-            let found = called(alloc, &stack, call)?;
-            assert_eq!(rt; found.as_str(), wanted.trim_start(), "{call}");
+        if line.contains(':') {
+            line_told(rt.alloc(), &stack, line)?;
         } else if !line.is_empty() {
-            stack = stack_of(alloc, line)?;
+            stack = stack_of(rt.alloc(), line)?;
         }
     }
     Ok(())
@@ -274,28 +283,34 @@ fn counted(alloc: Global, made: Result<Stack, StackFault>) -> Result<String, All
     }
 }
 
+// Numbers of layers and of those that are data-only, and how many the stack has in all and not data-only.
+const LIMITS: &str = "\
+0 0 -> layers must be 1 to 128
+1 0 -> 1 1
+1 1 -> data layers must leave a layer
+128 127 -> 128 1
+128 128 -> data layers must leave a layer
+129 0 -> layers must be 1 to 128
+129 129 -> layers must be 1 to 128
+";
+
+// What comes of such numbers, where 0 data-only layers are the same as none.
+fn limit_told(alloc: Global, row: &str) -> Result<(), Fail> {
+    let (numbers, wanted) = parts_of(row);
+    let (count, bottom) = numbers.split_once(' ').unwrap_or((numbers, ""));
+    let made = Stack::with_data(alloc, roots(alloc, count.parse()?)?, bottom.parse()?);
+    same(row, counted(alloc, made)?.as_str(), wanted)?;
+    if bottom != "0" {
+        return Ok(());
+    }
+    let made = Stack::of(alloc, roots(alloc, count.parse()?)?);
+    same(row, counted(alloc, made)?.as_str(), wanted)
+}
+
 #[test]
 fn a_stack_has_1_to_128_layers_and_one_that_is_not_data_only(rt: HostRuntime) -> Result<(), Fail> {
-    let alloc = rt.alloc();
-    for (count, bottom, wanted) in [
-        (0, 0, "layers must be 1 to 128"),
-        (1, 0, "1 1"),
-        (1, 1, "data layers must leave a layer"),
-        (128, 127, "128 1"),
-        (128, 128, "data layers must leave a layer"),
-        (129, 0, "layers must be 1 to 128"),
-        (129, 129, "layers must be 1 to 128"),
-    ] {
-        let made = Stack::with_data(alloc, roots(alloc, count)?, bottom);
-        assert_eq!(rt;
-            counted(alloc, made)?.as_str(),
-            wanted,
-            "{bottom} of {count}"
-        );
-        if bottom == 0 {
-            let made = Stack::of(alloc, roots(alloc, count)?);
-            assert_eq!(rt; counted(alloc, made)?.as_str(), wanted, "{count}");
-        }
+    for row in LIMITS.lines() {
+        limit_told(rt.alloc(), row)?;
     }
     Ok(())
 }

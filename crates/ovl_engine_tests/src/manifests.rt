@@ -1,133 +1,85 @@
 //! Layers and sheets of manifests, and manifests of layers.
 
 use crate::samples::{layer_of, manifest_of};
-use ovl_manifest::{LayerFault, Sheet, from_entries, read_layer, read_sheet, write_layer};
+use crate::tables::{parts_of, same};
+use ovl_manifest::{
+    LayerFault, Sheet, SheetRow, from_entries, read_layer, read_sheet, write_layer,
+};
 use ovl_names::Path;
 use std::alloc::{AllocError, Global};
 use std::test::Fail;
 
-// The first line of an image's smallest layer, and what it is in the version before.
-const ROOT_ALONE: &str =
-    r#"{"entries":[{"gid":0,"kind":"dir","mode":493,"mtime":0,"mtime-nsec":0,"path":"/","uid":0,"xattrs":{}}],"overlay-layer":2}"#;
+// The smallest layer's manifest, and what it is in the version before.
+const SMALLEST: &str =
+    r#"{"entries":[{"gid":0,"kind":"dir","mode":493,"mtime":0,"mtime-nsec":0,"path":"/","uid":0,"xattrs":{}}],"overlay-layer":2}
+"#;
 
-const EARLIER_ROOT: &str =
+const EARLIER: &str =
     r#"{"entries":[{"gid":0,"kind":"dir","mode":493,"mtime":0,"path":"/","uid":0,"xattrs":{}}],"overlay-layer":1}"#;
 
 #[test]
-fn layers_are_written_as_they_were_read(rt: HostRuntime) -> Result<(), Fail> {
-    let alloc = rt.alloc();
-    let smallest = format!(in alloc; "{ROOT_ALONE}\n")?;
-    assert_eq!(rt; smallest.as_bytes(), manifest_of(alloc, "root")?.as_slice());
-    let earlier = read_layer(alloc, EARLIER_ROOT.as_bytes())?;
-    assert_eq!(rt;
-        write_layer(alloc, &earlier)?.as_slice(),
-        smallest.as_bytes()
-    );
-    let all =
-        "console /c, dir /d opaque=y, file-late /d/k, disk /e, link /l user.k=v, fifo /p, socket /s";
-    for (entries, count) in [("root", 1), (all, 8)] {
-        let manifest = manifest_of(alloc, entries)?;
-        let layer = read_layer(alloc, &manifest)?;
-        assert_eq!(rt; write_layer(alloc, &layer)?, manifest);
-        let pairs = layer.entries(alloc)?;
-        assert_eq!(rt; pairs.len(), count);
-        let same = from_entries(alloc, pairs)?;
-        assert_eq!(rt; write_layer(alloc, &same)?, manifest);
-    }
+fn a_layer_of_the_earlier_version_is_written_in_the_later_one(rt: HostRuntime) -> Result<(), Fail> {
+    let layer = read_layer(rt.alloc(), EARLIER.as_bytes())?;
+    let written = String::from_utf8(write_layer(rt.alloc(), &layer)?)?;
+    same(EARLIER, written.as_str(), SMALLEST)
+}
+
+#[test]
+fn what_is_no_json_is_refused(rt: HostRuntime) -> Result<(), Fail> {
+    let cut = &EARLIER.as_bytes()[..100];
+    let layer = read_layer(rt.alloc(), cut).err();
+    let sheet = read_sheet(rt.alloc(), cut).err();
+    assert!(rt; layer == Some(LayerFault::NotJson) && sheet == layer);
     Ok(())
 }
 
 #[test]
-fn what_is_no_layer_is_refused(rt: HostRuntime) -> Result<(), Fail> {
-    let alloc = rt.alloc();
-    let cut = &ROOT_ALONE.as_bytes()[..120];
-    assert_eq!(rt; read_layer(alloc, cut).err(), Some(LayerFault::NotJson));
-    assert_eq!(rt; read_sheet(alloc, cut).err(), Some(LayerFault::NotJson));
-    assert!(rt; read_layer(alloc, ROOT_ALONE.as_bytes()).is_ok());
-    let mut entries = layer_of(alloc, "dir /a, dir /b")?.entries(alloc)?;
+fn entries_in_another_order_are_no_layer(rt: HostRuntime) -> Result<(), Fail> {
+    let mut entries = layer_of(rt.alloc(), "dir /a, dir /b")?.entries(rt.alloc())?;
     entries.reverse();
-    assert_eq!(rt; from_entries(alloc, entries).err(), Some(LayerFault::Root));
+    let fault = from_entries(rt.alloc(), entries).err();
+    assert!(rt; fault == Some(LayerFault::Root));
     Ok(())
 }
 
-// A manifest of this version, of a root and so many directories in each other below it; each entry has the further member.
-fn chain_of(alloc: Global, version: u8, nsec: &str, directories: u8) -> Result<String, Fail> {
-    let mut text = String::from_str(alloc, "{\"overlay-layer\":")?;
-    text.push_str(format!(in alloc; "{version},\"entries\":[")?.as_str())?;
-    for depth in 0..usize::from(directories) + 1 {
-        let path = if depth == 0 {
-            String::from_str(alloc, "/")?
-        } else {
-            text.push_str(",")?;
-            "/d".repeat(alloc, depth)?
-        };
-        let entry = format!(in alloc;
-            r#"{{"gid":0,"kind":"dir","mode":493,"mtime":0,{nsec}"path":"{path}","uid":0,"xattrs":{{}}}}"#
-        )?;
-        text.push_str(entry.as_str())?;
+// How many entries a layer has, which is written as it was read, and so is that of its entries.
+fn written_told(alloc: Global, entries: &str) -> Result<String, Fail> {
+    let manifest = manifest_of(alloc, entries)?;
+    let layer = read_layer(alloc, &manifest)?;
+    let pairs = layer.entries(alloc)?;
+    let count = pairs.len();
+    let same = from_entries(alloc, pairs)?;
+    if write_layer(alloc, &layer)? != manifest || write_layer(alloc, &same)? != manifest {
+        return Err(Fail::new("the manifest is another"));
     }
-    text.push_str("]}")?;
-    Ok(text)
+    Ok(format!(in alloc; "{count} entries")?)
 }
 
-#[test]
-fn each_version_has_its_depth_and_its_members(rt: HostRuntime) -> Result<(), Fail> {
-    let alloc = rt.alloc();
-    let zero = r#""mtime-nsec":0,"#;
-    for (version, nsec, directories, wanted) in [
-        (1, "", 64, None),
-        (1, "", 65, Some(LayerFault::Entry(65))),
-        (1, zero, 0, Some(LayerFault::Entry(0))),
-        (2, zero, 128, None),
-        (2, zero, 129, Some(LayerFault::Entry(129))),
-        (2, "", 0, Some(LayerFault::Entry(0))),
-        (2, r#""mtime-nsec":999999999,"#, 0, None),
-        (
-            2,
-            r#""mtime-nsec":1000000000,"#,
-            0,
-            Some(LayerFault::Entry(0)),
-        ),
-        (3, zero, 0, Some(LayerFault::Version)),
-    ] {
-        let manifest = chain_of(alloc, version, nsec, directories)?;
-        let (layer, sheet) = (
-            read_layer(alloc, manifest.as_bytes()),
-            read_sheet(alloc, manifest.as_bytes()),
-        );
-        assert_eq!(rt;
-            layer.err(),
-            wanted,
-            "version {version}, {nsec}, {directories}"
-        );
-        assert_eq!(rt;
-            sheet.err(),
-            wanted,
-            "version {version}, {nsec}, {directories}"
-        );
-    }
-    Ok(())
-}
-
-#[test]
-fn the_names_in_a_directory_are_in_order(rt: HostRuntime) -> Result<(), Fail> {
-    let alloc = rt.alloc();
+// The names in a directory, in order.
+fn children_told(alloc: Global, path: &str) -> Result<String, Fail> {
     let layer = layer_of(alloc, "dir /n opaque=y, dir /n/d redirect=/x, whiteout /x")?;
-    for (path, names) in [("/", "n x "), ("/n", "d "), ("/x", ""), ("/z", "")] {
-        let mut listed = String::new(alloc);
-        for name in &layer.children(alloc, &Path::parse(alloc, path)?)? {
-            listed.push_str(format!(in alloc; "{} ", name.as_str())?.as_str())?;
-        }
-        assert_eq!(rt; listed.as_str(), names, "at {path:?}");
+    let mut listed = String::new(alloc);
+    for name in &layer.children(alloc, &Path::parse(alloc, path)?)? {
+        listed.push_str(name.as_str())?;
+        listed.push_str(";")?;
     }
-    Ok(())
+    Ok(listed)
 }
 
-// The name, the parent and the number after of a row of a sheet, and `none` past the last.
-fn row_of(alloc: Global, sheet: &Sheet, number: u32) -> Result<String, AllocError> {
-    let Some(row) = sheet.row(number) else {
-        return String::from_str(alloc, "none");
-    };
+// A sheet of five rows, from its manifest, and by way of a layer where that is asked for.
+fn sheet_of(alloc: Global, by_layer: bool) -> Result<Sheet, Fail> {
+    let manifest = manifest_of(alloc, "dir /n, file /n/z, dir /x, file /x/k")?;
+    if !by_layer {
+        return Ok(read_sheet(alloc, &manifest)?);
+    }
+    match Sheet::of(alloc, read_layer(alloc, &manifest)?) {
+        Ok(sheet) => Ok(sheet),
+        Err(_) => Err(Fail::new("out of memory")),
+    }
+}
+
+// The name, the parent and the number after of a row.
+fn shown_row(alloc: Global, row: &SheetRow) -> Result<String, AllocError> {
     let name = match &row.name {
         Some(name) => name.as_str(),
         None => "/",
@@ -135,32 +87,60 @@ fn row_of(alloc: Global, sheet: &Sheet, number: u32) -> Result<String, AllocErro
     format!(in alloc; "{name} {} {}", row.parent, row.after)
 }
 
-#[test]
-fn a_sheet_has_a_row_for_each_entry(rt: HostRuntime) -> Result<(), Fail> {
-    let alloc = rt.alloc();
-    let manifest = manifest_of(alloc, "dir /n, file /n/z, dir /x, file /x/k")?;
-    let read = read_sheet(alloc, &manifest)?;
-    let Ok(sheet) = Sheet::of(alloc, read_layer(alloc, &manifest)?) else {
-        return Err(Fail::new("out of memory"));
-    };
-    for (number, row) in [
-        (0, "/ 0 5"),
-        (1, "n 0 3"),
-        (2, "z 1 3"),
-        (3, "x 0 5"),
-        (4, "k 3 5"),
-        (5, "none"),
-    ] {
-        assert_eq!(rt;
-            row_of(alloc, &sheet, number)?.as_str(),
-            row,
-            "row {number}"
-        );
-        assert_eq!(rt; row_of(alloc, &read, number)?.as_str(), row, "row {number}");
+fn row_told(alloc: Global, number: &str, by_layer: bool) -> Result<String, Fail> {
+    let sheet = sheet_of(alloc, by_layer)?;
+    match sheet.row(number.parse().unwrap_or(u32::MAX)) {
+        Some(row) => Ok(shown_row(alloc, row)?),
+        None => Ok(String::from_str(alloc, "none")?),
     }
-    for (path, mode) in [("/x/k", Some(420)), ("/x/z", None)] {
-        let found = sheet.at(&Path::parse(alloc, path)?);
-        assert_eq!(rt; found.map(|inode| inode.mode), mode, "at {path:?}");
+}
+
+fn mode_told(alloc: Global, path: &str) -> Result<String, Fail> {
+    let sheet = sheet_of(alloc, true)?;
+    match sheet.at(&Path::parse(alloc, path)?) {
+        Some(inode) => Ok(format!(in alloc; "{}", inode.mode)?),
+        None => Ok(String::from_str(alloc, "none")?),
+    }
+}
+
+const ROWS: &str = "\
+written root -> 1 entries
+written console /c, dir /d opaque=y, file-late /d/k, disk /e, link /l user.k=v, fifo /p, socket /s -> 8 entries
+children / -> n;x;
+children /n -> d;
+children /x ->\x20
+children /z ->\x20
+row 0 -> / 0 5
+row 1 -> n 0 3
+row 2 -> z 1 3
+row 3 -> x 0 5
+row 4 -> k 3 5
+row 5 -> none
+mode /x/k -> 420
+mode /x/z -> none
+";
+
+fn told(alloc: Global, call: &str, by_layer: bool) -> Result<String, Fail> {
+    let (word, words) = call.split_once(' ').unwrap_or((call, ""));
+    match word {
+        "written" => written_told(alloc, words),
+        "children" => children_told(alloc, words),
+        "row" => row_told(alloc, words, by_layer),
+        "mode" => mode_told(alloc, words),
+        _ => Err(Fail::new("no call has this word")),
+    }
+}
+
+fn told_alike(alloc: Global, row: &str) -> Result<(), Fail> {
+    let (call, wanted) = parts_of(row);
+    same(row, told(alloc, call, false)?.as_str(), wanted)?;
+    same(row, told(alloc, call, true)?.as_str(), wanted)
+}
+
+#[test]
+fn layers_and_sheets_have_what_their_manifests_state(rt: HostRuntime) -> Result<(), Fail> {
+    for row in ROWS.lines() {
+        told_alike(rt.alloc(), row)?;
     }
     Ok(())
 }

@@ -1,8 +1,44 @@
 //! Names and paths.
 
+use crate::tables::{parts_of, repeated, same};
 use ovl_names::{Name, Path};
 use std::alloc::{AllocError, Global};
 use std::test::Fail;
+
+const ROWS: &str = "\
+name: a -> a
+name: 255*a -> 255*a
+name: a b -> a\\x20b
+name: é -> \\xc3\\xa9
+name: \\ -> \\x5c
+name: ~! -> ~!
+name:  -> the name is empty
+name: 256*a -> the name has more than 255 bytes
+name: 150*a/ -> the name has more than 255 bytes
+name: . -> the name is `.` or `..`
+name: .. -> the name is `.` or `..`
+name: a/b -> the name holds `/`
+name: a\0 -> the name holds NUL
+path: / -> 0 /
+path: /a/b -> 2 /a/b
+path: /a b/\u{7f} -> 2 /a\\x20b/\\x7f
+path: a -> the path does not begin with `/`
+path:  -> the path does not begin with `/`
+path: /a/ -> the path has an empty part
+path: // -> the path has an empty part
+path: /../ -> the path has an empty part
+path: /a/.. -> the path has a part that is no name
+path: 129*/d -> the path has more than 128 names
+long-path: 4095 -> 16 names
+long-path: 4096 -> the path has more than 4095 bytes
+before: / /a -> true
+before: /a /a/b -> true
+before: /a/b /a-b -> true
+child: /a b -> /a/b
+parent: /a/b -> /a
+parent: / -> none
+pushed-and-joined: /a b -> /a/b/a/b
+";
 
 // A name as reports show it, or what is told of its fault.
 fn name_told(alloc: Global, text: &str) -> Result<String, AllocError> {
@@ -12,92 +48,84 @@ fn name_told(alloc: Global, text: &str) -> Result<String, AllocError> {
     }
 }
 
-#[test]
-fn names_are_read_or_refused_by_their_first_fault(rt: HostRuntime) -> Result<(), Fail> {
-    let alloc = rt.alloc();
-    let longest = "a".repeat(alloc, 255)?;
-    let too_long = "a".repeat(alloc, 256)?;
-    let longer = "a/".repeat(alloc, 150)?;
-    for (text, wanted) in [
-        ("a", "a"),
-        (longest.as_str(), longest.as_str()),
-        ("a b", "a\\x20b"),
-        ("é", "\\xc3\\xa9"),
-        ("\\", "\\x5c"),
-        ("~!", "~!"),
-        ("", "the name is empty"),
-        (too_long.as_str(), "the name has more than 255 bytes"),
-        (longer.as_str(), "the name has more than 255 bytes"),
-        (".", "the name is `.` or `..`"),
-        ("..", "the name is `.` or `..`"),
-        ("a/b", "the name holds `/`"),
-        ("a\0", "the name holds NUL"),
-    ] {
-        assert_eq!(rt; name_told(alloc, text)?.as_str(), wanted, "at {text:?}");
-    }
-    Ok(())
+fn shown_with_length(alloc: Global, path: &Path) -> Result<String, AllocError> {
+    let shown = path.copy(alloc)?.shown(alloc)?;
+    format!(in alloc; "{} {shown}", path.len())
 }
 
 // How many names a path has, and it as reports show it, or what is told of its fault.
 fn path_told(alloc: Global, text: &str) -> Result<String, AllocError> {
     match Path::parse(alloc, text) {
-        Ok(path) => {
-            let shown = path.copy(alloc)?.shown(alloc)?;
-            format!(in alloc; "{} {shown}", path.len())
-        }
+        Ok(path) => shown_with_length(alloc, &path),
         Err(fault) => fault.to_string(alloc),
     }
 }
 
-#[test]
-fn paths_are_read_or_refused_by_their_first_fault(rt: HostRuntime) -> Result<(), Fail> {
-    let alloc = rt.alloc();
-    let deeper = "/d".repeat(alloc, 129)?;
-    // Sixteen names have 16 slashes too: fifteen of 255 bytes and one of 254 are 4,095 bytes of text.
+// How many names a path of so many bytes has, at most 4,096, or what is told of its fault: each name but the last has 255.
+fn long_path_told(alloc: Global, bytes: &str) -> Result<String, AllocError> {
     let name = "n".repeat(alloc, 255)?;
     let names = format!(in alloc; "/{name}")?.as_str().repeat(alloc, 16)?;
-    let full = names.as_str().replacen(alloc, "n", "", 1)?;
-    let wanted = format!(in alloc; "16 {full}")?;
-    for (text, wanted) in [
-        ("/", "0 /"),
-        ("/a/b", "2 /a/b"),
-        ("/a b/\u{7f}", "2 /a\\x20b/\\x7f"),
-        (full.as_str(), wanted.as_str()),
-        ("a", "the path does not begin with `/`"),
-        ("", "the path does not begin with `/`"),
-        ("/a/", "the path has an empty part"),
-        ("//", "the path has an empty part"),
-        ("/../", "the path has an empty part"),
-        ("/a/..", "the path has a part that is no name"),
-        (deeper.as_str(), "the path has more than 128 names"),
-        (names.as_str(), "the path has more than 4095 bytes"),
-    ] {
-        assert_eq!(rt; path_told(alloc, text)?.as_str(), wanted, "at {text:?}");
+    let text = names
+        .as_str()
+        .get(..bytes.parse().unwrap_or(0))
+        .unwrap_or("");
+    match Path::parse(alloc, text) {
+        Ok(path) => format!(in alloc; "{} names", path.len()),
+        Err(fault) => fault.to_string(alloc),
     }
-    Ok(())
+}
+
+fn before_told(alloc: Global, path: &str, other: &str) -> Result<String, Fail> {
+    let is_before = Path::parse(alloc, path)? < Path::parse(alloc, other)?;
+    Ok(format!(in alloc; "{is_before}")?)
+}
+
+fn child_told(alloc: Global, path: &str, name: &str) -> Result<String, Fail> {
+    let name = Name::of(alloc, name)?;
+    let child = Path::parse(alloc, path)?.child(alloc, &name)?;
+    Ok(child.shown(alloc)?)
+}
+
+fn parent_told(alloc: Global, path: &str) -> Result<String, Fail> {
+    match Path::parse(alloc, path)?.parent(alloc)? {
+        Some(parent) => Ok(parent.shown(alloc)?),
+        None => Ok(String::from_str(alloc, "none")?),
+    }
+}
+
+// A path to which a name was pushed, with its own names behind it.
+fn joined_told(alloc: Global, path: &str, name: &str) -> Result<String, Fail> {
+    let mut path = Path::parse(alloc, path)?;
+    path.push(Name::of(alloc, name)?)?;
+    let joined = path.joined(alloc, path.names())?;
+    Ok(joined.shown(alloc)?)
+}
+
+fn told(alloc: Global, call: &str, text: &str) -> Result<String, Fail> {
+    let (first, second) = text.split_once(' ').unwrap_or((text, ""));
+    match call {
+        "name" => Ok(name_told(alloc, text)?),
+        "path" => Ok(path_told(alloc, text)?),
+        "long-path" => Ok(long_path_told(alloc, text)?),
+        "before" => before_told(alloc, first, second),
+        "child" => child_told(alloc, first, second),
+        "parent" => parent_told(alloc, text),
+        "pushed-and-joined" => joined_told(alloc, first, second),
+        _ => Err(Fail::new("no call has this word")),
+    }
+}
+
+fn row_told(alloc: Global, row: &str) -> Result<(), Fail> {
+    let (words, wanted) = parts_of(row);
+    let (call, text) = words.split_once(": ").unwrap_or((words, ""));
+    let found = told(alloc, call, repeated(alloc, text)?.as_str())?;
+    same(row, found.as_str(), repeated(alloc, wanted)?.as_str())
 }
 
 #[test]
-fn a_child_is_one_name_below_its_parent(rt: HostRuntime) -> Result<(), Fail> {
-    let alloc = rt.alloc();
-    let parent = Path::parse(alloc, "/a")?;
-    let mut child = parent.child(alloc, &Name::of(alloc, "b")?)?;
-    assert_eq!(rt; child, Path::parse(alloc, "/a/b")?);
-    assert_eq!(rt; child.parent(alloc)?, Some(parent));
-    assert_eq!(rt; Path::root(alloc).parent(alloc)?, None);
-    child.push(Name::of(alloc, "c")?)?;
-    let joined = child.joined(alloc, child.names())?;
-    assert_eq!(rt; joined.shown(alloc)?.as_str(), "/a/b/c/a/b/c");
-    Ok(())
-}
-
-#[test]
-fn a_path_comes_before_its_continuations(rt: HostRuntime) -> Result<(), Fail> {
-    let mut before = Path::root(rt.alloc());
-    for text in ["/a", "/a/b", "/a-b"] {
-        let path = Path::parse(rt.alloc(), text)?;
-        assert!(rt; before < path, "at {text:?}");
-        before = path;
+fn names_and_paths_are_told_or_refused_by_their_first_fault(rt: HostRuntime) -> Result<(), Fail> {
+    for row in ROWS.lines() {
+        row_told(rt.alloc(), row)?;
     }
     Ok(())
 }

@@ -1,8 +1,12 @@
 //! Worked stacks, and what each command answers of them.
 
 use crate::answers::{blobs_of, in_full, told};
-use ovl_engine::Command;
+use crate::tables::same;
+use ovl_engine::{Blob, Command};
+use std::alloc::Global;
+use std::sync::Wait;
 use std::test::Fail;
+use std::thread::Threads;
 
 // A line of blobs is of the stacks behind it, and one of a stack of the commands behind it, each with its report and, behind
 // `=>`, the new layers, or with what refuses it behind `!`. Lines of a report stand behind one another.
@@ -225,7 +229,7 @@ root
 show: ! blobs out of order
 ";
 
-fn command_of_word(word: &str) -> Result<Command, Fail> {
+pub(crate) fn command_of_word(word: &str) -> Result<Command, Fail> {
     match word {
         "show" => Ok(Command::Show),
         "fsck" => Ok(Command::Fsck),
@@ -236,20 +240,30 @@ fn command_of_word(word: &str) -> Result<Command, Fail> {
     }
 }
 
+// What the line of a command tells.
+fn line_told<R: Threads + Wait + Sync>(
+    rt: &R,
+    alloc: Global,
+    stack: &str,
+    blobs: &[Blob],
+    line: &str,
+) -> Result<(), Fail> {
+    let (word, wanted) = line.split_once(": ").unwrap_or((line, ""));
+    let found = told(rt, alloc, command_of_word(word)?, stack, blobs)?;
+    same(line, found.as_str(), in_full(alloc, wanted)?.as_str())
+}
+
 #[test]
 fn commands_answer_what_is_written(rt: HostRuntime) -> Result<(), Fail> {
-    let alloc = rt.alloc();
-    let mut blobs = Vec::new(alloc);
-    let mut stack = String::new(alloc);
+    let mut blobs = Vec::new(rt.alloc());
+    let mut stack = "";
     for line in ROWS.lines() {
-        if let Some((word, wanted)) = line.split_once(": ") {
-            let what = command_of_word(word)?;
-            let found = told(&rt, alloc, what, stack.as_str(), &blobs)?;
-            assert_eq!(rt; found, in_full(alloc, wanted)?, "{word} of {stack:?}");
+        if line.contains(": ") {
+            line_told(&rt, rt.alloc(), stack, &blobs, line)?;
         } else if let Some(words) = line.strip_prefix("blobs ") {
-            blobs = blobs_of(alloc, words)?;
+            blobs = blobs_of(rt.alloc(), words)?;
         } else {
-            stack = String::from_str(alloc, line)?;
+            stack = line;
         }
     }
     Ok(())

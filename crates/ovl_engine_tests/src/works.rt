@@ -2,8 +2,9 @@
 use crate::answers::blobs_of;
 use crate::gates::root_piece;
 use crate::samples::{manifest_of, stack_of};
+use crate::tables::{parts_of, same};
 use ovl_board::{Core, CoreFault, Event, Parcel, Piece, plain_walk};
-use ovl_check::{BLOB_SPACE, BlobWork, blobs_in_order, finish_blobs};
+use ovl_check::{BLOB_SPACE, Blob, BlobWork, blobs_in_order, finish_blobs};
 use ovl_deref::{DerefWork, finish_deref};
 use ovl_engine::ShowWork;
 use ovl_lookup::Stack;
@@ -29,78 +30,94 @@ fn told<T: Drop>(alloc: Global, parcels: &[Parcel<Vec<(Name, T)>>]) -> Result<St
     Ok(text)
 }
 
+// What a core of two workers over a stack's merged tree gives of these steps, after one that isn't possible.
+fn shared(alloc: Global, stack: &Stack, steps: &[Event]) -> Result<String, Fail> {
+    let work = ShowWork::new(stack);
+    let mut core = Core::start(alloc, &work, root_piece(alloc), 2)?;
+    if core.step(alloc, Event::Pop(1)) != Err(CoreFault::NotPossible) {
+        return Err(Fail::new("the second worker has nothing"));
+    }
+    for event in steps {
+        core.step(alloc, *event)?;
+    }
+    match core.finish() {
+        Ok(parcels) => told(alloc, &parcels),
+        Err(_) => Err(Fail::new("open")),
+    }
+}
+
+const STEPS: [Event; 8] = [
+    Event::Pop(0),
+    Event::Work(0),
+    Event::Push(0),
+    Event::Push(0),
+    Event::Steal(1, 0),
+    Event::Pop(0),
+    Event::Work(0),
+    Event::Work(1),
+];
+
 #[test]
 fn two_workers_share_the_directories(rt: HostRuntime) -> Result<(), Fail> {
-    let alloc = rt.alloc();
-    let stack = stack_of(alloc, "dir /a, dir /b")?;
+    let stack = stack_of(rt.alloc(), "dir /a, dir /b")?;
+    let found = shared(rt.alloc(), &stack, &STEPS)?;
+    same("two workers", found.as_str(), "0/: a b; 0/b:; 0/a:; ")
+}
+
+#[test]
+fn one_worker_walks_the_merged_tree(rt: HostRuntime) -> Result<(), Fail> {
+    let stack = stack_of(rt.alloc(), "dir /a, dir /b")?;
     let work = ShowWork::new(&stack);
-    let walk = plain_walk(alloc, &work, root_piece(alloc))?;
-    assert_eq!(rt; told(alloc, &walk)?.as_str(), "0/: a b; 0/a:; 0/b:; ");
-    let mut core = Core::start(alloc, &work, root_piece(alloc), 2)?;
-    let early = core.step(alloc, Event::Pop(1));
-    assert_eq!(rt; early.err(), Some(CoreFault::NotPossible));
-    for event in [
-        Event::Pop(0),
-        Event::Work(0),
-        Event::Push(0),
-        Event::Push(0),
-        Event::Steal(1, 0),
-        Event::Pop(0),
-        Event::Work(0),
-        Event::Work(1),
-    ] {
-        core.step(alloc, event)?;
-    }
-    let Ok(parcels) = core.finish() else {
-        return Err(Fail::from("open"));
-    };
-    assert_eq!(rt; told(alloc, &parcels)?.as_str(), "0/: a b; 0/b:; 0/a:; ");
-    Ok(())
+    let walk = plain_walk(rt.alloc(), &work, root_piece(rt.alloc()))?;
+    same(
+        "one worker",
+        told(rt.alloc(), &walk)?.as_str(),
+        "0/: a b; 0/a:; 0/b:; ",
+    )
+}
+
+// A malformed metacopy file is shown as one without data, so it isn't what is shown below.
+const VACUUMED: &str = "\
+dir /d, file /d/k | dir /d, file /d/k -> /d true; /d/k true; removed 2 kept 1
+bare /f metacopy= redirect=a/b | file /f -> /f false; removed 0 kept 2
+dir /d, file-b /d/k | dir /d, file /d/k -> /d true; /d/k false; removed 0 kept 3
+dir /d, file /d/k -> /d false; /d/k false; removed 0 kept 3
+";
+
+fn row_vacuumed(alloc: Global, row: &str) -> Result<(), Fail> {
+    let (stack, wanted) = parts_of(row);
+    let stack = stack_of(alloc, stack)?;
+    same(row, vacuumed(alloc, &stack)?.as_str(), wanted)
 }
 
 #[test]
 fn a_vacuum_walks_the_topmost_layer(rt: HostRuntime) -> Result<(), Fail> {
-    let alloc = rt.alloc();
-    // A malformed metacopy file is shown as one without data, so it isn't what is shown below.
-    for (stack, wanted) in [
-        (
-            "dir /d, file /d/k | dir /d, file /d/k",
-            "/d true; /d/k true; removed 2 kept 1",
-        ),
-        (
-            "bare /f metacopy= redirect=a/b | file /f",
-            "/f false; removed 0 kept 2",
-        ),
-        (
-            "dir /d, file-b /d/k | dir /d, file /d/k",
-            "/d true; /d/k false; removed 0 kept 3",
-        ),
-        (
-            "dir /d, file /d/k",
-            "/d false; /d/k false; removed 0 kept 3",
-        ),
-    ] {
-        let stack = stack_of(alloc, stack)?;
-        assert_eq!(rt; vacuumed(alloc, &stack)?.as_str(), wanted);
+    for row in VACUUMED.lines() {
+        row_vacuumed(rt.alloc(), row)?;
     }
     Ok(())
 }
 
-// Whether each entry is idle, and how many are removed and left.
-fn vacuumed(alloc: Global, stack: &Stack) -> Result<String, Fail> {
-    let work = VacuumWork::new(stack);
-    let parcels = plain_walk(alloc, &work, root_piece(alloc))?;
+// Whether each entry is idle.
+fn idle_told(alloc: Global, parcels: &[Parcel<Vec<(Name, bool)>>]) -> Result<String, Fail> {
     let mut text = String::new(alloc);
-    for Parcel { piece, out, .. } in &parcels {
+    for Parcel { piece, out, .. } in parcels {
         for (name, idle) in out {
             let path = piece.dir.child(alloc, name)?.shown(alloc)?;
             text.push_str(format!(in alloc; "{path} {idle}; ")?.as_str())?;
         }
     }
+    Ok(text)
+}
+
+// The same, and how many are removed and left.
+fn vacuumed(alloc: Global, stack: &Stack) -> Result<String, Fail> {
+    let work = VacuumWork::new(stack);
+    let parcels = plain_walk(alloc, &work, root_piece(alloc))?;
+    let text = idle_told(alloc, &parcels)?;
     let VacuumDone { layer, removed } = finish_vacuum(alloc, &work, parcels)?;
     let kept = layer.entries(alloc)?.len();
-    text.push_str(format!(in alloc; "removed {} kept {kept}", removed.len())?.as_str())?;
-    Ok(text)
+    Ok(format!(in alloc; "{text}removed {} kept {kept}", removed.len())?)
 }
 
 // Whether a layer is that of these entries.
@@ -108,77 +125,95 @@ fn is_layer(alloc: Global, layer: &Layer, entries: &str) -> Result<bool, Fail> {
     Ok(write_layer(alloc, layer)? == manifest_of(alloc, entries)?)
 }
 
+const MOVED: &str =
+    "dir /p redirect=/x, dir /p/q redirect=r, whiteout /p/r, whiteout /x | dir /x, dir /x/r, file /x/r/k";
+
+const FILLED: &str = "dir /p opaque=y, dir /p/q, file /p/q/k, whiteout /x";
+
 #[test]
 fn a_moved_directory_is_filled_with_what_it_shows(rt: HostRuntime) -> Result<(), Fail> {
-    let alloc = rt.alloc();
-    let upper = "dir /p redirect=/x, dir /p/q redirect=r, whiteout /p/r, whiteout /x";
-    let stack = format!(in alloc; "{upper} | dir /x, dir /x/r, file /x/r/k")?;
-    let stack = stack_of(alloc, stack.as_str())?;
+    let stack = stack_of(rt.alloc(), MOVED)?;
     let work = DerefWork::new(&stack);
-    let parcels = plain_walk(alloc, &work, root_piece(alloc))?;
-    assert_eq!(rt;
-        told(alloc, &parcels)?.as_str(),
-        "0/: p x; 0/p: q; 0/p/q: k; "
-    );
-    let layer = finish_deref(alloc, &work, parcels)?;
-    let filled = "dir /p opaque=y, dir /p/q, file /p/q/k, whiteout /x";
-    assert!(rt; is_layer(alloc, &layer, filled)?);
+    let parcels = plain_walk(rt.alloc(), &work, root_piece(rt.alloc()))?;
+    same(
+        MOVED,
+        told(rt.alloc(), &parcels)?.as_str(),
+        "0/: p x; 0/p: q; 0/p/q: k; ",
+    )?;
+    let layer = finish_deref(rt.alloc(), &work, parcels)?;
+    assert!(rt; is_layer(rt.alloc(), &layer, FILLED)?);
+    Ok(())
+}
+
+const PULLED: &str = "whiteout /a, dir /b redirect=/a | dir /a, file /a/k | dir /b, file /b/z";
+
+#[test]
+fn a_merge_walks_the_directories_of_the_new_layer(rt: HostRuntime) -> Result<(), Fail> {
+    let stack = stack_of(rt.alloc(), PULLED)?;
+    let work = MergeWork::new(&stack)?;
+    let parcels = plain_walk(rt.alloc(), &work, root_piece(rt.alloc()))?;
+    same(
+        PULLED,
+        told(rt.alloc(), &parcels)?.as_str(),
+        "0/: b; 0/b: k; ",
+    )?;
+    let done = finish_merge(rt.alloc(), &work, parcels)?;
+    assert!(rt; is_layer(rt.alloc(), &done.top, "root")?);
+    assert!(rt; is_layer(rt.alloc(), &done.lower, "dir /b opaque=y, file /b/k")?);
     Ok(())
 }
 
 #[test]
-fn a_merge_walks_the_directories_of_the_new_layer(rt: HostRuntime) -> Result<(), Fail> {
-    let alloc = rt.alloc();
-    let upper = "whiteout /a, dir /b redirect=/a";
-    let stack = format!(in alloc; "{upper} | dir /a, file /a/k | dir /b, file /b/z")?;
-    let stack = stack_of(alloc, stack.as_str())?;
-    let work = MergeWork::new(&stack)?;
-    let parcels = plain_walk(alloc, &work, root_piece(alloc))?;
-    assert_eq!(rt; told(alloc, &parcels)?.as_str(), "0/: b; 0/b: k; ");
-    let done = finish_merge(alloc, &work, parcels)?;
-    assert!(rt; is_layer(alloc, &done.top, "root")?);
-    assert!(rt; is_layer(alloc, &done.lower, "dir /b opaque=y, file /b/k")?);
-    let alone = stack_of(alloc, "root")?;
-    assert_eq!(rt; MergeWork::new(&alone).err(), Some(MergeFault::NoLower));
+fn a_layer_alone_is_not_merged(rt: HostRuntime) -> Result<(), Fail> {
+    let alone = stack_of(rt.alloc(), "root")?;
+    assert!(rt; MergeWork::new(&alone).err() == Some(MergeFault::NoLower));
     Ok(())
 }
 
 #[test]
 fn a_metacopy_file_without_data_makes_no_layer(rt: HostRuntime) -> Result<(), Fail> {
-    let alloc = rt.alloc();
-    let stack = stack_of(alloc, "bare /f metacopy= | root")?;
+    let stack = stack_of(rt.alloc(), "bare /f metacopy= | root")?;
     let work = MergeWork::new(&stack)?;
-    let parcels = plain_walk(alloc, &work, root_piece(alloc))?;
-    assert_eq!(rt; told(alloc, &parcels)?.as_str(), "0/: f; ");
-    let done = finish_merge(alloc, &work, parcels);
-    assert_eq!(rt; done.err(), Some(MergeFault::LimitOut));
+    let parcels = plain_walk(rt.alloc(), &work, root_piece(rt.alloc()))?;
+    let done = finish_merge(rt.alloc(), &work, parcels);
+    assert!(rt; done.err() == Some(MergeFault::LimitOut));
     Ok(())
+}
+
+// How many blobs there are at each piece, and how many are wrong, of which the first is this.
+fn digested(alloc: Global, blobs: &[Blob], wrong: &[Blob]) -> Result<String, Fail> {
+    if !blobs_in_order(blobs) {
+        return Err(Fail::new("the names do not ascend"));
+    }
+    let work = BlobWork::new(blobs);
+    let dir = Path::root(alloc);
+    let parcels = plain_walk(
+        alloc,
+        &work,
+        Piece {
+            space: BLOB_SPACE,
+            dir,
+        },
+    )?;
+    let text = counts_of(alloc, &parcels)?;
+    let found = finish_blobs(alloc, &work, parcels)?;
+    let is_named = found.first() == wrong.first().map(|blob| &blob.name);
+    Ok(format!(in alloc; "{text}{} {is_named}", found.len())?)
+}
+
+fn counts_of<T: Drop>(alloc: Global, parcels: &[Parcel<Vec<T>>]) -> Result<String, Fail> {
+    let mut text = String::new(alloc);
+    for Parcel { piece, out, .. } in parcels {
+        let dir = piece.dir.shown(alloc)?;
+        text.push_str(format!(in alloc; "{dir} {}; ", out.len())?.as_str())?;
+    }
+    Ok(text)
 }
 
 #[test]
 fn blobs_are_digested_by_their_first_two_digits(rt: HostRuntime) -> Result<(), Fail> {
-    let alloc = rt.alloc();
-    let blobs = blobs_of(alloc, "abc=abd ab")?;
-    if !blobs_in_order(&blobs) {
-        return Err(Fail::from("the names do not ascend"));
-    }
-    let work = BlobWork::new(&blobs);
-    let root = Piece {
-        space: BLOB_SPACE,
-        dir: Path::root(alloc),
-    };
-    let parcels = plain_walk(alloc, &work, root)?;
-    let mut text = String::new(alloc);
-    for Parcel { piece, out, .. } in &parcels {
-        let dir = piece.dir.shown(alloc)?;
-        text.push_str(format!(in alloc; "{dir} {}; ", out.len())?.as_str())?;
-    }
-    assert_eq!(rt; text.as_str(), "/ 0; /ba 1; /fb 0; ");
-    let wrong = finish_blobs(alloc, &work, parcels)?;
-    let named = blobs_of(alloc, "abc")?;
-    assert_eq!(rt;
-        (wrong.len(), wrong.first()),
-        (1, named.first().map(|blob| &blob.name))
-    );
-    Ok(())
+    let blobs = blobs_of(rt.alloc(), "abc=abd ab")?;
+    let wrong = blobs_of(rt.alloc(), "abc")?;
+    let found = digested(rt.alloc(), &blobs, &wrong)?;
+    same("abc=abd ab", found.as_str(), "/ 0; /ba 1; /fb 0; 1 true")
 }

@@ -1,84 +1,40 @@
-use ovl_program::{LineFault, line};
+//! Lines of words.
+
+use ovl_program::line;
+use std::alloc::Global;
 use std::test::Fail;
+
+// Words with a space between them, and behind ` -> ` the line that they make.
+const ROWS: &str = "\
+show a c --workers=64 --data-layers 1 -> Line { what: Show, workers: 64, data_layers: 1, blobs: None, any_size: false, out: None, layers: [\"a\", \"c\"] }
+fsck --blobs= a -> Line { what: Fsck, workers: 4, data_layers: 0, blobs: Some(\"\"), any_size: false, out: None, layers: [\"a\"] }
+vacuum --out o --blobs b --any-size a -> Line { what: Vacuum, workers: 4, data_layers: 0, blobs: Some(\"b\"), any_size: true, out: Some(\"o\"), layers: [\"a\"] }
+deref a --blobs b --out=o a -> Line { what: Deref, workers: 4, data_layers: 0, blobs: Some(\"b\"), any_size: false, out: Some(\"o\"), layers: [\"a\", \"a\"] }
+merge --data-layers=127 --blobs=b --out=o -- -a -> Line { what: Merge, workers: 4, data_layers: 127, blobs: Some(\"b\"), any_size: false, out: Some(\"o\"), layers: [\"-a\"] }
+";
+
+fn told(alloc: Global, text: &str) -> Result<String, Fail> {
+    let mut words = Vec::new(alloc);
+    for word in text.split(' ') {
+        words.push(word)?;
+    }
+    let read = line(alloc, words.as_slice())?;
+    Ok(format!(in alloc; "{read:?}")?)
+}
+
+fn row_told(alloc: Global, row: &str) -> Result<(), Fail> {
+    let (words, wanted) = row.split_once(" -> ").unwrap_or((row, ""));
+    let found = told(alloc, words)?;
+    if found.as_str() == wanted {
+        return Ok(());
+    }
+    Err(Fail::new(format_args!("{words}: found {found}")))
+}
 
 #[test]
 fn words_make_a_line(rt: HostRuntime) -> Result<(), Fail> {
-    let alloc = rt.alloc();
-    for (words, told) in [
-        (
-            ["show", "a", "c", "--workers=64", "--data-layers", "1"].as_slice(),
-            "Line { what: Show, workers: 64, data_layers: 1, blobs: None, any_size: false, out: None, layers: [\"a\", \"c\"] }",
-        ),
-        (
-            ["fsck", "--blobs=", "a"].as_slice(),
-            "Line { what: Fsck, workers: 4, data_layers: 0, blobs: Some(\"\"), any_size: false, out: None, layers: [\"a\"] }",
-        ),
-        (
-            ["vacuum", "--out", "o", "--blobs", "b", "--any-size", "a"].as_slice(),
-            "Line { what: Vacuum, workers: 4, data_layers: 0, blobs: Some(\"b\"), any_size: true, out: Some(\"o\"), layers: [\"a\"] }",
-        ),
-        (
-            ["deref", "a", "--blobs", "b", "--out=o", "a"].as_slice(),
-            "Line { what: Deref, workers: 4, data_layers: 0, blobs: Some(\"b\"), any_size: false, out: Some(\"o\"), layers: [\"a\", \"a\"] }",
-        ),
-        (
-            [
-                "merge",
-                "--data-layers=127",
-                "--blobs=b",
-                "--out=o",
-                "--",
-                "-a",
-            ]
-            .as_slice(),
-            "Line { what: Merge, workers: 4, data_layers: 127, blobs: Some(\"b\"), any_size: false, out: Some(\"o\"), layers: [\"-a\"] }",
-        ),
-    ] {
-        let read = line(alloc, words)?;
-        assert_eq!(rt; format!(in alloc; "{read:?}")?.as_str(), told);
+    for row in ROWS.lines() {
+        row_told(rt.alloc(), row)?;
     }
-    Ok(())
-}
-
-#[test]
-fn words_that_no_command_takes_are_a_usage_fault(rt: HostRuntime) -> Result<(), Fail> {
-    let alloc = rt.alloc();
-    for (words, reason) in [
-        (
-            ["show", "--workers", "65", "a.json"].as_slice(),
-            "invalid value '65' for '--workers <N>': 65 is not in 1..=64",
-        ),
-        (
-            ["merge", "--blobs", "b", "--out", "", "a.json"].as_slice(),
-            "a value is required for '--out <DIR>' but none was supplied",
-        ),
-    ] {
-        let text = format!(in alloc; "error: {reason}\n\nFor more information, try '--help'.\n")?;
-        assert_eq!(rt;
-            line(alloc, words).err(),
-            Some(LineFault::Usage(text)),
-            "at {words:?}"
-        );
-    }
-    Ok(())
-}
-
-#[test]
-fn the_version_is_given_where_it_is_asked_for(rt: HostRuntime) -> Result<(), Fail> {
-    let alloc = rt.alloc();
-    let version = LineFault::Help(String::from_str(alloc, "ovl_layers 0.1.0\n")?);
-    assert_eq!(rt; line(alloc, ["--version"].as_slice()).err(), Some(version));
-    Ok(())
-}
-
-#[test]
-fn a_fault_of_words_shows_its_text(rt: HostRuntime) -> Result<(), Fail> {
-    let alloc = rt.alloc();
-    let usage = LineFault::Usage(String::from_str(alloc, "error: no\n")?);
-    assert_eq!(rt; usage.to_string(alloc)?.as_str(), "error: no\n");
-    assert_eq!(rt;
-        LineFault::Memory.to_string(alloc)?.as_str(),
-        "out of memory"
-    );
     Ok(())
 }

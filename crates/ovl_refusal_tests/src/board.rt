@@ -146,14 +146,29 @@ fn are_pushed(alloc: Global) -> Result<bool, LaneFault> {
 }
 
 #[test]
-fn works_are_walked(rt: HostRuntime) -> Result<(), Fail> {
-    let alloc = rt.alloc();
-    let large = again!(tree_of(alloc, 30), AllocError)?;
-    assert!(rt; again!(is_sorted(alloc, &large), AllocError)?);
-    assert!(rt; again!(is_assembled(alloc, &large), BoardFault::Memory)?);
-    let small = again!(tree_of(alloc, 3), AllocError)?;
-    assert!(rt; again!(is_stepped(alloc, &small), CoreFault::Memory)?);
-    assert!(rt; again!(are_pushed(alloc), LaneFault::Memory)?);
+fn parcels_are_sorted(rt: HostRuntime) -> Result<(), Fail> {
+    let work = again!(tree_of(rt.alloc(), 30), AllocError)?;
+    assert!(rt; again!(is_sorted(rt.alloc(), &work), AllocError)?);
+    Ok(())
+}
+
+#[test]
+fn parcels_are_assembled(rt: HostRuntime) -> Result<(), Fail> {
+    let work = again!(tree_of(rt.alloc(), 30), AllocError)?;
+    assert!(rt; again!(is_assembled(rt.alloc(), &work), BoardFault::Memory)?);
+    Ok(())
+}
+
+#[test]
+fn a_core_is_stepped(rt: HostRuntime) -> Result<(), Fail> {
+    let work = again!(tree_of(rt.alloc(), 3), AllocError)?;
+    assert!(rt; again!(is_stepped(rt.alloc(), &work), CoreFault::Memory)?);
+    Ok(())
+}
+
+#[test]
+fn pieces_are_pushed(rt: HostRuntime) -> Result<(), Fail> {
+    assert!(rt; again!(are_pushed(rt.alloc()), LaneFault::Memory)?);
     Ok(())
 }
 

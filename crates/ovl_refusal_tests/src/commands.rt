@@ -85,27 +85,31 @@ fn is_answered_over<R: Threads + Wait + Sync>(
     Ok(answer.report.ends_with(end.as_bytes()))
 }
 
+fn does_answer<R: Threads + Wait + Sync>(
+    rt: &R,
+    alloc: Global,
+    what: Command,
+    workers: usize,
+    end: &str,
+) -> Result<bool, EngineFault> {
+    again!(
+        is_answered(rt, alloc, what, workers, end),
+        EngineFault::Memory
+    )
+}
+
 fn are_answered<R: Threads + Wait + Sync>(
     rt: &R,
     alloc: Global,
     workers: usize,
 ) -> Result<bool, Fail> {
-    for (what, end) in [
-        (Command::Show, "\nentries 6\n"),
-        (Command::Fsck, "faults 0 notes 0\n"),
-        (Command::Vacuum, "\nremoved 1 kept 5\n"),
-        (Command::Deref, "\nentries 7\n"),
-        (Command::Merge, "\nentries 6\n"),
-    ] {
-        let is = again!(
-            is_answered(rt, alloc, what, workers, end),
-            EngineFault::Memory
-        )?;
-        if !is {
-            return Ok(false);
-        }
-    }
-    Ok(true)
+    Ok(
+        does_answer(rt, alloc, Command::Show, workers, "\nentries 6\n")?
+            && does_answer(rt, alloc, Command::Fsck, workers, "faults 0 notes 0\n")?
+            && does_answer(rt, alloc, Command::Vacuum, workers, "\nremoved 1 kept 5\n")?
+            && does_answer(rt, alloc, Command::Deref, workers, "\nentries 7\n")?
+            && does_answer(rt, alloc, Command::Merge, workers, "\nentries 6\n")?,
+    )
 }
 
 #[test]
@@ -121,16 +125,23 @@ fn commands_are_answered_by_two_workers(rt: HostRuntime) -> Result<(), Fail> {
 }
 
 #[test]
-fn commands_over_contents_are_answered(rt: HostRuntime) -> Result<(), Fail> {
-    for (what, end) in [
-        (Command::Show, "\nentries 6\n"),
-        (Command::Fsck, "\nfaults 3 notes 0\n"),
-    ] {
-        let is = again!(
-            is_answered_over(&rt, rt.alloc(), what, 2, end),
-            CommandFault::Engine(EngineFault::Memory)
-        );
-        assert!(rt; is == Ok(true), "{what:?}");
-    }
+fn a_show_over_contents_is_answered(rt: HostRuntime) -> Result<(), Fail> {
+    let (what, end) = (Command::Show, "\nentries 6\n");
+    let is = again!(
+        is_answered_over(&rt, rt.alloc(), what, 2, end),
+        CommandFault::Engine(EngineFault::Memory)
+    );
+    assert!(rt; is == Ok(true));
+    Ok(())
+}
+
+#[test]
+fn a_check_over_contents_is_answered(rt: HostRuntime) -> Result<(), Fail> {
+    let (what, end) = (Command::Fsck, "\nfaults 3 notes 0\n");
+    let is = again!(
+        is_answered_over(&rt, rt.alloc(), what, 2, end),
+        CommandFault::Engine(EngineFault::Memory)
+    );
+    assert!(rt; is == Ok(true));
     Ok(())
 }

@@ -43,29 +43,51 @@ fn is_read(alloc: Global, moved: &Inode) -> Result<bool, RedirectFault> {
     Ok(is_mark && is_to && is_beside)
 }
 
-#[test]
-fn inodes_are_told(rt: HostRuntime) -> Result<(), Fail> {
-    let alloc = rt.alloc();
-    let mut attrs = Attrs::new(alloc);
-    for (name, value) in [
-        ("user.k", b"v".as_slice()),
-        (overlay::REDIRECT, b"/x/y".as_slice()),
-        ("user.k", b"w".as_slice()),
-    ] {
-        assert!(rt; again!(is_put(alloc, &mut attrs, name, value), AttrFault::Memory)?);
-    }
-    let mut inode = Inode {
-        kind: Kind::Dir,
+// An inode with these attributes.
+fn inode_of(kind: Kind, attrs: Attrs) -> Inode {
+    Inode {
+        kind,
         mode: 0o755,
         uid: 1,
         gid: 2,
         mtime: 3,
         nsec: 4,
         attrs,
-    };
-    assert!(rt; again!(is_read(alloc, &inode), RedirectFault::Memory)?);
-    let target = Target::from(again!(String::from_str(alloc, LONG), AllocError)?);
-    inode.kind = Kind::Symlink { target };
-    assert!(rt; again!(is_inode_told(alloc, &inode), AllocError)?);
+    }
+}
+
+// A redirect and another attribute, which is put twice.
+fn are_put(alloc: Global, attrs: &mut Attrs) -> Result<bool, AttrFault> {
+    for (name, value) in [
+        ("user.k", "v"),
+        (overlay::REDIRECT, "/x/y"),
+        ("user.k", "w"),
+    ] {
+        if !again!(
+            is_put(alloc, attrs, name, value.as_bytes()),
+            AttrFault::Memory
+        )? {
+            return Ok(false);
+        }
+    }
+    Ok(true)
+}
+
+#[test]
+fn an_inode_is_told(rt: HostRuntime) -> Result<(), Fail> {
+    let mut attrs = Attrs::new(rt.alloc());
+    assert!(rt; are_put(rt.alloc(), &mut attrs)?);
+    let target = Target::from(again!(String::from_str(rt.alloc(), LONG), AllocError)?);
+    let inode = inode_of(Kind::Symlink { target }, attrs);
+    assert!(rt; again!(is_inode_told(rt.alloc(), &inode), AllocError)?);
+    Ok(())
+}
+
+#[test]
+fn a_redirect_is_read(rt: HostRuntime) -> Result<(), Fail> {
+    let mut attrs = Attrs::new(rt.alloc());
+    assert!(rt; are_put(rt.alloc(), &mut attrs)?);
+    let inode = inode_of(Kind::Dir, attrs);
+    assert!(rt; again!(is_read(rt.alloc(), &inode), RedirectFault::Memory)?);
     Ok(())
 }

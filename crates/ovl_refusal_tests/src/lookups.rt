@@ -50,15 +50,33 @@ fn is_entered(alloc: Global, stack: &Stack, dir: &Name) -> Result<bool, AllocErr
 }
 
 #[test]
-fn stacks_are_shown(rt: HostRuntime) -> Result<(), Fail> {
-    let alloc = rt.alloc();
-    let stack = again!(stack_of(alloc, MOVED), AllocError)?;
-    let path = again!(Path::parse(alloc, "/n/d"), PathFault::Memory)?;
-    assert!(rt; again!(is_walked(alloc, &stack, &path), AllocError)?);
-    assert!(rt; again!(is_shown(alloc, &stack, &path), AllocError)?);
-    let file = again!(Name::of(alloc, "m"), NameFault::Memory)?;
-    let dir = again!(Name::of(alloc, "n"), NameFault::Memory)?;
-    assert!(rt; again!(is_viewed(alloc, &stack, &file), AllocError)?);
-    assert!(rt; again!(is_entered(alloc, &stack, &dir), AllocError)?);
+fn a_moved_directory_is_walked(rt: HostRuntime) -> Result<(), Fail> {
+    let stack = again!(stack_of(rt.alloc(), MOVED), AllocError)?;
+    let path = again!(Path::parse(rt.alloc(), "/n/d"), PathFault::Memory)?;
+    assert!(rt; again!(is_walked(rt.alloc(), &stack, &path), AllocError)?);
+    Ok(())
+}
+
+#[test]
+fn a_moved_directory_is_shown(rt: HostRuntime) -> Result<(), Fail> {
+    let stack = again!(stack_of(rt.alloc(), MOVED), AllocError)?;
+    let path = again!(Path::parse(rt.alloc(), "/n/d"), PathFault::Memory)?;
+    assert!(rt; again!(is_shown(rt.alloc(), &stack, &path), AllocError)?);
+    Ok(())
+}
+
+#[test]
+fn a_metacopy_file_is_viewed(rt: HostRuntime) -> Result<(), Fail> {
+    let stack = again!(stack_of(rt.alloc(), MOVED), AllocError)?;
+    let file = again!(Name::of(rt.alloc(), "m"), NameFault::Memory)?;
+    assert!(rt; again!(is_viewed(rt.alloc(), &stack, &file), AllocError)?);
+    Ok(())
+}
+
+#[test]
+fn a_directory_is_entered(rt: HostRuntime) -> Result<(), Fail> {
+    let stack = again!(stack_of(rt.alloc(), MOVED), AllocError)?;
+    let dir = again!(Name::of(rt.alloc(), "n"), NameFault::Memory)?;
+    assert!(rt; again!(is_entered(rt.alloc(), &stack, &dir), AllocError)?);
     Ok(())
 }

@@ -54,20 +54,38 @@ fn is_appended(alloc: Global, written: &mut String, text: &str) -> Result<bool, 
     Ok(written.as_str().ends_with(escapes.as_str()))
 }
 
+const NINE: &str = "/a/b/c/d/e/f/g/h/i";
+
 #[test]
-fn names_are_told(rt: HostRuntime) -> Result<(), Fail> {
-    let alloc = rt.alloc();
-    let name = again!(Name::of(alloc, LONG), NameFault::Memory)?;
-    assert!(rt; again!(is_name_told(alloc, &name), AllocError)?);
-    let mut path = again!(Path::parse(alloc, "/a/b/c/d/e/f/g/h/i"), PathFault::Memory)?;
-    assert!(rt; again!(is_path_told(alloc, &path, &name), AllocError)?);
+fn a_name_is_told(rt: HostRuntime) -> Result<(), Fail> {
+    let name = again!(Name::of(rt.alloc(), LONG), NameFault::Memory)?;
+    assert!(rt; again!(is_name_told(rt.alloc(), &name), AllocError)?);
+    Ok(())
+}
+
+#[test]
+fn a_path_is_told(rt: HostRuntime) -> Result<(), Fail> {
+    let name = again!(Name::of(rt.alloc(), LONG), NameFault::Memory)?;
+    let path = again!(Path::parse(rt.alloc(), NINE), PathFault::Memory)?;
+    assert!(rt; again!(is_path_told(rt.alloc(), &path, &name), AllocError)?);
+    Ok(())
+}
+
+#[test]
+fn a_name_is_pushed_to_a_path(rt: HostRuntime) -> Result<(), Fail> {
+    let name = again!(Name::of(rt.alloc(), LONG), NameFault::Memory)?;
+    let mut path = again!(Path::parse(rt.alloc(), NINE), PathFault::Memory)?;
     for _ in 0..9 {
-        assert!(rt; again!(is_pushed(alloc, &mut path, &name), AllocError)?);
+        assert!(rt; again!(is_pushed(rt.alloc(), &mut path, &name), AllocError)?);
     }
-    let mut written = String::new(alloc);
-    for text in ["-plain-", " \u{e9}"] {
-        assert!(rt; again!(is_appended(alloc, &mut written, text), AllocError)?);
-    }
-    assert_eq!(rt; written.as_str(), "-plain-\\x20\\xc3\\xa9");
+    Ok(())
+}
+
+#[test]
+fn escapes_are_appended(rt: HostRuntime) -> Result<(), Fail> {
+    let mut written = String::new(rt.alloc());
+    assert!(rt; again!(is_appended(rt.alloc(), &mut written, "-plain-"), AllocError)?);
+    assert!(rt; again!(is_appended(rt.alloc(), &mut written, " \u{e9}"), AllocError)?);
+    assert!(rt; written.as_str() == "-plain-\\x20\\xc3\\xa9");
     Ok(())
 }
