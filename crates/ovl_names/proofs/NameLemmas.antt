@@ -1,7 +1,8 @@
 -- Texts that are names, and texts that are paths.
 use Rattle.std.proofs.Common.{◌≡◌, ℕ, ◌<◌, List, [], ◌∷◌, ◌++◌, Bool, true, false, Option, Some, None, refl, sym, ap, ◌∙◌, lit<, length, take, drop, arith}
 use Rattle.std.proofs.lemmas.Bool.{eqb-true}
-use Rattle.std.specs.Prelude.{◌==◌, nat_eq, nat_lt, is_some, is_none, not, unwrap_or, if◌then◌else◌}
+use Rattle.std.proofs.lemmas.Bool.Decides.{nat_tests}
+use Rattle.std.specs.Prelude.{◌==◌, nat_eq, nat_lt, ◌||◌, is_some, is_none, not, if◌then◌else◌}
 use Rattle.std.specs.List.{list_any, starts_with}
 use Rattle.std.specs.Str.{IsUtf8, is_utf8}
 use Rattle.std.proofs.lemmas.Str.{is_utf8-from_IsUtf8, encode_ascii}
@@ -10,7 +11,8 @@ use lib.Utf8.{encode}
 use Rattle.ovl_names.specs.Names.{name_fault, is_name, slash}
 use Rattle.ovl_names.specs.Paths.{PathNames, path_fault, path_refusal, text_parts, parts_between, has_names, depth_limit, text_limit}
 use Rattle.ovl_names.specs.declared.names.NameFault.{NameFault}
-use Rattle.ovl_names.specs.declared.paths.PathFault.TheVariants.{NotAbsolute, EmptyPart, BadPart, TooDeep, TooLong, Memory}
+use Rattle.ovl_names.specs.declared.paths.PathFault.{PathFault}
+use Rattle.ovl_names.specs.declared.paths.PathFault.TheVariants.{NotAbsolute, EmptyPart, BadPart, TooDeep, TooLong}
 use Rattle.std.proofs.lemmas.List.{take-append-drop}
 use Rattle.ovl_names.proofs.Ascending.{both, list_all-front}
 
@@ -41,7 +43,7 @@ text_parts-rest [] some = absurd (omega arith)
 text_parts-rest (byte ∷ bytes) some = refl
 
 -- a name is not empty, and has no fault
-no_fault-name : (part : List ℕ) → is_name part ≡ true → ((length part == 0) ≡ false) × (is_some (name_fault part) ≡ false)
+pub no_fault-name : (part : List ℕ) → is_name part ≡ true → ((length part == 0) ≡ false) × (is_some (name_fault part) ≡ false)
 no_fault-name part is = (by_length (length part == 0) refl, by_fault (name_fault part) refl)
   where
     clean : is_none (name_fault part) ≡ true
@@ -63,21 +65,28 @@ no_fault-names (part ∷ parts) named =
     let others = no_fault-names parts split.1 in
     (rw (own.0, others.0) refl, rw (own.1, others.1) refl)
 
--- names within the limits, with a separator before each, are a path
-pub path_fault-none : (rest : List ℕ) (parts : PathNames) → 0 < length rest → parts_between rest ≡ parts → has_names parts ≡ true → nat_lt depth_limit (length parts) ≡ false → nat_lt text_limit (length (slash ∷ rest)) ≡ false → path_fault depth_limit (slash ∷ rest) ≡ None
-path_fault-none rest parts some split named shallow short =
-    let same : text_parts (slash ∷ rest) ≡ parts = text_parts-rest rest some ∙ split in
-    let clean = no_fault-names parts named in
-    rw (same, clean.0, clean.1, shallow, short) refl
+neither : (a b : Bool) → (a || b) ≡ false → b ≡ false
+neither true b none = cc
+neither false b none = none
 
--- a fault of a text is told as it is, and none as out of memory
-first_told : (bare empty bad deep long : Bool) → (if bare then Some NotAbsolute else if empty then Some EmptyPart else if bad then Some BadPart else if deep then Some TooDeep else if long then Some TooLong else None) ≡ path_refusal (unwrap_or (if bare then Some NotAbsolute else if empty then Some EmptyPart else if bad then Some BadPart else if deep then Some TooDeep else if long then Some TooLong else None) Memory)
-first_told true empty bad deep long = refl
-first_told false true bad deep long = refl
-first_told false false true deep long = refl
-first_told false false false true long = refl
-first_told false false false false true = refl
-first_told false false false false false = refl
+-- a text whose parts are not bad: none of them is empty
+no_empty-clean : (parts : PathNames) → list_any (λ part. is_some (name_fault part)) parts ≡ false → list_any (λ part. length part == 0) parts ≡ false
+no_empty-clean [] clean = refl
+no_empty-clean (part ∷ parts) clean = by (no_empty-clean parts) part clean
+  where
+    by : (list_any (λ part. is_some (name_fault part)) parts ≡ false → list_any (λ part. length part == 0) parts ≡ false) → (part : List ℕ) → (is_some (name_fault part) || list_any (λ part. is_some (name_fault part)) parts) ≡ false → list_any (λ part. length part == 0) (part ∷ parts) ≡ false
+    by later [] clean = let bad : true ≡ false = clean in cc
+    by later (byte ∷ bytes) clean = let some : (length (byte ∷ bytes) == 0) ≡ false = grind (arith, nat_tests) in rw some (later (neither (is_some (name_fault (byte ∷ bytes))) _ clean))
 
-pub path_fault-told : (depth : ℕ) (text : List ℕ) → path_fault depth text ≡ path_refusal (unwrap_or (path_fault depth text) Memory)
-path_fault-told depth text = first_told (not (starts_with nat_eq text (slash ∷ []))) (list_any (λ part. length part == 0) (text_parts text)) (list_any (λ part. is_some (name_fault part)) (text_parts text)) (nat_lt depth (length (text_parts text))) (nat_lt text_limit (length text))
+-- the fault of a text whose parts are not bad
+pub path_fault-clean : (rest : List ℕ) → 0 < length rest → list_any (λ part. is_some (name_fault part)) (parts_between rest) ≡ false → path_fault depth_limit (slash ∷ rest) ≡ (if nat_lt depth_limit (length (parts_between rest)) then Some TooDeep else if nat_lt text_limit (length (slash ∷ rest)) then Some TooLong else None)
+path_fault-clean rest some clean = rw (text_parts-rest rest some, no_empty-clean (parts_between rest) clean, clean) refl
+
+-- parts of a text without a fault are not bad
+pub clean-path_fault : (rest : List ℕ) → 0 < length rest → path_fault depth_limit (slash ∷ rest) ≡ None → list_any (λ part. is_some (name_fault part)) (parts_between rest) ≡ false
+clean-path_fault rest some none = by (list_any (λ part. length part == 0) (parts_between rest)) (list_any (λ part. is_some (name_fault part)) (parts_between rest)) _ (rw (text_parts-rest rest some) at none)
+  where
+    by : (empty bad : Bool) (other : Option PathFault) → (if empty then Some EmptyPart else if bad then Some BadPart else other) ≡ None → bad ≡ false
+    by true bad other none = cc
+    by false true other none = cc
+    by false false other none = refl

@@ -56,6 +56,11 @@ path_text (name ∷ names) = flat_map (λ own. slash ∷ own) (name ∷ names)
 abbrev pub parts_between : List ℕ → List (List ℕ)
 parts_between text = slice_split (λ byte. byte == slash) text
 
+-- the names of a text that has a separator between them; the empty text has none
+abbrev pub text_names : List ℕ → PathNames
+text_names [] = []
+text_names (byte ∷ bytes) = parts_between (byte ∷ bytes)
+
 -- the parts of a path's text: none at `/`, else what stands between the separators after the first
 abbrev pub text_parts : List ℕ → List (List ℕ)
 text_parts text = if bytes_eq text (slash ∷ []) then [] else parts_between (drop 1 text)

@@ -76,8 +76,17 @@ impl Name {
         if let Some(fault) = first_name_fault(text) {
             return Err(fault);
         }
-        let text = Text::of(alloc, text)?;
-        Ok(Name { text })
+        Ok(Name::copy_of(alloc, text)?)
+    }
+
+    /// The name of a text that is one, as each name of a path is; fails only when out of memory.
+    pub fn copy_of(alloc: Global, text: &str) -> Result<Name, AllocError>
+        requires { IsTrue (is_name text.now) }
+        ensures { IfOk result (λ name. name ≡ text.now) }
+    {
+        Ok(Name {
+            text: Text::of(alloc, text)?,
+        })
     }
 
     /// A name equal to this one; fails only when out of memory.

@@ -1,14 +1,17 @@
-ghost use Rattle.std.specs.Prelude.{◌≡◌, ◌↔◌, ◌<◌, ◌≤◌, ◌==◌, Some, None, is_some, IsTrue, IfOk, OnErr, IfSome, MatchResult, [], ◌∷◌, ◌++◌, length, take, nat_lt, string_bytes};
+ghost use Rattle.std.specs.Prelude.{◌≡◌, ◌↔◌, ◌<◌, ◌≤◌, ◌+◌, ◌==◌, Some, None, is_some, IsTrue, IfOk, OnErr, MatchResult, [], ◌∷◌, ◌++◌, if◌then◌else◌, length, take, nat_lt, string_bytes, string_len, string_capacity};
+ghost use Rattle.std.specs.Ordering.{nat_cmp};
+ghost use Rattle.std.specs.declared.cmp.Ordering.TheVariants.{Less, Greater};
 ghost use Rattle.std.specs.Cmp.{partial_equiv_from_equiv, po};
 ghost use Rattle.std.specs.Cmp.Lexicographic.{nat_list_cmp_total, nat_list_eq_equiv, texts_ties, lists_total, lists_equiv, lists_ties};
 ghost use Rattle.std.proofs.Common.{refl};
 ghost use Rattle.std.specs.List.{list_any};
 ghost use Rattle.ovl_names.specs.Names.{name_cmp, name_fault, slash};
 ghost use Rattle.ovl_names.specs.declared.paths.PathFault.TheVariants.{Memory};
-ghost use Rattle.ovl_names.specs.Paths.{child_path, parent_of, path_eq, path_cmp, path_fault, path_refusal, text_parts, parts_between, has_names, depth_limit, text_limit};
+ghost use Rattle.ovl_names.specs.Paths.{child_path, parent_path, parent_of, path_eq, path_cmp, path_fault, path_refusal, text_parts, text_names, parts_between, has_names, depth_limit, text_limit};
 ghost use Rattle.ovl_names.specs.Escapes.{shown_path};
 
 use crate::names::{Name, first_name_fault};
+use crate::path_names::{Names, cut_last};
 use crate::push_escaped;
 use std::alloc::{AllocError, AllocFailed, Global};
 use std::cmp::Ordering;
@@ -17,9 +20,6 @@ use thiserror::Error;
 
 /// The most names of a path that is read from text.
 pub const DEPTH_LIMIT: usize = 128;
-
-// The names that a path being read has room for at once; more take their room as they come.
-const USUAL_DEPTH: usize = 8;
 
 /// The most bytes of a text that is read as a path.
 pub const TEXT_LIMIT: usize = 4095;
@@ -67,18 +67,19 @@ impl<T: Drop> From<AllocFailed<T>> for PathFault {
 /// Paths are ordered name by name as bytes, and a path comes before its continuations.
 #[derive(Debug, Drop)]
 pub struct Path {
-    names: Vec<Name>,
+    // The names, with `/` between them.
+    text: String,
 }
 
 impl Model for Path {
-    ghost use Rattle.std.specs.Prelude.{IsTrue};
-    ghost use Rattle.ovl_names.specs.Paths.{PathNames, has_names};
+    ghost use Rattle.std.specs.Prelude.{IsTrue, string_bytes};
+    ghost use Rattle.ovl_names.specs.Paths.{PathNames, text_names, has_names};
 
     ghost Value = { PathNames };
 
-    ghost view = { λ a. a.names.items };
+    ghost view = { λ a. text_names (string_bytes a.text) };
 
-    ghost invariant = { λ a. IsTrue (has_names a.names.items) };
+    ghost invariant = { λ a. IsTrue (has_names (text_names (string_bytes a.text))) };
 }
 
 impl Path {
@@ -87,16 +88,18 @@ impl Path {
         ensures { result ≡ [] }
     {
         Path {
-            names: Vec::new(alloc),
+            text: String::new(alloc),
         }
     }
 
-    /// The root, with room for so many names below it; fails only when out of memory.
-    pub fn with_room(alloc: Global, names: usize) -> Result<Path, AllocError>
-        ensures { IfOk result (λ path. path ≡ []) }
+    /// The path of a text that has names with `/` between them, and none where it is empty; fails only when out of
+    /// memory.
+    pub fn of_names(alloc: Global, text: &str) -> Result<Path, AllocError>
+        requires { IsTrue (has_names (text_names text.now)) }
+        ensures { IfOk result (λ path. path ≡ text_names text.now) }
     {
         Ok(Path {
-            names: Vec::with_capacity(alloc, names)?,
+            text: String::from_str(alloc, text)?,
         })
     }
 
@@ -114,10 +117,9 @@ impl Path {
         if rest.is_empty() {
             return Ok(Path::root(alloc));
         }
-        match read_names(alloc, rest) {
-            Some(names) => Ok(Path { names }),
-            // Without a fault of the text it fails only when out of memory.
-            None => Err(parts_fault(rest).unwrap_or(PathFault::Memory)),
+        match parts_fault(rest) {
+            Some(fault) => Err(fault),
+            None => Ok(Path::of_names(alloc, rest)?),
         }
     }
 
@@ -125,84 +127,73 @@ impl Path {
     pub fn len(&self) -> usize
         ensures { result ≡ length self.now }
     {
-        self.names.len()
+        self.names().len()
     }
 
     /// Whether this is the root.
     pub fn is_empty(&self) -> bool
         ensures { IsTrue result ↔ (self.now ≡ []) }
     {
-        self.names.is_empty()
+        self.text.is_empty()
     }
 
     /// The names from the root down.
-    pub fn names(&self) -> &[Name]
-        ensures value { result.now ≡ self.now }
+    pub fn names(&self) -> Names<'_>
+        ensures value { result ≡ self.now }
         ensures names { IsTrue (has_names self.now) }
     {
-        &self.names
+        Names::of_text(self.text.as_str())
     }
 
     /// A path equal to this one; fails only when out of memory.
     pub fn copy(&self, alloc: Global) -> Result<Path, AllocError>
         ensures { IfOk result (λ path. path ≡ self.now) }
     {
-        self.copy_with_room(alloc, 0)
-    }
-
-    // A copy with room for so many names more.
-    fn copy_with_room(&self, alloc: Global, room: usize) -> Result<Path, AllocError>
-        ensures { IfOk result (λ path. path ≡ self.now) }
-    {
-        let mut names = Vec::with_capacity(alloc, self.names.len().saturating_add(room))?;
-        for name in &self.names {
-            let copied = name.copy(alloc)?;
-            names.push(copied)?;
-        }
-        Ok(Path { names })
+        Path::of_names(alloc, self.text.as_str())
     }
 
     /// The path of the entry `name` in this directory; fails only when out of memory.
     pub fn child(&self, alloc: Global, name: &Name) -> Result<Path, AllocError>
         ensures { IfOk result (λ path. path ≡ child_path self.now name.now) }
     {
-        let mut path = self.copy_with_room(alloc, 1)?;
-        path.names.push(name.copy(alloc)?)?;
-        Ok(path)
+        self.joined(alloc, &Names::one(name))
     }
 
     /// The path that goes down these names from this one; fails only when out of memory.
-    pub fn joined(&self, alloc: Global, names: &[Name]) -> Result<Path, AllocError>
+    pub fn joined(&self, alloc: Global, names: &Names<'_>) -> Result<Path, AllocError>
         ensures { IfOk result (λ path. path ≡ self.now ++ names.now) }
     {
-        let mut path = self.copy_with_room(alloc, names.len())?;
-        for name in names {
-            path.push(name.copy(alloc)?)?;
-        }
-        Ok(path)
+        let names = names.text();
+        let room = self.text.len().saturating_add(names.len()).saturating_add(1);
+        let mut text = String::with_capacity(alloc, room)?;
+        text.push_str(self.text.as_str())?;
+        append(&mut text, names)?;
+        Ok(Path { text })
     }
 
     /// Goes down to the entry `name` of this directory; fails, with nothing changed, only when out of memory.
-    pub fn push(&mut self, name: Name) -> Result<(), AllocError>
+    pub fn push(&mut self, name: &Name) -> Result<(), AllocError>
         ensures { MatchResult result
-            (λ _. self.new ≡ child_path self.old name)
+            (λ _. self.new ≡ child_path self.old name.now)
             (λ _. self.new ≡ self.old) }
     {
-        self.names.push(name)?;
+        append(&mut self.text, name.as_str())?;
         Ok(())
     }
 
     /// Goes up to the directory of the first `depth` names, and down to its entry `name`; fails, with nothing changed,
-    /// only when out of memory, and never where it goes up.
-    pub fn go_to(&mut self, depth: usize, name: Name) -> Result<(), AllocError>
-        ensures there { MatchResult result
-            (λ _. self.new ≡ child_path (take depth self.old) name)
+    /// only when out of memory.
+    pub fn go_to(&mut self, depth: usize, name: &Name) -> Result<(), AllocError>
+        ensures { MatchResult result
+            (λ _. self.new ≡ child_path (take depth self.old) name.now)
             (λ _. self.new ≡ self.old) }
-        ensures refused { OnErr result (length self.old ≤ depth) }
     {
-        // Where that goes up, the names that are dropped leave room for this one.
-        self.names.truncate(depth);
-        self.names.push(name)?;
+        let name = name.as_str();
+        self.text.reserve(name.len() + 1)?;
+        for _ in depth..self.len() {
+            go_up(&mut self.text);
+        }
+        append(&mut self.text, name)?;
         Ok(())
     }
 
@@ -210,12 +201,10 @@ impl Path {
     pub fn parent(&self, alloc: Global) -> Result<Option<Path>, AllocError>
         ensures { IfOk result (λ parent. parent ≡ parent_of self.now) }
     {
-        if self.names.is_empty() {
-            return Ok(None);
+        match cut_last(self.text.as_str()) {
+            Some((above, _)) => Ok(Some(Path::of_names(alloc, above)?)),
+            None => Ok(None),
         }
-        let mut parent = self.copy(alloc)?;
-        parent.names.pop();
-        Ok(Some(parent))
     }
 
     /// The path as reports write it: `/` before each name, see [`escaped`](crate::escaped), and `/` for the root.
@@ -223,41 +212,40 @@ impl Path {
     pub fn shown(&self, alloc: Global) -> Result<String, AllocError>
         ensures { IfOk result (λ text. string_bytes text ≡ shown_path self.now) }
     {
-        if self.names.is_empty() {
-            return String::from_str(alloc, "/");
-        }
-        let mut text = String::new(alloc);
-        for name in &self.names {
-            text.push_str("/")?;
-            push_escaped(alloc, &mut text, name.as_str())?;
-        }
+        let mut text = String::from_str(alloc, "/")?;
+        push_escaped(alloc, &mut text, self.text.as_str())?;
         Ok(text)
     }
 }
 
-// The names that parts with `/` before each spell, if they are a path within the limits; none also where memory runs out.
-fn read_names(alloc: Global, rest: &str) -> Option<Vec<Name>>
-    requires { 0 < length rest.now }
-    ensures names { IfSome result (λ names. names.items ≡ parts_between rest.now) }
-    ensures named { IfSome result (λ names. IsTrue (has_names names.items)) }
-    ensures fault { IfSome result (λ _. path_fault depth_limit (slash ∷ rest.now) ≡ None) }
+// Appends names to a text of names; fails, with nothing changed, only when out of memory, and never where there is room
+// for them and a separator.
+fn append(text: &mut String, names: &str) -> Result<(), AllocError>
+    ensures names { MatchResult result
+        (λ _. text_names (string_bytes text.new) ≡ text_names (string_bytes text.old) ++ text_names names.now)
+        (λ _. string_bytes text.new ≡ string_bytes text.old) }
+    ensures full { OnErr result (string_capacity text.old < string_len text.old + length names.now + 1) }
 {
-    if is_too_long(rest) {
-        return None;
+    if names.is_empty() {
+        return Ok(());
     }
-    let mut names = Vec::with_capacity(alloc, USUAL_DEPTH).ok()?;
-    for part in rest.split('/') {
-        let Ok(name) = Name::of(alloc, part) else {
-            return None;
-        };
-        let Ok(()) = names.push(name) else {
-            return None;
-        };
+    text.reserve(names.len() + 1)?;
+    if !text.is_empty() {
+        text.push('/')?;
     }
-    if names.len() > DEPTH_LIMIT {
-        return None;
-    }
-    Some(names)
+    text.push_str(names)?;
+    Ok(())
+}
+
+// Drops the last name of a text of names, if it has one.
+fn go_up(text: &mut String)
+    requires { IsTrue (has_names (text_names (string_bytes text.old))) }
+    ensures names { text_names (string_bytes text.new) ≡ parent_path (text_names (string_bytes text.old)) }
+    ensures len { string_len text.new ≤ string_len text.old }
+    ensures capacity { string_capacity text.new ≡ string_capacity text.old }
+{
+    let end = text.as_str().rfind('/').unwrap_or(0);
+    text.truncate(end);
 }
 
 // The first fault of the text that has `/` before these parts, in the order of `PathFault`.
@@ -265,10 +253,13 @@ fn parts_fault(rest: &str) -> Option<PathFault>
     requires { 0 < length rest.now }
     ensures { result ≡ path_fault depth_limit (slash ∷ rest.now) }
 {
-    if has_empty_part(rest) {
-        Some(PathFault::EmptyPart)
-    } else if has_bad_part(rest) {
-        Some(PathFault::BadPart)
+    // An empty part is a bad one too.
+    if has_bad_part(rest) {
+        Some(if has_empty_part(rest) {
+            PathFault::EmptyPart
+        } else {
+            PathFault::BadPart
+        })
     } else if part_count(rest) > DEPTH_LIMIT {
         Some(PathFault::TooDeep)
     } else if is_too_long(rest) {
@@ -291,7 +282,7 @@ fn has_bad_part(rest: &str) -> bool
     rest.split('/').any(|part| first_name_fault(part).is_some())
 }
 
-fn part_count(rest: &str) -> usize
+pub(crate) fn part_count(rest: &str) -> usize
     ensures { result ≡ length (parts_between rest.now) }
 {
     rest.split('/').count()
@@ -310,7 +301,7 @@ impl PartialEq for Path {
     ghost laws = { partial_equiv_from_equiv (lists_equiv nat_list_eq_equiv) };
 
     fn eq(&self, other: &Path) -> bool {
-        self.names.as_slice() == other.names.as_slice()
+        self.text.as_bytes() == other.text.as_bytes()
     }
 }
 
@@ -338,6 +329,31 @@ impl Ord for Path {
     ghost matches_eq = { lists_ties name_cmp texts_ties };
 
     fn cmp(&self, other: &Path) -> Ordering {
-        self.names.as_slice().cmp(other.names.as_slice())
+        order(self.text.as_bytes(), other.text.as_bytes())
+    }
+}
+
+// How the names of a text are to those of another: `/` comes before every other byte.
+fn order(text: &[u8], other: &[u8]) -> Ordering
+    ensures { result ≡ path_cmp (text_names text.now) (text_names other.now) }
+{
+    for i in 0..text.len().min(other.len()) {
+        if text[i] != other[i] {
+            return order_apart(text[i], other[i]);
+        }
+    }
+    text.len().cmp(&other.len())
+}
+
+// How the texts are to each other whose first bytes that differ are these.
+fn order_apart(byte: u8, other: u8) -> Ordering
+    ensures { result ≡ (if byte == slash then Less else if other == slash then Greater else nat_cmp byte other) }
+{
+    if byte == b'/' {
+        Ordering::Less
+    } else if other == b'/' {
+        Ordering::Greater
+    } else {
+        byte.cmp(&other)
     }
 }

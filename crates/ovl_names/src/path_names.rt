@@ -1,0 +1,180 @@
+ghost use Rattle.std.specs.Prelude.{◌≡◌, ◌∷◌, ◌++◌, [], ◌↔◌, length, IsTrue, MatchOption};
+ghost use Rattle.std.specs.Cmp.{partial_equiv_from_equiv};
+ghost use Rattle.std.specs.Cmp.Lexicographic.{nat_list_eq_equiv, lists_equiv};
+ghost use Rattle.std.specs.Iterator.{YieldsFirstRef, YieldsLastRef, item_count};
+ghost use Rattle.std.specs.List.{starts_with};
+ghost use Rattle.ovl_names.specs.Names.{name_eq};
+ghost use Rattle.ovl_names.specs.Paths.{path_eq, text_names, has_names};
+
+use crate::names::Name;
+use crate::paths::part_count;
+use std::marker::Model;
+
+/// Names of a path one after the other, from the root down, in the text that holds them: all of them, or the first or
+/// last ones. As an iterator it gives each name's text, and leaves the others.
+#[derive(Debug, Drop)]
+pub struct Names<'a> {
+    text: &'a str,
+}
+
+impl<'a> Model for Names<'a> {
+    ghost use Rattle.std.specs.Prelude.{IsTrue};
+    ghost use Rattle.ovl_names.specs.Paths.{PathNames, text_names, has_names};
+
+    ghost Value = { PathNames };
+
+    ghost view = { λ a. text_names a.text.now };
+
+    ghost invariant = { λ a. IsTrue (has_names (text_names a.text.now)) };
+}
+
+impl<'a> Names<'a> {
+    // The names of a text that has `/` between them.
+    pub(crate) fn of_text(text: &'a str) -> Names<'a>
+        requires { IsTrue (has_names (text_names text.now)) }
+        ensures { result ≡ text_names text.now }
+    {
+        Names { text }
+    }
+
+    // The text that has `/` between the names.
+    pub(crate) fn text(&self) -> &'a str
+        ensures value { text_names result.now ≡ self.now }
+        ensures names { IsTrue (has_names self.now) }
+    {
+        self.text
+    }
+
+    /// One name alone.
+    pub fn one(name: &'a Name) -> Names<'a>
+        ensures { result ≡ name.now ∷ [] }
+    {
+        Names {
+            text: name.as_str(),
+        }
+    }
+
+    /// The number of names.
+    pub fn len(&self) -> usize
+        ensures { result ≡ length self.now }
+    {
+        if self.text.is_empty() {
+            0
+        } else {
+            part_count(self.text)
+        }
+    }
+
+    /// Whether there is no name.
+    pub fn is_empty(&self) -> bool
+        ensures { IsTrue result ↔ (self.now ≡ []) }
+    {
+        self.text.is_empty()
+    }
+
+    /// The same names, apart from these.
+    pub fn rest(&self) -> Names<'a>
+        ensures value { result ≡ self.now }
+        ensures names { IsTrue (has_names self.now) }
+    {
+        Names { text: self.text }
+    }
+
+    /// The last name and those above it, and `None` where there is no name.
+    pub fn split_last(&self) -> Option<(&'a str, Names<'a>)>
+        ensures value { MatchOption result (self.now ≡ []) (λ parts. self.now ≡ parts.1 ++ parts.0.now ∷ []) }
+        ensures names { IsTrue (has_names self.now) }
+    {
+        match cut_last(self.text) {
+            Some((above, last)) => Some((last, Names { text: above })),
+            None => None,
+        }
+    }
+
+    /// Whether these names begin with those.
+    pub fn starts_with(&self, front: &Names<'_>) -> bool
+        ensures { result ≡ starts_with name_eq self.now front.now }
+    {
+        if front.text.is_empty() {
+            return true;
+        }
+        match self
+            .text
+            .as_bytes()
+            .strip_prefix(front.text.as_bytes())
+        {
+            Some(rest) => rest.is_empty() || rest[0] == b'/',
+            None => false,
+        }
+    }
+}
+
+impl<'a> Iterator for Names<'a> {
+    type Item = &'a str;
+
+    ghost next_gives = { YieldsFirstRef (λ names. names) };
+
+    ghost remaining = { item_count (λ names. names) };
+
+    fn next(&mut self) -> Option<&'a str> {
+        let (first, rest) = cut_first(self.text)?;
+        self.text = rest;
+        Some(first)
+    }
+}
+
+impl<'a> DoubleEndedIterator for Names<'a> {
+    ghost next_back_gives = { YieldsLastRef (λ names. names) };
+
+    fn next_back(&mut self) -> Option<&'a str> {
+        let (above, last) = cut_last(self.text)?;
+        self.text = above;
+        Some(last)
+    }
+}
+
+// The first name of a text, and the text of the others.
+fn cut_first(text: &str) -> Option<(&str, &str)>
+    requires { IsTrue (has_names (text_names text.now)) }
+    ensures { MatchOption result
+        (text.now ≡ [])
+        (λ parts. text_names text.now ≡ parts.0.now ∷ text_names parts.1.now) }
+{
+    if text.is_empty() {
+        return None;
+    }
+    match text.split_once('/') {
+        Some(parts) => Some(parts),
+        None => Some((text, "")),
+    }
+}
+
+// The text of the names above the last name of a text, and that name.
+pub(crate) fn cut_last(text: &str) -> Option<(&str, &str)>
+    requires { IsTrue (has_names (text_names text.now)) }
+    ensures { MatchOption result
+        (text.now ≡ [])
+        (λ parts. text_names text.now ≡ text_names parts.0.now ++ parts.1.now ∷ []) }
+{
+    if text.is_empty() {
+        return None;
+    }
+    match text.rsplit_once('/') {
+        Some(parts) => Some(parts),
+        None => Some(("", text)),
+    }
+}
+
+impl<'a> PartialEq for Names<'a> {
+    ghost eq = { path_eq };
+
+    ghost laws = { partial_equiv_from_equiv (lists_equiv nat_list_eq_equiv) };
+
+    fn eq(&self, other: &Names<'a>) -> bool {
+        self.text.as_bytes() == other.text.as_bytes()
+    }
+}
+
+impl<'a> Eq for Names<'a> {
+    ghost laws = { lists_equiv nat_list_eq_equiv };
+}
