@@ -2,14 +2,14 @@
 use Rattle.std.proofs.Common.{◌≡◌, ℕ, ◌<◌, List, [], ◌∷◌, ◌++◌, Bool, true, false, Option, Some, None, refl, sym, ap, ◌∙◌, lit<, length, take, drop, arith}
 use Rattle.std.proofs.lemmas.Bool.{eqb-true}
 use Rattle.std.proofs.lemmas.Bool.Decides.{nat_tests}
-use Rattle.std.specs.Prelude.{◌==◌, nat_eq, nat_lt, ◌||◌, is_some, is_none, not, if◌then◌else◌}
-use Rattle.std.specs.List.{list_any, starts_with}
+use Rattle.std.specs.Prelude.{◌==◌, nat_eq, nat_lt, ◌||◌, is_some, is_none, if◌then◌else◌}
+use Rattle.std.specs.List.{list_any}
 use Rattle.std.specs.Str.{IsUtf8, is_utf8}
 use Rattle.std.proofs.lemmas.Str.{is_utf8-from_IsUtf8, encode_ascii}
 use Rattle.std.proofs.lemmas.List.Folds.{list_all-append}
 use lib.Utf8.{encode}
 use Rattle.ovl_names.specs.Names.{name_fault, is_name, slash}
-use Rattle.ovl_names.specs.Paths.{PathNames, path_fault, path_refusal, text_parts, parts_between, has_names, depth_limit, text_limit}
+use Rattle.ovl_names.specs.Paths.{PathNames, path_fault, text_parts, parts_between, has_names, depth_limit, text_limit}
 use Rattle.ovl_names.specs.declared.names.NameFault.{NameFault}
 use Rattle.ovl_names.specs.declared.paths.PathFault.{PathFault}
 use Rattle.ovl_names.specs.declared.paths.PathFault.TheVariants.{NotAbsolute, EmptyPart, BadPart, TooDeep, TooLong}

@@ -1,11 +1,10 @@
 -- Texts that have `/` between names: what they are to their names.
 use Rattle.std.proofs.Common.{◌≡◌, ◌≢◌, ℕ, suc, ◌<◌, ◌≤◌, ◌+◌, List, [], ◌∷◌, ◌++◌, Bool, true, false, Option, Some, None, refl, sym, ap, ◌∙◌, lit<, length, take, drop, get_or, append_assoc, add-one, drop-cons, length-append, length-drop, get_or-drop, take_all, min, ◌-◌, zero, arith}
-use Rattle.std.specs.Prelude.{cond, codes, ◌==◌, nat_eq, nat_lt, ◌&&◌, ◌||◌, is_some, is_none, unwrap_or, if◌then◌else◌}
+use Rattle.std.specs.Prelude.{cond, codes, ◌==◌, nat_lt, ◌&&◌, ◌||◌, is_some, is_none, unwrap_or, if◌then◌else◌}
 use Rattle.std.specs.declared.cmp.Ordering.{Ordering}
 use Rattle.std.specs.declared.cmp.Ordering.TheVariants.{Less, Equal, Greater}
 use Rattle.std.specs.Ordering.{nat_cmp, ordering_then}
 use Rattle.std.specs.Cmp.{nat_cmp_is}
-use Rattle.std.specs.Cmp.Lexicographic.{slice_cmp, pointwise}
 use Rattle.std.specs.List.{list_any, list_all, starts_with, flat_map, onto_first, join_with_byte, position_or_len}
 use Rattle.std.specs.Str.{bytes_eq, is_utf8, IsUtf8}
 use Rattle.std.proofs.lemmas.Bool.{eqb-true, eq-eqb}
@@ -18,7 +17,6 @@ use Rattle.std.proofs.lemmas.Str.Pattern.{drop_at_char, NoCharPasses-char}
 use Rattle.std.specs.Str.Pattern.{RFindsChar}
 use Rattle.std.specs.Option.{MatchOption}
 use denote.Ref.{Bor}
-use Rattle.std.proofs.lemmas.List.Folds.{list_all-append}
 use Rattle.std.proofs.lemmas.Slice.Eq.{bytes_eq-Decides, slice_eq-Decides}
 use Rattle.ovl_names.specs.declared.names.NameFault.{NameFault}
 use Rattle.ovl_names.specs.declared.names.NameFault.TheVariants.{Empty, TooLong, Dot, Slash, Nul}
@@ -26,7 +24,6 @@ use Rattle.ovl_names.specs.Names.{name_limit, name_fault, is_name, name_eq, name
 use Rattle.ovl_names.specs.Paths.{PathNames, text_names, parts_between, has_names, path_cmp, path_eq, parent_path}
 use Rattle.ovl_names.specs.Escapes.{escaped, escaped_byte, shown_path}
 use Rattle.ovl_names.proofs.Ascending.{both}
-use Rattle.ovl_names.proofs.NameLemmas.{no_fault-name}
 
 -- ---- parts
 
@@ -225,7 +222,6 @@ text_eq-names xs ys = by (path_eq (text_names xs) (text_names ys)) (bytes_eq xs 
     by true false ea eb = let bad = (bytes_eq-Decides xs ys).1 (text_names-same xs ys ((slice_eq-Decides {E = name_eq} bytes_eq-Decides (text_names xs) (text_names ys) true (sym ea)).0 refl)) in cc
     by false true ea eb = let bad = (slice_eq-Decides {E = name_eq} bytes_eq-Decides (text_names xs) (text_names ys) (path_eq (text_names xs) (text_names ys)) refl).1 (ap text_names ((bytes_eq-Decides xs ys).0 eb)) in cc
 
-
 -- ---- where a text is cut
 
 pub parent_path-child : (path : PathNames) (name : List ℕ) → parent_path (path ++ name ∷ []) ≡ path
@@ -262,9 +258,9 @@ pub rsplit_parts : (bs : List ℕ) (r : Option (Bor (List ℕ) × Bor (List ℕ)
     → MatchOption r (list_any (λ byte. byte == slash) bs ≡ false) (λ x. (bs ≡ x.0.now ++ slash ∷ x.1.now) × (list_any (λ byte. byte == slash) x.1.now ≡ false))
 rsplit_parts bs None found = lacks slash bs (λ i l. NoCharPasses-char 47 bs i found (lit< tt) l)
 rsplit_parts bs (Some x) found = (
-    sym (take-append-drop found.0 bs) ∙ (λ j. sym found.3 j ++ (drop_at_char 47 bs found.0 found.1 found.2.1 (lit< tt) ∙ ap (λ (own : List ℕ). slash ∷ own) (sym found.4)) j),
-    rw found.4 (lacks slash (drop found.1 bs) (λ i l. NoCharPasses-char 47 (drop found.1 bs) i found.2.0 (lit< tt) l)),
-  )
+  sym (take-append-drop found.0 bs) ∙ (λ j. sym found.3 j ++ (drop_at_char 47 bs found.0 found.1 found.2.1 (lit< tt) ∙ ap (λ (own : List ℕ). slash ∷ own) (sym found.4)) j),
+  rw found.4 (lacks slash (drop found.1 bs) (λ i l. NoCharPasses-char 47 (drop found.1 bs) i found.2.0 (lit< tt) l)),
+)
 
 -- what a text begins with
 pub text_starts-prefix : (ys rest : List ℕ) → text_starts (ys ++ rest) ys ≡ text_starts rest []

@@ -98,11 +98,7 @@ impl<'a> Names<'a> {
         if front.text.is_empty() {
             return true;
         }
-        match self
-            .text
-            .as_bytes()
-            .strip_prefix(front.text.as_bytes())
-        {
+        match self.text.as_bytes().strip_prefix(front.text.as_bytes()) {
             Some(rest) => rest.is_empty() || rest[0] == b'/',
             None => false,
         }

@@ -164,7 +164,11 @@ impl Path {
         ensures { IfOk result (λ path. path ≡ self.now ++ names.now) }
     {
         let names = names.text();
-        let room = self.text.len().saturating_add(names.len()).saturating_add(1);
+        let room = self
+            .text
+            .len()
+            .saturating_add(names.len())
+            .saturating_add(1);
         let mut text = String::with_capacity(alloc, room)?;
         text.push_str(self.text.as_str())?;
         append(&mut text, names)?;

@@ -1,6 +1,6 @@
-use Rattle.std.proofs.Common.{◌≡◌, ◌<◌, ◌+◌, ◌==◌, ◌∙◌, List, ℕ, true, false, length, drop, get_or, min, sym, ap, eq-eqb, arith}
+use Rattle.std.proofs.Common.{◌≡◌, ◌<◌, ◌==◌, ◌∙◌, List, ℕ, true, false, length, get_or, min, sym, arith}
 use Rattle.std.proofs.lemmas.Bool.Decides.{nat_tests}
-use Rattle.ovl_names.proofs.PathTexts.{text_cmp, text_cmp-names, text_cmp-past, text_cmp-end}
+use Rattle.ovl_names.proofs.PathTexts.{text_cmp-names, text_cmp-past, text_cmp-end}
 use Rattle.ovl_names.proofs.paths.order.Goals as goal
 
 pub returns-then-text-i : goal.returns-then-text-i

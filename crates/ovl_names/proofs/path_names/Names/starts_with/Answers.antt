@@ -1,10 +1,9 @@
-use Rattle.std.proofs.Common.{◌≡◌, ◌≢◌, ◌<◌, ◌==◌, ◌++◌, List, ℕ, [], Some, None, Bool, true, eqb-true, length, get_or, sym, ap, ◌∙◌, arith}
+use Rattle.std.proofs.Common.{◌≡◌, ◌≢◌, ◌<◌, ◌++◌, List, ℕ, Some, None, length, sym, ap, ◌∙◌, arith}
 use Rattle.std.specs.List.{starts_with}
 use Rattle.std.proofs.lemmas.Bool.Decides.{nat_tests, Decides-eqb}
 use Rattle.std.proofs.lemmas.Slice.Eq.{strip_prefix_is}
 use Rattle.ovl_names.specs.Names.{name_eq}
-use Rattle.ovl_names.specs.Paths.{text_names}
-use Rattle.ovl_names.proofs.PathTexts.{text_starts, text_starts-end, text_starts-at, text_starts-not, text_starts-names, starts_with-rest}
+use Rattle.ovl_names.proofs.PathTexts.{text_starts-end, text_starts-at, text_starts-not, text_starts-names, starts_with-rest}
 use Rattle.ovl_names.proofs.path_names.Names.starts_with.Goals as goal
 
 pub returns-then-is_empty-2 : goal.returns-then-is_empty-2

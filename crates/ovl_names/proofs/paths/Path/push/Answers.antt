@@ -1,4 +1,4 @@
-use Rattle.std.proofs.Common.{◌≡◌, ◌∙◌, ◌++◌, ◌∷◌, [], List, ℕ, string_bytes, ap}
+use Rattle.std.proofs.Common.{◌≡◌, ◌∙◌, ◌++◌, ◌∷◌, [], string_bytes, ap}
 use Rattle.ovl_names.specs.Paths.{PathNames, text_names, has_names}
 use Rattle.ovl_names.proofs.NameLemmas.{has_names-child}
 use Rattle.ovl_names.proofs.PathTexts.{text_names-name}
