@@ -105,7 +105,7 @@ fn paths_under<'a>(paths: &'a [Path], dir: &Path) -> &'a [Path]
 {
     let start = paths.partition_point(|path| path <= dir);
     let later = &paths[start..];
-    let end = later.partition_point(|path| path.names().starts_with(dir.names()));
+    let end = later.partition_point(|path| path.names().starts_with(&dir.names()));
     &later[..end]
 }
 
@@ -145,6 +145,6 @@ fn follows(before: &Path, path: &Path) -> bool
 {
     match path.names().split_last() {
         None => false,
-        Some((_, above)) => before < path && before.names().starts_with(above),
+        Some((_, above)) => before < path && before.names().starts_with(&above),
     }
 }

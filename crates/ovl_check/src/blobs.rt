@@ -79,7 +79,7 @@ impl<'a> BlobWork<'a> {
     }
 
     // The names of the blobs with wrong bytes whose names begin with these digits.
-    fn wrong_names(&self, alloc: Global, digits: &Name) -> Result<Vec<Digest>, AllocError>
+    fn wrong_names(&self, alloc: Global, digits: &str) -> Result<Vec<Digest>, AllocError>
         ensures { IfOk result (λ names. names.items ≡ the_names_under digits.now self.now) }
     {
         if self.in_order {
@@ -112,9 +112,10 @@ impl<'a> Work for BlobWork<'a> {
         if piece.space != BLOB_SPACE {
             return Ok((none, Vec::new(alloc)));
         }
-        match piece.dir.names() {
-            [] => Ok((self.kids(alloc)?, Vec::new(alloc))),
-            [digits] => Ok((none, self.wrong_names(alloc, digits)?)),
+        let mut names = piece.dir.names();
+        match (names.next(), names.next()) {
+            (None, _) => Ok((self.kids(alloc)?, Vec::new(alloc))),
+            (Some(digits), None) => Ok((none, self.wrong_names(alloc, digits)?)),
             _ => Ok((none, Vec::new(alloc))),
         }
     }
@@ -169,11 +170,9 @@ fn digits_pieces(alloc: Global, digits: BTreeSet<Name>) -> Result<Vec<Piece>, Al
 {
     let mut pieces = Vec::new(alloc);
     for name in digits {
-        let mut dir = Path::root(alloc);
-        dir.push(name)?;
         pieces.push(Piece {
             space: BLOB_SPACE,
-            dir,
+            dir: Path::root(alloc).child(alloc, &name)?,
         })?;
     }
     Ok(pieces)
@@ -183,7 +182,7 @@ fn digits_pieces(alloc: Global, digits: BTreeSet<Name>) -> Result<Vec<Piece>, Al
 fn wrong_names_under(
     alloc: Global,
     blobs: &[Blob],
-    digits: &Name,
+    digits: &str,
 ) -> Result<Vec<Digest>, AllocError>
     ensures { IfOk result (λ names. names.items ≡ the_names_under digits.now (blob_views blobs.now)) }
 {
@@ -206,13 +205,13 @@ fn keep_digests(blobs: &[Blob])
 }
 
 // The part of ascending blobs that has all whose names begin with these digits.
-fn blobs_under<'a>(blobs: &'a [Blob], digits: &Name) -> &'a [Blob]
+fn blobs_under<'a>(blobs: &'a [Blob], digits: &str) -> &'a [Blob]
     requires in_order { are_in_order (blob_views blobs.now) ≡ true }
     requires digests { AreNamedByDigests blobs.now }
     ensures { the_names_under digits.now (blob_views result.now) ≡ the_names_under digits.now (blob_views blobs.now) }
 {
     let mut byte = [0; 1];
-    if hex::decode_to_slice(digits.as_str(), &mut byte).is_err() {
+    if hex::decode_to_slice(digits, &mut byte).is_err() {
         return &blobs[..0];
     }
     let first = byte[0];
@@ -248,10 +247,10 @@ fn digits_name(alloc: Global, name: &Digest) -> Result<Name, AllocError>
     }
 }
 
-fn begins_with(name: &Digest, digits: &Name) -> bool
+fn begins_with(name: &Digest, digits: &str) -> bool
     ensures { result ≡ name_eq digits.now (the_digits name.now) }
 {
-    digits.as_str().as_bytes() == first_digits(name).as_slice()
+    digits.as_bytes() == first_digits(name).as_slice()
 }
 
 // Whether the blob's bytes have another digest than its name.

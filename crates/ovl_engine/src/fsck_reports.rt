@@ -6,7 +6,7 @@ ghost use Rattle.ovl_engine.specs.FsckReports.{code_word as the_code_word, weigh
 use crate::reports::{push_name, push_number, push_word};
 use crate::shares::{joined, share_of};
 use ovl_check::{Code, Finding};
-use ovl_names::{Name, Path};
+use ovl_names::{Names, Path};
 use std::alloc::{AllocError, Global};
 use std::marker::Model;
 use std::thread::{Threads, map_chunks};
@@ -50,7 +50,8 @@ fn lines_of(alloc: Global, found: &[Finding]) -> Result<String, AllocError>
     ensures { IfOk result (λ lines. string_bytes lines ≡ flat_map finding_line found.now) }
 {
     let mut lines = String::new(alloc);
-    let mut above = Above::root(alloc);
+    let root = Path::root(alloc);
+    let mut above = Above::root(alloc, &root);
     for finding in found {
         push_finding(alloc, &mut lines, &mut above, finding)?;
     }
@@ -80,7 +81,7 @@ pub(crate) fn is_clean(found: &[Finding]) -> bool
 // one directory mostly comes together.
 #[derive(Drop)]
 struct Above<'a> {
-    directory: &'a [Name],
+    directory: Names<'a>,
     text: String,
 }
 
@@ -91,31 +92,32 @@ impl<'a> Model for Above<'a> {
 
     ghost Value = { PathNames };
 
-    ghost view = { λ a. a.directory.now };
+    ghost view = { λ a. a.directory };
 
-    ghost invariant = { λ a. string_bytes a.text ≡ shown_names a.directory.now };
+    ghost invariant = { λ a. string_bytes a.text ≡ shown_names a.directory };
 }
 
 impl<'a> Above<'a> {
-    fn root(alloc: Global) -> Above<'a>
+    fn root(alloc: Global, root: &'a Path) -> Above<'a>
+        requires { root.now ≡ [] }
         ensures { result ≡ [] }
     {
         Above {
-            directory: &[],
+            directory: root.names(),
             text: String::new(alloc),
         }
     }
 
     // Goes to a directory; the text is made anew where it is another one.
-    fn go_to(&mut self, alloc: Global, directory: &'a [Name]) -> Result<(), AllocError>
-        ensures { OnOk result (self.new ≡ directory.now) }
+    fn go_to(&mut self, alloc: Global, directory: Names<'a>) -> Result<(), AllocError>
+        ensures { OnOk result (self.new ≡ directory.entry) }
     {
         if self.directory == directory {
             return Ok(());
         }
         let mut text = String::new(alloc);
-        for name in directory {
-            push_name(alloc, &mut text, name.as_str())?;
+        for name in directory.rest() {
+            push_name(alloc, &mut text, name)?;
         }
         *self = Above { directory, text };
         Ok(())
@@ -135,7 +137,7 @@ impl<'a> Above<'a> {
         };
         self.go_to(alloc, directory)?;
         report.push_str(self.text.as_str())?;
-        push_name(alloc, report, name.as_str())
+        push_name(alloc, report, name)
     }
 }
 

@@ -208,7 +208,7 @@ pub(crate) fn push_path(alloc: Global, report: &mut String, path: &Path) -> Resu
         return report.push_str("/");
     }
     for name in path.names() {
-        push_name(alloc, report, name.as_str())?;
+        push_name(alloc, report, name)?;
     }
     Ok(())
 }

@@ -133,7 +133,7 @@ fn ends_under(path: &Path, paths: &[Path]) -> bool
     ensures { result ≡ begins_test path.now (reverse paths.now) }
 {
     match paths.split_last() {
-        Some((last, _)) => last.names().starts_with(path.names()),
+        Some((last, _)) => last.names().starts_with(&path.names()),
         None => false,
     }
 }
