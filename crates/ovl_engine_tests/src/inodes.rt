@@ -138,7 +138,7 @@ fn mark_told(alloc: Global, entry: &str) -> Result<String, Fail> {
 #[test]
 fn marks_are_the_first_case_that_holds(rt: HostRuntime) -> Result<(), Fail> {
     let alloc = rt.alloc();
-    let to_x = "To(Path { names: [Name { text: \"x\" }] })";
+    let to_x = "To(Path { text: \"x\" })";
     let moved = format!(in alloc; "DirMoved({to_x})")?;
     let meta = format!(in alloc; "Meta(Some({to_x}))")?;
     let beside = "DirMoved(Beside(Name { text: \"r\" }))";

@@ -85,8 +85,8 @@ fn a_child_is_one_name_below_its_parent(rt: HostRuntime) -> Result<(), Fail> {
     assert_eq!(rt; child, Path::parse(alloc, "/a/b")?);
     assert_eq!(rt; child.parent(alloc)?, Some(parent));
     assert_eq!(rt; Path::root(alloc).parent(alloc)?, None);
-    child.push(Name::of(alloc, "c")?)?;
-    let joined = child.joined(alloc, child.names())?;
+    child.push(&Name::of(alloc, "c")?)?;
+    let joined = child.joined(alloc, &child.names())?;
     assert_eq!(rt; joined.shown(alloc)?.as_str(), "/a/b/c/a/b/c");
     Ok(())
 }
