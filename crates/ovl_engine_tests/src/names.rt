@@ -96,8 +96,8 @@ fn parent_told(alloc: Global, path: &str) -> Result<String, Fail> {
 // A path to which a name was pushed, with its own names behind it.
 fn joined_told(alloc: Global, path: &str, name: &str) -> Result<String, Fail> {
     let mut path = Path::parse(alloc, path)?;
-    path.push(Name::of(alloc, name)?)?;
-    let joined = path.joined(alloc, path.names())?;
+    path.push(&Name::of(alloc, name)?)?;
+    let joined = path.joined(alloc, &path.names())?;
     Ok(joined.shown(alloc)?)
 }
 

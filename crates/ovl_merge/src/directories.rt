@@ -47,7 +47,8 @@ impl Directory {
             return Ok(None);
         };
         for name in dir.names() {
-            let Some(child) = directory.child(alloc, stack, name)? else {
+            let name = Name::copy_of(alloc, name)?;
+            let Some(child) = directory.child(alloc, stack, &name)? else {
                 return Ok(None);
             };
             directory = child;

@@ -235,8 +235,8 @@ fn redirected(
 ) -> Result<Inode, AllocError>
     ensures { IfOk result (λ new. new ≡ redirected_from above.now.reach name.now inode reach.now) }
 {
-    if let Some(beside) = name_in(&above.reach, reach) {
-        if beside == name {
+    if let Some(beside) = name_in(alloc, &above.reach, reach)? {
+        if beside == *name {
             return Ok(inode);
         }
         return with_value(inode, overlay::REDIRECT, beside.as_str().as_bytes());
@@ -280,7 +280,7 @@ fn path_text(alloc: Global, path: &Path) -> Result<String, AllocError>
     let mut text = String::new(alloc);
     for name in path.names() {
         text.push_str("/")?;
-        text.push_str(name.as_str())?;
+        text.push_str(name)?;
     }
     Ok(text)
 }

@@ -64,11 +64,11 @@ impl Near {
     {
         // Each layer of a stack is one.
         let _layers = stack.ordinary();
-        let Some(name) = name_in(&self.base, path) else {
+        let Some(name) = name_in(alloc, &self.base, path)? else {
             return DirView::of(alloc, stack, 2, path);
         };
         match &self.view {
-            Some(view) => view.child(alloc, stack, name),
+            Some(view) => view.child(alloc, stack, &name),
             None => Ok(None),
         }
     }

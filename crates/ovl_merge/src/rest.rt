@@ -1,5 +1,4 @@
 ghost use Rattle.std.specs.Prelude.{◌≡◌, ◌<◌, Some, length, IfOk};
-ghost use Rattle.std.specs.Option.{option_map};
 ghost use Rattle.ovl_lookup.specs.Merged.{look as the_look};
 ghost use Rattle.ovl_merge.specs.Places.{merge_of, shows_at as shows_test, shows_directory_at as directory_test};
 ghost use Rattle.ovl_merge.specs.Directories.{base_names};
@@ -23,11 +22,11 @@ pub(crate) fn look_in_rest(
 {
     // Each layer of a stack is one.
     let _layers = stack.ordinary();
-    let Some(name) = name_in(&near.base, path) else {
+    let Some(name) = name_in(alloc, &near.base, path)? else {
         return stack.look(alloc, 2, path);
     };
     match &near.view {
-        Some(view) => view.look(alloc, stack, name),
+        Some(view) => view.look(alloc, stack, &name),
         None => Ok(Look::Nothing),
     }
 }
@@ -48,12 +47,12 @@ pub(crate) fn shows_at(
     let Some(path) = place else {
         return Ok(false);
     };
-    let Some(name) = name_in(&near.base, path) else {
+    let Some(name) = name_in(alloc, &near.base, path)? else {
         let shown = stack.look(alloc, 2, path)?;
         return Ok(!shown.is_nothing());
     };
     match &near.view {
-        Some(view) => Ok(view.shows(stack, name)),
+        Some(view) => Ok(view.shows(stack, &name)),
         None => Ok(false),
     }
 }
@@ -94,25 +93,33 @@ pub(crate) fn names_at(alloc: Global, stack: &Stack, near: &Near) -> Result<Vec<
 }
 
 // The name by which a path lies directly in a directory, if there is one and it does.
-pub(crate) fn name_in<'a>(dir: &Option<Path>, path: &'a Path) -> Option<&'a Name>
-    ensures { option_map (λ name. name.now) result ≡ name_directly_in dir.now path.now }
+pub(crate) fn name_in(
+    alloc: Global,
+    dir: &Option<Path>,
+    path: &Path,
+) -> Result<Option<Name>, AllocError>
+    ensures { IfOk result (λ name. name ≡ name_directly_in dir.now path.now) }
 {
     match dir {
-        Some(dir) => name_below(dir, path),
-        None => None,
+        Some(dir) => name_below(alloc, dir, path),
+        None => Ok(None),
     }
 }
 
 // The name by which it lies directly in this directory, if it does.
-pub(crate) fn name_below<'a>(dir: &Path, path: &'a Path) -> Option<&'a Name>
-    ensures { option_map (λ name. name.now) result ≡ name_directly_in (Some dir.now) path.now }
+pub(crate) fn name_below(
+    alloc: Global,
+    dir: &Path,
+    path: &Path,
+) -> Result<Option<Name>, AllocError>
+    ensures { IfOk result (λ name. name ≡ name_directly_in (Some dir.now) path.now) }
 {
     match path.names().split_last() {
         Some((last, above)) => if above == dir.names() {
-            Some(last)
+            Ok(Some(Name::copy_of(alloc, last)?))
         } else {
-            None
+            Ok(None)
         },
-        None => None,
+        None => Ok(None),
     }
 }

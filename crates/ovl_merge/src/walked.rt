@@ -49,13 +49,14 @@ impl Walked {
         ensures path { IfOk result (λ walked. walked.path ≡ path.now) }
     {
         if let Some(walked) = near {
-            if let Some(name) = name_below(&walked.path, path) {
-                return walked.child(alloc, sheet, name);
+            if let Some(name) = name_below(alloc, &walked.path, path)? {
+                return walked.child(alloc, sheet, &name);
             }
         }
         let mut walked = Walked::root(alloc, sheet);
         for name in path.names() {
-            walked = walked.child(alloc, sheet, name)?;
+            let name = Name::copy_of(alloc, name)?;
+            walked = walked.child(alloc, sheet, &name)?;
         }
         Ok(walked)
     }
@@ -168,7 +169,7 @@ fn glance_in<'a>(sheet: &'a Sheet, own: &OwnDirectory<Path>, name: &Name) -> Gla
 {
     // Each sheet is a layer.
     let _root = sheet.root_number();
-    let Some(row) = sheet.child(own.row, name) else {
+    let Some(row) = sheet.child(own.row, name.as_str()) else {
         return if own.closed {
             Glance::Unsaid
         } else {
@@ -202,7 +203,7 @@ fn stand_below(
         return Ok(Stand::Inside(directory));
     }
     let next = own.next.child(alloc, name)?;
-    match sheet.child(own.row, name) {
+    match sheet.child(own.row, name.as_str()) {
         Some(_file) => Ok(Stand::Past { next, closed: true }),
         None => Ok(Stand::Past {
             next,
@@ -222,8 +223,8 @@ pub(crate) fn walk_near(
     ensures { IfOk result (λ step. step ≡ the_walk sheet.now path.now) }
 {
     if let Some(walked) = near {
-        if let Some(name) = name_below(&walked.path, path) {
-            return walked.step(alloc, sheet, name);
+        if let Some(name) = name_below(alloc, &walked.path, path)? {
+            return walked.step(alloc, sheet, &name);
         }
     }
     walk(alloc, sheet, path)

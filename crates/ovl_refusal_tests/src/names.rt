@@ -9,8 +9,9 @@ pub(crate) const LONG: &str = "name-of-more-than-24-bytes";
 
 fn is_name_told(alloc: Global, name: &Name) -> Result<bool, AllocError> {
     let copy = name.copy(alloc)?;
+    let same = Name::copy_of(alloc, name.as_str())?;
     let shown = name.shown(alloc)?;
-    Ok(copy == *name && shown.as_str() == LONG)
+    Ok(copy == *name && same == *name && shown.as_str() == LONG)
 }
 
 // Of a path of nine names.
@@ -19,7 +20,7 @@ fn is_path_told(alloc: Global, path: &Path, name: &Name) -> Result<bool, AllocEr
     let shown = path.shown(alloc)?;
     let child = path.child(alloc, name)?;
     let parent = child.parent(alloc)?;
-    let joined = path.joined(alloc, path.names())?;
+    let joined = path.joined(alloc, &path.names())?;
     Ok(
         copy == *path
             && shown.as_str() == "/a/b/c/d/e/f/g/h/i"
@@ -32,14 +33,25 @@ fn is_path_told(alloc: Global, path: &Path, name: &Name) -> Result<bool, AllocEr
 fn is_pushed(alloc: Global, path: &mut Path, name: &Name) -> Result<bool, AllocError> {
     let before = path.copy(alloc)?;
     let wanted = path.child(alloc, name)?;
-    let (first, second) = (name.copy(alloc)?, name.copy(alloc)?);
-    if path.push(first).is_err() {
+    if path.push(name).is_err() {
         if *path != before {
             return Ok(false);
         }
-        path.push(second)?;
+        path.push(name)?;
     }
     Ok(*path == wanted)
+}
+
+// In place of the last of nine names.
+fn is_gone_to(alloc: Global, path: &mut Path, name: &Name) -> Result<bool, AllocError> {
+    let before = path.copy(alloc)?;
+    if path.go_to(8, name).is_err() {
+        if *path != before {
+            return Ok(false);
+        }
+        path.go_to(8, name)?;
+    }
+    Ok(path.len() == 9 && path.parent(alloc)? == before.parent(alloc)?)
 }
 
 fn is_appended(alloc: Global, written: &mut String, text: &str) -> Result<bool, AllocError> {
@@ -68,6 +80,14 @@ fn a_path_is_told(rt: HostRuntime) -> Result<(), Fail> {
     let name = again!(Name::of(rt.alloc(), LONG), NameFault::Memory)?;
     let path = again!(Path::parse(rt.alloc(), NINE), PathFault::Memory)?;
     assert!(rt; again!(is_path_told(rt.alloc(), &path, &name), AllocError)?);
+    Ok(())
+}
+
+#[test]
+fn a_path_goes_to_a_name(rt: HostRuntime) -> Result<(), Fail> {
+    let name = again!(Name::of(rt.alloc(), LONG), NameFault::Memory)?;
+    let mut path = again!(Path::parse(rt.alloc(), NINE), PathFault::Memory)?;
+    assert!(rt; again!(is_gone_to(rt.alloc(), &mut path, &name), AllocError)?);
     Ok(())
 }
 
