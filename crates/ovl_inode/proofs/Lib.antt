@@ -6,3 +6,4 @@ mod Rows
 pub mod RedirectLemmas
 mod DigitLaneLemmas
 mod PairLemmas
+mod SpellLemmas

@@ -9,7 +9,7 @@ mod marks;
 pub mod overlay;
 
 pub use attributes::{ATTR_NAME_LIMIT, AttrFault, AttrName, Attrs, Bytes};
-pub use digests::{Digest, DigestFault};
+pub use digests::{Digest, DigestFault, Digits};
 pub use digit_lanes::are_lower_digits;
 pub use inodes::{
     Inode, Kind, MODE_LIMIT, NSEC_LIMIT, SIZE_LIMIT, TARGET_LIMIT, Target, blob_of, file_size,
