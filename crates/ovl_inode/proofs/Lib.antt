@@ -7,3 +7,4 @@ pub mod RedirectLemmas
 mod DigitLaneLemmas
 mod PairLemmas
 mod TableLemmas
+mod SpellLemmas

@@ -33,16 +33,16 @@ values-picked v long =
     ∙ (ap₂ (λ (a b : List ℕ). sel_l (map (top 7) (map (λ x. at_most x 57) v)) a b) (zip2_splat less v 16 48 long) (zip2_splat less v 16 87 long)
     ∙ picked v)
 
-both : {a b : Bool} → (a && b) ≡ true → (a ≡ true) × (b ≡ true)
+pub both : {a b : Bool} → (a && b) ≡ true → (a ≡ true) × (b ≡ true)
 both {a = true} e = (refl, e)
 both {a = false} e = let bad : false ≡ true = e in cc
 
 -- a test of all numbers below another
-abbrev below : ℕ → (ℕ → Bool) → Bool
+abbrev pub below : ℕ → (ℕ → Bool) → Bool
 below zero test = true
 below (suc n) test = test n && below n test
 
-below-at : (n : ℕ) (test : ℕ → Bool) → below n test ≡ true → (k : ℕ) → k < n → test k ≡ true
+pub below-at : (n : ℕ) (test : ℕ → Bool) → below n test ≡ true → (k : ℕ) → k < n → test k ≡ true
 below-at zero test all k inside = absurd (omega (arith, inside))
 below-at (suc n) test all k inside = by (nat_eq k n) refl (below-at n test parts.1 k)
   where

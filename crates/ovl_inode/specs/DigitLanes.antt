@@ -1,4 +1,4 @@
--- Bytes that lanes make of hexadecimal digits.
+-- Bytes that lanes make of hexadecimal digits, and digits of bytes.
 use Rattle.std.specs.Prelude.{ℕ, ◌+◌, ◌*◌, ◌%◌, cond, nat_le, List, [], ◌∷◌}
 use Rattle.std.specs.List.{range_with_len}
 use Rattle.std.specs.Simd.Lanes.{pick_l}
@@ -20,3 +20,7 @@ spell (high ∷ low ∷ rest) = pair_byte high low ∷ spell rest
 -- the sixteen bytes of 32 digits
 abbrev pub block_bytes : List ℕ → List ℕ
 block_bytes text = spell (pick_l 0 text (range_with_len 0 32))
+
+-- what a lane makes of a number below 16
+abbrev pub lane_digit : ℕ → ℕ
+lane_digit value = (value + cond (nat_le value 9) 48 87) % 256

@@ -1,8 +1,9 @@
 ghost use Rattle.std.specs.Prelude.{◌≡◌, Some, IsTrue, MatchResult};
+ghost use Rattle.hex.specs.Hex.{encode_lower};
 ghost use Rattle.ovl_inode.specs.Bytes.{is_digest};
 ghost use Rattle.ovl_inode.specs.Hexadecimal.{digest_fault, digest_of_text};
 
-use crate::digit_lanes::{are_lower_digits, bytes_of_digits};
+use crate::digit_lanes::{are_lower_digits, bytes_of_digits, digits_of_bytes};
 use std::marker::Model;
 use thiserror::Error;
 
@@ -60,5 +61,55 @@ impl Digest {
         ensures digest { IsTrue (is_digest self.now) }
     {
         &self.bytes
+    }
+
+    /// The 64 lower-case hexadecimal digits that spell it.
+    pub fn digits(&self) -> Digits
+        ensures value { result ≡ encode_lower self.now }
+        ensures digest { IsTrue (is_digest self.now) }
+    {
+        let bytes = digits_of_bytes(&self.bytes);
+        Digits { bytes }
+    }
+}
+
+impl From<&[u8; 32]> for Digest {
+    ghost from_gives = { λ bytes digest. digest ≡ bytes.now };
+
+    fn from(bytes: &[u8; 32]) -> Digest {
+        let mut own = [0; 32];
+        own.copy_from_slice(bytes);
+        Digest { bytes: own }
+    }
+}
+
+/// The digits of a digest, as a text that needs no memory.
+#[derive(Clone, Copy)]
+pub struct Digits {
+    bytes: [u8; 64],
+}
+
+impl Model for Digits {
+    ghost use Rattle.std.specs.Prelude.{ℕ, List};
+    ghost use Rattle.std.specs.Str.{IsUtf8};
+
+    ghost Value = { List ℕ };
+
+    ghost view = { λ a. a.bytes };
+
+    ghost invariant = { λ a. IsUtf8 a.bytes };
+
+    ghost inverse = { λ bytes. record { bytes = bytes } };
+}
+
+impl Digits {
+    /// The digits as a text.
+    pub fn as_str(&self) -> &str
+        ensures { result.now ≡ self.now }
+    {
+        match simdutf8::basic::from_utf8(&self.bytes) {
+            Ok(text) => text,
+            Err(_) => unreachable!(),
+        }
     }
 }

@@ -2,9 +2,9 @@
 ghost use Rattle.std.specs.Prelude.{◌≡◌, ◌++◌, ◌≤◌, drop, length, map, true, Ok};
 ghost use Rattle.std.specs.List.{list_all};
 ghost use Rattle.std.specs.Simd.Lanes.{mask_l};
-ghost use Rattle.hex.specs.Hex.{decode_sized};
+ghost use Rattle.hex.specs.Hex.{decode_sized, encode_lower};
 ghost use Rattle.ovl_inode.specs.Hexadecimal.{is_lower_digit as lower_digit_test};
-ghost use Rattle.ovl_inode.specs.DigitLanes.{lane_value, block_bytes};
+ghost use Rattle.ovl_inode.specs.DigitLanes.{lane_value, lane_digit, block_bytes};
 
 use std::simd::prelude::*;
 
@@ -104,4 +104,33 @@ pub(crate) fn bytes_of_digits(digits: &[u8]) -> [u8; 32]
     front.copy_to_slice(&mut bytes[..]);
     back.copy_to_slice(&mut bytes[16..]);
     bytes
+}
+
+// The digits of numbers below 16.
+#[inline(always)]
+fn digits(values: u8x32) -> u8x32
+    ensures { result ≡ map lane_digit values }
+{
+    values
+        + values
+            .simd_le(u8x32::splat(9))
+            .select(u8x32::splat(b'0'), u8x32::splat(b'a' - 10))
+}
+
+// The 64 digits of 32 bytes.
+pub(crate) fn digits_of_bytes(bytes: &[u8; 32]) -> [u8; 64]
+    ensures { result ≡ encode_lower bytes.now }
+{
+    let lanes = u8x32::from_array(*bytes);
+    let high = digits(lanes >> u8x32::splat(4));
+    let low = digits(lanes & u8x32::splat(15));
+    let pairs = high.shuffle(
+        low,
+        [
+            0, 32, 1, 33, 2, 34, 3, 35, 4, 36, 5, 37, 6, 38, 7, 39, 8, 40, 9, 41, 10, 42, 11, 43,
+            12, 44, 13, 45, 14, 46, 15, 47, 16, 48, 17, 49, 18, 50, 19, 51, 20, 52, 21, 53, 22, 54,
+            23, 55, 24, 56, 25, 57, 26, 58, 27, 59, 28, 60, 29, 61, 30, 62, 31, 63,
+        ],
+    );
+    pairs.to_array()
 }

@@ -10,7 +10,7 @@ pub mod overlay;
 mod tables;
 
 pub use attributes::{ATTR_NAME_LIMIT, AttrFault, Attrs};
-pub use digests::{Digest, DigestFault};
+pub use digests::{Digest, DigestFault, Digits};
 pub use digit_lanes::are_lower_digits;
 pub use inodes::{
     Inode, Kind, MODE_LIMIT, NSEC_LIMIT, SIZE_LIMIT, TARGET_LIMIT, Target, blob_of, file_size,
