@@ -5,4 +5,8 @@
 #[cfg(test)]
 mod faults;
 #[cfg(test)]
+mod readers;
+#[cfg(test)]
 mod words;
+#[cfg(test)]
+mod writers;
