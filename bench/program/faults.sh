@@ -71,6 +71,16 @@ prints() {
     ends "$wanted" told "$@" && says printed "$text" "$@"
 }
 
+# By the words after LINES: status 0, and these last lines of the report.
+closes() {
+    local text
+    printf -v text '%b' "$1"
+    shift
+    ends 0 told "$@" || return
+    tail -n "$(printf '%s' "$text" | wc -l)" printed > last
+    says last "$text" "$@"
+}
+
 # By the words after it: status 2, a text that is no fault's line on standard error, nothing on standard output.
 misfits() {
     ends 2 printed "$@" || return
@@ -537,15 +547,6 @@ prints 1 'fault blob-missing 1 /k\nfaults 1 notes 0\n' deref --blobs none --out 
 gives new
 prints 0 'leaf /k\nentries 2\n' deref --blobs blobs --out new meta.json k.json
 gives new k.json
-# By the words after LINES: status 0, and these last lines of the report.
-closes() {
-    local text
-    printf -v text '%b' "$1"
-    shift
-    ends 0 told "$@" || return
-    tail -n "$(printf '%s' "$text" | wc -l)" printed > last
-    says last "$text" "$@"
-}
 rewritten=(--blobs none --out new)
 closes 'whiteout /x\nentries 67\n' deref "${rewritten[@]}" moved.json half.json
 closes 'whiteout /x\nentries 130\n' deref "${rewritten[@]}" moved.json deep.json

@@ -75,15 +75,19 @@ fn there_are_1_to_64_workers_and_1_to_128_layers(rt: HostRuntime) -> Result<(), 
     Ok(())
 }
 
-// Forty idle directories, each with an idle file, removed by so many workers.
+// A stack of forty idle directories, each with an idle file.
+fn idle_stack(alloc: Global) -> Result<String, Fail> {
+    let layer = of_forty(alloc, ", dir DIR, file DIR/k")?;
+    Ok(format!(in alloc; "root{layer} | root{layer}")?)
+}
+
+// What vacuum answers of that by so many workers.
 fn vacuumed<R: Threads + Wait + Sync>(
     rt: &R,
     alloc: Global,
     workers: usize,
 ) -> Result<Answer, Fail> {
-    let layer = of_forty(alloc, ", dir DIR, file DIR/k")?;
-    let stack = format!(in alloc; "root{layer} | root{layer}")?;
-    let (manifests, _) = manifests_of(alloc, stack.as_str())?;
+    let (manifests, _) = manifests_of(alloc, idle_stack(alloc)?.as_str())?;
     let blobs = blobs_of(alloc, "a")?;
     let what = Command::Vacuum;
     Ok(command(rt, alloc, what, &manifests, 0, &blobs, workers, &OpenGate)?)

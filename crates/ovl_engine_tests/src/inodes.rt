@@ -98,11 +98,15 @@ fn attr_told(alloc: Global, name: &str) -> Result<String, AllocError> {
     }
 }
 
+fn is_copied(alloc: Global, inode: &Inode) -> Result<bool, AllocError> {
+    Ok(inode.copy(alloc)? == *inode)
+}
+
 // How many entries there are, all of which are copied as they are.
 fn copied_told(alloc: Global, entries: &str) -> Result<String, Fail> {
     let entries = layer_of(alloc, entries)?.entries(alloc)?;
     for (_, inode) in &entries {
-        if inode.copy(alloc)? != *inode {
+        if !is_copied(alloc, inode)? {
             return Err(Fail::new("a copy is another inode"));
         }
     }
@@ -118,10 +122,18 @@ fn inode_of(alloc: Global, entry: &str) -> Result<Inode, Fail> {
     }
 }
 
+fn shown_mode(alloc: Global, inode: &Inode) -> Result<String, AllocError> {
+    let names = names_of(alloc, &inode.attrs)?;
+    format!(in alloc; "{} {names}", inode.mode)
+}
+
+fn shown_visible(alloc: Global, inode: &Inode) -> Result<String, AllocError> {
+    shown_mode(alloc, &visible(alloc, inode)?)
+}
+
+// The mode and the names of the attributes that are shown.
 fn visible_told(alloc: Global, entry: &str) -> Result<String, Fail> {
-    let shown = visible(alloc, &inode_of(alloc, entry)?)?;
-    let names = names_of(alloc, &shown.attrs)?;
-    Ok(format!(in alloc; "{} {names}", shown.mode)?)
+    Ok(shown_visible(alloc, &inode_of(alloc, entry)?)?)
 }
 
 fn bytes_of(alloc: Global, text: &str) -> Result<Vec<u8>, AllocError> {
@@ -161,11 +173,14 @@ fn word_of(alloc: Global, mark: &Mark) -> Result<String, AllocError> {
     }
 }
 
+fn shown_mark(alloc: Global, inode: &Inode) -> Result<String, AllocError> {
+    let word = word_of(alloc, &mark_of(alloc, inode)?)?;
+    let (whiteout, directory) = (is_whiteout(inode), is_directory(inode));
+    format!(in alloc; "{word} {whiteout} {directory}")
+}
+
 fn mark_told(alloc: Global, entry: &str) -> Result<String, Fail> {
-    let inode = inode_of(alloc, entry)?;
-    let word = word_of(alloc, &mark_of(alloc, &inode)?)?;
-    let (whiteout, directory) = (is_whiteout(&inode), is_directory(&inode));
-    Ok(format!(in alloc; "{word} {whiteout} {directory}")?)
+    Ok(shown_mark(alloc, &inode_of(alloc, entry)?)?)
 }
 
 fn told(alloc: Global, call: &str, text: &str) -> Result<String, Fail> {

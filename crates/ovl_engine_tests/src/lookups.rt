@@ -141,12 +141,39 @@ fn push_word(text: &mut String, word: &str) -> Result<(), AllocError> {
     text.push_str(word)
 }
 
+// Adds a word behind a space.
+fn push_after(text: &mut String, word: &str) -> Result<(), AllocError> {
+    text.push_str(" ")?;
+    text.push_str(word)
+}
+
 fn listed(alloc: Global, stack: &Stack) -> Result<String, AllocError> {
     let mut text = String::new(alloc);
     for (path, look) in &stack.list(alloc)? {
-        let path = path.shown(alloc)?;
-        let word = word_of(look);
-        push_word(&mut text, format!(in alloc; "{path} {word}")?.as_str())?;
+        push_word(&mut text, path.shown(alloc)?.as_str())?;
+        push_after(&mut text, word_of(look))?;
+    }
+    Ok(text)
+}
+
+fn looks_in(alloc: Global, stack: &Stack, view: &DirView) -> Result<String, Fail>
+    requires { IsViewOver stack.now view.now }
+{
+    let mut text = String::new(alloc);
+    for (name, look) in &view.looks(alloc, stack)? {
+        push_word(&mut text, name.as_str())?;
+        push_after(&mut text, word_of(look))?;
+    }
+    Ok(text)
+}
+
+fn names_in(alloc: Global, stack: &Stack, view: &DirView) -> Result<String, Fail>
+    requires { IsViewOver stack.now view.now }
+{
+    let mut text = String::new(alloc);
+    for name in &view.names(alloc, stack)? {
+        push_word(&mut text, name.as_str())?;
+        push_after(&mut text, word_of(&view.look(alloc, stack, name)?))?;
     }
     Ok(text)
 }
@@ -155,48 +182,61 @@ fn listed(alloc: Global, stack: &Stack) -> Result<String, AllocError> {
 fn shown_in(alloc: Global, stack: &Stack, view: &DirView) -> Result<String, Fail>
     requires { IsViewOver stack.now view.now }
 {
-    let mut text = String::new(alloc);
-    for (name, look) in &view.looks(alloc, stack)? {
-        let name = name.as_str();
-        let word = word_of(look);
-        push_word(&mut text, format!(in alloc; "{name} {word}")?.as_str())?;
-    }
-    let mut same = String::new(alloc);
-    for name in &view.names(alloc, stack)? {
-        let word = word_of(&view.look(alloc, stack, name)?);
-        let name = name.as_str();
-        push_word(&mut same, format!(in alloc; "{name} {word}")?.as_str())?;
-    }
-    if text != same {
+    let text = looks_in(alloc, stack, view)?;
+    if names_in(alloc, stack, view)? != text {
         return Err(Fail::new("the calls tell something else"));
     }
     Ok(text)
 }
 
-// What is shown in the directory that two names lead to from a path's; an empty one leads no further.
+fn none(alloc: Global) -> Result<String, Fail> {
+    Ok(String::from_str(alloc, "none")?)
+}
+
+// What is shown in the directory of a view, or in that which a name leads to from there where it isn't empty.
+fn entered_last(alloc: Global, stack: &Stack, view: &DirView, name: &str) -> Result<String, Fail>
+    requires { IsViewOver stack.now view.now }
+{
+    if name.is_empty() {
+        return shown_in(alloc, stack, view);
+    }
+    match view.child(alloc, stack, &Name::of(alloc, name)?)? {
+        Some(child) => shown_in(alloc, stack, &child),
+        None => none(alloc),
+    }
+}
+
+// The same for two names, of which the second is empty where the first is.
+fn entered(
+    alloc: Global,
+    stack: &Stack,
+    view: &DirView,
+    first: &str,
+    second: &str,
+) -> Result<String, Fail>
+    requires { IsViewOver stack.now view.now }
+{
+    if first.is_empty() {
+        return shown_in(alloc, stack, view);
+    }
+    match view.child(alloc, stack, &Name::of(alloc, first)?)? {
+        Some(child) => entered_last(alloc, stack, &child, second),
+        None => none(alloc),
+    }
+}
+
+// What is shown in the directory that two names lead to from a path's.
 fn viewed(
     alloc: Global,
     stack: &Stack,
     path: &str,
     first: &str,
     second: &str,
-) -> Result<Option<String>, Fail> {
-    let Some(view) = DirView::of(alloc, stack, 0, &Path::parse(alloc, path)?)? else {
-        return Ok(None);
-    };
-    if first.is_empty() {
-        return Ok(Some(shown_in(alloc, stack, &view)?));
+) -> Result<String, Fail> {
+    match DirView::of(alloc, stack, 0, &Path::parse(alloc, path)?)? {
+        Some(view) => entered(alloc, stack, &view, first, second),
+        None => none(alloc),
     }
-    let Some(view) = view.child(alloc, stack, &Name::of(alloc, first)?)? else {
-        return Ok(None);
-    };
-    if second.is_empty() {
-        return Ok(Some(shown_in(alloc, stack, &view)?));
-    }
-    let Some(view) = view.child(alloc, stack, &Name::of(alloc, second)?)? else {
-        return Ok(None);
-    };
-    Ok(Some(shown_in(alloc, stack, &view)?))
 }
 
 // What a stack shows from a layer on at a path.
@@ -227,20 +267,20 @@ fn told(alloc: Global, stack: &Stack, call: &str, path: &Path) -> Result<String,
     }
 }
 
+// What comes of a view, of a path and of the names behind it.
+fn view_told(alloc: Global, stack: &Stack, text: &str) -> Result<String, Fail> {
+    let (path, names) = text.split_once(' ').unwrap_or((text, ""));
+    let (first, second) = names.split_once(' ').unwrap_or((names, ""));
+    viewed(alloc, stack, path, first, second)
+}
+
 // What comes of a call on a stack, as a line has it.
 fn called(alloc: Global, stack: &Stack, line: &str) -> Result<String, Fail> {
-    let mut words = line.split_whitespace();
-    let call = words.next().unwrap_or("");
-    let path = words.next().unwrap_or("");
+    let (call, text) = line.split_once(' ').unwrap_or((line, ""));
     if call == "view" {
-        let first = words.next().unwrap_or("");
-        let second = words.next().unwrap_or("");
-        return match viewed(alloc, stack, path, first, second)? {
-            Some(text) => Ok(text),
-            None => Ok(String::from_str(alloc, "none")?),
-        };
+        return view_told(alloc, stack, text);
     }
-    told(alloc, stack, call, &Path::parse(alloc, path)?)
+    told(alloc, stack, call, &Path::parse(alloc, text)?)
 }
 
 // What the line of a call tells.
@@ -294,17 +334,24 @@ const LIMITS: &str = "\
 129 129 -> layers must be 1 to 128
 ";
 
+fn with_data_told(alloc: Global, count: &str, bottom: &str) -> Result<String, Fail> {
+    let layers = roots(alloc, count.parse()?)?;
+    Ok(counted(alloc, Stack::with_data(alloc, layers, bottom.parse()?))?)
+}
+
+fn without_data_told(alloc: Global, count: &str) -> Result<String, Fail> {
+    Ok(counted(alloc, Stack::of(alloc, roots(alloc, count.parse()?)?))?)
+}
+
 // What comes of such numbers, where 0 data-only layers are the same as none.
 fn limit_told(alloc: Global, row: &str) -> Result<(), Fail> {
     let (numbers, wanted) = parts_of(row);
     let (count, bottom) = numbers.split_once(' ').unwrap_or((numbers, ""));
-    let made = Stack::with_data(alloc, roots(alloc, count.parse()?)?, bottom.parse()?);
-    same(row, counted(alloc, made)?.as_str(), wanted)?;
+    same(row, with_data_told(alloc, count, bottom)?.as_str(), wanted)?;
     if bottom != "0" {
         return Ok(());
     }
-    let made = Stack::of(alloc, roots(alloc, count.parse()?)?);
-    same(row, counted(alloc, made)?.as_str(), wanted)
+    same(row, without_data_told(alloc, count)?.as_str(), wanted)
 }
 
 #[test]

@@ -2,7 +2,7 @@
 
 use ovl_lookup::Stack;
 use ovl_manifest::{Layer, read_layer};
-use std::alloc::Global;
+use std::alloc::{AllocError, Global};
 use std::test::Fail;
 
 // The entries that the words stand for, as new layers are written, with a path and attributes in place of `PATH` and `ATTRS`.
@@ -32,65 +32,84 @@ socket {"gid":0,"kind":"socket","mode":4095,"mtime":0,"mtime-nsec":0,"path":"PAT
 
 fn kind_of(word: &str) -> Result<&'static str, Fail> {
     for line in KINDS.lines() {
-        if let Some((kind, entry)) = line.split_once(' ') {
-            if kind == word {
-                return Ok(entry);
-            }
+        let (kind, entry) = line.split_once(' ').unwrap_or((line, ""));
+        if kind == word {
+            return Ok(entry);
         }
     }
     Err(Fail::new("no kind has this word"))
 }
 
-// Attributes, as a manifest states them, of words such as `opaque=y`; those of the overlay have no prefix in the words.
-fn attributes_of(alloc: Global, words: &str) -> Result<String, Fail> {
+// An attribute, as a manifest states it, of a word such as `opaque=y`; one of the overlay has no prefix in the word.
+fn attribute_of(alloc: Global, word: &str) -> Result<String, AllocError> {
+    let (name, value) = word.split_once('=').unwrap_or((word, ""));
+    let value = hex::encode(alloc, value.as_bytes())?;
+    if name.starts_with("user.") {
+        return format!(in alloc; "\"{name}\":\"{value}\"");
+    }
+    format!(in alloc; "\"trusted.overlay.{name}\":\"{value}\"")
+}
+
+fn attributes_of(alloc: Global, words: &str) -> Result<String, AllocError> {
     let mut text = String::new(alloc);
     for word in words.split_whitespace() {
-        let (name, value) = word.split_once('=').unwrap_or((word, ""));
-        let before = if text.is_empty() { "" } else { "," };
-        let prefix = if name.starts_with("user.") {
-            ""
-        } else {
-            "trusted.overlay."
-        };
-        let value = hex::encode(alloc, value.as_bytes())?;
-        let stated = format!(in alloc; "{before}\"{prefix}{name}\":\"{value}\"")?;
-        text.push_str(stated.as_str())?;
+        if !text.is_empty() {
+            text.push_str(",")?;
+        }
+        text.push_str(attribute_of(alloc, word)?.as_str())?;
     }
     Ok(text)
 }
 
-fn push_entry(alloc: Global, text: &mut String, entry: &str) -> Result<(), Fail> {
+fn entry_of(alloc: Global, entry: &str) -> Result<String, Fail> {
     let (word, more) = entry.split_once(' ').unwrap_or((entry, ""));
     let (path, words) = more.split_once(' ').unwrap_or((more, ""));
     let stated = kind_of(word)?.replace(alloc, "PATH", path)?;
     let attributes = attributes_of(alloc, words)?;
+    Ok(
+        stated
+            .as_str()
+            .replace(alloc, "ATTRS", attributes.as_str())?,
+    )
+}
+
+fn push_entry(alloc: Global, text: &mut String, entry: &str) -> Result<(), Fail> {
     if text.as_str().ends_with('}') {
         text.push_str(",")?;
     }
-    text.push_str(
-        stated
-            .replace(alloc, "ATTRS", attributes.as_str())?
-            .as_str(),
-    )?;
+    text.push_str(entry_of(alloc, entry)?.as_str())?;
     Ok(())
+}
+
+fn has_root(entries: &str) -> bool {
+    entries.contains(" / ") || entries.contains(" /,")
+}
+
+fn push_entries(alloc: Global, text: &mut String, entries: &str) -> Result<(), Fail> {
+    if !has_root(entries) {
+        push_entry(alloc, text, "dir /")?;
+    }
+    for entry in entries.split(", ") {
+        if entry != "root" {
+            push_entry(alloc, text, entry)?;
+        }
+    }
+    Ok(())
+}
+
+fn stands_for_itself(entries: &str) -> bool {
+    entries.is_empty() || entries.starts_with('[') || entries.starts_with('{')
 }
 
 // The manifest of these entries, with commas between them, under a root of mode 0755 where none of them is one, as new
 // layers are written: `root` is such a root alone. An entry is the word of its kind, its path and its attributes, as
 // `dir /d redirect=/x user.k=v`. A text in brackets stands for itself, and so does none.
 pub(crate) fn manifest_of(alloc: Global, entries: &str) -> Result<Vec<u8>, Fail> {
-    if entries.is_empty() || entries.starts_with('[') || entries.starts_with('{') {
+    if stands_for_itself(entries) {
         return Ok(String::from_str(alloc, entries)?.into_bytes());
     }
     let mut text = String::from_str(alloc, "{\"entries\":[")?;
-    if !entries.contains(" / ") && !entries.contains(" /,") {
-        push_entry(alloc, &mut text, "dir /")?;
-    }
-    for entry in entries.split(", ") {
-        if entry != "root" {
-            push_entry(alloc, &mut text, entry)?;
-        }
-    }
+    push_entries(alloc, &mut text, entries)?;
     text.push_str("],\"overlay-layer\":2}\n")?;
     Ok(text.into_bytes())
 }

@@ -7,12 +7,13 @@ use ovl_board::{Core, CoreFault, Event, Parcel, Piece, plain_walk};
 use ovl_check::{BLOB_SPACE, Blob, BlobWork, blobs_in_order, finish_blobs};
 use ovl_deref::{DerefWork, finish_deref};
 use ovl_engine::ShowWork;
+use ovl_inode::Digest;
 use ovl_lookup::Stack;
 use ovl_manifest::{Layer, write_layer};
-use ovl_merge::{MergeFault, MergeWork, finish_merge};
+use ovl_merge::{MergeDone, MergeFault, MergeWork, finish_merge};
 use ovl_names::{Name, Path};
 use ovl_vacuum::{VacuumDone, VacuumWork, finish_vacuum};
-use std::alloc::Global;
+use std::alloc::{AllocError, Global};
 use std::test::Fail;
 
 // The pieces of parcels, each a space and a directory, with the names of what they put out.
@@ -110,14 +111,28 @@ fn idle_told(alloc: Global, parcels: &[Parcel<Vec<(Name, bool)>>]) -> Result<Str
     Ok(text)
 }
 
-// The same, and how many are removed and left.
-fn vacuumed(alloc: Global, stack: &Stack) -> Result<String, Fail> {
+fn vacuum_walk(alloc: Global, stack: &Stack) -> Result<String, Fail> {
+    let work = VacuumWork::new(stack);
+    idle_told(alloc, &plain_walk(alloc, &work, root_piece(alloc))?)
+}
+
+fn vacuum_done(alloc: Global, stack: &Stack) -> Result<VacuumDone, Fail> {
     let work = VacuumWork::new(stack);
     let parcels = plain_walk(alloc, &work, root_piece(alloc))?;
-    let text = idle_told(alloc, &parcels)?;
-    let VacuumDone { layer, removed } = finish_vacuum(alloc, &work, parcels)?;
-    let kept = layer.entries(alloc)?.len();
-    Ok(format!(in alloc; "{text}removed {} kept {kept}", removed.len())?)
+    Ok(finish_vacuum(alloc, &work, parcels)?)
+}
+
+fn counts_told(alloc: Global, done: &VacuumDone) -> Result<String, AllocError> {
+    let kept = done.layer.entries(alloc)?.len();
+    format!(in alloc; "removed {} kept {kept}", done.removed.len())
+}
+
+// Whether each entry is idle, and how many are removed and left.
+fn vacuumed(alloc: Global, stack: &Stack) -> Result<String, Fail> {
+    let mut text = vacuum_walk(alloc, stack)?;
+    let counts = counts_told(alloc, &vacuum_done(alloc, stack)?)?;
+    text.push_str(counts.as_str())?;
+    Ok(text)
 }
 
 // Whether a layer is that of these entries.
@@ -130,36 +145,52 @@ const MOVED: &str =
 
 const FILLED: &str = "dir /p opaque=y, dir /p/q, file /p/q/k, whiteout /x";
 
+fn deref_walk(alloc: Global, stack: &Stack) -> Result<String, Fail> {
+    let work = DerefWork::new(stack);
+    told(alloc, &plain_walk(alloc, &work, root_piece(alloc))?)
+}
+
+fn dereferenced(alloc: Global, stack: &Stack) -> Result<Layer, Fail> {
+    let work = DerefWork::new(stack);
+    let parcels = plain_walk(alloc, &work, root_piece(alloc))?;
+    Ok(finish_deref(alloc, &work, parcels)?)
+}
+
 #[test]
 fn a_moved_directory_is_filled_with_what_it_shows(rt: HostRuntime) -> Result<(), Fail> {
     let stack = stack_of(rt.alloc(), MOVED)?;
-    let work = DerefWork::new(&stack);
-    let parcels = plain_walk(rt.alloc(), &work, root_piece(rt.alloc()))?;
-    same(
-        MOVED,
-        told(rt.alloc(), &parcels)?.as_str(),
-        "0/: p x; 0/p: q; 0/p/q: k; ",
-    )?;
-    let layer = finish_deref(rt.alloc(), &work, parcels)?;
-    assert!(rt; is_layer(rt.alloc(), &layer, FILLED)?);
+    let walk = deref_walk(rt.alloc(), &stack)?;
+    same(MOVED, walk.as_str(), "0/: p x; 0/p: q; 0/p/q: k; ")?;
+    assert!(rt; is_layer(rt.alloc(), &dereferenced(rt.alloc(), &stack)?, FILLED)?);
     Ok(())
 }
 
 const PULLED: &str = "whiteout /a, dir /b redirect=/a | dir /a, file /a/k | dir /b, file /b/z";
 
+fn merge_walk(alloc: Global, stack: &Stack) -> Result<String, Fail> {
+    let work = MergeWork::new(stack)?;
+    told(alloc, &plain_walk(alloc, &work, root_piece(alloc))?)
+}
+
+fn merged(alloc: Global, stack: &Stack) -> Result<MergeDone, Fail> {
+    let work = MergeWork::new(stack)?;
+    let parcels = plain_walk(alloc, &work, root_piece(alloc))?;
+    Ok(finish_merge(alloc, &work, parcels)?)
+}
+
+fn is_merged(alloc: Global, done: &MergeDone) -> Result<bool, Fail> {
+    Ok(
+        is_layer(alloc, &done.top, "root")?
+            && is_layer(alloc, &done.lower, "dir /b opaque=y, file /b/k")?,
+    )
+}
+
 #[test]
 fn a_merge_walks_the_directories_of_the_new_layer(rt: HostRuntime) -> Result<(), Fail> {
     let stack = stack_of(rt.alloc(), PULLED)?;
-    let work = MergeWork::new(&stack)?;
-    let parcels = plain_walk(rt.alloc(), &work, root_piece(rt.alloc()))?;
-    same(
-        PULLED,
-        told(rt.alloc(), &parcels)?.as_str(),
-        "0/: b; 0/b: k; ",
-    )?;
-    let done = finish_merge(rt.alloc(), &work, parcels)?;
-    assert!(rt; is_layer(rt.alloc(), &done.top, "root")?);
-    assert!(rt; is_layer(rt.alloc(), &done.lower, "dir /b opaque=y, file /b/k")?);
+    let walk = merge_walk(rt.alloc(), &stack)?;
+    same(PULLED, walk.as_str(), "0/: b; 0/b: k; ")?;
+    assert!(rt; is_merged(rt.alloc(), &merged(rt.alloc(), &stack)?)?);
     Ok(())
 }
 
@@ -170,35 +201,17 @@ fn a_layer_alone_is_not_merged(rt: HostRuntime) -> Result<(), Fail> {
     Ok(())
 }
 
+fn is_over_the_limits(alloc: Global, stack: &Stack) -> Result<bool, Fail> {
+    let work = MergeWork::new(stack)?;
+    let parcels = plain_walk(alloc, &work, root_piece(alloc))?;
+    Ok(finish_merge(alloc, &work, parcels).err() == Some(MergeFault::LimitOut))
+}
+
 #[test]
 fn a_metacopy_file_without_data_makes_no_layer(rt: HostRuntime) -> Result<(), Fail> {
     let stack = stack_of(rt.alloc(), "bare /f metacopy= | root")?;
-    let work = MergeWork::new(&stack)?;
-    let parcels = plain_walk(rt.alloc(), &work, root_piece(rt.alloc()))?;
-    let done = finish_merge(rt.alloc(), &work, parcels);
-    assert!(rt; done.err() == Some(MergeFault::LimitOut));
+    assert!(rt; is_over_the_limits(rt.alloc(), &stack)?);
     Ok(())
-}
-
-// How many blobs there are at each piece, and how many are wrong, of which the first is this.
-fn digested(alloc: Global, blobs: &[Blob], wrong: &[Blob]) -> Result<String, Fail> {
-    if !blobs_in_order(blobs) {
-        return Err(Fail::new("the names do not ascend"));
-    }
-    let work = BlobWork::new(blobs);
-    let dir = Path::root(alloc);
-    let parcels = plain_walk(
-        alloc,
-        &work,
-        Piece {
-            space: BLOB_SPACE,
-            dir,
-        },
-    )?;
-    let text = counts_of(alloc, &parcels)?;
-    let found = finish_blobs(alloc, &work, parcels)?;
-    let is_named = found.first() == wrong.first().map(|blob| &blob.name);
-    Ok(format!(in alloc; "{text}{} {is_named}", found.len())?)
 }
 
 fn counts_of<T: Drop>(alloc: Global, parcels: &[Parcel<Vec<T>>]) -> Result<String, Fail> {
@@ -210,10 +223,35 @@ fn counts_of<T: Drop>(alloc: Global, parcels: &[Parcel<Vec<T>>]) -> Result<Strin
     Ok(text)
 }
 
+// How many wrong blobs there are at each piece.
+fn blob_walk(alloc: Global, blobs: &[Blob]) -> Result<String, Fail> {
+    let work = BlobWork::new(blobs);
+    let root = Piece {
+        space: BLOB_SPACE,
+        dir: Path::root(alloc),
+    };
+    counts_of(alloc, &plain_walk(alloc, &work, root)?)
+}
+
+fn wrong_names(alloc: Global, blobs: &[Blob]) -> Result<Vec<Digest>, Fail> {
+    if !blobs_in_order(blobs) {
+        return Err(Fail::new("the names do not ascend"));
+    }
+    let work = BlobWork::new(blobs);
+    let root = Piece {
+        space: BLOB_SPACE,
+        dir: Path::root(alloc),
+    };
+    let parcels = plain_walk(alloc, &work, root)?;
+    Ok(finish_blobs(alloc, &work, parcels)?)
+}
+
 #[test]
 fn blobs_are_digested_by_their_first_two_digits(rt: HostRuntime) -> Result<(), Fail> {
     let blobs = blobs_of(rt.alloc(), "abc=abd ab")?;
-    let wrong = blobs_of(rt.alloc(), "abc")?;
-    let found = digested(rt.alloc(), &blobs, &wrong)?;
-    same("abc=abd ab", found.as_str(), "/ 0; /ba 1; /fb 0; 1 true")
+    let walk = blob_walk(rt.alloc(), &blobs)?;
+    same("abc=abd ab", walk.as_str(), "/ 0; /ba 1; /fb 0; ")?;
+    let wrong = wrong_names(rt.alloc(), &blobs)?;
+    assert!(rt; wrong.len() == 1 && wrong.first() == blobs.first().map(|blob| &blob.name));
+    Ok(())
 }
