@@ -116,15 +116,8 @@ fn path_to(alloc: Global, rest: &str) -> Result<Path, RedirectFault>
     if has_bad_part(rest) {
         return Err(RedirectFault::Part);
     }
-    let mut path = Path::with_room(alloc, rest.split('/').count())?;
-    for part in rest.split('/') {
-        // The part is a name: it isn't empty, holds no NUL and isn't bad.
-        let Ok(name) = Name::of(alloc, part) else {
-            return Err(RedirectFault::Memory);
-        };
-        path.push(name)?;
-    }
-    Ok(path)
+    // Each part is a name: it isn't empty, holds no NUL and isn't bad.
+    Ok(Path::of_names(alloc, rest)?)
 }
 
 fn has_bad_part(rest: &str) -> bool

@@ -12,7 +12,7 @@ ghost use Rattle.ovl_manifest.specs.Drafts.{draft_entries, inode_on_way as way_i
 
 use crate::trees::{Layer, Node};
 use ovl_inode::{Inode, is_directory};
-use ovl_names::Path;
+use ovl_names::{Name, Path};
 use std::alloc::{AllocError, Global};
 
 /// A layer while it is built: the finished nodes of its root, and the nodes on the way to its last entry.
@@ -56,11 +56,11 @@ impl Draft {
         requires after { IsTrue (is_lt (path_cmp self.now.last path.now)) }
         ensures { result ≡ is_directory_at (draft_entries self.now) (parent_path path.now) }
     {
-        let depth = path.len() - 1;
-        if depth > self.spine.len() {
+        let Some((_, above)) = path.names().split_last() else {
             return false;
-        }
-        if path.names()[..depth] != self.last.names()[..depth] {
+        };
+        let depth = above.len();
+        if depth > self.spine.len() || !self.last.names().starts_with(&above) {
             return false;
         }
         is_directory(self.inode_on_way(depth))
@@ -85,10 +85,10 @@ impl Draft {
         ensures entries { IfOk result (λ draft. draft_entries draft ≡ draft_entries self ++ (path, inode) ∷ []) }
         ensures draft { IfOk result (λ draft. IsDraft draft) }
     {
-        let depth = path.len() - 1;
-        let name = path.names()[depth].copy(alloc)?;
+        let (name, above) = path.names().split_last().unwrap();
+        let name = Name::copy_of(alloc, name)?;
         let mut draft = self;
-        draft.close(depth)?;
+        draft.close(above.len())?;
         draft.spine.push(Node {
             name,
             inode,

@@ -113,7 +113,7 @@ fn is_within_limits(path: &Path) -> bool
     }
     let mut bytes = 0;
     for name in path.names() {
-        bytes += 1 + name.as_str().len();
+        bytes += 1 + name.len();
     }
     bytes <= TEXT_LIMIT
 }

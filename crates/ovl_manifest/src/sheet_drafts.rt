@@ -59,8 +59,8 @@ impl SheetDraft {
         requires { depth ≤ length self.now.last }
         ensures { result ≡ is_lt (path_cmp self.now.last (child_path (take depth self.now.last) name.now)) }
     {
-        match self.last.names().get(depth) {
-            Some(own) => own < name,
+        match self.last.names().nth(depth) {
+            Some(own) => own.as_bytes().cmp(name.as_str().as_bytes()).is_lt(),
             None => true,
         }
     }
@@ -92,16 +92,15 @@ impl SheetDraft {
         ensures last { IfOk result (λ _. self.new.last ≡ child_path (take depth self.old.last) name) }
     {
         let number = self.rows.len() as u32;
-        let own = name.copy(alloc)?;
+        self.last.go_to(depth, &name)?;
         self.rows.push(SheetRow {
-            name: Some(own),
+            name: Some(name),
             inode,
             parent: self.way[depth],
             after: number + 1,
         })?;
         self.way.truncate(depth + 1);
         self.way.push(number)?;
-        self.last.go_to(depth, name)?;
         Ok(())
     }
 

@@ -162,7 +162,7 @@ impl Sheet {
 
     /// The number of the entry `name` in the directory of a number, and `None` where there is none; takes no memory,
     /// and time for the logarithm of the directory's entries.
-    pub fn child(&self, directory: u32, name: &Name) -> Option<u32>
+    pub fn child(&self, directory: u32, name: &str) -> Option<u32>
         requires { directory < length self.now }
         ensures { MatchOption result
             (entries_under (child_path (path_at self.now directory) name.now) self.now ≡ [])
@@ -226,7 +226,7 @@ impl Sheet {
 }
 
 // How the name of the row of a number is to another; a row without a name, and none at all, come before each.
-fn order_of_kid(rows: &[SheetRow], number: u32, name: &Name) -> Ordering
+fn order_of_kid(rows: &[SheetRow], number: u32, name: &str) -> Ordering
     ensures { result ≡ kid_order rows.now name.now number }
 {
     match rows.get(number as usize) {
@@ -235,7 +235,7 @@ fn order_of_kid(rows: &[SheetRow], number: u32, name: &Name) -> Ordering
                 name: Some(own),
                 ..
             },
-        ) => own.cmp(name),
+        ) => own.as_str().as_bytes().cmp(name.as_bytes()),
         _ => Ordering::Less,
     }
 }
@@ -258,7 +258,7 @@ impl<'a> SheetPlace<'a> {
     }
 
     /// The place of the entry `name`, and `None` where there is none; takes no memory.
-    pub fn child(&self, name: &Name) -> Option<SheetPlace<'a>>
+    pub fn child(&self, name: &str) -> Option<SheetPlace<'a>>
         ensures { MatchOption result
             (entries_in name.now self.now ≡ [])
             (λ child. (child ≡ entries_in name.now self.now) × (child ≢ [])) }

@@ -201,12 +201,17 @@ impl<'a> Cursor<'a> {
     }
 
     /// The place of the entry `name`, and `None` where there is none.
-    pub fn child(&self, name: &Name) -> Option<Cursor<'a>>
+    pub fn child(&self, name: &str) -> Option<Cursor<'a>>
         ensures { MatchOption result
             (entries_in name.now self.now ≡ [])
             (λ child. (child ≡ entries_in name.now self.now) × (child ≢ [])) }
     {
-        match self.children.binary_search_by(|child| child.name.cmp(name)) {
+        match self.children.binary_search_by(|child| child
+            .name
+            .as_str()
+            .as_bytes()
+            .cmp(name.as_bytes()))
+        {
             Ok(place) => Some(Cursor::at(&self.children[place])),
             Err(_) => None,
         }

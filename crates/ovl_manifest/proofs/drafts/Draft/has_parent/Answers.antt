@@ -1,32 +1,40 @@
-use Rattle.std.proofs.Common.{◌≡◌, ◌∙◌, ◌-◌, ℕ, false, true, sym, ap, subst, arith, length, take}
+use Rattle.std.proofs.Common.{◌≡◌, ◌∙◌, ◌-◌, ◌++◌, ◌∷◌, [], List, ℕ, sym, ap, arith, length, length-append, take}
 use Rattle.ovl_inode.specs.Marks.{is_directory}
 use Rattle.ovl_manifest.specs.Drafts.{inode_on_way}
-use Rattle.ovl_names.specs.Paths.{path_eq}
-use Rattle.ovl_names.proofs.Ascending.{not_true, not_false}
+use Rattle.ovl_names.specs.Paths.{PathNames, path_eq, parent_path}
+use Rattle.ovl_names.proofs.PathTexts.{parent_path-child}
 use Rattle.ovl_manifest.proofs.LayerLemmas.{after-some}
 use Rattle.ovl_manifest.proofs.DraftLemmas.{deep, other, on_way}
 use Rattle.ovl_manifest.proofs.drafts.Draft.has_parent.Goals as goal
+use Rattle.ovl_manifest.proofs.drafts.Draft.has_parent.Goals.{then-depth-len-via-then-depth-len, then-depth-len-via-else-depth-len+then-not-starts_with}
 
-pub overflow_sub-depth : goal.overflow_sub-depth
-overflow_sub-depth c = omega (arith, c.len-depth.ensures, after-some c.args.self.now.last c.args.path.now c.requires.after)
+pub returns-in_default : goal.returns-in_default
+returns-in_default c =
+    let none : length c.args.path.now ≡ 0 = ap length (sym c.names.ensures.value ∙ c.in_default.ensures.value) in
+    absurd (omega (arith, none, after-some c.args.self.now.last c.args.path.now c.requires.after))
+
+-- a path of one name more
+more : (path above : PathNames) (name : List ℕ) → path ≡ above ++ name ∷ [] → (length path - 1 ≡ length above) × (parent_path path ≡ above)
+more path above name e = (omega (arith, ap length e, length-append above (name ∷ [])), ap parent_path e ∙ parent_path-child above name)
 
 pub returns-then-depth-len : goal.returns-then-depth-len
 returns-then-depth-len c =
-    sym (deep c.args.self.now c.requires.draft c.args.path.now c.requires.after (omega (arith, c.if-depth-len.true, c.len.ensures, c.len-depth.ensures)))
-
-pub returns-then-ne : goal.returns-then-ne
-returns-then-ne c =
-    let differs = not_true _ (sym c.if-ne.ensures) in
-    sym (other c.args.self.now c.requires.draft c.args.path.now c.requires.after
-    (subst (λ n. path_eq (take (n - 1) c.args.path.now) (take (n - 1) c.args.self.now.last) ≡ false) c.len-depth.ensures
-    ((λ j. path_eq (take (c.len-depth.result - 1) (sym c.names.ensures.value j)) (take (c.len-depth.result - 1) (sym c.names-2.ensures.value j))) ∙ differs)))
+    let path : PathNames = c.args.path.now in
+    let above : PathNames = c.in-Some.above in
+    let cut = more path above c.in-Some.field-0-0.now (sym c.names.ensures.value ∙ c.in-Some.ensures.value) in
+    elim c.then-depth-len.branch [
+      | then-depth-len-via-then-depth-len w ↦ sym (deep c.args.self.now c.requires.draft path c.requires.after (omega (arith, w.if-depth-len.true, c.len.ensures, c.len-depth.ensures, cut.0)))
+      | then-depth-len-via-else-depth-len+then-not-starts_with w ↦
+          sym (other c.args.self.now c.requires.draft path c.requires.after
+          ((λ j. path_eq (cut.1 j) (take (cut.0 j) (sym w.names-else-depth-len.ensures.value j))) ∙ (sym w.starts_with.ensures ∙ w.if-not-starts_with.true)))
+    ]
 
 pub returns : goal.returns
 returns c =
-    let same = not_false _ (sym c.if-ne.ensures) in
-    let depth : c.len-depth.result ≡ length c.args.path.now = c.len-depth.ensures in
-    let way = on_way c.args.self.now c.requires.draft c.args.path.now c.requires.after (omega (arith, c.if-depth-len.false, c.len.ensures, depth))
-    (subst (λ (n : ℕ). path_eq (take (n - 1) c.args.path.now) (take (n - 1) c.args.self.now.last) ≡ true) depth
-    ((λ j. path_eq (take (c.len-depth.result - 1) (sym c.names.ensures.value j)) (take (c.len-depth.result - 1) (sym c.names-2.ensures.value j))) ∙ same)) in
+    let path : PathNames = c.args.path.now in
+    let above : PathNames = c.in-Some.above in
+    let cut = more path above c.in-Some.field-0-0.now (sym c.names.ensures.value ∙ c.in-Some.ensures.value) in
+    let way = on_way c.args.self.now c.requires.draft path c.requires.after (omega (arith, c.if-depth-len.false, c.len.ensures, c.len-depth.ensures, cut.0))
+    ((λ j. path_eq (cut.1 j) (take (cut.0 j) (sym c.names-else-depth-len.ensures.value j))) ∙ (sym c.starts_with.ensures ∙ c.if-not-starts_with.false)) in
     c.is_directory.ensures ∙ (ap is_directory c.inode_on_way.ensures
-    ∙ (ap (λ (n : ℕ). is_directory (inode_on_way c.args.self.now.inode c.args.self.now.spine.items (n - 1))) depth ∙ sym way))
+    ∙ (ap (λ (n : ℕ). is_directory (inode_on_way c.args.self.now.inode c.args.self.now.spine.items n)) (c.len-depth.ensures ∙ sym cut.0) ∙ sym way))

@@ -1,7 +1,7 @@
 use Rattle.std.proofs.Common.{◌≡◌, ◌∙◌, ◌++◌, ◌∷◌, ◌+◌, [], ℕ, List, Some, true, refl, sym, ap, subst, arith, length, take}
 use Rattle.std.specs.Prelude.{slice_get}
 use Rattle.std.proofs.lemmas.Option.{slice_get_read}
-use Rattle.ovl_names.specs.Names.{PathName, is_name}
+use Rattle.ovl_names.specs.Names.{is_name}
 use Rattle.ovl_names.specs.Paths.{PathNames, child_path}
 use Rattle.ovl_manifest.specs.declared.sheets.SheetRow.{SheetRow}
 use Rattle.ovl_manifest.specs.Sheets.{entries_of_rows}
@@ -16,17 +16,16 @@ pub overflow_add-number : goal.overflow_add-number
 overflow_add-number c = omega (arith, c.len-number.ensures, c.args.self.now.rows.ok.0, rows-count _ _ _ c.requires.draft, c.requires.entry.room)
 
 -- the number of the directory's row stands on the way
-listed : (c : goal.In_ok-go_to) → slice_get c.args.self.now.way.items c.args.depth ≡ Some c.index.result.now
+listed : (c : goal.In_ok-push-2) → slice_get c.args.self.now.way.items c.args.depth ≡ Some c.index.result.now
 listed c =
     let way : List ℕ = c.args.self.now.way.items in
     slice_get_read way (length way) c.args.depth c.index.result.now refl (omega (arith, c.requires.draft.count, c.requires.entry.within)) c.index.ensures
 
 -- the new row stands at the end, and its number at the end of the way
-pushed : (c : goal.In_ok-go_to) → c.push.new.self.items ≡ c.args.self.now.rows.items ++ (record { name = Some c.args.name; inode = c.args.inode; parent = c.index.result.now; after = c.len-number.result + 1 }) ∷ []
+pushed : (c : goal.In_ok-push-2) → c.push.new.self.items ≡ c.args.self.now.rows.items ++ (record { name = Some c.args.name; inode = c.args.inode; parent = c.index.result.now; after = c.len-number.result + 1 }) ∷ []
 pushed c = c.in_ok-push.ensures.items
-    ∙ ap (λ (own : PathName). c.args.self.now.rows.items ++ (record { name = Some own; inode = c.args.inode; parent = c.index.result.now; after = c.len-number.result + 1 }) ∷ []) c.in_ok-own.ensures
 
-onward : (c : goal.In_ok-go_to) → c.push-2.new.self.items ≡ take (c.args.depth + 1) c.args.self.now.way.items ++ length c.args.self.now.rows.items ∷ []
+onward : (c : goal.In_ok-push-2) → c.push-2.new.self.items ≡ take (c.args.depth + 1) c.args.self.now.way.items ++ length c.args.self.now.rows.items ∷ []
 onward c = c.in_ok-push-2.ensures.items ∙ (λ j. c.truncate.ensures.items j ++ (c.len-number.ensures ∙ c.args.self.now.rows.ok.0) j ∷ [])
 
 pub returns-clause-entries : goal.returns-clause-entries
@@ -41,7 +40,7 @@ returns-clause-draft c =
     let path : PathNames = child_path (take c.args.depth old.last) c.args.name in
     let onto : List ℕ = take (c.args.depth + 1) old.way.items ++ length old.rows.items ∷ [] in
     let named : is_name c.args.name ≡ true = subst (λ (own : List ℕ). is_name own ≡ true) c.name.view_is c.name.invariant in
-    subst (λ (last : PathNames). AreDrafted c.push.new.self.items c.push-2.new.self.items last) (sym c.in_ok-go_to.ensures.there)
+    subst (λ (last : PathNames). AreDrafted c.push.new.self.items c.push-2.new.self.items last) (sym c.in_ok-go_to.ensures)
     (subst (λ (way : List ℕ). AreDrafted c.push.new.self.items way path) (sym (onward c))
     (subst (λ (rows : List SheetRow). AreDrafted rows onto path) (sym (pushed c))
     (entered-draft old.rows.items old.way.items old.last c.requires.draft c.args.depth c.index.result.now can.within (listed c) c.args.name c.args.inode (c.len-number.result + 1) can.after can.directory named can.sound can.unescaped can.limited can.room)))
