@@ -1,7 +1,7 @@
-use Rattle.std.proofs.Common.{◌≡◌, take, string_bytes}
+use Rattle.std.proofs.Common.{◌≡◌, ◌++◌, string_bytes}
 use Rattle.ovl_engine.specs.Reports.{shown_names}
 use Rattle.ovl_engine.proofs.fsck_reports.Above.go_to.Given as goal
 
--- the text of the names so far
+-- the text so far, with that of the names that are left
 abbrev pub invariant-loop-name : goal.invariant-loop-name
-invariant-loop-name l = string_bytes l.text ≡ shown_names (take l.name-index l.directory)
+invariant-loop-name l = string_bytes l.text ++ shown_names l.name-iterator ≡ shown_names l.directory
