@@ -60,21 +60,39 @@ fn answer(alloc: Global, clean: bool) -> Result<Answer, AllocError> {
     })
 }
 
+fn push_taken(alloc: Global, text: &mut String, writer: &Narrow) -> Result<(), AllocError> {
+    text.push_str(format!(in alloc; " {:?}", writer.taken)?.as_str())
+}
+
+fn taken(alloc: Global, files: &[Narrow], output: &Narrow) -> Result<String, AllocError> {
+    let mut text = String::new(alloc);
+    for file in files {
+        push_taken(alloc, &mut text, file)?;
+    }
+    push_taken(alloc, &mut text, output)?;
+    Ok(text)
+}
+
+fn handed(
+    alloc: Global,
+    answer: &Answer,
+    files: &mut [Narrow],
+    output: &mut Narrow,
+) -> Result<String, Fail> {
+    if files.len() != answer.layers.len() || files.len() > 2 {
+        return Err(Fail::new("there is a file for each layer"));
+    }
+    let given = hand_out(answer, files, output);
+    let taken = taken(alloc, files, output)?;
+    Ok(format!(in alloc; "{given:?}{taken}")?)
+}
+
 fn told(alloc: Global, words: &str) -> Result<String, Fail> {
     let mut words = words.split(' ');
     let answer = answer(alloc, words.next() == Some("clean"))?;
     let mut files = vec![in alloc; of_room(alloc, words.next()), of_room(alloc, words.next())]?;
     let mut output = of_room(alloc, words.next());
-    if files.len() != answer.layers.len() || files.len() > 2 {
-        return Err(Fail::new("there is a file for each layer"));
-    }
-    let given = hand_out(&answer, files.as_mut_slice(), &mut output);
-    let mut told = format!(in alloc; "{given:?}")?;
-    for file in &files {
-        told.push_str(format!(in alloc; " {:?}", file.taken)?.as_str())?;
-    }
-    told.push_str(format!(in alloc; " {:?}", output.taken)?.as_str())?;
-    Ok(told)
+    handed(alloc, &answer, files.as_mut_slice(), &mut output)
 }
 
 fn row_told(alloc: Global, row: &str) -> Result<(), Fail> {
