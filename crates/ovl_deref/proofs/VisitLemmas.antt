@@ -3,9 +3,8 @@ use Rattle.std.proofs.Common.{◌≡◌, ℕ, ◌+◌, ◌<◌, Bool, true, fals
 use Rattle.std.specs.Prelude.{◌||◌, not, All}
 use Rattle.std.specs.Option.{option_map}
 use Rattle.std.specs.List.{list_all, cons_option, filter_map}
-use Rattle.std.specs.Ordering.{is_lt}
-use Rattle.std.proofs.lemmas.List.{append-nil, take-append-drop, drop_more, take_more}
-use Rattle.std.proofs.lemmas.List.Elements.{filter-append, filter_map-append}
+use Rattle.std.proofs.lemmas.List.{append-nil, take-append-drop, take_more}
+use Rattle.std.proofs.lemmas.List.Elements.{filter_map-append}
 use Rattle.ovl_names.specs.Names.{PathName, name_eq}
 use Rattle.ovl_names.specs.Order.{ascends}
 use Rattle.ovl_names.specs.Paths.{PathNames, child_path}
