@@ -105,13 +105,7 @@ fn push_digest(
 ) -> Result<(), AllocError>
     ensures { OnOk result (string_bytes text.new ≡ string_bytes text.old ++ (name.now ++ quoted (encode_lower digest.now))) }
 {
-    let mut digits = [0; 64];
-    let _ = hex::encode_to_slice(digest.as_bytes().as_slice(), &mut digits);
-    match std::str::from_utf8(&digits) {
-        Ok(string) => push_text(alloc, text, name, string),
-        // Digits are a text, so that there is no other fault.
-        Err(_) => Err(AllocError),
-    }
+    push_text(alloc, text, name, digest.digits().as_str())
 }
 
 // Appends the numbers of a device.
