@@ -30,6 +30,7 @@ CONTENTS = b"x"
 BLOB = hashlib.sha256(CONTENTS).hexdigest()
 REDIRECT = "trusted.overlay.redirect"
 METACOPY = "trusted.overlay.metacopy"
+OPAQUE = "trusted.overlay.opaque"
 # The member of entries that version 1 of the manifest hasn't.
 NSEC = "mtime-nsec"
 # Growth of the instructions for a byte, at each doubling, that isn't told.
@@ -105,6 +106,11 @@ def redirected_directories(size):
 
 def many_attributes(size):
     return [[entry("/m", attrs={f"user.a{n}": "v" for n in range(size)})] + files("/m", size)]
+
+
+def short_attributes(size):
+    """A layer of one entry with short attributes, of which one isn't shown."""
+    return [[entry("/m", attrs={OPAQUE: "y", **{f"{n:x}": "" for n in range(size)}})], []]
 
 
 def chained_redirects(size):
@@ -298,6 +304,9 @@ CASES = [
     Case("a list of N numbers as the whole manifest", "show", numbers_alone, (4_000_000, 8_000_000), status=REFUSED, most=MOST),
     Case("an entry of N members", "show", many_members, (1_000_000, 2_000_000), status=REFUSED, most=MOST),
     Case("an entry of N attributes that are no texts", "show", wrong_attributes, (1_000_000, 2_000_000), status=REFUSED, most=MOST),
+    Case("an entry of N attributes", "show", short_attributes, (500_000, 1_000_000), most=MOST),
+    Case("an entry of N attributes", "deref", short_attributes, (500_000, 1_000_000), most=MOST),
+    Case("an entry of N attributes", "merge", short_attributes, (500_000, 1_000_000), most=MOST),
     Case("N members `entries`", "show", many_lists, (500_000, 1_000_000), status=REFUSED, most=MOST),
     Case("a directory of N files, members out of the order of their names", "show", one_directory, (100_000, 200_000), unsorted=True, most=MOST),
     Case("a redirect of N names", "show", lone_redirect, (1_000_000, 2_000_000)),
