@@ -6,13 +6,13 @@ use Rattle.ovl_merge.proofs.VisitLemmas.{redirect-own, redirect-beside, redirect
 use Rattle.ovl_merge.proofs.entries.redirected.Goals as goal
 
 pub returns-then-eq : goal.returns-then-eq
-returns-then-eq c = redirect-own c.args.reach.now c.args.name.now c.args.inode c.args.above.now.reach c.in-Some.beside.now c.in-Some.ensures (sym c.if-eq.ensures)
+returns-then-eq c = redirect-own c.args.reach.now c.args.name.now c.args.inode c.args.above.now.reach c.in-Some.beside (sym c.in-Some.is ∙ c.in_ok-name_in.ensures) (sym c.if-eq.ensures)
 
 pub returns-in-Some : goal.returns-in-Some
 returns-in-Some c =
     IfOk-weaker c.with_value.result _ _ (λ new h. h
     ∙ (ap (with_value c.args.inode redirect_name) (c.as_bytes.ensures.value ∙ c.as_str.ensures.value)
-    ∙ redirect-beside c.args.reach.now c.args.name.now c.args.inode c.args.above.now.reach c.in-Some.beside.now c.in-Some.ensures (sym c.if-eq.ensures))) c.with_value.ensures
+    ∙ redirect-beside c.args.reach.now c.args.name.now c.args.inode c.args.above.now.reach c.in-Some.beside (sym c.in-Some.is ∙ c.in_ok-name_in.ensures) (sym c.if-eq.ensures))) c.with_value.ensures
 
 pub returns : goal.returns
 returns c =

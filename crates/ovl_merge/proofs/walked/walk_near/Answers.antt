@@ -1,4 +1,4 @@
-use Rattle.std.proofs.Common.{◌≡◌, IfOk, Option, sym, subst}
+use Rattle.std.proofs.Common.{◌≡◌, ◌∙◌, IfOk, Option, sym, subst}
 use Rattle.std.specs.Prelude.{IfSome}
 use Rattle.ovl_names.specs.Paths.{PathNames}
 use Rattle.ovl_lookup.specs.Walk.{walk}
@@ -13,4 +13,4 @@ step-requires c = subst (λ (near : Option Walked). IfSome near (IsWalked c.args
 pub returns-in-Some-name_below : goal.returns-in-Some-name_below
 returns-in-Some-name_below c =
     subst (λ (p : PathNames). IfOk c.step.result (λ step. step ≡ walk c.args.sheet.now p))
-    (sym (below-named c.in-Some.walked.path c.args.path.now c.in-Some-name_below.name.now c.in-Some-name_below.ensures)) c.step.ensures
+    (sym (below-named c.in-Some.walked.path c.args.path.now c.in-Some-name.name (sym c.in-Some-name.is ∙ c.in_ok-name_below.ensures))) c.step.ensures
