@@ -1,12 +1,11 @@
-ghost use Rattle.std.specs.Prelude.{◌≡◌, ◌∷◌, ◌++◌, [], ◌↔◌, length, IsTrue, MatchOption};
+ghost use Rattle.std.specs.Prelude.{◌≡◌, ◌∷◌, ◌++◌, [], ◌↔◌, drop, length, IsTrue, MatchOption};
 ghost use Rattle.std.specs.Cmp.{partial_equiv_from_equiv};
 ghost use Rattle.std.specs.Cmp.Lexicographic.{nat_list_eq_equiv, lists_equiv};
 ghost use Rattle.std.specs.Iterator.{YieldsFirstRef, YieldsLastRef, item_count};
 ghost use Rattle.std.specs.List.{starts_with};
-ghost use Rattle.ovl_names.specs.Names.{name_eq};
+ghost use Rattle.ovl_names.specs.Names.{is_name, name_eq};
 ghost use Rattle.ovl_names.specs.Paths.{path_eq, text_names, has_names};
 
-use crate::names::Name;
 use crate::paths::part_count;
 use std::marker::Model;
 
@@ -45,13 +44,19 @@ impl<'a> Names<'a> {
         self.text
     }
 
-    /// One name alone.
-    pub fn one(name: &'a Name) -> Names<'a>
+    /// No name.
+    pub fn none() -> Names<'a>
+        ensures { result ≡ [] }
+    {
+        Names { text: "" }
+    }
+
+    /// One name alone, by its text.
+    pub fn one(name: &'a str) -> Names<'a>
+        requires { IsTrue (is_name name.now) }
         ensures { result ≡ name.now ∷ [] }
     {
-        Names {
-            text: name.as_str(),
-        }
+        Names { text: name }
     }
 
     /// The number of names.
@@ -78,6 +83,19 @@ impl<'a> Names<'a> {
         ensures names { IsTrue (has_names self.now) }
     {
         Names { text: self.text }
+    }
+
+    /// Those behind the first `count` names.
+    pub fn after(&self, count: usize) -> Names<'a>
+        ensures { result ≡ drop count self.now }
+    {
+        let mut names = self.rest();
+        for _ in 0..count {
+            if names.next().is_none() {
+                break;
+            }
+        }
+        names
     }
 
     /// The last name and those above it, and `None` where there is no name.

@@ -156,7 +156,7 @@ impl Path {
     pub fn child(&self, alloc: Global, name: &Name) -> Result<Path, AllocError>
         ensures { IfOk result (λ path. path ≡ child_path self.now name.now) }
     {
-        self.joined(alloc, &Names::one(name))
+        self.joined(alloc, &Names::one(name.as_str()))
     }
 
     /// The path that goes down these names from this one; fails only when out of memory.
@@ -181,7 +181,16 @@ impl Path {
             (λ _. self.new ≡ child_path self.old name.now)
             (λ _. self.new ≡ self.old) }
     {
-        append(&mut self.text, name.as_str())?;
+        self.extend(&Names::one(name.as_str()))
+    }
+
+    /// Goes down these names from this directory; fails, with nothing changed, only when out of memory.
+    pub fn extend(&mut self, names: &Names<'_>) -> Result<(), AllocError>
+        ensures { MatchResult result
+            (λ _. self.new ≡ self.old ++ names.now)
+            (λ _. self.new ≡ self.old) }
+    {
+        append(&mut self.text, names.text())?;
         Ok(())
     }
 
