@@ -25,9 +25,9 @@ returns-in_default-2 c =
     let m = merge_of stack in
     let each = merge-each stack stack refl c.requires c.ordinary-layers.ensures.each in
     let above : PathNames = c.loop-name.directory.path in
-    let name : PathName = c.in-Some-next.name.now in
+    let name : PathName = c.in-Some-name.name.now in
     let rest : PathNames = c.next.new.self in
-    let whole : above ++ name ∷ rest ≡ c.args.dir.now = sym (ap (λ (left : PathNames). above ++ left) c.in-Some-next.ensures.steps) ∙ c.loop-name.invariant.there in
+    let whole : above ++ name ∷ rest ≡ c.args.dir.now = sym (ap (λ (left : PathNames). above ++ left) c.in-Some-name.ensures.steps) ∙ c.loop-name.invariant.there in
     let below : PathNames = child_path above c.in_ok-name.name in
     let none : shows_own_directory m below ≡ false = subst (λ (found : Option Directory). MatchOption found (shows_own_directory m below ≡ false) (λ directory. IsVisited stack below directory)) c.in_default-2.is c.in_ok-child.ensures in
     ap (shows_own_directory m) (sym whole)
@@ -38,16 +38,16 @@ loop-name-preserved c =
     let stack = c.args.stack.now in
     let m = merge_of stack in
     let above : PathNames = c.loop-name.directory.path in
-    let name : PathName = c.in-Some-next.name.now in
+    let name : PathName = c.in-Some-name.name.now in
     let rest : PathNames = c.next.new.self in
-    let whole : above ++ name ∷ rest ≡ c.args.dir.now = sym (ap (λ (left : PathNames). above ++ left) c.in-Some-next.ensures.steps) ∙ c.loop-name.invariant.there in
+    let whole : above ++ name ∷ rest ≡ c.args.dir.now = sym (ap (λ (left : PathNames). above ++ left) c.in-Some-name.ensures.steps) ∙ c.loop-name.invariant.there in
     let below : PathNames = child_path above c.in_ok-name.name in
-    let visited : IsVisited stack below c.in-Some-child.child = subst (λ (found : Option Directory). MatchOption found (shows_own_directory m below ≡ false) (λ directory. IsVisited stack below directory)) c.in-Some-child.is c.in_ok-child.ensures in
-    let there : c.in-Some-child.child.path ≡ child_path above name = visited.path ∙ ap (child_path above) c.in_ok-name.ensures in
+    let visited : IsVisited stack below c.in-Some-2.child = subst (λ (found : Option Directory). MatchOption found (shows_own_directory m below ≡ false) (λ directory. IsVisited stack below directory)) c.in-Some-2.is c.in_ok-child.ensures in
+    let there : c.in-Some-2.child.path ≡ child_path above name = visited.path ∙ ap (child_path above) c.in_ok-name.ensures in
     record {
-      visited = subst (λ (p : PathNames). IsVisited stack p c.in-Some-child.child) (sym visited.path) visited;
+      visited = subst (λ (p : PathNames). IsVisited stack p c.in-Some-2.child) (sym visited.path) visited;
       there = ap (λ (p : PathNames). p ++ rest) there ∙ (append_assoc above (name ∷ []) rest ∙ whole);
-      names = (both {a = is_name name} {b = has_names rest} (sym (ap has_names c.in-Some-next.ensures.steps) ∙ c.loop-name.invariant.names)).1;
+      names = (both {a = is_name name} {b = has_names rest} (sym (ap has_names c.in-Some-name.ensures.steps) ∙ c.loop-name.invariant.names)).1;
     }
 
 pub returns : goal.returns
