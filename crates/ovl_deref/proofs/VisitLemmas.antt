@@ -58,30 +58,24 @@ stays-free top path (name ∷ rest) none free =
     (any_prefix-child (λ prefix. is_moved (mark_at top prefix)) path name
     ∙ (λ j. free j || is_moved (mark-child top path name None (nothing-there top (child_path path name) below) j)))
 
-module _ (top : Entries) (dir : PathNames) (i : ℕ) (name : PathName) (inside : i < length dir) (is : name ≡ get_or dir i name) (free : is_at_moved top (take i dir) ≡ false) where
-  pub prefix-next : child_path (take i dir) name ≡ take (i + 1) dir
-  prefix-next = sym (take_more dir i name inside ∙ ap (λ (n : PathName). take i dir ++ n ∷ []) (sym is))
-
-  moved-there : (b : Bool) → b ≡ is_moved (option_map mark_of (entry_at top (child_path (take i dir) name))) → is_at_moved top (child_path (take i dir) name) ≡ b
+module _ (top : Entries) (above : PathNames) (name : PathName) (free : is_at_moved top above ≡ false) where
+  pub moved-there : (b : Bool) → b ≡ is_moved (option_map mark_of (entry_at top (child_path above name))) → is_at_moved top (child_path above name) ≡ b
   moved-there b told =
-      any_prefix-child (λ prefix. is_moved (mark_at top prefix)) (take i dir) name
-      ∙ (ap (λ c. c || is_moved (mark_at top (child_path (take i dir) name))) free
-      ∙ (ap is_moved (mark-child top (take i dir) name (entry_at top (child_path (take i dir) name)) refl) ∙ sym told))
+      any_prefix-child (λ prefix. is_moved (mark_at top prefix)) above name
+      ∙ (ap (λ c. c || is_moved (mark_at top (child_path above name))) free
+      ∙ (ap is_moved (mark-child top above name (entry_at top (child_path above name)) refl) ∙ sym told))
 
-  pub moved-next : (b : Bool) → b ≡ is_moved (option_map mark_of (entry_at top (child_path (take i dir) name))) → is_at_moved top (take (i + 1) dir) ≡ b
-  moved-next b told = ap (is_at_moved top) (sym prefix-next) ∙ moved-there b told
-
-  pub moved-above : true ≡ is_moved (option_map mark_of (entry_at top (child_path (take i dir) name))) → is_at_moved top dir ≡ true
-  moved-above told =
-      ap (is_at_moved top) (sym (take-append-drop (i + 1) dir))
-      ∙ any_prefix-under (λ prefix. is_moved (mark_at top prefix)) (take (i + 1) dir) (drop (i + 1) dir) (moved-next true told)
+  pub moved-above : (rest : PathNames) → true ≡ is_moved (option_map mark_of (entry_at top (child_path above name))) → is_at_moved top (above ++ name ∷ rest) ≡ true
+  moved-above rest told =
+      ap (is_at_moved top) (sym (append_assoc above (name ∷ []) rest))
+      ∙ any_prefix-under (λ prefix. is_moved (mark_at top prefix)) (child_path above name) rest (moved-there true told)
 
   -- where the layer has nothing, nothing at or under it is moved
-  pub nothing-moved : entries_under (child_path (take i dir) name) top ≡ [] → is_at_moved top dir ≡ false
-  nothing-moved none =
-      ap (is_at_moved top) (sym (take-append-drop (i + 1) dir))
-      ∙ stays-free top (take (i + 1) dir) (drop (i + 1) dir) (ap (λ (path : PathNames). entries_under path top) (sym prefix-next) ∙ none)
-      (moved-next false (sym (ap (λ (found : Option Inode). is_moved (option_map mark_of found)) (nothing-there top (child_path (take i dir) name) none))))
+  pub nothing-moved : (rest : PathNames) → entries_under (child_path above name) top ≡ [] → is_at_moved top (above ++ name ∷ rest) ≡ false
+  nothing-moved rest none =
+      ap (is_at_moved top) (sym (append_assoc above (name ∷ []) rest))
+      ∙ stays-free top (child_path above name) rest none
+      (moved-there false (sym (ap (λ (found : Option Inode). is_moved (option_map mark_of found)) (nothing-there top (child_path above name) none))))
 
 -- ---- a directory that isn't moved
 

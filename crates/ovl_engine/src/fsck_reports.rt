@@ -1,4 +1,4 @@
-ghost use Rattle.std.specs.Prelude.{◌≡◌, ◌<◌, ◌++◌, None, Some, IfOk, OnOk, codes, decimal, string_bytes};
+ghost use Rattle.std.specs.Prelude.{◌≡◌, ◌<◌, ◌++◌, [], IfOk, OnOk, codes, decimal, string_bytes};
 ghost use Rattle.std.specs.List.{flat_map};
 ghost use Rattle.ovl_names.specs.Escapes.{shown_path};
 ghost use Rattle.ovl_engine.specs.FsckReports.{code_word as the_code_word, weight_word as the_weight_word, finding_line, fault_count, note_count, is_clean as clean_test, fsck_report};
@@ -50,7 +50,7 @@ fn lines_of(alloc: Global, found: &[Finding]) -> Result<String, AllocError>
     ensures { IfOk result (λ lines. string_bytes lines ≡ flat_map finding_line found.now) }
 {
     let mut lines = String::new(alloc);
-    let mut above = Above::new(alloc);
+    let mut above = Above::root(alloc);
     for finding in found {
         push_finding(alloc, &mut lines, &mut above, finding)?;
     }
@@ -76,53 +76,48 @@ pub(crate) fn is_clean(found: &[Finding]) -> bool
     count_of_faults(found) == 0
 }
 
-// A directory, with what stands in a report before the names in it, and none before the first line. It is kept from line
-// to line, since what is found in one directory mostly comes together.
+// A directory, with what stands in a report before the names in it. It is kept from line to line, since what is found in
+// one directory mostly comes together.
 #[derive(Drop)]
 struct Above<'a> {
-    directory: Option<Names<'a>>,
+    directory: Names<'a>,
     text: String,
 }
 
 impl<'a> Model for Above<'a> {
-    ghost use Rattle.std.specs.Prelude.{◌≡◌, Option, IfSome, string_bytes};
+    ghost use Rattle.std.specs.Prelude.{◌≡◌, string_bytes};
     ghost use Rattle.ovl_names.specs.Paths.{PathNames};
     ghost use Rattle.ovl_engine.specs.Reports.{shown_names};
 
-    ghost Value = { Option PathNames };
+    ghost Value = { PathNames };
 
     ghost view = { λ a. a.directory };
 
-    ghost invariant = { λ a. IfSome a.directory (λ dir. string_bytes a.text ≡ shown_names dir) };
+    ghost invariant = { λ a. string_bytes a.text ≡ shown_names a.directory };
 }
 
 impl<'a> Above<'a> {
-    fn new(alloc: Global) -> Above<'a>
-        ensures { result ≡ None }
+    fn root(alloc: Global) -> Above<'a>
+        ensures { result ≡ [] }
     {
         Above {
-            directory: None,
+            directory: Names::none(),
             text: String::new(alloc),
         }
     }
 
     // Goes to a directory; the text is made anew where it is another one.
     fn go_to(&mut self, alloc: Global, directory: Names<'a>) -> Result<(), AllocError>
-        ensures { OnOk result (self.new ≡ Some directory.entry) }
+        ensures { OnOk result (self.new ≡ directory.entry) }
     {
-        if let Some(own) = &self.directory {
-            if *own == directory {
-                return Ok(());
-            }
+        if self.directory == directory {
+            return Ok(());
         }
         let mut text = String::new(alloc);
         for name in directory.rest() {
             push_name(alloc, &mut text, name)?;
         }
-        *self = Above {
-            directory: Some(directory),
-            text,
-        };
+        *self = Above { directory, text };
         Ok(())
     }
 

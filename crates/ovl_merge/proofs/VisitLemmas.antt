@@ -1,10 +1,10 @@
 -- What a visit of a merge reckons.
-use Rattle.std.proofs.Common.{◌≡◌, ℕ, ◌+◌, ◌<◌, get_or, subst, Bool, true, false, cond, Option, Some, None, is_some, List, [], ◌∷◌, ◌++◌, length, take, drop, refl, sym, ap, ◌∙◌, append_assoc, arith}
+use Rattle.std.proofs.Common.{◌≡◌, ℕ, ◌<◌, subst, Bool, true, false, cond, Option, Some, None, is_some, List, [], ◌∷◌, ◌++◌, length, drop, refl, sym, ap, ◌∙◌, append_assoc, arith}
 use Rattle.std.specs.Prelude.{◌&&◌, not, is_none, slice_get, unwrap_or, IfSome, MatchOption}
 use Rattle.std.specs.Option.{option_map}
 use Rattle.std.specs.List.{cons_option, filter_map, All}
 use Rattle.std.specs.Cmp.Lexicographic.{pointwise_decides, bytes_decides}
-use Rattle.std.proofs.lemmas.List.{append-nil, take-append-drop, take_more}
+use Rattle.std.proofs.lemmas.List.{append-nil}
 use Rattle.std.proofs.lemmas.List.Elements.{filter_map-append}
 use Rattle.ovl_names.specs.Names.{PathName, name_eq}
 use Rattle.ovl_names.specs.Paths.{PathNames, child_path, parent_path, path_eq, path_text, is_root}
@@ -309,11 +309,9 @@ module _ (m : Merge) (upper : IsLayer m.upper) (lower : IsLayer m.lower) where
       ap (shows_own_directory m) (sym (append_assoc path (name ∷ []) rest)) ∙ unshown-under (child_path path name) rest (unshown-child path name none)
 
   -- nor under one of the paths above
-  pub unshown-from : (dir : PathNames) (i : ℕ) (name : PathName) → i < length dir → name ≡ get_or dir i name → shows_own_directory m (child_path (take i dir) name) ≡ false → shows_own_directory m dir ≡ false
-  unshown-from dir i name inside is none =
-      let next : child_path (take i dir) name ≡ take (i + 1) dir = sym (take_more dir i name inside ∙ ap (λ (n : PathName). take i dir ++ n ∷ []) (sym is)) in
-      ap (shows_own_directory m) (sym (take-append-drop (i + 1) dir))
-      ∙ unshown-under (take (i + 1) dir) (drop (i + 1) dir) (ap (shows_own_directory m) (sym next) ∙ none)
+  pub unshown-from : (above : PathNames) (name : PathName) (rest : PathNames) → shows_own_directory m (child_path above name) ≡ false → shows_own_directory m (above ++ name ∷ rest) ≡ false
+  unshown-from above name rest none =
+      ap (shows_own_directory m) (sym (append_assoc above (name ∷ []) rest)) ∙ unshown-under (child_path above name) rest none
 
   pub no-entries : (path : PathNames) → shows_own_directory m path ≡ false → entries_in m path ≡ []
   no-entries path none = by (candidate_names m path)

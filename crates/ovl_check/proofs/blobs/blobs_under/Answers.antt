@@ -11,7 +11,7 @@ use Rattle.ovl_check.proofs.blobs.blobs_under.Goals as goal
 pub returns-then-is_err : goal.returns-then-is_err
 returns-then-is_err c =
     none-under c.args.digits.now c.args.blobs.now c.requires.digests c.decode_to_slice.result c.decode_to_slice.new.out
-    (rw c.as_str.ensures.value at c.decode_to_slice.ensures.value) (sym c.is_err.ensures.value ∙ c.if-is_err.true)
+    c.decode_to_slice.ensures.value (sym c.is_err.ensures.value ∙ c.if-is_err.true)
 
 pub returns : goal.returns
 returns c =
@@ -25,5 +25,5 @@ returns c =
     (subst (IsPartitionedBy (λ blob. nat_le (first_of blob) byte)) (sym whole) (IsPartitionedBy-leb first_of (drop start blobs) byte (firsts-rise_later blobs start c.requires.in_order))) in
     subst (λ later. wrong_names_under c.args.digits.now (blob_views (take end later)) ≡ wrong_names_under c.args.digits.now (blob_views blobs)) (sym whole)
     (range-under c.args.digits.now blobs c.requires.digests c.decode_to_slice.result c.decode_to_slice.new.out
-    (rw c.as_str.ensures.value at c.decode_to_slice.ensures.value) (sym c.is_err.ensures.value ∙ c.if-is_err.false) start end below
+    c.decode_to_slice.ensures.value (sym c.is_err.ensures.value ∙ c.if-is_err.false) start end below
     (subst (λ later. IsPartitionPoint (λ blob. nat_le (first_of blob) byte ≡ true) (λ blob. nat_le (first_of blob) byte ≡ false) later end) whole upto))

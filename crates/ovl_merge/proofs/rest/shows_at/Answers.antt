@@ -11,17 +11,17 @@ use Rattle.ovl_merge.proofs.rest.shows_at.Goals as goal
 
 pub shows-requires : goal.shows-requires
 shows-requires c =
-    (near-view c.args.stack.now c.args.near.now c.requires.near c.in-Some.path c.in-Some-name_in.name.now c.in-Some-name_in.ensures c.in-Some-view.view c.in-Some-view.is).over
+    (near-view c.args.stack.now c.args.near.now c.requires.near c.in-Some.path c.in-Some-2.name (sym c.in-Some-2.is ∙ c.in_ok-name.ensures) c.in-Some-view.view c.in-Some-view.is).over
 
 pub returns-in-Some-view : goal.returns-in-Some-view
 returns-in-Some-view c =
     c.shows.ensures
-    ∙ (ap (λ (shown : Look). not (is_nothing shown)) (near-look c.args.stack.now c.args.near.now c.requires.near c.in-Some.path c.in-Some-name_in.name.now c.in-Some-name_in.ensures c.in-Some-view.view c.in-Some-view.is)
+    ∙ (ap (λ (shown : Look). not (is_nothing shown)) (near-look c.args.stack.now c.args.near.now c.requires.near c.in-Some.path c.in-Some-2.name (sym c.in-Some-2.is ∙ c.in_ok-name.ensures) c.in-Some-view.view c.in-Some-view.is)
     ∙ sym (ap (λ (place : Option PathNames). shows_at (merge_of c.args.stack.now).rest place) c.in-Some.is))
 
 pub returns-in-None : goal.returns-in-None
 returns-in-None c =
     let stack = c.args.stack.now in
-    ap (λ (shown : Look). not (is_nothing shown)) (near-nothing stack c.args.near.now c.requires.near c.in-Some.path c.in-Some-name_in.name.now c.in-Some-name_in.ensures
+    ap (λ (shown : Look). not (is_nothing shown)) (near-nothing stack c.args.near.now c.requires.near c.in-Some.path c.in-Some-2.name (sym c.in-Some-2.is ∙ c.in_ok-name.ensures)
     (rest (merge_of stack) (merge-each stack stack refl c.requires.several c.ordinary-layers.ensures.each)) c.in-None.is)
     ∙ sym (ap (λ (place : Option PathNames). shows_at (merge_of stack).rest place) c.in-Some.is)

@@ -1,4 +1,4 @@
-use Rattle.std.proofs.Common.{◌≡◌, IfOk, Option, sym, subst}
+use Rattle.std.proofs.Common.{◌≡◌, ◌∙◌, IfOk, Option, sym, subst}
 use Rattle.std.specs.Prelude.{IfSome}
 use Rattle.ovl_names.specs.Paths.{PathNames}
 use Rattle.ovl_lookup.specs.Walk.{walk}
@@ -10,7 +10,7 @@ use Rattle.ovl_merge.proofs.walked.walk_near.Goals as goal
 pub step-requires : goal.step-requires
 step-requires c = subst (λ (near : Option Walked). IfSome near (IsWalked c.args.sheet.now)) c.in-Some.is c.requires
 
-pub returns-in-Some-name_below : goal.returns-in-Some-name_below
-returns-in-Some-name_below c =
+pub returns-in-Some-2 : goal.returns-in-Some-2
+returns-in-Some-2 c =
     subst (λ (p : PathNames). IfOk c.step.result (λ step. step ≡ walk c.args.sheet.now p))
-    (sym (below-named c.in-Some.walked.path c.args.path.now c.in-Some-name_below.name.now c.in-Some-name_below.ensures)) c.step.ensures
+    (sym (below-named c.in-Some.walked.path c.args.path.now c.in-Some-2.name (sym c.in-Some-2.is ∙ c.in_ok-name.ensures))) c.step.ensures

@@ -1,6 +1,6 @@
-use Rattle.std.proofs.Common.{◌≡◌, ◌∙◌, ◌++◌, ◌∷◌, [], List, ℕ, Option, sym, ap, subst, string_bytes, append_assoc}
+use Rattle.std.proofs.Common.{◌≡◌, ◌∙◌, ◌++◌, ◌∷◌, [], List, ℕ, sym, ap, string_bytes, append_assoc}
 use Rattle.std.proofs.lemmas.Result.{IfOk-weaker}
-use Rattle.std.specs.Prelude.{codes, IfSome}
+use Rattle.std.specs.Prelude.{codes}
 use Rattle.ovl_names.specs.Names.{PathName}
 use Rattle.ovl_names.specs.Paths.{PathNames}
 use Rattle.ovl_names.specs.Escapes.{escaped, shown_path}
@@ -14,8 +14,7 @@ returns c =
     let name : PathName = c.in-Some.name.now in
     let report : List ℕ = string_bytes c.args.report.now in
     let path : c.args.path.now ≡ directory ++ name ∷ [] = sym c.names.ensures.value ∙ c.in-Some.ensures.value in
-    let text : c.as_str.result.now ≡ shown_names directory =
-    c.as_str.ensures.value ∙ subst (λ (kept : Option PathNames). IfSome kept (λ dir. string_bytes c.self.inside.text ≡ shown_names dir)) (c.self.view_is ∙ c.in_ok-go_to.ensures) c.self.invariant in
+    let text : c.as_str.result.now ≡ shown_names directory = c.as_str.ensures.value ∙ (c.self.invariant ∙ ap shown_names (c.self.view_is ∙ c.in_ok-go_to.ensures)) in
     let tail : List ℕ = codes "/" ++ escaped name in
     let whole : c.as_str.result.now ++ tail ≡ shown_path c.args.path.now =
     ap (λ (l : List ℕ). l ++ tail) text ∙ (sym (shown-child directory name) ∙ ap shown_path (sym path)) in

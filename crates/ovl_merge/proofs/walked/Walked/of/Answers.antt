@@ -3,7 +3,7 @@ use Rattle.std.proofs.lemmas.Result.{IfOk-weaker}
 use Rattle.ovl_merge.proofs.VisitLemmas.{below-named}
 use Rattle.ovl_merge.proofs.walked.Walked.of.Goals as goal
 
-pub returns-in-Some-name_below-clause-path : goal.returns-in-Some-name_below-clause-path
-returns-in-Some-name_below-clause-path c =
+pub returns-in-Some-2-clause-path : goal.returns-in-Some-2-clause-path
+returns-in-Some-2-clause-path c =
     IfOk-weaker c.child.result _ _
-    (λ walked here. here ∙ sym (below-named c.in-Some.walked.path c.args.path.now c.in-Some-name_below.name.now c.in-Some-name_below.ensures)) c.child.ensures.path
+    (λ walked here. here ∙ sym (below-named c.in-Some.walked.path c.args.path.now c.in-Some-2.name (sym c.in-Some-2.is ∙ c.in_ok-name.ensures))) c.child.ensures.path
