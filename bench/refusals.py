@@ -4,8 +4,8 @@
 Python 3.11, standard library, and `rt`, whose compiler builds refuse.c. Each command is run on small stacks by 1 and by
 2 workers, and on one of 40 directories by 7, again and again: the first, the second, the third and each later request
 for memory is refused, then all from the first on, from the second on, and so forth, each time until a run meets no
-refusal; and so is each start of a thread. A run must end with its full answer, or with status 5 and `out of memory`,
-nothing on standard output, no new layer, and the one that was there as it was.
+refusal; and so is each start of a thread, of which there is none by 1 worker. A run must end with its full answer, or with
+status 5 and `out of memory`, nothing on standard output, no new layer, and the one that was there as it was.
 
 Each test of the other program runs in a process of its own, again and again, with one request for memory or one start of a
 thread refused: it must pass each time, as it makes what wanted memory again.
@@ -155,6 +155,8 @@ def swept(program, library, sweep):
                 wrong.append(f"{how}, refused {sweep.refused}, number {number}: {ending}")
             if number == 1 and not refused and sweep.refused != THREAD:
                 wrong.append(f"{how}: no request was met")
+            if number == 1 and refused and sweep.refused == THREAD and sweep.workers == 1:
+                wrong.append(f"{how}: a thread was started")
             if not refused or len(wrong) >= ENOUGH:
                 return number, wrong
         return MOST, [*wrong, f"{how}: no run without a refusal"]

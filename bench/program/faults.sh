@@ -456,6 +456,12 @@ refuses 3 'layer 0: wrong shape' fsck --blobs flood shape.json
 over=from_a_pipe prints 0 'dir 0755 0 0 0 - - /\nentries 1\n' show /dev/stdin
 over=from_a_pipe refuses 3 'layer 1: not JSON' show /dev/stdin /dev/stdin
 over=from_a_pipe refuses 3 'layer 1: not JSON' show --workers 2 /dev/stdin /dev/stdin
+# (Whoever reads beside others gets the end of a pipe by chance.)
+layers=()
+for ((i = 0; i < 64; i++)); do
+    layers+=(/dev/stdin)
+done
+over=from_a_pipe refuses 3 'layer 1: not JSON' show --workers 64 "${layers[@]}"
 layers=()
 for ((i = 0; i < 129; i++)); do
     layers+=(root.json)

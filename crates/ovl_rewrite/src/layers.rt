@@ -1,4 +1,4 @@
-ghost use Rattle.std.specs.Prelude.{◌≡◌, ◌≤◌, true, Err, IfOk, OnOk, [], ◌∷◌, ◌++◌, length};
+ghost use Rattle.std.specs.Prelude.{◌≡◌, ◌≤◌, true, Ok, Err, IfOk, OnOk, [], ◌∷◌, ◌++◌, length};
 ghost use Rattle.std.specs.Vec.Iter.{into_iter_items};
 ghost use Rattle.ovl_names.specs.Order.{ascends};
 ghost use Rattle.ovl_names.specs.Paths.{child_path};
@@ -86,6 +86,7 @@ fn with_under(
     ensures fewer { OnOk result (length (into_iter_items rest.new) ≤ length (into_iter_items rest.old)) }
     ensures entries { IfOk result (WalksUnder (parcel_views inodes_seen (into_iter_items rest.old)) (parcel_views inodes_seen (into_iter_items rest.new)) builder) }
     ensures limit { result ≡ Err LimitOut → StopsUnder (parcel_views inodes_seen (into_iter_items rest.old)) builder }
+    ensures none { into_iter_items rest.old ≡ [] → result ≡ Ok builder }
 {
     let mut builder = builder;
     let Some(Parcel { piece, out, .. }) = rest.next() else {
