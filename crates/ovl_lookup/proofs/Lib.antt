@@ -23,3 +23,4 @@ pub mod ViewLookLemmas
 mod TopDirectoryLemmas
 mod Rows
 mod TrailLemmas
+mod TrailNameLemmas

@@ -1,14 +1,12 @@
 -- Paths in parts that others hold.
-use denote.Ref.{Bor}
 use Rattle.std.specs.Prelude.{Bool, List, reverse}
 use Rattle.std.specs.List.{flat_map}
 use Rattle.std.specs.declared.cmp.Ordering.{Ordering}
-use Rattle.ovl_names.specs.Names.{PathName}
 use Rattle.ovl_names.specs.Paths.{PathNames, path_cmp, path_eq}
 
 -- the names of a path in parts
-abbrev pub names_of_parts : List (Bor (List PathName)) → PathNames
-names_of_parts parts = flat_map (λ part. part.now) parts
+abbrev pub names_of_parts : List PathNames → PathNames
+names_of_parts parts = flat_map (λ part. part) parts
 
 -- trails are ordered by their names from the last one on, since those below one redirect begin with all its names
 abbrev pub trail_cmp : PathNames → PathNames → Ordering

@@ -77,7 +77,7 @@ impl Stack {
         requires { from ≤ length self.now.layers }
         ensures { IfOk result (λ look. look ≡ the_look (from_layer from self.now) path.now) }
     {
-        let mut next = Trail::of(alloc, path.names())?;
+        let mut next = Trail::of(alloc, &path.names())?;
         for i in from..self.ordinary() {
             let TrailStep {
                 found,
@@ -198,7 +198,7 @@ impl Stack {
     pub fn data_place(&self, alloc: Global, path: &Path) -> Result<Option<Path>, AllocError>
         ensures { IfOk result (λ place. place ≡ the_place_told (things_found self.now.layers path.now)) }
     {
-        let mut next = Trail::of(alloc, path.names())?;
+        let mut next = Trail::of(alloc, &path.names())?;
         let mut told = None;
         for i in 0..self.ordinary() {
             let TrailStep {

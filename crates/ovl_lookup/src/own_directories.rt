@@ -22,17 +22,17 @@ impl OwnDirectory<Path> {
     {
         // Each sheet is a layer.
         let _root = sheet.root_number();
-        let Some(row) = sheet.child(self.row, name) else {
+        let Some(row) = sheet.child(self.row, name.as_str()) else {
             return Ok(Step {
                 found: None,
                 next: self.next.child(alloc, name)?,
                 closed: self.closed,
             });
         };
-        let next = Trail::of(alloc, self.next.names())?;
+        let next = Trail::of(alloc, &self.next.names())?;
         let found = found_in(sheet, row);
         if !is_directory(found.inode) {
-            let step = beyond(alloc, found, next, self.closed, name)?;
+            let step = beyond(alloc, found, next, self.closed, name.as_str())?;
             return step.copied(alloc);
         }
         let Entered { next, closed } = enter(alloc, found.mark, name, self.closed, next)?;
@@ -58,11 +58,11 @@ impl OwnDirectory<Path> {
     {
         // Each sheet is a layer.
         let _root = sheet.root_number();
-        let Some(below) = directory_below(sheet, self.row, name) else {
+        let Some(below) = directory_below(sheet, self.row, name.as_str()) else {
             return Ok(None);
         };
         let row = below.row;
-        let next = Trail::of(alloc, self.next.names())?;
+        let next = Trail::of(alloc, &self.next.names())?;
         let Entered { next, closed } = enter(alloc, sheet.mark(row), name, self.closed, next)?;
         let next = next.path(alloc)?;
         Ok(Some(OwnDirectory { row, next, closed }))

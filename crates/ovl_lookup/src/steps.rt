@@ -1,4 +1,5 @@
-ghost use Rattle.std.specs.Prelude.{◌≡◌, ◌<◌, [], false, true, Some, length, IfOk, MatchOption};
+ghost use Rattle.std.specs.Prelude.{◌≡◌, ◌<◌, [], false, true, Some, length, IsTrue, IfOk, MatchOption};
+ghost use Rattle.ovl_names.specs.Names.{is_name};
 ghost use Rattle.ovl_names.specs.Paths.{child_path};
 ghost use Rattle.ovl_inode.specs.Marks.{mark_of as the_mark};
 ghost use Rattle.ovl_manifest.specs.Layers.{entry_at, is_directory_at};
@@ -30,7 +31,7 @@ pub struct Step {
 pub fn walk(alloc: Global, sheet: &Sheet, path: &Path) -> Result<Step, AllocError>
     ensures { IfOk result (λ step. step ≡ the_walk sheet.now path.now) }
 {
-    let trail = Trail::of(alloc, path.names())?;
+    let trail = Trail::of(alloc, &path.names())?;
     let step = follow(alloc, sheet, &trail)?;
     step.copied(alloc)
 }
@@ -148,7 +149,7 @@ pub(crate) fn descend<'a>(
     let mut next = Trail::root(alloc);
     let mut closed = false;
     let mut depth = 0;
-    while let Some(name) = trail.name(depth) {
+    for name in trail.names() {
         let Some(below) = directory_below(sheet, row, name) else {
             return Ok(Descent {
                 row,
@@ -192,7 +193,7 @@ pub(crate) fn trail_in<'a>(
         (is_directory_at sheet.now path.now ≡ false)
         (IsOwnDirectory sheet.now path.now)) }
 {
-    let trail = Trail::of(alloc, path.names())?;
+    let trail = Trail::of(alloc, &path.names())?;
     let Descent {
         row,
         depth,
@@ -258,7 +259,7 @@ pub(crate) struct DirectoryBelow<'a> {
 pub(crate) fn directory_below<'a>(
     sheet: &'a Sheet,
     row: u32,
-    name: &Name,
+    name: &str,
 ) -> Option<DirectoryBelow<'a>>
     requires { row < length sheet.now }
     ensures { MatchOption result
@@ -302,22 +303,22 @@ pub(crate) fn enter<'a>(
 {
     match mark {
         Mark::DirMoved(Redirect::To(origin)) => {
-            let next = Trail::of(alloc, origin.names())?;
+            let next = Trail::of(alloc, &origin.names())?;
             Ok(Entered {
                 next,
                 closed: false,
             })
         }
         Mark::DirMoved(Redirect::Beside(own)) => {
-            let next = next.child(own)?;
+            let next = next.child(own.as_str())?;
             Ok(Entered { next, closed })
         }
         Mark::DirOpaque | Mark::DirBad => {
-            let next = next.child(name)?;
+            let next = next.child(name.as_str())?;
             Ok(Entered { next, closed: true })
         }
         Mark::Whiteout | Mark::DirPlain | Mark::Meta(_) | Mark::MetaBad | Mark::Leaf => {
-            let next = next.child(name)?;
+            let next = next.child(name.as_str())?;
             Ok(Entered { next, closed })
         }
     }
@@ -329,9 +330,10 @@ pub(crate) fn beyond<'a>(
     found: Found<'a>,
     next: Trail<'a>,
     closed: bool,
-    name: &'a Name,
+    name: &'a str,
 ) -> Result<TrailStep<'a>, AllocError>
-    requires { found.mark.now ≡ the_mark found.inode.now }
+    requires marked { found.mark.now ≡ the_mark found.inode.now }
+    requires name { IsTrue (is_name name.now) }
     ensures value { IfOk result (λ step. step_of step ≡ walk_beyond (Some found.entry.inode.now) next.entry closed name.now []) }
     ensures marked { IfOk result IsMarked }
 {
@@ -352,15 +354,16 @@ fn file_step<'a>(
     found: Found<'a>,
     next: Trail<'a>,
     closed: bool,
-    name: &'a Name,
+    name: &'a str,
 ) -> Result<TrailStep<'a>, AllocError>
-    requires { found.mark.now ≡ the_mark found.inode.now }
+    requires marked { found.mark.now ≡ the_mark found.inode.now }
+    requires name { IsTrue (is_name name.now) }
     ensures value { IfOk result (λ step. step_of step ≡ walk_to_file found.entry.inode.now found.entry.mark.now next.entry closed name.now) }
     ensures marked { IfOk result IsMarked }
 {
     let (next, closed) = match found.mark {
-        Mark::Meta(Some(Redirect::To(origin))) => (Trail::of(alloc, origin.names())?, false),
-        Mark::Meta(Some(Redirect::Beside(own))) => (next.child(own)?, closed),
+        Mark::Meta(Some(Redirect::To(origin))) => (Trail::of(alloc, &origin.names())?, false),
+        Mark::Meta(Some(Redirect::Beside(own))) => (next.child(own.as_str())?, closed),
         Mark::Meta(None) => (next.child(name)?, closed),
         Mark::Whiteout
         | Mark::DirOpaque

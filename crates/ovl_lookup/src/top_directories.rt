@@ -88,7 +88,7 @@ impl<'a> TopDirectory<'a> {
             (λ found. (entry_at (top_layer self.now.stack) (child_path self.now.path name.now) ≡ Some found.inode.now)
             × (found.mark.now ≡ the_mark found.inode.now)) }
     {
-        match self.place.child(name) {
+        match self.place.child(name.as_str()) {
             Some(entry) => Some(Found {
                 inode: entry.inode(),
                 mark: entry.mark(),

@@ -1,37 +1,37 @@
-ghost use Rattle.std.specs.Prelude.{◌≡◌, ◌+◌, ◌<◌, ◌^◌, ◌++◌, [], Some, length, drop, reverse, slice_get, IfOk, IfSome};
+ghost use Rattle.std.specs.Prelude.{◌≡◌, ◌+◌, ◌<◌, ◌^◌, ◌++◌, [], Some, length, drop, reverse, slice_get, IsTrue, IfOk, IfSome};
 ghost use Rattle.std.specs.Cmp.{partial_equiv_from_equiv, po};
 ghost use Rattle.std.specs.Cmp.Lexicographic.{nat_list_cmp_total, nat_list_eq_equiv, texts_ties, lists_total, lists_equiv, lists_ties};
 ghost use Rattle.std.proofs.Common.{refl};
 ghost use Rattle.std.proofs.lemmas.Cmp.{on_total, on_equiv};
 ghost use Rattle.std.specs.Option.{option_map};
-ghost use Rattle.ovl_names.specs.Names.{name_cmp};
-ghost use Rattle.ovl_names.specs.Paths.{child_path};
+ghost use Rattle.ovl_names.specs.Names.{name_cmp, is_name};
+ghost use Rattle.ovl_names.specs.Paths.{child_path, has_names};
 ghost use Rattle.ovl_lookup.specs.Trails.{trail_cmp, trail_eq};
 
-use ovl_names::{Name, Path};
+use crate::trail_names::TrailNames;
+use ovl_names::{Names, Path};
 use std::alloc::{AllocError, Global};
 use std::cmp::Ordering;
 use std::marker::Model;
-use std::slice;
 
 /// A path from the root in parts that others hold, so that no name of it is copied. Trails are ordered name by name from
 /// the last one on, as those below one redirect begin with all its names.
 #[derive(Debug, Drop)]
 pub struct Trail<'a> {
-    parts: Vec<&'a [Name]>,
+    parts: Vec<Names<'a>>,
     len: usize,
 }
 
 impl<'a> Model for Trail<'a> {
-    ghost use Rattle.std.specs.Prelude.{◌≡◌, length};
-    ghost use Rattle.ovl_names.specs.Paths.{PathNames};
+    ghost use Rattle.std.specs.Prelude.{◌≡◌, length, true};
+    ghost use Rattle.ovl_names.specs.Paths.{PathNames, has_names};
     ghost use Rattle.ovl_lookup.specs.Trails.{names_of_parts};
 
     ghost Value = { PathNames };
 
     ghost view = { λ a. names_of_parts a.parts.items };
 
-    ghost invariant = { λ a. a.len ≡ length (names_of_parts a.parts.items) };
+    ghost invariant = { λ a. (a.len ≡ length (names_of_parts a.parts.items)) × (has_names (names_of_parts a.parts.items) ≡ true) };
 }
 
 impl<'a> Trail<'a> {
@@ -46,14 +46,14 @@ impl<'a> Trail<'a> {
     }
 
     // The trail of these names.
-    pub(crate) fn of(alloc: Global, names: &'a [Name]) -> Result<Trail<'a>, AllocError>
+    pub(crate) fn of(alloc: Global, names: &Names<'a>) -> Result<Trail<'a>, AllocError>
         ensures { IfOk result (λ trail. trail ≡ names.now) }
     {
         Trail::root(alloc).with(names)
     }
 
     // The trail that goes down these names from this one.
-    pub(crate) fn with(self, names: &'a [Name]) -> Result<Trail<'a>, AllocError>
+    pub(crate) fn with(self, names: &Names<'a>) -> Result<Trail<'a>, AllocError>
         ensures { IfOk result (λ trail. trail ≡ self.entry ++ names.now) }
     {
         let Trail { parts, len } = self;
@@ -62,15 +62,16 @@ impl<'a> Trail<'a> {
             return Err(AllocError);
         };
         let mut parts = parts;
-        parts.push(names)?;
+        parts.push(names.rest())?;
         Ok(Trail { parts, len })
     }
 
     // The trail of the entry `name` in this directory.
-    pub(crate) fn child(self, name: &'a Name) -> Result<Trail<'a>, AllocError>
+    pub(crate) fn child(self, name: &'a str) -> Result<Trail<'a>, AllocError>
+        requires { IsTrue (is_name name.now) }
         ensures { IfOk result (λ trail. trail ≡ child_path self.entry name.now) }
     {
-        self.with(slice::from_ref(name))
+        self.with(&Names::one(name))
     }
 
     // The number of names.
@@ -80,22 +81,24 @@ impl<'a> Trail<'a> {
         self.len
     }
 
+    // The names from the root down.
+    pub(crate) fn names(&self) -> TrailNames<'_, 'a>
+        ensures value { result ≡ self.now }
+        ensures names { IsTrue (has_names self.now) }
+        ensures few { length self.now < 2 ^ 64 }
+    {
+        // Its number fits a `usize`.
+        let _count = self.len;
+        TrailNames::of(&self.parts)
+    }
+
     // The name of a number, and `None` past the last.
-    pub(crate) fn name(&self, number: usize) -> Option<&'a Name>
+    pub(crate) fn name(&self, number: usize) -> Option<&'a str>
         ensures value { option_map (λ name. name.now) result ≡ slice_get self.now number }
         ensures inside { IfSome result (λ _. number + 1 < 2 ^ 64) }
+        ensures name { IfSome result (λ name. IsTrue (is_name name.now)) }
     {
-        if number >= self.len {
-            return None;
-        }
-        let mut left = number;
-        for &part in &self.parts {
-            if left < part.len() {
-                return Some(&part[left]);
-            }
-            left -= part.len();
-        }
-        None
+        self.names().nth(number)
     }
 
     // The trail that goes on at `next` in place of so many names.
@@ -104,12 +107,13 @@ impl<'a> Trail<'a> {
     {
         let mut trail = next;
         let mut left = walked;
-        for &part in &self.parts {
-            if left >= part.len() {
-                left -= part.len();
+        for part in &self.parts {
+            let count = part.len();
+            if left >= count {
+                left -= count;
                 continue;
             }
-            trail = trail.with(&part[left..])?;
+            trail = trail.with(&part.after(left))?;
             left = 0;
         }
         Ok(trail)
@@ -122,49 +126,37 @@ impl<'a> Trail<'a> {
         self.onward(Trail::root(alloc), 0)
     }
 
-    /// The path, in names of its own; fails only when out of memory.
+    /// The path, in a text of its own; fails only when out of memory.
     pub fn path(&self, alloc: Global) -> Result<Path, AllocError>
         ensures { IfOk result (λ path. path ≡ self.now) }
     {
         let mut path = Path::root(alloc);
-        for &part in &self.parts {
-            for name in part {
-                path.push(name.copy(alloc)?)?;
-            }
+        for part in &self.parts {
+            path.extend(part)?;
         }
         Ok(path)
-    }
-
-    // The name of a number counted from the last, and `None` past the first.
-    fn name_back(&self, number: usize) -> Option<&'a Name>
-        ensures value { option_map (λ name. name.now) result ≡ slice_get (reverse self.now) number }
-        ensures inside { IfSome result (λ _. number + 1 < 2 ^ 64) }
-    {
-        if number >= self.len {
-            return None;
-        }
-        self.name(self.len - 1 - number)
     }
 
     // How this trail is to another, name by name from the last one on.
     fn compared(&self, other: &Trail<'_>) -> Ordering
         ensures { result ≡ trail_cmp self.now other.now }
     {
-        let mut number = 0;
-        while let Some(own) = self.name_back(number) {
-            let Some(name) = other.name_back(number) else {
+        let mut ours = self.names();
+        let mut theirs = other.names();
+        while let Some(own) = ours.next_back() {
+            let Some(name) = theirs.next_back() else {
                 return Ordering::Greater;
             };
-            match own.cmp(name) {
+            match own.as_bytes().cmp(name.as_bytes()) {
                 Ordering::Less => return Ordering::Less,
                 Ordering::Greater => return Ordering::Greater,
-                Ordering::Equal => number += 1,
+                Ordering::Equal => {}
             }
         }
-        if number < other.len() {
-            return Ordering::Less;
+        match theirs.next_back() {
+            Some(_) => Ordering::Less,
+            None => Ordering::Equal,
         }
-        Ordering::Equal
     }
 }
 

@@ -195,7 +195,7 @@ fn data_in(
             return Ok(None);
         }
         if let Some(origin) = goes_on_at(entry.mark) {
-            let trail = Trail::of(alloc, origin.names())?;
+            let trail = Trail::of(alloc, &origin.names())?;
             return stack.data(alloc, place.layer + 1, trail, Some(origin));
         }
         let Some(other) = goes_on_by(entry.mark, own) else {

@@ -47,7 +47,7 @@ impl DirPlace {
             (λ entry. IsEntryIn stack.now name.now self.now entry) }
     {
         let sheet = stack.sheet(self.layer);
-        let Some(row) = sheet.child(self.row, name) else {
+        let Some(row) = sheet.child(self.row, name.as_str()) else {
             return None;
         };
         Some(PlaceEntry {
@@ -129,7 +129,7 @@ fn push_reached<'a>(
     requires { from ≤ length stack.now.layers }
     ensures { OnOk result (AddsPlaces stack.now places.old.items places.new.items (reached (drop from stack.now.layers) from path.now)) }
 {
-    let mut trail = Trail::of(alloc, path.names())?;
+    let mut trail = Trail::of(alloc, &path.names())?;
     for layer in from..stack.ordinary() {
         match arrive(alloc, stack.sheet(layer), &trail)? {
             Arrival::Directory { row, next, closed } => {

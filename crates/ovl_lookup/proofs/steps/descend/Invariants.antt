@@ -1,4 +1,4 @@
-use Rattle.std.proofs.Common.{◌≡◌, ◌<◌, ◌≤◌, ◌-◌, true, length, take}
+use Rattle.std.proofs.Common.{◌≡◌, ◌<◌, ◌≤◌, true, length, take, drop}
 use Rattle.ovl_manifest.specs.Layers.{is_directory_at}
 use Rattle.ovl_manifest.specs.Sheets.{path_at}
 use Rattle.ovl_lookup.specs.Walk.{turn, is_shut}
@@ -7,6 +7,7 @@ use Rattle.ovl_lookup.proofs.steps.descend.Given as goal
 -- the names so far lead to a directory, that of the row, with its turn and its flag
 abbrev pub invariant-loop-name : goal.invariant-loop-name
 invariant-loop-name l = record {
+  ahead : l.name-iterator ≡ drop l.depth l.trail;
   inside : l.row < length l.sheet;
   within : l.depth ≤ length l.trail;
   here : path_at l.sheet l.row ≡ take l.depth l.trail;
@@ -14,7 +15,3 @@ invariant-loop-name l = record {
   turned : l.next ≡ turn l.sheet (take l.depth l.trail);
   shut : l.closed ≡ is_shut l.sheet (take l.depth l.trail);
 }
-
--- the names that are left
-abbrev pub decreases-loop-name : goal.decreases-loop-name
-decreases-loop-name l = length l.trail - l.depth

@@ -1,10 +1,10 @@
-use Rattle.std.proofs.Common.{◌≡◌, ◌-◌, length, drop, reverse}
+use Rattle.std.proofs.Common.{◌≡◌, length, reverse}
 use Rattle.ovl_names.specs.Paths.{path_cmp}
 use Rattle.ovl_lookup.proofs.trails.Trail.compared.Given as goal
 
 -- the names that are left are to each other as all of them
 abbrev pub invariant-loop-own : goal.invariant-loop-own
-invariant-loop-own l = path_cmp (drop l.number (reverse l.self)) (drop l.number (reverse l.other)) ≡ path_cmp (reverse l.self) (reverse l.other)
+invariant-loop-own l = path_cmp (reverse l.ours) (reverse l.theirs) ≡ path_cmp (reverse l.self) (reverse l.other)
 
 abbrev pub decreases-loop-own : goal.decreases-loop-own
-decreases-loop-own l = length (reverse l.self) - l.number
+decreases-loop-own l = length l.ours

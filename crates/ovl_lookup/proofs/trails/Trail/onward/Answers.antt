@@ -1,17 +1,18 @@
-use Rattle.std.proofs.Common.{◌+◌, ◌≤◌, ◌∙◌, ◌++◌, length, drop, sym, ap, arith}
+use Rattle.std.proofs.Common.{ℕ, ◌+◌, ◌-◌, ◌≤◌, ◌∙◌, ◌++◌, length, drop, sym, ap, arith}
 use Rattle.ovl_names.specs.Paths.{PathNames}
 use Rattle.ovl_lookup.specs.Trails.{names_of_parts}
 use Rattle.ovl_lookup.proofs.TrailLemmas.{part-next, drop-past}
 use Rattle.ovl_lookup.proofs.trails.Trail.onward.Goals as goal
 
-pub loop-part-preserved-then-left-part : goal.loop-part-preserved-then-left-part
-loop-part-preserved-then-left-part c =
+pub loop-part-preserved-then-left-count : goal.loop-part-preserved-then-left-count
+loop-part-preserved-then-left-count c =
     let k = c.loop-part.part-index in
     let left = c.loop-part.left in
-    let part : PathNames = c.part-item.result.now in
+    let part : PathNames = c.part-item.result in
     let rest : PathNames = names_of_parts (drop (k + 1) c.deref-part-items.result.now) in
-    let past : length part ≤ left = omega (arith, c.if-left-part.true) in
-    ap (λ (names : PathNames). c.loop-part.trail ++ names)
+    let past : length part ≤ left = omega (arith, c.if-left-count.true, c.len-count.ensures) in
+    ap (λ (n : ℕ). c.loop-part.trail ++ drop (left - n) rest) c.len-count.ensures
+    ∙ (ap (λ (names : PathNames). c.loop-part.trail ++ names)
     (sym (drop-past part rest left past)
     ∙ ap (drop left) (sym (part-next c.deref-part-items.result.now k c.part-item.result c.loop-part-test.true c.part-item.is)))
-    ∙ c.loop-part.invariant
+    ∙ c.loop-part.invariant)

@@ -1,10 +1,6 @@
-use Rattle.std.proofs.Common.{◌≡◌, ◌++◌, take}
+use Rattle.std.proofs.Common.{◌≡◌, take}
 use Rattle.ovl_lookup.specs.Trails.{names_of_parts}
 use Rattle.ovl_lookup.proofs.trails.Trail.path.Given as goal
 
--- the names of the parts so far, and then those of this one
 abbrev pub invariant-loop-part : goal.invariant-loop-part
 invariant-loop-part l = l.path ≡ names_of_parts (take l.part-index l.part-items)
-
-abbrev pub invariant-loop-name : goal.invariant-loop-name
-invariant-loop-name l = l.path ≡ l.initial.path ++ take l.name-index l.part

@@ -1,6 +1,7 @@
-use Rattle.std.proofs.Common.{[], ap, ◌∙◌}
+use Rattle.std.proofs.Common.{[], List, ℕ, sym, ap, ◌∙◌}
 use Rattle.ovl_names.specs.Paths.{PathNames, child_path}
 use Rattle.ovl_manifest.specs.Layers.{Entries, entry_at}
+use Rattle.ovl_manifest.specs.LayerTrees.{entries_under}
 use Rattle.ovl_manifest.specs.Sheets.{path_at}
 use Rattle.ovl_manifest.proofs.NodeLemmas.{entry_at-under}
 use Rattle.ovl_lookup.proofs.DirViewLemmas.{entry-here}
@@ -11,4 +12,5 @@ returns-in_default c =
     let layer : Entries = c.sheet-sheet.result.now in
     let path : PathNames = child_path (path_at layer c.args.self.now.row) c.args.name.now in
     entry-here c.args.stack.now c.args.name.now c.args.self.now layer c.sheet-sheet.ensures
-    ∙ (entry_at-under path layer ∙ ap (λ (entries : Entries). entry_at entries []) c.in_default.ensures)
+    ∙ (entry_at-under path layer
+    ∙ (ap (λ (name : List ℕ). entry_at (entries_under (child_path (path_at layer c.args.self.now.row) name) layer) []) (sym c.as_str.ensures.value) ∙ ap (λ (entries : Entries). entry_at entries []) c.in_default.ensures))

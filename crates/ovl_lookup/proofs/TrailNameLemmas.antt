@@ -1,0 +1,68 @@
+-- The names of a trail that are left, from either end.
+use Rattle.std.proofs.Common.{◌≡◌, ℕ, zero, suc, Option, Some, None, Bor, ◌+◌, ◌<◌, ◌^◌, ◌∙◌, ◌++◌, List, [], ◌∷◌, true, IsTrue, IfSome, length, drop, slice_get, append_assoc, refl, sym, ap, subst, arith}
+use Rattle.std.specs.Option.{option_map}
+use Rattle.std.specs.Iterator.{YieldsFirstRef, YieldsLastRef}
+use Rattle.std.proofs.lemmas.List.{append-nil}
+use Rattle.std.proofs.lemmas.Option.{slice_get_within}
+use Rattle.ovl_names.specs.Names.{PathName, is_name}
+use Rattle.ovl_names.specs.Paths.{PathNames, has_names}
+use Rattle.ovl_names.proofs.Ascending.{both}
+use Rattle.ovl_lookup.specs.Trails.{names_of_parts}
+
+pub no_parts : (parts : List PathNames) → length parts ≡ 0 → names_of_parts parts ≡ []
+no_parts [] none = refl
+no_parts (part ∷ parts) none = absurd (omega arith)
+
+-- the names of parts and one more at their end
+pub parts-push : (parts : List PathNames) (part : PathNames) → names_of_parts (parts ++ part ∷ []) ≡ names_of_parts parts ++ part
+parts-push [] part = append-nil part
+parts-push (own ∷ parts) part = ap (λ rest. own ++ rest) (parts-push parts part) ∙ sym (append_assoc own (names_of_parts parts) part)
+
+-- ---- what a call gives and leaves
+
+pub moved_first : (r : Option (Bor PathName)) (a b c d : PathNames) → a ≡ c → b ≡ d → YieldsFirstRef {S = PathNames} {A = PathName} (λ names. names) a r b → YieldsFirstRef {S = PathNames} {A = PathName} (λ names. names) c r d
+moved_first r a b c d e f gives = subst (λ (s : PathNames). YieldsFirstRef {S = PathNames} {A = PathName} (λ names. names) s r d) e (subst (λ (t : PathNames). YieldsFirstRef {S = PathNames} {A = PathName} (λ names. names) a r t) f gives)
+
+pub moved_last : (r : Option (Bor PathName)) (a b c d : PathNames) → a ≡ c → b ≡ d → YieldsLastRef {S = PathNames} {A = PathName} (λ names. names) a r b → YieldsLastRef {S = PathNames} {A = PathName} (λ names. names) c r d
+moved_last r a b c d e f gives = subst (λ (s : PathNames). YieldsLastRef {S = PathNames} {A = PathName} (λ names. names) s r d) e (subst (λ (t : PathNames). YieldsLastRef {S = PathNames} {A = PathName} (λ names. names) a r t) f gives)
+
+pub at_front : (r : Option (Bor PathName)) (first left tail old : PathNames) → first ++ tail ≡ old → (first ≡ [] → ⊥) → YieldsFirstRef {S = PathNames} {A = PathName} (λ names. names) first r left → YieldsFirstRef {S = PathNames} {A = PathName} (λ names. names) old r (left ++ tail)
+at_front None first left tail old e some gives = absurd (some gives.0)
+at_front (Some name) first left tail old e some gives = sym e ∙ ap (λ names. names ++ tail) gives
+
+pub at_back : (r : Option (Bor PathName)) (first mid last left old : PathNames) → first ++ (mid ++ last) ≡ old → (last ≡ [] → ⊥) → YieldsLastRef {S = PathNames} {A = PathName} (λ names. names) last r left → YieldsLastRef {S = PathNames} {A = PathName} (λ names. names) old r (first ++ (mid ++ left))
+at_back None first mid last left old e some gives = absurd (some gives.0)
+at_back (Some name) first mid last left old e some gives =
+    sym e ∙ (ap (λ names. first ++ (mid ++ names)) gives
+    ∙ sym (append_assoc first (mid ++ left) (name.now ∷ []) ∙ ap (λ names. first ++ names) (append_assoc mid left (name.now ∷ []))))
+
+-- ---- the names that are left behind those of a number
+
+pub head-read : (names : PathNames) (n : ℕ) (name : PathName) (rest : PathNames) → drop n names ≡ name ∷ rest → (slice_get names n ≡ Some name) × (drop (n + 1) names ≡ rest)
+head-read [] zero name rest is = cc
+head-read [] (suc n) name rest is = cc
+head-read (own ∷ names) zero name rest is = let same : own ≡ name = cc in let others : names ≡ rest = cc in (ap Some same, others)
+head-read (own ∷ names) (suc n) name rest is =
+    let later = head-read names n name rest is in
+    let next : suc n + 1 ≡ suc (n + 1) = omega arith in
+    (later.0, ap (λ k. drop k (own ∷ names)) next ∙ later.1)
+
+pub end-read : (names : PathNames) (n : ℕ) → drop n names ≡ [] → slice_get names n ≡ None
+end-read [] zero is = refl
+end-read [] (suc n) is = refl
+end-read (own ∷ names) zero is = cc
+end-read (own ∷ names) (suc n) is = end-read names n is
+
+-- the name of a number is one of the trail's names
+pub named-at : (names : PathNames) (n : ℕ) (name : PathName) → slice_get names n ≡ Some name → has_names names ≡ true → is_name name ≡ true
+named-at [] n name is named = cc
+named-at (own ∷ names) zero name is named = let same : own ≡ name = cc in ap is_name (sym same) ∙ (both {a = is_name own} {b = has_names names} named).0
+named-at (own ∷ names) (suc n) name is named = named-at names n name is (both {a = is_name own} {b = has_names names} named).1
+
+pub few-at : (names : PathNames) (n : ℕ) (r : Option (Bor PathName)) → option_map (λ name. name.now) r ≡ slice_get names n → length names < 2 ^ 64 → IfSome r (λ _. n + 1 < 2 ^ 64)
+few-at names n None is few = tt
+few-at names n (Some name) is few = let inside = slice_get_within names n name.now (sym is) in omega arith
+
+pub name-at : (names : PathNames) (n : ℕ) (r : Option (Bor PathName)) → option_map (λ name. name.now) r ≡ slice_get names n → has_names names ≡ true → IfSome r (λ name. IsTrue (is_name name.now))
+name-at names n None is named = tt
+name-at names n (Some name) is named = named-at names n name.now (sym is) named

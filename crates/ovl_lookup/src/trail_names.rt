@@ -1,0 +1,72 @@
+ghost use Rattle.std.specs.Prelude.{◌≡◌};
+ghost use Rattle.std.specs.Iterator.{YieldsFirstRef, YieldsLastRef, item_count};
+ghost use Rattle.ovl_lookup.specs.Trails.{names_of_parts};
+
+use ovl_names::Names;
+use std::marker::Model;
+use std::slice;
+
+// The names of a trail that are left: those of a part that has begun, of whole parts, and of one that has begun from its
+// end.
+#[derive(Drop)]
+pub(crate) struct TrailNames<'t, 'a> {
+    first: Names<'a>,
+    parts: slice::Iter<'t, Names<'a>>,
+    last: Names<'a>,
+}
+
+impl<'t, 'a> Model for TrailNames<'t, 'a> {
+    ghost use Rattle.std.specs.Prelude.{◌++◌};
+    ghost use Rattle.std.specs.Slice.Iter.{iter_rest};
+    ghost use Rattle.ovl_names.specs.Paths.{PathNames};
+    ghost use Rattle.ovl_lookup.specs.Trails.{names_of_parts};
+
+    ghost Value = { PathNames };
+
+    ghost view = { λ a. a.first ++ (names_of_parts (iter_rest a.parts) ++ a.last) };
+}
+
+impl<'t, 'a> TrailNames<'t, 'a> {
+    // All names of these parts.
+    pub(crate) fn of(parts: &'t [Names<'a>]) -> TrailNames<'t, 'a>
+        ensures { result ≡ names_of_parts parts.now }
+    {
+        TrailNames {
+            first: Names::none(),
+            parts: parts.iter(),
+            last: Names::none(),
+        }
+    }
+}
+
+impl<'t, 'a> Iterator for TrailNames<'t, 'a> {
+    type Item = &'a str;
+
+    ghost next_gives = { YieldsFirstRef (λ names. names) };
+
+    ghost remaining = { item_count (λ names. names) };
+
+    fn next(&mut self) -> Option<&'a str> {
+        while self.first.is_empty() {
+            let Some(part) = self.parts.next() else {
+                return self.last.next();
+            };
+            self.first = part.rest();
+        }
+        self.first.next()
+    }
+}
+
+impl<'t, 'a> DoubleEndedIterator for TrailNames<'t, 'a> {
+    ghost next_back_gives = { YieldsLastRef (λ names. names) };
+
+    fn next_back(&mut self) -> Option<&'a str> {
+        while self.last.is_empty() {
+            let Some(part) = self.parts.next_back() else {
+                return self.first.next_back();
+            };
+            self.last = part.rest();
+        }
+        self.last.next_back()
+    }
+}
