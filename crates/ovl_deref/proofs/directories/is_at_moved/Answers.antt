@@ -58,5 +58,5 @@ returns c =
     let same : layer ≡ top_layer c.args.stack.now = sym (ap (λ (o : Option Entries). unwrap_or o []) c.sheet-sheet.ensures) in
     let above : PathNames = path_at layer c.loop-name.row in
     let whole : above ≡ c.args.dir.now =
-    sym (append-nil above) ∙ (sym (ap (λ (left : PathNames). above ++ left) c.in-None.ensures.steps) ∙ c.loop-name.invariant.there) in
+    sym (append-nil above) ∙ (sym (ap (λ (left : PathNames). above ++ left) c.in-None.ensures.steps.0) ∙ c.loop-name.invariant.there) in
     sym c.loop-name.invariant.free ∙ (λ j. is_at_moved (same j) (whole j))

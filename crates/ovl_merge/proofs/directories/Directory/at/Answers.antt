@@ -53,5 +53,5 @@ loop-name-preserved c =
 pub returns : goal.returns
 returns c =
     let all : c.loop-name.directory.path ≡ c.args.dir.now =
-    sym (append-nil c.loop-name.directory.path) ∙ (sym (ap (λ (left : PathNames). c.loop-name.directory.path ++ left) c.in-None.ensures.steps) ∙ c.loop-name.invariant.there) in
+    sym (append-nil c.loop-name.directory.path) ∙ (sym (ap (λ (left : PathNames). c.loop-name.directory.path ++ left) c.in-None.ensures.steps.0) ∙ c.loop-name.invariant.there) in
     subst (λ (p : PathNames). IsVisited c.args.stack.now p c.loop-name.directory) all c.loop-name.invariant.visited
