@@ -24,3 +24,4 @@ mod StatedLemmas
 pub mod WalkLists
 mod Digests
 mod Rows
+mod SilentLemmas

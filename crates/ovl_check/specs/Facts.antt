@@ -1,13 +1,13 @@
 -- What the conditions ask of one entry of a layer, over the blobs and the stack of the layers below it, and the
 -- condition of each code by that.
-use Rattle.std.specs.Prelude.{◌≡◌, ℕ, MatchOption, Bool, true, false, ◌&&◌, ◌||◌, ◌==◌, not, Option, Some, None, List, [], ◌∷◌, if◌then◌else◌, map, All, codes}
+use Rattle.std.specs.Prelude.{◌≡◌, ℕ, MatchOption, Bool, true, false, ◌&&◌, ◌||◌, ◌==◌, not, Option, Some, None, List, [], ◌∷◌, if◌then◌else◌, length, map, All, codes}
 use Rattle.std.specs.List.{list_any, flat_map}
 use Rattle.std.specs.Option.{option_map}
 use Rattle.ovl_names.specs.Names.{PathName}
 use Rattle.ovl_names.specs.Paths.{PathNames, child_path, parent_path, is_root}
 use Rattle.ovl_inode.specs.declared.inodes.Inode.{Inode}
 use Rattle.ovl_inode.specs.declared.marks.Mark.{Mark}
-use Rattle.ovl_inode.specs.declared.marks.Mark.TheVariants.{Whiteout as WhiteoutMark, DirMoved, Meta}
+use Rattle.ovl_inode.specs.declared.marks.Mark.TheVariants.{Whiteout as WhiteoutMark, Leaf, DirPlain, DirMoved, Meta}
 use Rattle.ovl_inode.specs.Attributes.{opaque_name, redirect_name, impure_name}
 use Rattle.ovl_inode.specs.Kinds.{size_of, blob_of}
 use Rattle.ovl_inode.specs.Marks.{mark_of, has_attribute, attribute_is, is_directory, is_regular, is_whiteout}
@@ -252,3 +252,27 @@ tells facts InOpaqueCode = is_in_opaque facts.kind
 tells facts WhiteoutUnmarked = is_unmarked facts.kind facts.inode.now
 tells facts ImpureMissing = impure_is_missing facts.inode.now facts.holds_origin
 tells facts MarkIgnored = mark_says_nothing facts.is_root facts.inode.now facts.mark.now
+
+-- ---- an entry of which nothing can be told
+
+-- a mark that entries without attributes have
+abbrev pub is_quiet_mark : Mark → Bool
+is_quiet_mark Leaf = true
+is_quiet_mark DirPlain = true
+is_quiet_mark _ = false
+
+abbrev pub is_other : KindFacts → Bool
+is_other Other = true
+is_other _ = false
+
+-- the blob, if one is named, is there, has this length and the bytes of its name
+abbrev pub is_right : NamedBlob → ℕ → Bool
+is_right Unnamed size = true
+is_right Missing size = false
+is_right (Found long wrong) size = long == size && not wrong
+
+-- it has no attributes, and its blob is right
+abbrev pub is_silent : Facts → Bool
+is_silent facts =
+    length facts.inode.now.attrs == 0 && is_quiet_mark facts.mark.now && is_other facts.kind
+    && is_right facts.blob (size_of facts.inode.now) && not facts.holds_origin

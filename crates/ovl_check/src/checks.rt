@@ -254,6 +254,9 @@ fn push_codes(
 ) -> Result<(), AllocError>
     ensures { OnOk result (findings.new.items ≡ findings.old.items ++ map (finding layer (entry_path place.entry)) (filter (λ code. sought_in stack.now layer code && tells facts.now code) all_codes)) }
 {
+    if facts.is_silent() {
+        return Ok(());
+    }
     for code in &CODES {
         let told = is_told(stack, layer, facts, *code);
         push_if(alloc, layer, place, *code, told, findings)?;

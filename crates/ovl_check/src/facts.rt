@@ -1,8 +1,8 @@
 ghost use Rattle.std.specs.Prelude.{◌≡◌};
-ghost use Rattle.ovl_check.specs.Facts.{tells as the_tells, is_lost as lost_test, is_of_wrong_kind as wrong_kind_test, is_open as open_test, lacks_data as no_data_test, has_data_of_other_size as data_size_test, is_missing as missing_test, is_of_other_length as length_test, is_wrong as wrong_test, is_orphan as orphan_test, is_in_opaque as in_opaque_test, is_unmarked as unmarked_test, impure_is_missing as the_impure};
+ghost use Rattle.ovl_check.specs.Facts.{tells as the_tells, is_lost as lost_test, is_of_wrong_kind as wrong_kind_test, is_open as open_test, lacks_data as no_data_test, has_data_of_other_size as data_size_test, is_missing as missing_test, is_of_other_length as length_test, is_wrong as wrong_test, is_orphan as orphan_test, is_in_opaque as in_opaque_test, is_unmarked as unmarked_test, impure_is_missing as the_impure, is_right as right_test, is_other as other_test, is_silent as silent_test};
 
 use crate::findings::Code;
-use crate::marks::{attribute_is, is_malformed, mark_is_ignored};
+use crate::marks::{attribute_is, is_malformed, is_quiet, mark_is_ignored};
 use ovl_inode::{Inode, Kind, Mark, file_size, is_directory, overlay};
 
 /// All codes, in their order.
@@ -81,6 +81,17 @@ pub(crate) struct Facts<'a> {
 }
 
 impl<'a> Facts<'a> {
+    // Whether it is clear that no code is told: of an entry without attributes whose blob, if it names one, is right.
+    pub(crate) fn is_silent(&self) -> bool
+        ensures { result ≡ silent_test self.now }
+    {
+        self.inode.attrs.pairs().is_empty()
+            && is_quiet(self.mark)
+            && is_other(&self.kind)
+            && is_right(&self.blob, file_size(self.inode))
+            && !self.holds_origin
+    }
+
     // Whether the condition of a code other than redirect-double holds.
     pub(crate) fn tells(&self, code: Code) -> bool
         ensures { result ≡ the_tells self.now code }
@@ -215,4 +226,22 @@ fn impure_is_missing(inode: &Inode, holds_origin: bool) -> bool
     ensures { result ≡ the_impure inode.now holds_origin }
 {
     is_directory(inode) && !attribute_is(inode, overlay::IMPURE, b"y") && holds_origin
+}
+
+// Whether the conditions ask nothing of an entry of its kind.
+fn is_other(kind: &KindFacts) -> bool
+    ensures { result ≡ other_test kind.now }
+{
+    matches!(kind, KindFacts::Other)
+}
+
+// Whether the blob, if one is named, is there, has this length and the bytes of its name.
+fn is_right(blob: &NamedBlob, size: u64) -> bool
+    ensures { result ≡ right_test blob.now size }
+{
+    match blob {
+        NamedBlob::Unnamed => true,
+        NamedBlob::Missing => false,
+        NamedBlob::Found { length, is_wrong } => *length == size && !*is_wrong,
+    }
 }

@@ -2,7 +2,7 @@ ghost use Rattle.std.specs.Prelude.{◌≡◌, ◌||◌, Some};
 ghost use Rattle.ovl_inode.specs.Marks.{has_attribute as attribute_test, attribute_is as attribute_value_test};
 ghost use Rattle.ovl_lookup.specs.Sound.{is_moved as moved_test, is_malformed as malformed_test, is_plain as plain_test};
 ghost use Rattle.ovl_check.specs.Conditions.{is_any_meta as any_meta_test, is_empty_file as empty_file_test, metacopy_is_ignored as metacopy_ignored, whiteout_is_ignored as whiteout_ignored};
-ghost use Rattle.ovl_check.specs.Facts.{opaque_says_nothing, redirect_says_nothing, mark_says_nothing};
+ghost use Rattle.ovl_check.specs.Facts.{is_quiet_mark, opaque_says_nothing, redirect_says_nothing, mark_says_nothing};
 
 use ovl_inode::{Inode, Kind, Mark, is_directory, overlay};
 
@@ -33,6 +33,13 @@ pub(crate) fn is_plain(mark: &Mark) -> bool
     ensures { result ≡ plain_test (Some mark.now) }
 {
     matches!(mark, Mark::DirPlain)
+}
+
+// Whether the mark is one that entries without attributes have.
+pub(crate) fn is_quiet(mark: &Mark) -> bool
+    ensures { result ≡ is_quiet_mark mark.now }
+{
+    matches!(mark, Mark::Leaf | Mark::DirPlain)
 }
 
 // Whether the mark is that of a malformed redirect.
