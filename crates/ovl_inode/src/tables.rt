@@ -209,6 +209,13 @@ impl Table {
 }
 
 impl<'a> Pairs<'a> {
+    /// Whether no attributes are left.
+    pub fn is_empty(&self) -> bool
+        ensures { result ≡ (length self.now == 0) }
+    {
+        self.places.is_empty()
+    }
+
     /// No attributes.
     pub(crate) fn none() -> Pairs<'a>
         ensures { result ≡ [] }
