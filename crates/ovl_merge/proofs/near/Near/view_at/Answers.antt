@@ -17,8 +17,8 @@ returns-in-Some-view c =
     (near-child c.args.stack.now c.args.self.now c.requires.near c.args.path.now c.in-Some.name (sym c.in-Some.is ∙ c.in_ok-name.ensures) c.in-Some-view.view c.in-Some-view.is)
     c.child.ensures
 
-pub returns-in-None : goal.returns-in-None
-returns-in-None c =
+pub returns : goal.returns
+returns c =
     let stack = c.args.stack.now in
     sym (ap is_shown_directory (near-nothing stack c.args.self.now c.requires.near c.args.path.now c.in-Some.name (sym c.in-Some.is ∙ c.in_ok-name.ensures)
     (rest (merge_of stack) (merge-each stack stack refl c.requires.several c.ordinary-layers.ensures.each)) c.in-None.is))
