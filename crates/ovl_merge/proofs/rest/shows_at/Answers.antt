@@ -19,8 +19,8 @@ returns-in-Some-view c =
     ∙ (ap (λ (shown : Look). not (is_nothing shown)) (near-look c.args.stack.now c.args.near.now c.requires.near c.in-Some.path c.in-Some-2.name (sym c.in-Some-2.is ∙ c.in_ok-name.ensures) c.in-Some-view.view c.in-Some-view.is)
     ∙ sym (ap (λ (place : Option PathNames). shows_at (merge_of c.args.stack.now).rest place) c.in-Some.is))
 
-pub returns-in-None : goal.returns-in-None
-returns-in-None c =
+pub returns : goal.returns
+returns c =
     let stack = c.args.stack.now in
     ap (λ (shown : Look). not (is_nothing shown)) (near-nothing stack c.args.near.now c.requires.near c.in-Some.path c.in-Some-2.name (sym c.in-Some-2.is ∙ c.in_ok-name.ensures)
     (rest (merge_of stack) (merge-each stack stack refl c.requires.several c.ordinary-layers.ensures.each)) c.in-None.is)

@@ -15,6 +15,15 @@ use Rattle.ovl_merge.proofs.directories.Directory.of.Goals as goal
 pub of-requires : goal.of-requires
 of-requires c = near-upper c.args.stack.now c.args.above.now c.requires.near c.sheet.result.now c.sheet.ensures
 
+pub returns-then-not-is_shown : goal.returns-then-not-is_shown
+returns-then-not-is_shown c =
+    let stack = c.args.stack.now in
+    let m = merge_of stack in
+    let path : PathNames = c.args.path in
+    let walked : IsWalked m.upper c.in_ok-upper.upper = walked-upper stack c.sheet.result.now c.sheet.ensures c.in_ok-upper.upper c.in_ok-upper.ensures.walked in
+    let above : IsStand m.upper path c.in_ok-upper.upper.stand = subst (λ (p : PathNames). IsStand m.upper p c.in_ok-upper.upper.stand) c.in_ok-upper.ensures.path walked in
+    shown-by m path c.in_ok-upper.upper.stand above c.in_ok-lower.lower c.in_ok-lower.ensures.walked c.in_ok-lower.ensures.path ∙ sym c.if-not-is_shown.ensures
+
 pub returns-in_default : goal.returns-in_default
 returns-in_default c =
     let stack = c.args.stack.now in
