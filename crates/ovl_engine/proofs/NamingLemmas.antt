@@ -2,7 +2,6 @@
 use Rattle.std.proofs.Common.{◌≡◌, ℕ, ◌<◌, Bool, true, false, cond, Option, Some, None, List, [], ◌∷◌, ◌++◌, Ok, refl, sym, ap, ◌∙◌, subst, map, length, take, get_or}
 use Rattle.std.specs.Prelude.{◌==◌, ◌&&◌, is_some}
 use Rattle.std.specs.Option.{option_map}
-use Rattle.std.specs.Result.{result_ok}
 use Rattle.std.specs.List.{list_all}
 use Rattle.std.specs.Map.{lookup}
 use Rattle.std.specs.Str.{bytes_eq}
@@ -13,29 +12,13 @@ use Rattle.std.specs.declared.cmp.Ordering.{Ordering}
 use Rattle.std.specs.declared.cmp.Ordering.TheVariants.{Less, Equal, Greater}
 use Rattle.std.proofs.lemmas.Cmp.{tied_itself}
 use Rattle.std.proofs.lemmas.List.{take_more, map-append}
-use Rattle.hex.specs.Hex.{encode_lower, decode_of, IsBytes}
-use Rattle.hex.proofs.HexLemmas.{decode_of-encode_lower}
 use Rattle.sha2.specs.Sha256.{sha256}
-use Rattle.ovl_inode.specs.Hexadecimal.{digest_of_text, is_lower_digit}
 use Rattle.std.specs.List.{AllByRecursion}
 use Rattle.std.specs.List.Sorted.{IsStrictlySortedBy}
 use Rattle.std.proofs.lemmas.List.{take_all}
 use Rattle.std.proofs.Common.{◌+◌, ◌≤◌}
 use Rattle.ovl_check.specs.Blobs.{BlobView, digest_cmp, are_in_order}
 use Rattle.ovl_engine.specs.NamedBlobs.{first_with, bytes_under, HasFirsts, name_and_bytes}
-
--- ---- the digest that digits spell
-
-pub digest_spelt : (text digest sha : List ℕ) → digest_of_text text ≡ Some digest → text ≡ encode_lower sha → IsBytes sha → digest ≡ sha
-digest_spelt text digest sha spelt is bytes = by (length text == 64) (list_all is_lower_digit text) spelt
-  where
-    decoded : decode_of text ≡ Ok sha
-    decoded = ap decode_of is ∙ decode_of-encode_lower sha bytes
-
-    by : (b c : Bool) → cond b (cond c (result_ok (decode_of text)) None) None ≡ Some digest → digest ≡ sha
-    by true true e = let same : Some sha ≡ Some digest = sym (ap result_ok decoded) ∙ e in cc
-    by true false e = let bad : None ≡ Some digest = e in cc
-    by false c e = let bad : None ≡ Some digest = e in cc
 
 -- ---- keys that are compared, and keys that are tested
 

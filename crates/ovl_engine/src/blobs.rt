@@ -30,7 +30,7 @@ fn first_of_each(
 {
     let mut named = BTreeMap::new(alloc);
     for bytes in contents {
-        let name = digest_of(alloc, bytes.as_slice())?;
+        let name = digest_of(bytes.as_slice());
         if !named.contains_key(&name) {
             named.insert(name, copied(alloc, bytes.as_slice())?)?;
         }
@@ -51,24 +51,10 @@ fn blobs_of(alloc: Global, named: BTreeMap<Digest, Vec<u8>>) -> Result<Vec<Blob>
     Ok(blobs)
 }
 
-fn digest_of(alloc: Global, bytes: &[u8]) -> Result<Digest, AllocError>
-    ensures { IfOk result (λ name. name ≡ sha256 bytes.now) }
+fn digest_of(bytes: &[u8]) -> Digest
+    ensures { result ≡ sha256 bytes.now }
 {
-    let digest = <Sha256 as sha2::Digest>::digest(bytes);
-    let name = digest_from(alloc, digest.as_slice())?;
-    Ok(name)
-}
-
-// The digest of 32 bytes.
-fn digest_from(alloc: Global, bytes: &[u8]) -> Result<Digest, AllocError>
-    ensures { IfOk result (λ digest. digest ≡ bytes.now) }
-{
-    let text = hex::encode(alloc, bytes)?;
-    match Digest::parse(text.as_str()) {
-        Ok(digest) => Ok(digest),
-        // Their 64 lower-case digits are a digest, so that there is no other fault.
-        Err(_) => Err(AllocError),
-    }
+    Digest::from(&<Sha256 as sha2::Digest>::digest(bytes))
 }
 
 fn copied(alloc: Global, bytes: &[u8]) -> Result<Vec<u8>, AllocError>

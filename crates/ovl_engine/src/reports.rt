@@ -1,6 +1,5 @@
 ghost use Rattle.std.specs.Prelude.{◌≡◌, ◌+◌, ◌%◌, ◌++◌, IfOk, OnOk, codes, decimal, replicate, string_bytes};
 ghost use Rattle.std.specs.List.{flat_map};
-ghost use Rattle.hex.specs.Hex.{encode_lower};
 ghost use Rattle.ovl_names.specs.Escapes.{escaped as escaped_text, shown_path};
 ghost use Rattle.ovl_inode.specs.Kinds.{kind_word};
 ghost use Rattle.ovl_engine.specs.Reports.{octal_digit as last_digit, octal, size_word, blob_word, device_word, what_word, attribute_word, nine_digits as nine_digits_of, time_word, spaced, inode_line, show_report};
@@ -175,21 +174,8 @@ fn push_blob(report: &mut String, blob: Option<Digest>, broken: bool) -> Result<
 {
     match blob {
         _ if broken => report.push_str("missing"),
-        Some(digest) => push_digest(report, &digest),
+        Some(digest) => report.push_str(digest.digits().as_str()),
         None => report.push_str("-"),
-    }
-}
-
-// The 64 digits of a digest.
-fn push_digest(report: &mut String, digest: &Digest) -> Result<(), AllocError>
-    ensures { OnOk result (string_bytes report.new ≡ string_bytes report.old ++ encode_lower digest.now) }
-{
-    let mut digits = [0; 64];
-    let _ = hex::encode_to_slice(digest.as_bytes().as_slice(), &mut digits);
-    match std::str::from_utf8(&digits) {
-        Ok(text) => report.push_str(text),
-        // Digits are a text, so that there is no other fault.
-        Err(_) => Err(AllocError),
     }
 }
 

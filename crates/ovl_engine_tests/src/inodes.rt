@@ -56,7 +56,7 @@ mark: bare /a metacopy= redirect=a/b -> MetaBad false false
 // A digest's digits, or what is told of its fault.
 fn digest_told(alloc: Global, text: &str) -> Result<String, AllocError> {
     match Digest::parse(text) {
-        Ok(digest) => hex::encode(alloc, digest.as_bytes()),
+        Ok(digest) => String::from_str(alloc, digest.digits().as_str()),
         Err(fault) => fault.to_string(alloc),
     }
 }

@@ -178,6 +178,6 @@ pub fn blob_path(alloc: Global, folder: &str, name: &Digest) -> Result<String, A
 {
     let mut path = String::from_str(alloc, folder)?;
     path.push('/')?;
-    path.push_str(hex::encode(alloc, name.as_bytes())?.as_str())?;
+    path.push_str(name.digits().as_str())?;
     Ok(path)
 }
