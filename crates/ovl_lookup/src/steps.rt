@@ -105,7 +105,7 @@ pub(crate) fn follow<'a>(
             closed,
         });
     };
-    if depth + 1 < trail.len() {
+    if trail.name(depth + 1).is_some() {
         return Ok(TrailStep {
             found: None,
             next: trail.onward(next, depth)?,
@@ -200,7 +200,7 @@ pub(crate) fn trail_in<'a>(
         next,
         closed,
     } = descend(alloc, sheet, &trail)?;
-    if depth < trail.len() {
+    if trail.name(depth).is_some() {
         return Ok(None);
     }
     Ok(Some(OwnDirectory { row, next, closed }))
