@@ -247,7 +247,7 @@ printf -v name_255 '%0255d' 0
     deepest=$(printf '/d%.0s' {1..64})
     at dir "$deepest" "${moved[0]}"
     at char /x "${moved[1]}"
-} | layer > chained.json
+} | layer > chain_moved.json
 {
     at dir "/$name_255" "${moved[0]}"
     at char /x "${moved[1]}"
@@ -562,7 +562,7 @@ refuses 5 'result over the limits' deref "${rewritten[@]}" long_named.json long.
 gives new
 closes 'entries 130\n' show moved.json deeper.json
 closes 'entries 129\n' merge "${rewritten[@]}" moved.json deep.json
-closes 'entries 128\n' merge "${rewritten[@]}" chained.json half.json
+closes 'entries 128\n' merge "${rewritten[@]}" chain_moved.json half.json
 rm -f new/layer-*.json
 
 prints 1 'fault redirect-lost 0 /m\nfault redirect-open 0 /m\nfaults 2 notes 0\n' fsck --blobs none far.json root.json
