@@ -179,11 +179,7 @@ fn digits_pieces(alloc: Global, digits: BTreeSet<Name>) -> Result<Vec<Piece>, Al
 }
 
 // The names of the blobs with wrong bytes whose names begin with these digits.
-fn wrong_names_under(
-    alloc: Global,
-    blobs: &[Blob],
-    digits: &str,
-) -> Result<Vec<Digest>, AllocError>
+fn wrong_names_under(alloc: Global, blobs: &[Blob], digits: &str) -> Result<Vec<Digest>, AllocError>
     ensures { IfOk result (λ names. names.items ≡ the_names_under digits.now (blob_views blobs.now)) }
 {
     let mut names = Vec::new(alloc);

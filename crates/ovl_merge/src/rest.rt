@@ -107,11 +107,7 @@ pub(crate) fn name_in(
 }
 
 // The name by which it lies directly in this directory, if it does.
-pub(crate) fn name_below(
-    alloc: Global,
-    dir: &Path,
-    path: &Path,
-) -> Result<Option<Name>, AllocError>
+pub(crate) fn name_below(alloc: Global, dir: &Path, path: &Path) -> Result<Option<Name>, AllocError>
     ensures { IfOk result (λ name. name ≡ name_directly_in (Some dir.now) path.now) }
 {
     match path.names().split_last() {
