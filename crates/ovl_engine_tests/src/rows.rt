@@ -256,14 +256,14 @@ fn line_told<R: Threads + Wait + Sync>(
 #[test]
 fn commands_answer_what_is_written(rt: HostRuntime) -> Result<(), Fail> {
     let mut blobs = Vec::new(rt.alloc());
-    let mut stack = "";
+    let mut stack = String::new(rt.alloc());
     for line in ROWS.lines() {
         if line.contains(": ") {
-            line_told(&rt, rt.alloc(), stack, &blobs, line)?;
+            line_told(&rt, rt.alloc(), stack.as_str(), &blobs, line)?;
         } else if let Some(words) = line.strip_prefix("blobs ") {
             blobs = blobs_of(rt.alloc(), words)?;
         } else {
-            stack = line;
+            stack = String::from_str(rt.alloc(), line)?;
         }
     }
     Ok(())
