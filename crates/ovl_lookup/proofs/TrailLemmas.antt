@@ -1,5 +1,6 @@
 -- Paths in parts that others hold.
-use Rattle.std.proofs.Common.{◌≡◌, ℕ, zero, suc, Some, None, ◌+◌, ◌-◌, ◌<◌, ◌≤◌, ◌∙◌, ◌++◌, List, [], ◌∷◌, length, drop, get_or, slice_get, refl, sym, ap, arith}
+use Rattle.std.proofs.Common.{◌≡◌, ℕ, zero, suc, Some, None, ◌+◌, ◌-◌, ◌<◌, ◌≤◌, ◌∙◌, ◌++◌, List, [], ◌∷◌, length, drop, get_or, slice_get, sym, ap, arith}
+use Rattle.std.proofs.Math.Seq.{drop-append-add}
 use Rattle.std.proofs.lemmas.List.{drop_more}
 use Rattle.std.proofs.lemmas.Option.{slice_get_within, get_or_from_slice_get}
 use Rattle.ovl_names.specs.Names.{PathName}
@@ -12,18 +13,11 @@ part-next parts k part inside is =
     ap names_of_parts (drop_more parts k part inside)
     ∙ ap (λ (own : PathNames). own ++ names_of_parts (drop (k + 1) parts)) (sym is)
 
--- what stands behind so many of the names of a part and of what stands after it
-pub drop-part : (names more : PathNames) (left : ℕ) → drop left (names ++ more) ≡ drop left names ++ drop (left - length names) more
-drop-part [] more zero = refl
-drop-part [] more (suc n) =
-    let all : suc n ≡ suc n - 0 = omega arith in
-    ap (λ left. drop left more) all
-drop-part (name ∷ names) more zero =
-    let none : 0 ≡ 0 - suc (length names) = omega arith in
-    ap (λ left. name ∷ names ++ drop left more) none
-drop-part (name ∷ names) more (suc n) =
-    let less : n - length names ≡ suc n - suc (length names) = omega arith in
-    drop-part names more n ∙ ap (λ left. drop n names ++ drop left more) less
+-- what stands after the names of a part
+pub drop-past : (names more : PathNames) (left : ℕ) → length names ≤ left → drop left (names ++ more) ≡ drop (left - length names) more
+drop-past names more left past =
+    let whole : left ≡ length names + (left - length names) = omega (arith, past) in
+    ap (λ n. drop n (names ++ more)) whole ∙ drop-append-add names more (left - length names)
 
 -- the name of a number, and that there is none past the last
 pub name-read : (names : PathNames) (number : ℕ) (name : PathName) → Some name ≡ slice_get names number → (number < length names) × (name ≡ get_or names number name)

@@ -1,7 +1,6 @@
 -- The names of a trail that are left, from either end.
-use Rattle.std.proofs.Common.{◌≡◌, ℕ, zero, suc, Option, Some, None, Bor, ◌+◌, ◌<◌, ◌≤◌, ◌^◌, ◌∙◌, ◌++◌, List, [], ◌∷◌, true, IsTrue, IfSome, length, drop, slice_get, append_assoc, refl, sym, ap, subst, arith}
+use Rattle.std.proofs.Common.{◌≡◌, ℕ, zero, suc, Option, Some, None, Bor, ◌+◌, ◌<◌, ◌^◌, ◌∙◌, ◌++◌, List, [], ◌∷◌, true, IsTrue, IfSome, length, drop, slice_get, append_assoc, refl, sym, ap, subst, arith}
 use Rattle.std.specs.Option.{option_map}
-use Rattle.std.specs.Prelude.{is_some, false}
 use Rattle.std.specs.Iterator.{YieldsFirstRef, YieldsLastRef}
 use Rattle.std.proofs.lemmas.List.{append-nil}
 use Rattle.std.proofs.lemmas.Option.{slice_get_within}
@@ -9,7 +8,6 @@ use Rattle.ovl_names.specs.Names.{PathName, is_name}
 use Rattle.ovl_names.specs.Paths.{PathNames, has_names}
 use Rattle.ovl_names.proofs.Ascending.{both}
 use Rattle.ovl_lookup.specs.Trails.{names_of_parts}
-use Rattle.ovl_lookup.proofs.TrailLemmas.{name-past}
 
 pub no_parts : (parts : List PathNames) → length parts ≡ 0 → names_of_parts parts ≡ []
 no_parts [] none = refl
@@ -54,20 +52,6 @@ end-read [] zero is = refl
 end-read [] (suc n) is = refl
 end-read (own ∷ names) zero is = cc
 end-read (own ∷ names) (suc n) is = end-read names n is
-
--- whether there is a name of a number
-pub some-at : (names : PathNames) (n : ℕ) (r : Option (Bor PathName)) → option_map (λ name. name.now) r ≡ slice_get names n → is_some r ≡ true → n < length names
-some-at names n None is some = cc
-some-at names n (Some name) is some = slice_get_within names n name.now (sym is)
-
-pub none-at : (names : PathNames) (n : ℕ) (r : Option (Bor PathName)) → option_map (λ name. name.now) r ≡ slice_get names n → is_some r ≡ false → length names ≤ n
-none-at names n None is none = name-past names n is
-none-at names n (Some name) is none = cc
-
--- one name passed over, or none where none is left
-pub one_passed : (r : Option (Bor PathName)) (old new : PathNames) → YieldsFirstRef {S = PathNames} {A = PathName} (λ names. names) old r new → (new ≡ drop 1 old) × (is_some r ≡ true → 0 < length old) × (is_some r ≡ false → length old ≡ 0)
-one_passed None old new gives = (gives.1 ∙ sym (ap (drop 1) gives.0), λ some. cc, λ none. ap length gives.0)
-one_passed (Some name) old new gives = (sym (ap (drop 1) gives), λ some. omega (arith, ap length gives), λ none. cc)
 
 -- the name of a number is one of the trail's names
 pub named-at : (names : PathNames) (n : ℕ) (name : PathName) → slice_get names n ≡ Some name → has_names names ≡ true → is_name name ≡ true

@@ -105,7 +105,7 @@ pub(crate) fn follow<'a>(
             closed,
         });
     };
-    if trail.name(depth + 1).is_some() {
+    if depth + 1 < trail.len() {
         return Ok(TrailStep {
             found: None,
             next: trail.onward(next, depth)?,
@@ -200,7 +200,7 @@ pub(crate) fn trail_in<'a>(
         next,
         closed,
     } = descend(alloc, sheet, &trail)?;
-    if trail.name(depth).is_some() {
+    if depth < trail.len() {
         return Ok(None);
     }
     Ok(Some(OwnDirectory { row, next, closed }))

@@ -1,4 +1,4 @@
-ghost use Rattle.std.specs.Prelude.{◌≡◌, ◌+◌, ◌-◌, ◌<◌, ◌^◌, ◌++◌, [], Some, length, drop, reverse, slice_get, IsTrue, IfOk, IfSome};
+ghost use Rattle.std.specs.Prelude.{◌≡◌, ◌+◌, ◌<◌, ◌^◌, ◌++◌, [], Some, length, drop, reverse, slice_get, IsTrue, IfOk, IfSome};
 ghost use Rattle.std.specs.Cmp.{partial_equiv_from_equiv, po};
 ghost use Rattle.std.specs.Cmp.Lexicographic.{nat_list_cmp_total, nat_list_eq_equiv, texts_ties, lists_total, lists_equiv, lists_ties};
 ghost use Rattle.std.proofs.Common.{refl};
@@ -19,12 +19,11 @@ use std::marker::Model;
 #[derive(Debug, Drop)]
 pub struct Trail<'a> {
     parts: Vec<Names<'a>>,
-    // A number that the names are no more than.
-    most: usize,
+    len: usize,
 }
 
 impl<'a> Model for Trail<'a> {
-    ghost use Rattle.std.specs.Prelude.{◌≡◌, ◌≤◌, length, true};
+    ghost use Rattle.std.specs.Prelude.{◌≡◌, length, true};
     ghost use Rattle.ovl_names.specs.Paths.{PathNames, has_names};
     ghost use Rattle.ovl_lookup.specs.Trails.{names_of_parts};
 
@@ -32,7 +31,7 @@ impl<'a> Model for Trail<'a> {
 
     ghost view = { λ a. names_of_parts a.parts.items };
 
-    ghost invariant = { λ a. (length (names_of_parts a.parts.items) ≤ a.most) × (has_names (names_of_parts a.parts.items) ≡ true) };
+    ghost invariant = { λ a. (a.len ≡ length (names_of_parts a.parts.items)) × (has_names (names_of_parts a.parts.items) ≡ true) };
 }
 
 impl<'a> Trail<'a> {
@@ -42,7 +41,7 @@ impl<'a> Trail<'a> {
     {
         Trail {
             parts: Vec::new(alloc),
-            most: 0,
+            len: 0,
         }
     }
 
@@ -57,17 +56,14 @@ impl<'a> Trail<'a> {
     pub(crate) fn with(self, names: &Names<'a>) -> Result<Trail<'a>, AllocError>
         ensures { IfOk result (λ trail. trail ≡ self.entry ++ names.now) }
     {
-        if names.is_empty() {
-            return Ok(self);
-        }
-        let Trail { parts, most } = self;
-        let Some(most) = most.checked_add(names.most()) else {
+        let Trail { parts, len } = self;
+        let Some(len) = len.checked_add(names.len()) else {
             // More names than memory has room for.
             return Err(AllocError);
         };
         let mut parts = parts;
         parts.push(names.rest())?;
-        Ok(Trail { parts, most })
+        Ok(Trail { parts, len })
     }
 
     // The trail of the entry `name` in this directory.
@@ -78,6 +74,13 @@ impl<'a> Trail<'a> {
         self.with(&Names::one(name))
     }
 
+    // The number of names.
+    pub(crate) fn len(&self) -> usize
+        ensures { result ≡ length self.now }
+    {
+        self.len
+    }
+
     // The names from the root down.
     pub(crate) fn names(&self) -> TrailNames<'_, 'a>
         ensures value { result ≡ self.now }
@@ -85,7 +88,7 @@ impl<'a> Trail<'a> {
         ensures few { length self.now < 2 ^ 64 }
     {
         // Its number fits a `usize`.
-        let _most = self.most;
+        let _count = self.len;
         TrailNames::of(&self.parts)
     }
 
@@ -105,9 +108,13 @@ impl<'a> Trail<'a> {
         let mut trail = next;
         let mut left = walked;
         for part in &self.parts {
-            let mut names = part.rest();
-            left = pass(&mut names, left);
-            trail = trail.with(&names)?;
+            let count = part.len();
+            if left >= count {
+                left -= count;
+                continue;
+            }
+            trail = trail.with(&part.after(left))?;
+            left = 0;
         }
         Ok(trail)
     }
@@ -151,19 +158,6 @@ impl<'a> Trail<'a> {
             None => Ordering::Equal,
         }
     }
-}
-
-// Passes over so many names, and gives how many more of them there are to pass.
-fn pass(names: &mut Names<'_>, count: usize) -> usize
-    ensures names { names.new ≡ drop count names.old }
-    ensures left { result ≡ count - length names.old }
-{
-    for passed in 0..count {
-        if names.next().is_none() {
-            return count - passed;
-        }
-    }
-    0
 }
 
 impl<'a> PartialEq for Trail<'a> {

@@ -69,20 +69,6 @@ pub text_names-some : (text : List ℕ) → 0 < length text → text_names text 
 text_names-some [] some = absurd (omega arith)
 text_names-some (byte ∷ bytes) some = refl
 
--- a text has no more names than bytes, and one
-few_parts : (text : List ℕ) → length (parts_between text) ≤ length text + 1
-few_parts [] = omega arith
-few_parts (x ∷ xs) = by (x == slash) (parts_between xs) (few_parts xs)
-  where
-    by : (b : Bool) (parts : PathNames) → length parts ≤ length xs + 1 → length (cond b ([] ∷ parts) (onto_first x parts)) ≤ length (x ∷ xs) + 1
-    by true parts few = omega arith
-    by false [] few = omega arith
-    by false (part ∷ parts) few = omega arith
-
-pub text_names-most : (text : List ℕ) → length (text_names text) ≤ length text + 1
-text_names-most [] = omega arith
-text_names-most (byte ∷ bytes) = few_parts (byte ∷ bytes)
-
 -- a text without names is empty
 pub text_names-none : (text : List ℕ) → text_names text ≡ [] → text ≡ []
 text_names-none [] none = refl

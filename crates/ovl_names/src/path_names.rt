@@ -1,4 +1,4 @@
-ghost use Rattle.std.specs.Prelude.{◌≡◌, ◌≤◌, ◌∷◌, ◌++◌, [], ◌↔◌, drop, length, IsTrue, MatchOption};
+ghost use Rattle.std.specs.Prelude.{◌≡◌, ◌∷◌, ◌++◌, [], ◌↔◌, drop, length, IsTrue, MatchOption};
 ghost use Rattle.std.specs.Cmp.{partial_equiv_from_equiv};
 ghost use Rattle.std.specs.Cmp.Lexicographic.{nat_list_eq_equiv, lists_equiv};
 ghost use Rattle.std.specs.Iterator.{YieldsFirstRef, YieldsLastRef, item_count};
@@ -68,13 +68,6 @@ impl<'a> Names<'a> {
         } else {
             part_count(self.text)
         }
-    }
-
-    /// A number that they are no more than, told at once, whatever their number is.
-    pub fn most(&self) -> usize
-        ensures { length self.now ≤ result }
-    {
-        self.text.len() + 1
     }
 
     /// Whether there is no name.

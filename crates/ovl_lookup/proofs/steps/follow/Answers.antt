@@ -1,5 +1,6 @@
 use Rattle.std.proofs.Common.{◌≡◌, ◌+◌, ◌<◌, ◌≤◌, ◌∙◌, ◌++◌, ◌∷◌, IfOk, Bool, true, Some, None, [], length, take, drop, length-drop, refl, sym, ap, subst, arith}
 use Rattle.std.proofs.lemmas.List.{drop_all}
+use Rattle.std.proofs.lemmas.Bool.Decides.{nat_tests}
 use Rattle.ovl_names.specs.Names.{PathName}
 use Rattle.ovl_names.specs.Paths.{PathNames, child_path}
 use Rattle.ovl_inode.specs.declared.inodes.Inode.{Inode}
@@ -13,7 +14,6 @@ use Rattle.ovl_lookup.specs.Walk.{walk_beyond, nothing_found}
 use Rattle.ovl_lookup.proofs.WalkFacts.{walk-ends, walk-misses, walk-ends_whole, stopped, drop-head}
 use Rattle.ovl_lookup.proofs.LawsOfWalks.{entry-of_row}
 use Rattle.ovl_lookup.proofs.TrailLemmas.{name-read, name-past}
-use Rattle.ovl_lookup.proofs.TrailNameLemmas.{some-at, none-at}
 use Rattle.ovl_lookup.proofs.steps.follow.Goals as goal
 
 -- nothing is found below a file
@@ -46,8 +46,8 @@ returns-in_default-child-clause-value c =
     ∙ walk-misses layer path descent.depth name at.0 at.1 is.layered is.directory (stopped layer path descent name is at.0 at.1)
     descent.next descent.closed here is.turned is.shut
 
-pub returns-then-is_some-clause-value : goal.returns-then-is_some-clause-value
-returns-then-is_some-clause-value c =
+pub returns-then-depth-len-clause-value : goal.returns-then-depth-len-clause-value
+returns-then-depth-len-clause-value c =
     let layer : Entries = c.args.sheet.now in
     let path : PathNames = c.args.trail.now in
     let descent : Descent = c.in_ok-row.field-0 in
@@ -57,7 +57,7 @@ returns-then-is_some-clause-value c =
     let path_is = c.in-Some-child.ensures.1 ∙ ap (λ (p : PathNames). child_path p name) is.here in
     let found = entry-of_row layer c.in-Some-child.number is.layered c.in-Some-child.ensures.0 in
     let here : Some found.0 ≡ entry_at layer (child_path (take descent.depth path) name) = sym (sym (ap (entry_at layer) path_is) ∙ found.1) in
-    let more : descent.depth + 1 < length path = some-at path (descent.depth + 1) c.name-2.result c.name-2.ensures.value (sym c.is_some.ensures ∙ c.if-is_some.true) in
+    let more : descent.depth + 1 < length path = grind (arith, nat_tests, c.if-depth-len.true, c.len.ensures) in
     let some : 0 < length (drop (descent.depth + 1) path) = omega (arith, more, length-drop (descent.depth + 1) path) in
     ap (λ (next : PathNames). nothing_found next true) (c.in_ok-onward-2.ensures ∙ ap (λ (r : PathNames). descent.next ++ r) (drop-head path descent.depth name at.0 at.1))
     ∙ (below-file found.0 descent.next descent.closed name (drop (descent.depth + 1) path) some
@@ -75,7 +75,7 @@ returns-clause-value c =
     let at = name-read path descent.depth name c.in-Some.ensures.value in
     let path_is = c.in-Some-child.ensures.1 ∙ ap (λ (p : PathNames). child_path p name) is.here in
     let here : Some inode ≡ entry_at layer (child_path (take descent.depth path) name) = sym c.found_in-2.ensures.value ∙ ap (entry_at layer) path_is in
-    let last : length path ≤ descent.depth + 1 = none-at path (descent.depth + 1) c.name-2.result c.name-2.ensures.value (sym c.is_some.ensures ∙ c.if-is_some.false) in
+    let last : length path ≤ descent.depth + 1 = grind (arith, nat_tests, c.if-depth-len.false, c.len.ensures) in
     subst (λ (s : Step). IfOk c.beyond.result (λ step. step_of step ≡ s))
     (ap (walk_beyond (Some inode) descent.next descent.closed name) (sym (drop_all (descent.depth + 1) path last))
     ∙ walk-ends layer path descent.depth name at.0 at.1 is.layered is.directory (stopped layer path descent name is at.0 at.1)

@@ -1,4 +1,5 @@
-use Rattle.std.proofs.Common.{◌≡◌, ◌∙◌, ◌<◌, ◌≤◌, true, length, take, sym, ap, subst}
+use Rattle.std.proofs.Common.{◌≡◌, ◌∙◌, true, length, take, sym, ap, subst, arith}
+use Rattle.std.proofs.lemmas.Bool.Decides.{nat_tests}
 use Rattle.std.proofs.lemmas.List.{take_all}
 use Rattle.ovl_names.specs.Paths.{PathNames}
 use Rattle.ovl_manifest.specs.Layers.{Entries, is_directory_at}
@@ -7,17 +8,16 @@ use Rattle.ovl_lookup.specs.declared.steps.Step.{Step}
 use Rattle.ovl_lookup.specs.Passes.{IsDescent}
 use Rattle.ovl_lookup.specs.Walk.{turn, is_shut}
 use Rattle.ovl_lookup.proofs.LawsOfWalks.{walk-whole}
-use Rattle.ovl_lookup.proofs.TrailNameLemmas.{some-at, none-at}
 use Rattle.ovl_lookup.proofs.DirViewLemmas.{short-descent}
 use Rattle.ovl_lookup.proofs.steps.trail_in.Goals as goal
 
-pub returns-then-is_some : goal.returns-then-is_some
-returns-then-is_some c =
+pub returns-then-depth-len : goal.returns-then-depth-len
+returns-then-depth-len c =
     let layer : Entries = c.args.sheet.now in
     let descent : Descent = c.in_ok-row.field-0 in
     let same : c.in_ok-trail.trail ≡ c.args.path.now = c.in_ok-trail.ensures ∙ c.names.ensures.value in
     let is = subst (λ (names : PathNames). IsDescent layer names descent) same c.in_ok-row.ensures in
-    short-descent layer c.args.path.now descent is (subst (λ (names : PathNames). descent.depth < length names) same (some-at c.in_ok-trail.trail descent.depth c.name.result c.name.ensures.value (sym c.is_some.ensures ∙ c.if-is_some.true)))
+    short-descent layer c.args.path.now descent is (grind (arith, nat_tests, c.if-depth-len.true, c.len.ensures, ap length same))
 
 pub returns : goal.returns
 returns c =
@@ -26,7 +26,7 @@ returns c =
     let descent : Descent = c.in_ok-row.field-0 in
     let same : c.in_ok-trail.trail ≡ path = c.in_ok-trail.ensures ∙ c.names.ensures.value in
     let is = subst (λ (names : PathNames). IsDescent layer names descent) same c.in_ok-row.ensures in
-    let whole : take descent.depth path ≡ path = take_all descent.depth path (subst (λ (names : PathNames). length names ≤ descent.depth) same (none-at c.in_ok-trail.trail descent.depth c.name.result c.name.ensures.value (sym c.is_some.ensures ∙ c.if-is_some.false))) in
+    let whole : take descent.depth path ≡ path = take_all descent.depth path (grind (arith, nat_tests, c.if-depth-len.false, c.len.ensures, ap length same)) in
     let holds : is_directory_at layer path ≡ true = ap (is_directory_at layer) (sym whole) ∙ is.directory in
     let step = walk-whole layer path holds in
     record {
