@@ -50,7 +50,7 @@ fn told(alloc: Global, words: &str) -> Result<String, Fail> {
     let mut input = Slow {
         left: words.next().unwrap_or("").as_bytes(),
         at_a_time: number(words.next()),
-        error: number(words.next()) as i32,
+        error: i32::try_from(number(words.next())).unwrap_or(0),
         reads: 0,
     };
     let read = read_all(alloc, &mut input, number(words.next()));
