@@ -110,12 +110,12 @@ children / -> n;x;
 children /n -> d;
 children /x ->\x20
 children /z ->\x20
-row 0 -> / 0 5
-row 1 -> n 0 3
-row 2 -> z 1 3
-row 3 -> x 0 5
-row 4 -> k 3 5
-row 5 -> none
+entry 0 -> / 0 5
+entry 1 -> n 0 3
+entry 2 -> z 1 3
+entry 3 -> x 0 5
+entry 4 -> k 3 5
+entry 5 -> none
 mode /x/k -> 420
 mode /x/z -> none
 ";
@@ -125,7 +125,7 @@ fn told(alloc: Global, call: &str, by_layer: bool) -> Result<String, Fail> {
     match word {
         "written" => written_told(alloc, words),
         "children" => children_told(alloc, words),
-        "row" => row_told(alloc, words, by_layer),
+        "entry" => row_told(alloc, words, by_layer),
         "mode" => mode_told(alloc, words),
         _ => Err(Fail::new("no call has this word")),
     }
