@@ -10,6 +10,7 @@ use Rattle.std.specs.Str.{bytes_eq, is_utf8, IsUtf8}
 use Rattle.std.proofs.lemmas.Bool.{eqb-true, eq-eqb}
 use Rattle.std.proofs.lemmas.List.Splits.{length-slice_split, slice_split_first, join_with_byte-slice_split}
 use Rattle.std.proofs.lemmas.List.{take-append-drop, take-append-le}
+use Rattle.std.proofs.lemmas.List.Folds.{list_all-append}
 use Rattle.std.proofs.lemmas.List.Sums.{fails_before_first, passes_at_first}
 use Rattle.std.proofs.lemmas.Str.{IsUtf8-take, IsUtf8-drop, IsCharBoundary-before_ascii, IsCharBoundary-after_ascii, IsUtf8-past_char, encode_ascii, is_utf8-from_IsUtf8}
 use Rattle.std.proofs.lemmas.Bool.Decides.{nat_tests}
@@ -30,6 +31,15 @@ use Rattle.ovl_names.proofs.Ascending.{both}
 -- a text has at least one part
 pub some_part : (text : List ℕ) → 0 < length (parts_between text)
 some_part text = omega (arith, length-slice_split (λ byte. byte == slash) text)
+
+pub few_parts : (text : List ℕ) → length (parts_between text) ≤ length text + 1
+few_parts [] = omega arith
+few_parts (x ∷ xs) = by (x == slash) (parts_between xs) (few_parts xs)
+  where
+    by : (b : Bool) (parts : PathNames) → length parts ≤ length xs + 1 → length (cond b ([] ∷ parts) (onto_first x parts)) ≤ length (x ∷ xs) + 1
+    by true parts few = omega (arith, few)
+    by false [] few = omega arith
+    by false (part ∷ parts) few = omega (arith, few)
 
 -- the parts of two texts with a separator between
 pub parts-across : (xs ys : List ℕ) → parts_between (xs ++ slash ∷ ys) ≡ parts_between xs ++ parts_between ys
@@ -79,6 +89,26 @@ pub text_names-across : (xs ys : List ℕ) → 0 < length xs → 0 < length ys �
 text_names-across [] ys some more = absurd (omega arith)
 text_names-across (x ∷ xs) ys some more = rw (text_names-some ys more) (parts-across (x ∷ xs) ys)
 
+pub empty_is_none : is_name [] ≡ false
+empty_is_none = refl
+
+-- a text has no more names than bytes
+pub few_names : (text : List ℕ) → has_names (text_names text) ≡ true → length (text_names text) ≤ length text
+few_names [] named = omega arith
+few_names (x ∷ xs) named = by (x == slash) (parts_between xs) (few_parts xs) named
+  where
+    by : (b : Bool) (parts : PathNames) → length parts ≤ length xs + 1 → has_names (cond b ([] ∷ parts) (onto_first x parts)) ≡ true → length (cond b ([] ∷ parts) (onto_first x parts)) ≤ length (x ∷ xs)
+    by true parts few all = let bad = (both {a = is_name []} {b = has_names parts} all).0 in cc (empty_is_none)
+    by false [] few all = omega arith
+    by false (part ∷ parts) few all = omega (arith, few)
+
+-- what names that follow others in a text are together
+pub joined-named : (text : List ℕ) (path names : PathNames) → text_names text ≡ path ++ names → has_names path ≡ true → has_names names ≡ true → has_names (text_names text) ≡ true
+joined-named text path names all upper lower = ap has_names all ∙ (list_all-append is_name path names ∙ rw (upper, lower) refl)
+
+pub joined-few : (text : List ℕ) (path names : PathNames) → text_names text ≡ path ++ names → has_names path ≡ true → has_names names ≡ true → length path + length names ≤ length text
+joined-few text path names all upper lower = omega (arith, few_names text (joined-named text path names all upper lower), ap length all, length-append path names)
+
 -- a name is no empty text, and holds no separator
 no_slash : (empty long dots slashed null : Bool) → is_none (if empty then Some Empty else if long then Some TooLong else if dots then Some Dot else if slashed then Some Slash else if null then Some Nul else None) ≡ true → slashed ≡ false
 no_slash true long dots slashed null none = cc
@@ -89,9 +119,6 @@ no_slash false false false false null none = refl
 
 pub slash_free : (name : List ℕ) → is_name name ≡ true → list_any (λ byte. byte == slash) name ≡ false
 slash_free name is = no_slash (length name == 0) (nat_lt name_limit (length name)) (name_eq name dot || name_eq name dot_dot) (list_any (λ byte. byte == slash) name) (list_any (λ byte. byte == 0) name) (both {a = is_none (name_fault name)} {b = is_utf8 name} is).0
-
-pub empty_is_none : is_name [] ≡ false
-empty_is_none = refl
 
 -- a text that is a name has that name alone
 pub text_names-name : (name : List ℕ) → is_name name ≡ true → text_names name ≡ name ∷ []

@@ -6,7 +6,6 @@ ghost use Rattle.std.specs.List.{starts_with};
 ghost use Rattle.ovl_names.specs.Names.{is_name, name_eq};
 ghost use Rattle.ovl_names.specs.Paths.{path_eq, text_names, has_names};
 
-use crate::paths::part_count;
 use std::marker::Model;
 
 /// Names of a path one after the other, from the root down, in the text that holds them: all of them, or the first or
@@ -14,26 +13,28 @@ use std::marker::Model;
 #[derive(Debug, Drop)]
 pub struct Names<'a> {
     text: &'a str,
+    len: usize,
 }
 
 impl<'a> Model for Names<'a> {
-    ghost use Rattle.std.specs.Prelude.{IsTrue};
+    ghost use Rattle.std.specs.Prelude.{◌≡◌, length, true};
     ghost use Rattle.ovl_names.specs.Paths.{PathNames, text_names, has_names};
 
     ghost Value = { PathNames };
 
     ghost view = { λ a. text_names a.text.now };
 
-    ghost invariant = { λ a. IsTrue (has_names (text_names a.text.now)) };
+    ghost invariant = { λ a. (a.len ≡ length (text_names a.text.now)) × (has_names (text_names a.text.now) ≡ true) };
 }
 
 impl<'a> Names<'a> {
-    // The names of a text that has `/` between them.
-    pub(crate) fn of_text(text: &'a str) -> Names<'a>
-        requires { IsTrue (has_names (text_names text.now)) }
+    // The names of a text that has `/` between them, which are so many.
+    pub(crate) fn of_text(text: &'a str, len: usize) -> Names<'a>
+        requires names { IsTrue (has_names (text_names text.now)) }
+        requires len { len ≡ length (text_names text.now) }
         ensures { result ≡ text_names text.now }
     {
-        Names { text }
+        Names { text, len }
     }
 
     // The text that has `/` between the names.
@@ -48,7 +49,7 @@ impl<'a> Names<'a> {
     pub fn none() -> Names<'a>
         ensures { result ≡ [] }
     {
-        Names { text: "" }
+        Names { text: "", len: 0 }
     }
 
     /// One name alone, by its text.
@@ -56,18 +57,14 @@ impl<'a> Names<'a> {
         requires { IsTrue (is_name name.now) }
         ensures { result ≡ name.now ∷ [] }
     {
-        Names { text: name }
+        Names { text: name, len: 1 }
     }
 
     /// The number of names.
     pub fn len(&self) -> usize
         ensures { result ≡ length self.now }
     {
-        if self.text.is_empty() {
-            0
-        } else {
-            part_count(self.text)
-        }
+        self.len
     }
 
     /// Whether there is no name.
@@ -82,7 +79,10 @@ impl<'a> Names<'a> {
         ensures value { result ≡ self.now }
         ensures names { IsTrue (has_names self.now) }
     {
-        Names { text: self.text }
+        Names {
+            text: self.text,
+            len: self.len,
+        }
     }
 
     /// Those behind the first `count` names.
@@ -103,10 +103,12 @@ impl<'a> Names<'a> {
         ensures value { MatchOption result (self.now ≡ []) (λ parts. self.now ≡ parts.1 ++ parts.0.now ∷ []) }
         ensures names { IsTrue (has_names self.now) }
     {
-        match cut_last(self.text) {
-            Some((above, last)) => Some((last, Names { text: above })),
-            None => None,
-        }
+        let (above, last) = cut_last(self.text)?;
+        let above = Names {
+            text: above,
+            len: self.len - 1,
+        };
+        Some((last, above))
     }
 
     /// Whether these names begin with those.
@@ -133,6 +135,7 @@ impl<'a> Iterator for Names<'a> {
     fn next(&mut self) -> Option<&'a str> {
         let (first, rest) = cut_first(self.text)?;
         self.text = rest;
+        self.len -= 1;
         Some(first)
     }
 }
@@ -143,6 +146,7 @@ impl<'a> DoubleEndedIterator for Names<'a> {
     fn next_back(&mut self) -> Option<&'a str> {
         let (above, last) = cut_last(self.text)?;
         self.text = above;
+        self.len -= 1;
         Some(last)
     }
 }
@@ -164,7 +168,7 @@ fn cut_first(text: &str) -> Option<(&str, &str)>
 }
 
 // The text of the names above the last name of a text, and that name.
-pub(crate) fn cut_last(text: &str) -> Option<(&str, &str)>
+fn cut_last(text: &str) -> Option<(&str, &str)>
     requires { IsTrue (has_names (text_names text.now)) }
     ensures { MatchOption result
         (text.now ≡ [])

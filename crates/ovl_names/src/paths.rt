@@ -11,7 +11,7 @@ ghost use Rattle.ovl_names.specs.Paths.{child_path, parent_path, parent_of, path
 ghost use Rattle.ovl_names.specs.Escapes.{shown_path};
 
 use crate::names::{Name, first_name_fault};
-use crate::path_names::{Names, cut_last};
+use crate::path_names::Names;
 use crate::push_escaped;
 use std::alloc::{AllocError, AllocFailed, Global};
 use std::cmp::Ordering;
@@ -69,17 +69,19 @@ impl<T: Drop> From<AllocFailed<T>> for PathFault {
 pub struct Path {
     // The names, with `/` between them.
     text: String,
+    len: usize,
 }
 
 impl Model for Path {
-    ghost use Rattle.std.specs.Prelude.{IsTrue, string_bytes};
+    ghost use Rattle.std.specs.Prelude.{◌≡◌, length, true, string_bytes};
     ghost use Rattle.ovl_names.specs.Paths.{PathNames, text_names, has_names};
 
     ghost Value = { PathNames };
 
     ghost view = { λ a. text_names (string_bytes a.text) };
 
-    ghost invariant = { λ a. IsTrue (has_names (text_names (string_bytes a.text))) };
+    ghost invariant = { λ a. (a.len ≡ length (text_names (string_bytes a.text)))
+        × (has_names (text_names (string_bytes a.text)) ≡ true) };
 }
 
 impl Path {
@@ -89,6 +91,7 @@ impl Path {
     {
         Path {
             text: String::new(alloc),
+            len: 0,
         }
     }
 
@@ -98,8 +101,16 @@ impl Path {
         requires { IsTrue (has_names (text_names text.now)) }
         ensures { IfOk result (λ path. path ≡ text_names text.now) }
     {
+        Path::of(alloc, &Names::of_text(text, name_count(text)))
+    }
+
+    // The path of these names.
+    fn of(alloc: Global, names: &Names<'_>) -> Result<Path, AllocError>
+        ensures { IfOk result (λ path. path ≡ names.now) }
+    {
         Ok(Path {
-            text: String::from_str(alloc, text)?,
+            text: String::from_str(alloc, names.text())?,
+            len: names.len(),
         })
     }
 
@@ -127,7 +138,7 @@ impl Path {
     pub fn len(&self) -> usize
         ensures { result ≡ length self.now }
     {
-        self.names().len()
+        self.len
     }
 
     /// Whether this is the root.
@@ -142,14 +153,14 @@ impl Path {
         ensures value { result ≡ self.now }
         ensures names { IsTrue (has_names self.now) }
     {
-        Names::of_text(self.text.as_str())
+        Names::of_text(self.text.as_str(), self.len)
     }
 
     /// A path equal to this one; fails only when out of memory.
     pub fn copy(&self, alloc: Global) -> Result<Path, AllocError>
         ensures { IfOk result (λ path. path ≡ self.now) }
     {
-        Path::of_names(alloc, self.text.as_str())
+        Path::of(alloc, &self.names())
     }
 
     /// The path of the entry `name` in this directory; fails only when out of memory.
@@ -163,16 +174,19 @@ impl Path {
     pub fn joined(&self, alloc: Global, names: &Names<'_>) -> Result<Path, AllocError>
         ensures { IfOk result (λ path. path ≡ self.now ++ names.now) }
     {
-        let names = names.text();
+        let below = names.text();
         let room = self
             .text
             .len()
-            .saturating_add(names.len())
+            .saturating_add(below.len())
             .saturating_add(1);
         let mut text = String::with_capacity(alloc, room)?;
         text.push_str(self.text.as_str())?;
-        append(&mut text, names)?;
-        Ok(Path { text })
+        append(&mut text, below)?;
+        Ok(Path {
+            text,
+            len: self.len + names.len(),
+        })
     }
 
     /// Goes down to the entry `name` of this directory; fails, with nothing changed, only when out of memory.
@@ -191,6 +205,7 @@ impl Path {
             (λ _. self.new ≡ self.old) }
     {
         append(&mut self.text, names.text())?;
+        self.len += names.len();
         Ok(())
     }
 
@@ -203,9 +218,10 @@ impl Path {
     {
         let name = name.as_str();
         self.text.reserve(name.len() + 1)?;
-        for _ in depth..self.len() {
+        for _ in depth..self.len {
             go_up(&mut self.text);
         }
+        self.len = depth.min(self.len) + 1;
         append(&mut self.text, name)?;
         Ok(())
     }
@@ -214,8 +230,8 @@ impl Path {
     pub fn parent(&self, alloc: Global) -> Result<Option<Path>, AllocError>
         ensures { IfOk result (λ parent. parent ≡ parent_of self.now) }
     {
-        match cut_last(self.text.as_str()) {
-            Some((above, _)) => Ok(Some(Path::of_names(alloc, above)?)),
+        match self.names().split_last() {
+            Some((_, above)) => Ok(Some(Path::of(alloc, &above)?)),
             None => Ok(None),
         }
     }
@@ -295,7 +311,14 @@ fn has_bad_part(rest: &str) -> bool
     rest.split('/').any(|part| first_name_fault(part).is_some())
 }
 
-pub(crate) fn part_count(rest: &str) -> usize
+// The number of names of a text that has `/` between them.
+fn name_count(text: &str) -> usize
+    ensures { result ≡ length (text_names text.now) }
+{
+    if text.is_empty() { 0 } else { part_count(text) }
+}
+
+fn part_count(rest: &str) -> usize
     ensures { result ≡ length (parts_between rest.now) }
 {
     rest.split('/').count()

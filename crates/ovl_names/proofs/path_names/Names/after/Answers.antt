@@ -1,4 +1,4 @@
-use Rattle.std.proofs.Common.{◌≡◌, ◌∙◌, ◌+◌, ◌∷◌, [], List, ℕ, Option, Some, None, Bor, MatchOption, true, false, length, length-drop, drop, refl, sym, ap, arith}
+use Rattle.std.proofs.Common.{◌≡◌, ◌∙◌, ◌∷◌, [], List, ℕ, Option, Some, None, Bor, MatchOption, false, length, length-drop, drop, sym, ap, arith}
 use Rattle.std.specs.Prelude.{is_some, not}
 use Rattle.std.proofs.lemmas.List.{drop_all, drop-drop}
 use Rattle.ovl_names.specs.Paths.{PathNames}

@@ -1,14 +1,22 @@
-use Rattle.std.proofs.Common.{◌≡◌, ◌∙◌, ◌++◌, string_bytes, ap}
-use Rattle.std.proofs.lemmas.List.Folds.{list_all-append}
-use Rattle.ovl_names.specs.Names.{is_name}
-use Rattle.ovl_names.specs.Paths.{PathNames, text_names, has_names}
+use Rattle.std.proofs.Common.{◌∙◌, ◌++◌, string_bytes, length, length-append, ap, arith}
+use Rattle.ovl_names.specs.Paths.{PathNames, text_names}
+use Rattle.ovl_names.proofs.PathTexts.{joined-named, joined-few}
 use Rattle.ovl_names.proofs.paths.Path.extend.Goals as goal
 
-appended : (c : goal.In_ok-append) → text_names (string_bytes c.append.new.text) ≡ text_names (string_bytes c.self.inside.text) ++ c.args.names.now
-appended c = c.in_ok-append.ensures.names ∙ ap (λ (back : PathNames). text_names (string_bytes c.self.inside.text) ++ back) c.text.ensures.value
+pub overflow_add-self : goal.overflow_add-self
+overflow_add-self c =
+    let path : PathNames = text_names (string_bytes c.self.inside.text) in
+    let all = c.in_ok-append.ensures.names ∙ ap (λ (back : PathNames). path ++ back) c.text.ensures.value in
+    let few = joined-few (string_bytes c.append.new.text) path c.args.names.now all c.self.invariant.1 c.text.ensures.names in
+    omega (arith, few, c.self.invariant.0, c.len.ensures, c.append.new.text.bytes.ok.0, c.append.new.text.bytes.ok.1, c.append.new.text.bytes.small)
 
 pub invariant_of-self-2 : goal.invariant_of-self-2
-invariant_of-self-2 c = ap has_names (appended c) ∙ (list_all-append is_name (text_names (string_bytes c.self.inside.text)) c.args.names.now ∙ rw (c.self.invariant, c.text.ensures.names))
+invariant_of-self-2 c =
+    let path : PathNames = text_names (string_bytes c.self.inside.text) in
+    let all = c.in_ok-append.ensures.names ∙ ap (λ (back : PathNames). path ++ back) c.text.ensures.value in (
+      omega (arith, c.self.invariant.0, c.len.ensures, ap length all, length-append path c.args.names.now),
+      joined-named (string_bytes c.append.new.text) path c.args.names.now all c.self.invariant.1 c.text.ensures.names,
+    )
 
 pub returns : goal.returns
-returns c = appended c ∙ ap (λ (path : PathNames). path ++ c.args.names.now) c.self.view_is
+returns c = c.in_ok-append.ensures.names ∙ (λ j. c.self.view_is j ++ c.text.ensures.value j)
