@@ -1,5 +1,5 @@
 -- Rows of which one more comes at the end, and the numbers of those on the way to it.
-use Rattle.std.proofs.Common.{◌≡◌, ℕ, zero, suc, ◌+◌, ◌<◌, ◌≤◌, length, map, take, true, false, Option, Some, None, List, [], ◌∷◌, ◌++◌, refl, sym, ap, ◌∙◌, subst, arith, get_or, inl, inr, ◌⊎◌, length-append, length-take-le}
+use Rattle.std.proofs.Common.{◌≡◌, ℕ, zero, suc, ◌+◌, ◌<◌, ◌≤◌, length, map, take, true, false, Option, Some, None, List, [], ◌∷◌, ◌++◌, refl, sym, ap, ◌∙◌, subst, arith, get_or, inl, inr, ◌⊎◌, length-append, length-take-le, add-one}
 use Rattle.std.specs.Prelude.{nat_lt, is_some, slice_get, IsSomeAnd}
 use Rattle.std.specs.List.{list_all}
 use Rattle.std.specs.Ordering.{is_lt}
@@ -21,11 +21,11 @@ use Rattle.ovl_inode.specs.Sound.{is_sound_inode}
 use Rattle.ovl_manifest.specs.declared.sheets.SheetRow.{SheetRow}
 use Rattle.ovl_manifest.specs.Layers.{Entry, Entries, entry_cmp, entry_at, is_directory_at, is_within_limits, entry_limit, IsLayer}
 use Rattle.ovl_manifest.specs.Manifest.{comes_after}
-use Rattle.ovl_manifest.specs.Sheets.{path_of, path_at, row_path, entries_with, entries_of_rows, are_earlier, AreRows}
+use Rattle.ovl_manifest.specs.Sheets.{last_name, path_of, path_at, row_path, entries_with, entries_of_rows, are_earlier, AreRows}
 use Rattle.ovl_manifest.specs.SheetDrafts.{AreDrafted}
 use Rattle.ovl_manifest.proofs.OpenLemmas.{path_cmp-under}
 use Rattle.ovl_manifest.proofs.LayerLemmas.{comes_after-last, IsLayer-more, IsLayer-root}
-use Rattle.ovl_manifest.proofs.SheetLemmas.{slice_get-front, slice_get-seam, some-same, length-child, parent_path-child, with-front, with-length, entry_at-number}
+use Rattle.ovl_manifest.proofs.SheetLemmas.{name-at, slice_get-front, slice_get-seam, some-same, length-child, parent_path-child, with-front, with-length, entry_at-number}
 
 -- ---- an entry in a directory on the way to the last
 
@@ -118,6 +118,13 @@ root-draft inode next directory sound unescaped = record {
     numbers : (depth : ℕ) → depth ≤ 0 → IsSomeAnd (slice_get (0 ∷ []) depth) (λ number. (number < 1) × (path_at (([], inode) ∷ []) number ≡ take depth []))
     numbers zero within = (omega arith, refl)
     numbers (suc depth) within = absurd (omega (arith, within))
+
+-- the last of the first names of a path
+last_name-take : (path : PathNames) (depth : ℕ) (d : PathName) → depth < length path → last_name (take (suc depth) path) ≡ Some (get_or path depth d)
+last_name-take [] depth d inside = absurd (omega (arith, inside))
+last_name-take (own ∷ path) zero d inside = refl
+last_name-take (own ∷ []) (suc depth) d inside = absurd (omega (arith, inside))
+last_name-take (own ∷ next ∷ path) (suc depth) d inside = last_name-take (next ∷ path) depth d (omega (arith, inside))
 
 -- ---- a draft
 
@@ -214,3 +221,10 @@ module _ (rows : List SheetRow) (way : List ℕ) (last : PathNames) (is : AreDra
         numbers = way-entered;
         ends = (entries_of_rows rows, inode, entered);
       }
+
+  -- the row of a number behind the root's has the name that the last path has there
+  pub name-on_way : (depth number : ℕ) → depth < length last → slice_get way (depth + 1) ≡ Some number → (own : SheetRow) → slice_get rows number ≡ Some own → (d : PathName) → own.name ≡ Some (get_or last depth d)
+  name-on_way depth number inside at own listed d =
+      name-at rows is.made number own listed
+      ∙ (ap last_name (on_way (depth + 1) number (omega (arith, inside)) at).1
+      ∙ (ap (λ n. last_name (take n last)) (add-one depth) ∙ last_name-take last depth d inside))

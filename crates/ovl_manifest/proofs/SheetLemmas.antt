@@ -402,6 +402,14 @@ module _ (rows : List SheetRow) (are : AreRows rows) where
   pub entry-of : (number : ℕ) (row : SheetRow) → slice_get rows number ≡ Some row → slice_get (entries_of_rows rows) number ≡ Some (row_path (entries_of_rows rows) row.parent row.name, row.inode)
   entry-of number row at = with-row [] rows number number row (omega arith) at (row-known number row at)
 
+  -- the name of a row is the last one of its entry
+  pub named-as : (row : SheetRow) (name : Option PathName) → row.name ≡ name → row.name ≡ last_name (row_path (entries_of_rows rows) row.parent row.name)
+  named-as row None e = e ∙ sym (ap (λ n. last_name (row_path (entries_of_rows rows) row.parent n)) e)
+  named-as row (Some name) e = e ∙ sym (ap (λ n. last_name (row_path (entries_of_rows rows) row.parent n)) e ∙ last_name-child (path_at (entries_of_rows rows) row.parent) name)
+
+  pub name-at : (number : ℕ) (row : SheetRow) → slice_get rows number ≡ Some row → row.name ≡ last_name (path_at (entries_of_rows rows) number)
+  name-at number row at = named-as row row.name refl ∙ ap (λ o. last_name (path_of o)) (sym (entry-of number row at))
+
 module _ (rows : List SheetRow) (below : List (List ℕ)) (marked : List Mark) (is : IsSheet rows below marked) where
   abbrev layer : Entries
   layer = entries_of_rows rows
@@ -674,13 +682,6 @@ module _ (rows : List SheetRow) (below : List (List ℕ)) (marked : List Mark) (
         sym (ap path_of here) ∙ sym (ap parent_path (kid-path (suc j) row.parent row facts.1.0 at refl facts.1.1) ∙ parent_path-child (path_at layer row.parent) facts.1.0),
       )
 
-  named-as : (row : SheetRow) (name : Option PathName) → row.name ≡ name → row.name ≡ last_name (row_path layer row.parent row.name)
-  named-as row None e = e ∙ sym (ap (λ n. last_name (row_path layer row.parent n)) e)
-  named-as row (Some name) e = e ∙ sym (ap (λ n. last_name (row_path layer row.parent n)) e ∙ last_name-child (path_at layer row.parent) name)
-
-  pub name-at : (number : ℕ) (row : SheetRow) → slice_get rows number ≡ Some row → row.name ≡ last_name (path_at (entries_of_rows rows) number)
-  name-at number row at = named-as row row.name refl ∙ ap (λ o. last_name (path_of o)) (sym (entry-of rows is.are number row at))
-
   pub row-of : (number : ℕ) (row : SheetRow) → slice_get rows number ≡ Some row → IsRowOf (entries_of_rows rows) number row
   row-of number row at =
       let own : Entry = (row_path layer row.parent row.name, row.inode) in
@@ -690,7 +691,7 @@ module _ (rows : List SheetRow) (below : List (List ℕ)) (marked : List Mark) (
       sym (slice_get-map (λ (r : SheetRow). r.after) rows number ∙ ap (option_map (λ (r : SheetRow). r.after)) at)
       ∙ (ap (λ (ns : List ℕ). slice_get ns number) is.afters ∙ afters-get 0 layer number own here) in
       record {
-        name = subst (λ o. IsSomeAnd o (λ entry. row.name ≡ last_name entry.0)) (sym here) (named-as row row.name refl);
+        name = subst (λ o. IsSomeAnd o (λ entry. row.name ≡ last_name entry.0)) (sym here) (named-as rows is.are row row.name refl);
         inode = subst (λ o. IsSomeAnd o (λ entry. row.inode ≡ entry.1)) (sym here) refl;
         parent = subst (λ o. IsSomeAnd o (λ entry. entry.0 ≡ parent_path (path_at layer number))) (sym above.1) above.2;
         after = some-same row.after (suc (0 + number + count_deeper (length own.0) (drop (suc number) layer))) after

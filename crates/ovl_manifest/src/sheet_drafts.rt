@@ -56,11 +56,16 @@ impl SheetDraft {
 
     /// Whether the entry `name` of the directory of the first `depth` names of the last path comes after all entries.
     pub(crate) fn comes_before_child(&self, depth: usize, name: &Name) -> bool
-        requires { depth ≤ length self.now.last }
+        requires draft { IsSheetDraft self.now }
+        requires depth { depth ≤ length self.now.last }
         ensures { result ≡ is_lt (path_cmp self.now.last (child_path (take depth self.now.last) name.now)) }
     {
-        match self.last.names().nth(depth) {
-            Some(own) => own.as_bytes().cmp(name.as_str().as_bytes()).is_lt(),
+        if depth == self.last.len() {
+            return true;
+        }
+        let number = self.way[depth + 1];
+        match &self.rows[number as usize].name {
+            Some(own) => own.cmp(name).is_lt(),
             None => true,
         }
     }

@@ -6,8 +6,8 @@ use Rattle.ovl_manifest.proofs.SheetDraftLemmas.{last_named}
 use Rattle.ovl_manifest.proofs.WayLemmas.{child_limits, path_text-child}
 use Rattle.ovl_manifest.proofs.compact_layers.add_beside.Goals as goal
 
-pub comes_before_child-requires : goal.comes_before_child-requires
-comes_before_child-requires c =
+pub comes_before_child-requires-clause-depth : goal.comes_before_child-requires-clause-depth
+comes_before_child-requires-clause-depth c =
     let count : length c.args.draft.now.last ≡ c.len.result = sym (c.len.ensures ∙ ap length c.last.ensures) in
     let beside = c.in_ok-depth.ensures c.args.draft.now.last (last_named _ _ _ c.requires.draft) c.requires.last count in
     subst (λ (n : ℕ). c.in_ok-depth.depth ≤ n) (sym count) beside.0

@@ -1,37 +1,50 @@
-use Rattle.std.proofs.Common.{◌≡◌, ◌∙◌, ◌<◌, ◌≤◌, ℕ, [], Bool, true, false, Some, None, refl, sym, ap, arith, length, get_or, take}
-use Rattle.std.specs.Prelude.{slice_get, nat_lt}
+use Rattle.std.proofs.Common.{◌≡◌, ◌<◌, ◌∙◌, ◌+◌, [], ℕ, List, Some, None, refl, sym, ap, length, take, arith, add-one}
+use Rattle.std.specs.Prelude.{slice_get}
 use Rattle.std.specs.Ordering.{is_lt}
 use Rattle.std.proofs.lemmas.Bool.Decides.{nat_tests}
-use Rattle.std.proofs.lemmas.Iterator.Consumers.{nth_from_yields_List, YieldsList-from_first}
-use Rattle.std.proofs.lemmas.Option.{slice_get_within, slice_get-get_or, get_or_from_slice_get}
+use Rattle.std.proofs.lemmas.Option.{slice_get_read}
 use Rattle.ovl_names.specs.Names.{PathName, name_cmp}
 use Rattle.ovl_names.specs.Paths.{PathNames, path_cmp, child_path}
-use Rattle.ovl_manifest.proofs.SheetDraftLemmas.{child_after, child_after-end}
+use Rattle.ovl_manifest.specs.declared.sheets.SheetRow.{SheetRow}
+use Rattle.ovl_manifest.proofs.SheetLemmas.{some-same}
+use Rattle.ovl_manifest.proofs.SheetDraftLemmas.{on_way, name-on_way, child_after, child_after-end}
 use Rattle.ovl_manifest.proofs.sheet_drafts.SheetDraft.comes_before_child.Goals as goal
 
-past : (names : PathNames) (n : ℕ) → slice_get names n ≡ None → length names ≤ n
-past names n none = by (nat_lt n (length names)) refl
-  where
-    by : (b : Bool) → nat_lt n (length names) ≡ b → length names ≤ n
-    by true e =
-        let inside : n < length names = grind (arith, nat_tests) in
-        let bad = sym none ∙ slice_get-get_or names n [] inside in cc
-    by false e = grind (arith, nat_tests)
+pub returns-then-depth-len : goal.returns-then-depth-len
+returns-then-depth-len c =
+    let last : PathNames = c.args.self.now.last in
+    let all : c.args.depth ≡ length last = grind (arith, nat_tests) in
+    sym (ap (λ n. is_lt (path_cmp last (child_path (take n last) c.args.name.now))) all ∙ child_after-end last c.args.name.now)
+
+pub index-requires : goal.index-requires
+index-requires c =
+    let way : List ℕ = c.args.self.now.way.items in
+    let number : ℕ = c.index-number.result.now in
+    let inside : c.args.depth < length c.args.self.now.last = grind (arith, nat_tests) in
+    let listed : slice_get way (c.args.depth + 1) ≡ Some number =
+    slice_get_read way (length way) (c.args.depth + 1) number refl (omega (arith, c.requires.draft.count, inside)) c.index-number.ensures in
+    omega (arith, (on_way _ _ _ c.requires.draft (c.args.depth + 1) number (omega (arith, inside)) listed).0, c.args.self.now.rows.ok.0)
 
 pub returns-in-Some : goal.returns-in-Some
 returns-in-Some c =
-    let last : PathNames = c.args.self.now.last in
-    let own : PathName = c.in-Some.own.now in
-    let at : slice_get last c.args.depth ≡ Some own = sym (nth_from_yields_List (Some c.in-Some.own) _ c.args.depth c.in-Some.ensures.ran (YieldsList-from_first (λ x. x.now) (λ names. names) last c.names.ensures.value)) in
-    let same : own ≡ get_or last c.args.depth own = sym (get_or_from_slice_get last c.args.depth own own at) in
+    let draft = c.args.self.now in
+    let number : ℕ = c.index-number.result.now in
+    let inside : c.args.depth < length draft.last = grind (arith, nat_tests) in
+    let listed : slice_get draft.way.items (c.args.depth + 1) ≡ Some number =
+    slice_get_read draft.way.items (length draft.way.items) (c.args.depth + 1) number refl (omega (arith, c.requires.draft.count, inside)) c.index-number.ensures in
+    let row = slice_get_read draft.rows.items (length draft.rows.items) number c.index.result.now refl (on_way _ _ _ c.requires.draft (c.args.depth + 1) number (omega (arith, inside)) listed).0 c.index.ensures in
+    let own = some-same c.in-Some.own _ (sym c.in-Some.is ∙ name-on_way _ _ _ c.requires.draft c.args.depth number inside listed c.index.result.now row c.in-Some.own) in
     c.is_lt.ensures
     ∙ (ap is_lt c.cmp.ensures
-    ∙ ((λ j. is_lt (name_cmp ((c.as_bytes.ensures.value ∙ same) j) ((c.as_bytes-in-Some.ensures.value ∙ c.as_str.ensures.value) j)))
-    ∙ sym (child_after last c.args.depth c.args.name.now own (slice_get_within last c.args.depth own at))))
+    ∙ ((λ j. is_lt (name_cmp (own j) c.args.name.now))
+    ∙ sym (child_after draft.last c.args.depth c.args.name.now c.in-Some.own inside)))
 
 pub returns-in-None : goal.returns-in-None
 returns-in-None c =
-    let last : PathNames = c.args.self.now.last in
-    let at : slice_get last c.args.depth ≡ None = sym (nth_from_yields_List None _ c.args.depth c.in-None.ensures.ran (YieldsList-from_first (λ x. x.now) (λ names. names) last c.names.ensures.value)) in
-    let all : c.args.depth ≡ length last = omega (arith, c.requires, past last c.args.depth at) in
-    sym (ap (λ n. is_lt (path_cmp last (child_path (take n last) c.args.name.now))) all ∙ child_after-end last c.args.name.now)
+    let draft = c.args.self.now in
+    let number : ℕ = c.index-number.result.now in
+    let inside : c.args.depth < length draft.last = grind (arith, nat_tests) in
+    let listed : slice_get draft.way.items (c.args.depth + 1) ≡ Some number =
+    slice_get_read draft.way.items (length draft.way.items) (c.args.depth + 1) number refl (omega (arith, c.requires.draft.count, inside)) c.index-number.ensures in
+    let row = slice_get_read draft.rows.items (length draft.rows.items) number c.index.result.now refl (on_way _ _ _ c.requires.draft (c.args.depth + 1) number (omega (arith, inside)) listed).0 c.index.ensures in
+    let bad = sym c.in-None.is ∙ name-on_way _ _ _ c.requires.draft c.args.depth number inside listed c.index.result.now row [] in cc

@@ -15,4 +15,4 @@ returns c =
     let at = slice_get_read c.self.inside.rows.items (length c.self.inside.rows.items) c.args.number c.index.result.now refl inside c.index.ensures in
     c.as_ref.ensures.value
     ∙ subst (λ (layer : Entries). c.index.result.now.name ≡ last_name (path_at layer c.args.number)) c.self.view_is
-    (name-at _ _ _ c.self.invariant c.args.number c.index.result.now at)
+    (name-at _ c.self.invariant.are c.args.number c.index.result.now at)
