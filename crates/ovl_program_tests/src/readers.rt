@@ -1,5 +1,6 @@
 //! How an input is read: to its end, or until it fails or has more than the limit. No read is tried again.
 
+use crate::tables::{parts_of, same};
 use ovl_program::{INPUT_LIMIT, read_all, read_expected};
 use std::alloc::Global;
 use std::io::{self, Cursor, Error, Read};
@@ -58,12 +59,9 @@ fn told(alloc: Global, words: &str) -> Result<String, Fail> {
 }
 
 fn row_told(alloc: Global, row: &str) -> Result<(), Fail> {
-    let (words, wanted) = row.split_once(" -> ").unwrap_or((row, ""));
+    let (words, wanted) = parts_of(row);
     let found = told(alloc, words)?;
-    if found.as_str() == wanted {
-        return Ok(());
-    }
-    Err(Fail::new(format_args!("{words}: found {found}")))
+    same(words, found.as_str(), wanted)
 }
 
 #[test]

@@ -1,5 +1,6 @@
 //! Lines of words.
 
+use crate::tables::{parts_of, same};
 use ovl_program::line;
 use std::alloc::Global;
 use std::test::Fail;
@@ -23,12 +24,9 @@ fn told(alloc: Global, text: &str) -> Result<String, Fail> {
 }
 
 fn row_told(alloc: Global, row: &str) -> Result<(), Fail> {
-    let (words, wanted) = row.split_once(" -> ").unwrap_or((row, ""));
+    let (words, wanted) = parts_of(row);
     let found = told(alloc, words)?;
-    if found.as_str() == wanted {
-        return Ok(());
-    }
-    Err(Fail::new(format_args!("{words}: found {found}")))
+    same(words, found.as_str(), wanted)
 }
 
 #[test]

@@ -1,5 +1,6 @@
 //! How an answer is handed out: its layers in order and then its report, up to the first write that fails.
 
+use crate::tables::{parts_of, same};
 use ovl_engine::Answer;
 use ovl_program::hand_out;
 use std::alloc::{AllocError, Global};
@@ -96,12 +97,9 @@ fn told(alloc: Global, words: &str) -> Result<String, Fail> {
 }
 
 fn row_told(alloc: Global, row: &str) -> Result<(), Fail> {
-    let (words, wanted) = row.split_once(" -> ").unwrap_or((row, ""));
+    let (words, wanted) = parts_of(row);
     let found = told(alloc, words)?;
-    if found.as_str() == wanted {
-        return Ok(());
-    }
-    Err(Fail::new(format_args!("{words}: found {found}")))
+    same(words, found.as_str(), wanted)
 }
 
 #[test]
