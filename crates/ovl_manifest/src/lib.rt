@@ -9,6 +9,7 @@ mod drafts;
 mod entries;
 mod faults;
 mod fields;
+mod kid_lists;
 mod lists;
 mod plain_runs;
 mod reading;
