@@ -65,7 +65,7 @@ ascends-apart cmp (first ∷ xs) (suc i) (suc j) x y up before at other =
     ascends-apart cmp xs i j x y (both {a = list_all (λ later. is_lt (cmp first later)) xs} {b = ascends cmp xs} up).1 (omega arith) at other
 
 -- two functions that give the same for each element
-map-each : {X Y : Type 0} (f g : X → Y) (xs : List X) → ((i : ℕ) (d : X) → i < length xs → f (get_or xs i d) ≡ g (get_or xs i d)) → map f xs ≡ map g xs
+pub map-each : {X Y : Type 0} (f g : X → Y) (xs : List X) → ((i : ℕ) (d : X) → i < length xs → f (get_or xs i d) ≡ g (get_or xs i d)) → map f xs ≡ map g xs
 map-each f g [] each = refl
 map-each f g (x ∷ xs) each = λ j. each 0 x (omega arith) j ∷ map-each f g xs (λ i d inside. each (suc i) d (omega (arith, inside))) j
 

@@ -46,6 +46,10 @@ marks-more before old pushed new nodes kids i node mark inside is below marked e
     ∙ (append_assoc before front (mark ∷ own)
     ∙ ap (λ (ms : List Mark). before ++ ms) (sym more))))
 
+pub marks-count : (before old : List Mark) (entries : Entries) → old ≡ before ++ marks_of entries → length old ≡ length before + length entries
+marks-count before old entries is =
+    ap length is ∙ (length-append before (marks_of entries) ∙ omega (arith, length-map entries (λ (entry : Entry). mark_of entry.1)))
+
 -- ---- how many entries the first nodes have
 
 pub nodes-length : (nodes : List NodeView) (i : ℕ) (node : NodeView) → i < length nodes → node ≡ get_or nodes i node → length (entries_of_nodes (take (i + 1) nodes)) ≡ length (entries_of_nodes (take i nodes)) + suc (length node.below)

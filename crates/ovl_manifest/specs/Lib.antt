@@ -11,6 +11,7 @@ pub mod Drafts
 pub mod Builders
 pub mod Sheets
 pub mod KidLists
+pub mod MarkLists
 pub mod SheetPasses
 pub mod SheetDrafts
 pub mod Compact

@@ -64,7 +64,7 @@ pub record IsRoomFor (layer : Entries) (room : Room) : Type 0 where
   pub place : placed_by [] room.parents.items layer ≡ layer
   pub afters : room.afters.items ≡ afters_from 0 layer
   pub kids : (number : ℕ) → number < length layer → slice_get room.kids number ≡ Some (kid_numbers 1 (drop 1 room.parents.items) number)
-  pub marks : room.marks.items ≡ map (λ entry. mark_of entry.1) layer
+  pub marks : room.marks ≡ map (λ entry. mark_of entry.1) layer
 
 -- the number of names of each entry's path
 abbrev pub depths_of : Entries → List ℕ

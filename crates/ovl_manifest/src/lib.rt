@@ -11,6 +11,7 @@ mod faults;
 mod fields;
 mod kid_lists;
 mod lists;
+mod mark_lists;
 mod plain_runs;
 mod reading;
 mod sheet_drafts;

@@ -1,15 +1,16 @@
-ghost use Rattle.std.specs.Prelude.{◌≡◌, ◌≢◌, ℕ, ◌+◌, ◌<◌, ◌≤◌, ◌^◌, ◌++◌, [], ◌∷◌, length, map, drop, suc, vec_len, slice_get, Some, IfOk, IfErr, OnOk, MatchOption, IsTrue};
+ghost use Rattle.std.specs.Prelude.{◌≡◌, ◌≢◌, ◌+◌, ◌<◌, ◌≤◌, ◌^◌, ◌++◌, [], ◌∷◌, length, map, vec_len, Some, IfOk, IfErr, OnOk, MatchOption};
 ghost use Rattle.std.specs.Option.{option_map};
 ghost use Rattle.std.specs.List.{All};
 ghost use Rattle.std.specs.Vec.{vec_capacity};
 ghost use Rattle.ovl_names.specs.Paths.{child_path};
 ghost use Rattle.ovl_inode.specs.Marks.{mark_of as the_mark};
-ghost use Rattle.ovl_manifest.specs.Layers.{IsLayer, entry_at, names_below};
+ghost use Rattle.ovl_manifest.specs.Layers.{IsLayer, entry_at, names_below, entry_limit};
 ghost use Rattle.ovl_manifest.specs.LayerTrees.{entries_in, entries_under, entries_of_nodes};
-ghost use Rattle.ovl_manifest.specs.Sheets.{IsRowOf, AreRows, path_at, last_name, entries_of_rows, afters_from, kid_numbers, parents_of, are_earlier};
+ghost use Rattle.ovl_manifest.specs.Sheets.{IsRowOf, AreRows, path_at, last_name, entries_of_rows, afters_from};
 ghost use Rattle.ovl_manifest.specs.SheetPasses.{AddsParents, IsRoomFor, rows_from, kid_order, depths_of as the_depths, with_afters};
 
 use crate::kid_lists::KidLists;
+use crate::mark_lists::MarkList;
 use crate::trees::{Layer, Node};
 use ovl_inode::{Inode, Mark, mark_of};
 use ovl_names::{Name, Path};
@@ -36,7 +37,7 @@ pub struct SheetRow {
 pub struct Sheet {
     rows: Vec<SheetRow>,
     kids: KidLists,
-    marks: Vec<Mark>,
+    marks: MarkList,
 }
 
 impl Model for Sheet {
@@ -47,7 +48,7 @@ impl Model for Sheet {
 
     ghost view = { λ a. entries_of_rows a.rows.items };
 
-    ghost invariant = { λ a. IsSheet a.rows.items a.kids a.marks.items };
+    ghost invariant = { λ a. IsSheet a.rows.items a.kids a.marks };
 }
 
 /// A place in a sheet, seen as the entries at and under it, their paths counted from it.
@@ -89,7 +90,7 @@ impl Sheet {
         ensures { IfOk result (λ sheet. sheet ≡ entries_of_rows rows.items) }
     {
         let mut parents = Vec::with_capacity(alloc, rows.len())?;
-        let mut marks = Vec::with_capacity(alloc, rows.len())?;
+        let mut marks = MarkList::with_capacity(alloc, rows.len())?;
         for row in &rows {
             parents.push(row.parent)?;
             marks.push(mark_of(alloc, &row.inode)?)?;
@@ -147,7 +148,7 @@ impl Sheet {
         requires { number < length self.now }
         ensures { option_map the_mark (entry_at self.now (path_at self.now number)) ≡ Some result.now }
     {
-        &self.marks[number as usize]
+        self.marks.at(number)
     }
 
     /// The numbers of the rows directly below the row of a number, in the order of their names; takes no memory.
@@ -294,7 +295,7 @@ struct Room {
     parents: Vec<u32>,
     afters: Vec<u32>,
     kids: KidLists,
-    marks: Vec<Mark>,
+    marks: MarkList,
 }
 
 impl Room {
@@ -309,7 +310,7 @@ impl Room {
         let mut afters = Vec::with_capacity(alloc, count)?;
         afters.push(count as u32)?;
         push_afters(&layer.children, &mut afters)?;
-        let mut marks = Vec::with_capacity(alloc, count)?;
+        let mut marks = MarkList::with_capacity(alloc, count)?;
         marks.push(mark_of(alloc, &layer.inode)?)?;
         push_marks(alloc, &layer.children, &mut marks)?;
         let kids = KidLists::of(alloc, &parents)?;
@@ -354,9 +355,10 @@ fn push_afters(nodes: &[Node], afters: &mut Vec<u32>) -> Result<(), AllocError>
 }
 
 // Adds the mark of each entry at and under these nodes.
-fn push_marks(alloc: Global, nodes: &[Node], marks: &mut Vec<Mark>) -> Result<(), AllocError>
-    ensures { OnOk result (marks.new.items
-        ≡ marks.old.items ++ map (λ entry. the_mark entry.1) (entries_of_nodes nodes.now)) }
+fn push_marks(alloc: Global, nodes: &[Node], marks: &mut MarkList) -> Result<(), AllocError>
+    requires limit { length marks.old + length (entries_of_nodes nodes.now) ≤ entry_limit }
+    ensures { OnOk result (marks.new
+        ≡ marks.old ++ map (λ entry. the_mark entry.1) (entries_of_nodes nodes.now)) }
 {
     for node in nodes {
         marks.push(mark_of(alloc, &node.inode)?)?;

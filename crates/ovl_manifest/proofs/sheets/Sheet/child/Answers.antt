@@ -27,9 +27,9 @@ returns-in-Ok c =
     let rows : List SheetRow = c.self.inside.rows.items in
     let kids : List ℕ = kid_numbers 1 (parents_of rows) c.args.directory in
     let same : c.below-kids.result.now ≡ kids =
-    own-numbers rows c.self.inside.kids c.self.inside.marks.items c.self.invariant c.args.directory c.below-kids.result.now (omega (arith, c.requires, ap length c.self.view_is)) c.below-kids.ensures in
+    own-numbers rows c.self.inside.kids c.self.inside.marks c.self.invariant c.args.directory c.below-kids.result.now (omega (arith, c.requires, ap length c.self.view_is)) c.below-kids.ensures in
     let position = c.binary_search_by.ensures.position (kid_order c.as_slice-rows.result.now c.args.name.now) (always_returns_same _ _ _ (λ a r q k. (search (rules, tests), search (rules, tests)))) in
-    let found = child-found rows c.self.inside.kids c.self.inside.marks.items c.self.invariant c.args.directory c.in-Ok.place c.args.name.now (omega (arith, c.in-Ok.ensures.bound, ap length same))
+    let found = child-found rows c.self.inside.kids c.self.inside.marks c.self.invariant c.args.directory c.in-Ok.place c.args.name.now (omega (arith, c.in-Ok.ensures.bound, ap length same))
     (answered rows c.as_slice-rows.result.now kids c.below-kids.result.now c.binary_search_by.result (Ok c.in-Ok.place) c.args.name.now c.as_slice-rows.ensures.value same c.in-Ok.is position) in
     subst (λ (numbers : List ℕ). (get_or numbers c.in-Ok.place 0 < length c.args.self.now) × (path_at c.args.self.now (get_or numbers c.in-Ok.place 0) ≡ child_path (path_at c.args.self.now c.args.directory) c.args.name.now)) (sym same)
     (subst (λ (layer : Entries). (get_or kids c.in-Ok.place 0 < length layer) × (path_at layer (get_or kids c.in-Ok.place 0) ≡ child_path (path_at layer c.args.directory) c.args.name.now)) c.self.view_is found)
@@ -39,8 +39,8 @@ returns-in-Err c =
     let rows : List SheetRow = c.self.inside.rows.items in
     let kids : List ℕ = kid_numbers 1 (parents_of rows) c.args.directory in
     let same : c.below-kids.result.now ≡ kids =
-    own-numbers rows c.self.inside.kids c.self.inside.marks.items c.self.invariant c.args.directory c.below-kids.result.now (omega (arith, c.requires, ap length c.self.view_is)) c.below-kids.ensures in
+    own-numbers rows c.self.inside.kids c.self.inside.marks c.self.invariant c.args.directory c.below-kids.result.now (omega (arith, c.requires, ap length c.self.view_is)) c.below-kids.ensures in
     let position = c.binary_search_by.ensures.position (kid_order c.as_slice-rows.result.now c.args.name.now) (always_returns_same _ _ _ (λ a r q k. (search (rules, tests), search (rules, tests)))) in
-    let none = child-missing rows c.self.inside.kids c.self.inside.marks.items c.self.invariant c.args.directory c.in-Err.field-0 c.args.name.now (omega (arith, c.requires, ap length c.self.view_is))
+    let none = child-missing rows c.self.inside.kids c.self.inside.marks c.self.invariant c.args.directory c.in-Err.field-0 c.args.name.now (omega (arith, c.requires, ap length c.self.view_is))
     (answered rows c.as_slice-rows.result.now kids c.below-kids.result.now c.binary_search_by.result (Err c.in-Err.field-0) c.args.name.now c.as_slice-rows.ensures.value same c.in-Err.is position) in
     subst (λ (layer : Entries). entries_under (child_path (path_at layer c.args.directory) c.args.name.now) layer ≡ []) c.self.view_is none

@@ -19,7 +19,7 @@ index-requires c =
     let rows : List SheetRow = c.sheet.inside.rows.items in
     let kids : List ℕ = kid_numbers 1 (parents_of rows) c.self.inside.number in
     let same : c.below-kids.result.now ≡ kids =
-    own-numbers rows c.sheet.inside.kids c.sheet.inside.marks.items c.sheet.invariant c.self.inside.number c.below-kids.result.now (omega (arith, c.self.invariant, ap length c.sheet.view_is)) c.below-kids.ensures in
+    own-numbers rows c.sheet.inside.kids c.sheet.inside.marks c.sheet.invariant c.self.inside.number c.below-kids.result.now (omega (arith, c.self.invariant, ap length c.sheet.view_is)) c.below-kids.ensures in
     let row = kid-row rows _ _ c.sheet.invariant c.self.inside.number c.loop-kid.kid-index 0 (omega (arith, c.loop-kid-test.true, ap length same)) in
     let within : get_or kids c.loop-kid.kid-index 0 < length rows = slice_get_within rows (get_or kids c.loop-kid.kid-index 0) row.0 row.1 in
     omega (arith, within, ap (λ (ks : List ℕ). get_or ks c.loop-kid.kid-index 0) same, c.sheet.inside.rows.ok.0)
@@ -29,7 +29,7 @@ loop-kid-preserved c =
     let rows : List SheetRow = c.sheet.inside.rows.items in
     let kids : List ℕ = kid_numbers 1 (parents_of rows) c.self.inside.number in
     let same : c.below-kids.result.now ≡ kids =
-    own-numbers rows c.sheet.inside.kids c.sheet.inside.marks.items c.sheet.invariant c.self.inside.number c.below-kids.result.now (omega (arith, c.self.invariant, ap length c.sheet.view_is)) c.below-kids.ensures in
+    own-numbers rows c.sheet.inside.kids c.sheet.inside.marks c.sheet.invariant c.self.inside.number c.below-kids.result.now (omega (arith, c.self.invariant, ap length c.sheet.view_is)) c.below-kids.ensures in
     let row = kid-row rows _ _ c.sheet.invariant c.self.inside.number c.loop-kid.kid-index 0 (omega (arith, c.loop-kid-test.true, ap length same)) in
     let number : ℕ = get_or c.below-kids.result.now c.loop-kid.kid-index 0 in
     let is : get_or kids c.loop-kid.kid-index 0 ≡ number = ap (λ (ks : List ℕ). get_or ks c.loop-kid.kid-index 0) (sym same) in
@@ -54,7 +54,7 @@ returns c =
     let rows : List SheetRow = c.sheet.inside.rows.items in
     let kids : List ℕ = kid_numbers 1 (parents_of rows) c.self.inside.number in
     let same : c.below-kids.result.now ≡ kids =
-    own-numbers rows c.sheet.inside.kids c.sheet.inside.marks.items c.sheet.invariant c.self.inside.number c.below-kids.result.now (omega (arith, c.self.invariant, ap length c.sheet.view_is)) c.below-kids.ensures in
+    own-numbers rows c.sheet.inside.kids c.sheet.inside.marks c.sheet.invariant c.self.inside.number c.below-kids.result.now (omega (arith, c.self.invariant, ap length c.sheet.view_is)) c.below-kids.ensures in
     c.loop-kid.invariant
     ∙ (ap (map (own_name rows)) (take_all c.loop-kid.kid-index c.below-kids.result.now c.loop-kid-test.false ∙ same)
     ∙ (sym (names-of rows _ _ c.sheet.invariant c.self.inside.number (omega (arith, c.self.invariant, ap length c.sheet.view_is)))
