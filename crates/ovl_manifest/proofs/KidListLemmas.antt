@@ -3,7 +3,7 @@ use Rattle.std.proofs.Common.{◌≡◌, ◌≢◌, ℕ, zero, suc, ◌+◌, ◌
 use Rattle.std.specs.Prelude.{◌&&◌, ◌==◌, nat_lt, slice_get, slice_index}
 use Rattle.std.proofs.lemmas.Bool.{ltb-true, ltb-false, cases_lt}
 use Rattle.std.proofs.lemmas.Bool.Decides.{nat_tests}
-use Rattle.std.proofs.lemmas.List.{take-append-drop, take_more, drop_all, ext_get_or, get_or-take, get_or-drop, get_or-set_same, get_or-set_other, length-set}
+use Rattle.std.proofs.lemmas.List.{take-append-drop, take_more, ext_get_or, get_or-take, get_or-drop, get_or-set_same, get_or-set_other, length-set}
 use Rattle.ovl_names.proofs.Ascending.{both}
 use Rattle.ovl_manifest.specs.Sheets.{kid_numbers, are_earlier}
 use Rattle.ovl_manifest.specs.KidLists.{parts_of, AreStarts, count_below, AreCounts, AreEnds}
@@ -245,17 +245,6 @@ pub record ArePlaced (parents : List ℕ) (number : ℕ) (starts kids : List ℕ
   pub left : (directory : ℕ) → directory ≤ length parents → slice_index starts directory + length (kid_numbers number (drop number parents) directory) ≡ count_below (drop 1 parents) (suc directory)
   pub placed : (directory i : ℕ) → directory ≤ length parents → i < length (kid_numbers number (drop number parents) directory)
       → slice_index kids (slice_index starts directory + i) ≡ slice_index (kid_numbers number (drop number parents) directory) i
-
-pub places-begin : (parents ends kids : List ℕ) (number : ℕ) → number ≡ length parents → AreEnds parents ends → length kids ≡ slice_index ends (length parents) → ArePlaced parents number ends kids
-places-begin parents ends kids number last are room = record {
-  count = are.count;
-  room = room ∙ are.each (length parents) (omega arith);
-  left = λ directory inside. omega (arith, none directory, are.each directory inside);
-  placed = λ directory i inside within. absurd (omega (arith, within, none directory));
-}
-  where
-    none : (directory : ℕ) → length (kid_numbers number (drop number parents) directory) ≡ 0
-    none directory = ap (λ (ps : List ℕ). length (kid_numbers number ps directory)) (drop_all number parents (omega (arith, last)))
 
 module _ (parents : List ℕ) (m : ℕ) (starts kids : List ℕ) (some : 1 ≤ m) (inside : m < length parents) (early : get_or parents m 0 < m) (are : ArePlaced parents (suc m) starts kids) where
   abbrev parent : ℕ

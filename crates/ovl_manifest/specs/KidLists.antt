@@ -8,7 +8,7 @@ parts_of [] numbers = []
 parts_of (start ∷ []) numbers = []
 parts_of (start ∷ end ∷ starts) numbers = take (end - start) (drop start numbers) ∷ parts_of (end ∷ starts) numbers
 
--- each start lies at or before the next one, and none past the end of a list of so many
+-- no start lies behind the next one, and none past the end of a list of so many
 pub record AreStarts (starts : List ℕ) (count : ℕ) : Type 0 where
   pub rise : (number : ℕ) → suc number < length starts → slice_index starts number ≤ slice_index starts (suc number)
   pub within : (number : ℕ) → number < length starts → slice_index starts number ≤ count
@@ -18,12 +18,12 @@ abbrev pub count_below : List ℕ → ℕ → ℕ
 count_below [] number = zero
 count_below (parent ∷ parents) number = if nat_lt parent number then suc (count_below parents number) else count_below parents number
 
--- of the rows with these parents each one's count of kids, and one more of none
+-- how many kids each row with these parents has, and past the last row none
 pub record AreCounts (parents counts : List ℕ) : Type 0 where
   pub count : length counts ≡ suc (length parents)
   pub each : (number : ℕ) → number ≤ length parents → slice_index counts number ≡ length (kid_numbers 1 (drop 1 parents) number)
 
--- where each one's kids end, if the kids of all rows lie row after row
+-- where the kids of each row end, if those of all rows lie row after row
 pub record AreEnds (parents ends : List ℕ) : Type 0 where
   pub count : length ends ≡ suc (length parents)
   pub each : (number : ℕ) → number ≤ length parents → slice_index ends number ≡ count_below (drop 1 parents) (suc number)
