@@ -326,5 +326,5 @@ module _ (rows : List SheetRow) (are : AreRows rows) where
       named [] (row ∷ rows) all = all
       named (after ∷ afters) (row ∷ rows) all = with-named afters rows ∙ all
 
-pub few-rows : (rows : List SheetRow) → AreRows rows → length rows < 4294967296
+pub few-rows : (rows : List SheetRow) → AreRows rows → length rows ≤ 1048576
 few-rows rows are = omega (arith, leb-true (length (entries_of_rows rows)) 1048576 are.layer.counted, entries-count rows)

@@ -20,6 +20,7 @@ pub mod BuilderLemmas
 pub mod CompactLemmas
 pub mod SheetLemmas
 pub mod SheetPassLemmas
+pub mod KidListLemmas
 pub mod AfterLemmas
 pub mod SheetDraftLemmas
 pub mod RunLemmas

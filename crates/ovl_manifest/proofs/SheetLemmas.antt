@@ -65,7 +65,7 @@ ascends-apart cmp (first ∷ xs) (suc i) (suc j) x y up before at other =
     ascends-apart cmp xs i j x y (both {a = list_all (λ later. is_lt (cmp first later)) xs} {b = ascends cmp xs} up).1 (omega arith) at other
 
 -- two functions that give the same for each element
-map-each : {X Y : Type 0} (f g : X → Y) (xs : List X) → ((i : ℕ) (d : X) → i < length xs → f (get_or xs i d) ≡ g (get_or xs i d)) → map f xs ≡ map g xs
+pub map-each : {X Y : Type 0} (f g : X → Y) (xs : List X) → ((i : ℕ) (d : X) → i < length xs → f (get_or xs i d) ≡ g (get_or xs i d)) → map f xs ≡ map g xs
 map-each f g [] each = refl
 map-each f g (x ∷ xs) each = λ j. each 0 x (omega arith) j ∷ map-each f g xs (λ i d inside. each (suc i) d (omega (arith, inside))) j
 
@@ -375,14 +375,6 @@ names-from_root directory n key (root ∷ entries) parents inode at same each =
 parents-length : (rows : List SheetRow) (root : SheetRow) → slice_get rows 0 ≡ Some root → length rows ≡ suc (length (parents_of rows))
 parents-length [] root at = let bad : None ≡ Some root = at in cc
 parents-length (first ∷ rows) root at = ap suc (sym (length-map rows (λ (row : SheetRow). row.parent)))
-
--- the numbers that a list of lists has at a place
-pub own-kids : {V : Type 0} (items : V → List ℕ) (lists : List V) (directory : ℕ) (own : V) (numbers : List ℕ) → slice_get (map items lists) directory ≡ Some numbers → directory < length lists → own ≡ get_or lists directory own → items own ≡ numbers
-own-kids items lists directory own numbers at inside is =
-    some-same (items own) numbers (sym (slice_get-map items lists directory ∙ ap (option_map items) (slice_get_read lists (length lists) directory own refl inside is)) ∙ at)
-
-pub kids-within : {V : Type 0} (items : V → List ℕ) (lists : List V) (directory : ℕ) (numbers : List ℕ) → slice_get (map items lists) directory ≡ Some numbers → directory < length lists
-kids-within items lists directory numbers at = omega (arith, slice_get_within (map items lists) directory numbers at, length-map lists items)
 
 module _ (rows : List SheetRow) (are : AreRows rows) where
   -- a row after the first has a name, and its parent comes before it
@@ -699,12 +691,14 @@ module _ (rows : List SheetRow) (below : List (List ℕ)) (marked : List Mark) (
       }
 
 -- the numbers that a sheet keeps for a directory
-pub own-numbers : {V : Type 0} (items : V → List ℕ) (lists : List V) (rows : List SheetRow) (marked : List Mark) → IsSheet rows (map items lists) marked
-    → (directory : ℕ) (own : V) → directory < length (entries_of_rows rows) → own ≡ get_or lists directory own → items own ≡ kid_numbers 1 (parents_of rows) directory
-own-numbers items lists rows marked is directory own inside at =
-    let listed : slice_get (map items lists) directory ≡ Some (kid_numbers 1 (parents_of rows) directory) =
-    is.kids directory (omega (arith, inside, count rows (map items lists) marked is)) in
-    own-kids items lists directory own (kid_numbers 1 (parents_of rows) directory) listed (kids-within items lists directory (kid_numbers 1 (parents_of rows) directory) listed) at
+pub has-numbers : (rows : List SheetRow) (below : List (List ℕ)) (marked : List Mark) → IsSheet rows below marked → (directory : ℕ) → directory < length (entries_of_rows rows) → directory < length below
+has-numbers rows below marked is directory inside =
+    slice_get_within below directory (kid_numbers 1 (parents_of rows) directory) (is.kids directory (omega (arith, inside, count rows below marked is)))
+
+pub own-numbers : (rows : List SheetRow) (below : List (List ℕ)) (marked : List Mark) → IsSheet rows below marked
+    → (directory : ℕ) (own : List ℕ) → directory < length (entries_of_rows rows) → slice_get below directory ≡ Some own → own ≡ kid_numbers 1 (parents_of rows) directory
+own-numbers rows below marked is directory own inside at =
+    some-same own (kid_numbers 1 (parents_of rows) directory) (sym at ∙ is.kids directory (omega (arith, inside, count rows below marked is)))
 
 pub kid-names-more : (rows : List SheetRow) (numbers : List ℕ) (i : ℕ) → i < length numbers → map (own_name rows) (take (i + 1) numbers) ≡ map (own_name rows) (take i numbers) ++ own_name rows (get_or numbers i 0) ∷ []
 kid-names-more rows numbers i inside =

@@ -1,12 +1,11 @@
 -- What the passes that make a sheet keep from one node to the next.
-use Rattle.std.proofs.Common.{◌≡◌, ℕ, zero, suc, ◌+◌, ◌<◌, ◌≤◌, length, get_or, set, take, drop, map, cond, Bool, true, false, Some, List, [], ◌∷◌, ◌++◌, refl, sym, ap, ◌∙◌, subst, arith, append_assoc, length-append, length-take-le, drop-cons, inl, inr}
-use Rattle.std.specs.Prelude.{◌&&◌, ◌==◌, nat_lt, slice_get, slice_index, is_some}
+use Rattle.std.proofs.Common.{◌≡◌, ℕ, zero, suc, ◌+◌, ◌<◌, ◌≤◌, length, get_or, set, take, drop, map, cond, Bool, true, false, Some, List, [], ◌∷◌, ◌++◌, refl, sym, ap, ◌∙◌, subst, arith, append_assoc, length-append, drop-cons}
+use Rattle.std.specs.Prelude.{◌&&◌, nat_lt, slice_get, slice_index, is_some}
 use Rattle.std.specs.List.{list_all}
-use Rattle.std.proofs.lemmas.Bool.{ltb-true, cases_lt}
-use Rattle.std.specs.Option.{option_map}
-use Rattle.std.proofs.lemmas.Option.{get_or_from_slice_get, slice_get_read, slice_get-map}
+use Rattle.std.proofs.lemmas.Bool.{ltb-true}
+use Rattle.std.proofs.lemmas.Option.{get_or_from_slice_get}
 use Rattle.std.proofs.lemmas.Bool.Decides.{nat_tests}
-use Rattle.std.proofs.lemmas.List.{append-nil, map-append, take-append-drop, take_more, length-map, drop_all}
+use Rattle.std.proofs.lemmas.List.{append-nil, map-append, take-append-drop, length-map, drop_all}
 use Rattle.std.proofs.lemmas.List.Folds.{list_all-append}
 use Rattle.ovl_names.specs.Names.{PathName}
 use Rattle.ovl_names.specs.Paths.{PathNames, child_path}
@@ -46,6 +45,10 @@ marks-more before old pushed new nodes kids i node mark inside is below marked e
     ∙ (append_assoc (before ++ front) (mark ∷ []) own
     ∙ (append_assoc before front (mark ∷ own)
     ∙ ap (λ (ms : List Mark). before ++ ms) (sym more))))
+
+pub marks-count : (before old : List Mark) (entries : Entries) → old ≡ before ++ marks_of entries → length old ≡ length before + length entries
+marks-count before old entries is =
+    ap length is ∙ (length-append before (marks_of entries) ∙ omega (arith, length-map entries (λ (entry : Entry). mark_of entry.1)))
 
 -- ---- how many entries the first nodes have
 
@@ -314,157 +317,6 @@ rows-more before old pushed new parents afters front kids node below e f g =
     ∙ (ap (λ (rows : List SheetRow). rows ++ own ∷ rows_from parents afters (suc start) node.below) e
     ∙ (append_assoc before first (own ∷ rows_from parents afters (suc start) node.below)
     ∙ ap (λ (rows : List SheetRow). before ++ rows) (sym more)))))
-
--- ---- the numbers of the rows directly below each row
-
-set-same : {X : Type 0} (xs : List X) (i : ℕ) (v : X) → i < length xs → slice_get (set xs i v) i ≡ Some v
-set-same [] i v inside = absurd (omega arith)
-set-same (x ∷ xs) zero v inside = refl
-set-same (x ∷ xs) (suc i) v inside = set-same xs i v (omega arith)
-
-set-other : {X : Type 0} (xs : List X) (i n : ℕ) (v : X) → (i == n) ≡ false → slice_get (set xs i v) n ≡ slice_get xs n
-set-other [] i n v other = refl
-set-other (x ∷ xs) zero zero v other = let bad : true ≡ false = other in cc
-set-other (x ∷ xs) zero (suc n) v other = refl
-set-other (x ∷ xs) (suc i) zero v other = refl
-set-other (x ∷ xs) (suc i) (suc n) v other = set-other xs i n v (grind (arith, nat_tests))
-
-drop-one : {X : Type 0} (xs ys : List X) → 1 ≤ length xs → drop 1 (xs ++ ys) ≡ drop 1 xs ++ ys
-drop-one [] ys some = absurd (omega (arith, some))
-drop-one (x ∷ xs) ys some = refl
-
-drop-one-length : {X : Type 0} (xs : List X) → 1 ≤ length xs → suc (length (drop 1 xs)) ≡ length xs
-drop-one-length [] some = absurd (omega (arith, some))
-drop-one-length (x ∷ xs) some = refl
-
-earlier-front : (number : ℕ) (xs ys : List ℕ) → are_earlier number (xs ++ ys) ≡ true → are_earlier number xs ≡ true
-earlier-front number [] ys all = refl
-earlier-front number (x ∷ xs) ys all =
-    let parts = both {a = nat_lt x number} {b = are_earlier (suc number) (xs ++ ys)} all in
-    λ j. parts.0 j && earlier-front (suc number) xs ys parts.1 j
-
-earlier-last : (number : ℕ) (xs : List ℕ) (y : ℕ) → are_earlier number (xs ++ y ∷ []) ≡ true → y < number + length xs
-earlier-last number [] y all =
-    let less : y < number = ltb-true y number (both {a = nat_lt y number} {b = true} all).0 in
-    omega (arith, less)
-earlier-last number (x ∷ xs) y all =
-    let later : y < suc number + length xs = earlier-last (suc number) xs y (both {a = nat_lt x number} {b = are_earlier (suc number) (xs ++ y ∷ [])} all).1 in
-    omega (arith, later)
-
-kid_numbers-push : (number : ℕ) (parents : List ℕ) (parent directory : ℕ) → kid_numbers number (parents ++ parent ∷ []) directory ≡ kid_numbers number parents directory ++ cond (parent == directory) ((number + length parents) ∷ []) []
-kid_numbers-push number [] parent directory = ap (λ n. cond (parent == directory) (n ∷ []) []) (omega arith)
-kid_numbers-push number (first ∷ parents) parent directory =
-    by (kid_numbers-push (suc number) parents parent directory ∙ ap (λ n. kid_numbers (suc number) parents directory ++ cond (parent == directory) (n ∷ []) []) (omega arith)) (first == directory)
-  where
-    by : kid_numbers (suc number) (parents ++ parent ∷ []) directory ≡ kid_numbers (suc number) parents directory ++ cond (parent == directory) ((number + suc (length parents)) ∷ []) []
-        → (b : Bool) → cond b (number ∷ kid_numbers (suc number) (parents ++ parent ∷ []) directory) (kid_numbers (suc number) (parents ++ parent ∷ []) directory) ≡ cond b (number ∷ kid_numbers (suc number) parents directory) (kid_numbers (suc number) parents directory) ++ cond (parent == directory) ((number + suc (length parents)) ∷ []) []
-    by later true = ap (λ ns. number ∷ ns) later
-    by later false = later
-
-kid-none : (number : ℕ) (parents : List ℕ) (directory : ℕ) → are_earlier number parents ≡ true → number + length parents ≤ suc directory → kid_numbers number parents directory ≡ []
-kid-none number [] directory all few = refl
-kid-none number (first ∷ parents) directory all few =
-    let parts = both {a = nat_lt first number} {b = are_earlier (suc number) parents} all in
-    let less : first < number = ltb-true first number parts.0 in
-    let before : first < directory = omega (arith, less, few) in
-    let other : (first == directory) ≡ false = grind (arith, nat_tests) in
-    ap (λ b. cond b (number ∷ kid_numbers (suc number) parents directory) (kid_numbers (suc number) parents directory)) other
-    ∙ kid-none (suc number) parents directory parts.1 (omega (arith, few))
-
-pub take-earlier : (parents : List ℕ) (m : ℕ) → 1 ≤ m → m ≤ length parents → are_earlier 1 (drop 1 parents) ≡ true → are_earlier 1 (drop 1 (take m parents)) ≡ true
-take-earlier parents m some few all =
-    let front : 1 ≤ length (take m parents) = omega (arith, some, length-take-le m parents few) in
-    earlier-front 1 (drop 1 (take m parents)) (drop m parents)
-    (ap (are_earlier 1) (sym (drop-one (take m parents) (drop m parents) front) ∙ ap (drop 1) (take-append-drop m parents)) ∙ all)
-
-pub take-next : (parents : List ℕ) (m : ℕ) → 1 ≤ m → m < length parents → drop 1 (take (m + 1) parents) ≡ drop 1 (take m parents) ++ get_or parents m 0 ∷ []
-take-next parents m some inside =
-    ap (drop 1) (take_more parents m 0 inside) ∙ drop-one (take m parents) (get_or parents m 0 ∷ []) (omega (arith, some, length-take-le m parents (omega (arith, inside))))
-
-pub parent-inside : (parents : List ℕ) (m : ℕ) → 1 ≤ m → m < length parents → are_earlier 1 (drop 1 parents) ≡ true → get_or parents m 0 < m
-parent-inside parents m some inside all =
-    let last = earlier-last 1 (drop 1 (take m parents)) (get_or parents m 0) (ap (are_earlier 1) (sym (take-next parents m some inside)) ∙ take-earlier parents (m + 1) (omega (arith, some)) (omega (arith, inside)) all) in
-    let few = length-take-le m parents (omega (arith, inside)) in
-    omega (arith, last, few, drop-one-length (take m parents) (omega (arith, some, few)))
-
--- one more row, directly below one before it
-kids-step : (lists next : List (List ℕ)) (before : List ℕ) (parent m : ℕ) → 1 + length before ≡ m → are_earlier 1 before ≡ true → length lists ≡ m
-    → ((n : ℕ) → n < m → slice_get lists n ≡ Some (kid_numbers 1 before n))
-    → next ≡ set (lists ++ [] ∷ []) parent (get_or (lists ++ [] ∷ []) parent [] ++ m ∷ [])
-    → (n : ℕ) → n < m + 1 → slice_get next n ≡ Some (kid_numbers 1 (before ++ parent ∷ []) n)
-kids-step lists next before parent m number early count each is n less =
-    ap (λ (ls : List (List ℕ)). slice_get ls n) is
-    ∙ (by (parent == n) refl
-    ∙ ap Some (sym (kid_numbers-push 1 before parent n ∙ ap (λ k. kid_numbers 1 before n ++ cond (parent == n) (k ∷ []) []) number)))
-  where
-    old : (k : ℕ) → k < m + 1 → slice_get (lists ++ [] ∷ []) k ≡ Some (kid_numbers 1 before k)
-    old k within = elim (cases_lt k m) [
-      | inl low ↦ slice_get-front lists ([] ∷ []) k (omega (arith, low, count)) ∙ each k low
-      | inr high ↦
-          let here : k ≡ length lists = omega (arith, high, within, count) in
-          ap (slice_get (lists ++ [] ∷ [])) here ∙ (slice_get-seam lists [] [] ∙ ap Some (sym (kid-none 1 before k early (omega (arith, number, here, count)))))
-    ]
-
-    by : (b : Bool) → (parent == n) ≡ b → slice_get (set (lists ++ [] ∷ []) parent (get_or (lists ++ [] ∷ []) parent [] ++ m ∷ [])) n ≡ Some (kid_numbers 1 before n ++ cond (parent == n) (m ∷ []) [])
-    by true e =
-        let same : parent ≡ n = grind (arith, nat_tests) in
-        let value : get_or (lists ++ [] ∷ []) parent [] ≡ kid_numbers 1 before n =
-        get_or_from_slice_get (lists ++ [] ∷ []) parent (kid_numbers 1 before n) [] (ap (slice_get (lists ++ [] ∷ [])) same ∙ old n less) in
-        ap (slice_get (set (lists ++ [] ∷ []) parent (get_or (lists ++ [] ∷ []) parent [] ++ m ∷ []))) (sym same)
-        ∙ (set-same (lists ++ [] ∷ []) parent (get_or (lists ++ [] ∷ []) parent [] ++ m ∷ []) (omega (arith, same, less, count, length-append lists ([] ∷ [])))
-        ∙ ((λ j. Some (value j ++ m ∷ [])) ∙ (λ j. Some (kid_numbers 1 before n ++ cond (sym e j) (m ∷ []) []))))
-    by false e =
-        set-other (lists ++ [] ∷ []) parent n (get_or (lists ++ [] ∷ []) parent [] ++ m ∷ []) e
-        ∙ (old n less ∙ (ap Some (sym (append-nil (kid_numbers 1 before n))) ∙ (λ j. Some (kid_numbers 1 before n ++ cond (sym e j) (m ∷ []) []))))
-
-pub kids-more : (lists next : List (List ℕ)) (parents : List ℕ) (m : ℕ) → 1 ≤ m → m < length parents → are_earlier 1 (drop 1 parents) ≡ true → length lists ≡ m
-    → ((n : ℕ) → n < m → slice_get lists n ≡ Some (kid_numbers 1 (drop 1 (take m parents)) n))
-    → next ≡ set (lists ++ [] ∷ []) (get_or parents m 0) (get_or (lists ++ [] ∷ []) (get_or parents m 0) [] ++ m ∷ [])
-    → (n : ℕ) → n < m + 1 → slice_get next n ≡ Some (kid_numbers 1 (drop 1 (take (m + 1) parents)) n)
-kids-more lists next parents m some inside all count each is n less =
-    let few : length (take m parents) ≡ m = length-take-le m parents (omega (arith, inside)) in
-    kids-step lists next (drop 1 (take m parents)) (get_or parents m 0) m (omega (arith, few, drop-one-length (take m parents) (omega (arith, some, few))))
-    (take-earlier parents m some (omega (arith, inside)) all) count each is n less
-    ∙ ap (λ (ps : List ℕ). Some (kid_numbers 1 ps n)) (sym (take-next parents m some inside))
-
--- the first row, which is the root
-pub kids-first : (lists next : List (List ℕ)) (parents : List ℕ) (m : ℕ) → m ≤ 0 → m < length parents → length lists ≡ m → next ≡ lists ++ [] ∷ []
-    → (n : ℕ) → n < m + 1 → slice_get next n ≡ Some (kid_numbers 1 (drop 1 (take (m + 1) parents)) n)
-kids-first (list ∷ lists) next parents m none inside count is n less = absurd (omega (arith, none, count))
-kids-first [] next [] m none inside count is n less = absurd (omega (arith, inside))
-kids-first [] next (first ∷ parents) (suc m) none inside count is n less = absurd (omega (arith, none))
-kids-first [] next (first ∷ parents) zero none inside count is zero less = ap (λ (ls : List (List ℕ)). slice_get ls 0) is
-kids-first [] next (first ∷ parents) zero none inside count is (suc n) less = absurd (omega (arith, less))
-
-map-set : {V : Type 0} (items : V → List ℕ) (xs : List V) (i : ℕ) (v : V) → map items (set xs i v) ≡ set (map items xs) i (items v)
-map-set items [] i v = refl
-map-set items (x ∷ xs) zero v = refl
-map-set items (x ∷ xs) (suc i) v = ap (λ rest. items x ∷ rest) (map-set items xs i v)
-
-length-set-any : {X : Type 0} (xs : List X) (i : ℕ) (v : X) → length (set xs i v) ≡ length xs
-length-set-any [] i v = refl
-length-set-any (x ∷ xs) zero v = refl
-length-set-any (x ∷ xs) (suc i) v = ap suc (length-set-any xs i v)
-
-pub pushed-lists : {V : Type 0} (items : V → List ℕ) (lists pushed : List V) (own : V) → items own ≡ [] → pushed ≡ lists ++ own ∷ [] → map items pushed ≡ map items lists ++ [] ∷ []
-pushed-lists items lists pushed own none is =
-    ap (map items) is ∙ (map-append items lists (own ∷ []) ∙ ap (λ (l : List ℕ). map items lists ++ l ∷ []) none)
-
--- a number was written to the list at a place
-pub written-lists : {V : Type 0} (items : V → List ℕ) (lists pushed final : List V) (own found written : V) (place number : ℕ) → items own ≡ [] → pushed ≡ lists ++ own ∷ [] → place < length pushed → found ≡ get_or pushed place found
-    → items written ≡ items found ++ number ∷ [] → final ≡ set pushed place written
-    → map items final ≡ set (map items lists ++ [] ∷ []) place (get_or (map items lists ++ [] ∷ []) place [] ++ number ∷ [])
-written-lists items lists pushed final own found written place number none is inside at grown end =
-    let all : map items pushed ≡ map items lists ++ [] ∷ [] = pushed-lists items lists pushed own none is in
-    let value : get_or (map items pushed) place [] ≡ items found =
-    get_or_from_slice_get (map items pushed) place (items found) [] (slice_get-map items pushed place ∙ ap (option_map items) (slice_get_read pushed (length pushed) place found refl inside at)) in
-    ap (map items) end
-    ∙ (map-set items pushed place written
-    ∙ ((λ j. set (map items pushed) place ((grown ∙ ap (λ (l : List ℕ). l ++ number ∷ []) (sym value)) j))
-    ∙ ap (λ (ls : List (List ℕ)). set ls place (get_or ls place [] ++ number ∷ [])) all))
-
-pub written-length : {V : Type 0} (pushed final : List V) (written : V) (place : ℕ) → final ≡ set pushed place written → length final ≡ length pushed
-written-length pushed final written place end = ap length end ∙ length-set-any pushed place written
 
 -- ---- the room of a layer
 

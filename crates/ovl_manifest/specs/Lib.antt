@@ -10,6 +10,8 @@ pub mod TextPaths
 pub mod Drafts
 pub mod Builders
 pub mod Sheets
+pub mod KidLists
+pub mod MarkLists
 pub mod SheetPasses
 pub mod SheetDrafts
 pub mod Compact

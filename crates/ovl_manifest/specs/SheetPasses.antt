@@ -63,9 +63,8 @@ pub record IsRoomFor (layer : Entries) (room : Room) : Type 0 where
   pub earlier : are_earlier 1 (drop 1 room.parents.items) ≡ true
   pub place : placed_by [] room.parents.items layer ≡ layer
   pub afters : room.afters.items ≡ afters_from 0 layer
-  pub kids_count : length room.kids.items ≡ length layer
-  pub kids : (number : ℕ) → number < length layer → slice_get (map (λ own. own.items) room.kids.items) number ≡ Some (kid_numbers 1 (drop 1 room.parents.items) number)
-  pub marks : room.marks.items ≡ map (λ entry. mark_of entry.1) layer
+  pub kids : (number : ℕ) → number < length layer → slice_get room.kids number ≡ Some (kid_numbers 1 (drop 1 room.parents.items) number)
+  pub marks : room.marks ≡ map (λ entry. mark_of entry.1) layer
 
 -- the number of names of each entry's path
 abbrev pub depths_of : Entries → List ℕ

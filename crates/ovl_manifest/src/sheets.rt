@@ -1,14 +1,16 @@
-ghost use Rattle.std.specs.Prelude.{◌≡◌, ◌≢◌, ℕ, ◌+◌, ◌<◌, ◌≤◌, ◌^◌, ◌++◌, [], ◌∷◌, length, map, drop, suc, vec_len, slice_get, Some, IfOk, IfErr, OnOk, MatchOption, IsTrue};
+ghost use Rattle.std.specs.Prelude.{◌≡◌, ◌≢◌, ◌+◌, ◌<◌, ◌≤◌, ◌^◌, ◌++◌, [], ◌∷◌, length, map, vec_len, Some, IfOk, IfErr, OnOk, MatchOption};
 ghost use Rattle.std.specs.Option.{option_map};
 ghost use Rattle.std.specs.List.{All};
 ghost use Rattle.std.specs.Vec.{vec_capacity};
 ghost use Rattle.ovl_names.specs.Paths.{child_path};
 ghost use Rattle.ovl_inode.specs.Marks.{mark_of as the_mark};
-ghost use Rattle.ovl_manifest.specs.Layers.{IsLayer, entry_at, names_below};
+ghost use Rattle.ovl_manifest.specs.Layers.{IsLayer, entry_at, names_below, entry_limit};
 ghost use Rattle.ovl_manifest.specs.LayerTrees.{entries_in, entries_under, entries_of_nodes};
-ghost use Rattle.ovl_manifest.specs.Sheets.{IsRowOf, AreRows, path_at, last_name, entries_of_rows, afters_from, kid_numbers, parents_of, are_earlier};
+ghost use Rattle.ovl_manifest.specs.Sheets.{IsRowOf, AreRows, path_at, last_name, entries_of_rows, afters_from};
 ghost use Rattle.ovl_manifest.specs.SheetPasses.{AddsParents, IsRoomFor, rows_from, kid_order, depths_of as the_depths, with_afters};
 
+use crate::kid_lists::KidLists;
+use crate::mark_lists::MarkList;
 use crate::trees::{Layer, Node};
 use ovl_inode::{Inode, Mark, mark_of};
 use ovl_names::{Name, Path};
@@ -34,12 +36,11 @@ pub struct SheetRow {
 #[derive(Drop)]
 pub struct Sheet {
     rows: Vec<SheetRow>,
-    kids: Vec<Vec<u32>>,
-    marks: Vec<Mark>,
+    kids: KidLists,
+    marks: MarkList,
 }
 
 impl Model for Sheet {
-    ghost use Rattle.std.specs.Prelude.{map};
     ghost use Rattle.ovl_manifest.specs.Layers.{Entries};
     ghost use Rattle.ovl_manifest.specs.Sheets.{IsSheet, entries_of_rows};
 
@@ -47,7 +48,7 @@ impl Model for Sheet {
 
     ghost view = { λ a. entries_of_rows a.rows.items };
 
-    ghost invariant = { λ a. IsSheet a.rows.items (map (λ own. own.items) a.kids.items) a.marks.items };
+    ghost invariant = { λ a. IsSheet a.rows.items a.kids a.marks };
 }
 
 /// A place in a sheet, seen as the entries at and under it, their paths counted from it.
@@ -89,12 +90,12 @@ impl Sheet {
         ensures { IfOk result (λ sheet. sheet ≡ entries_of_rows rows.items) }
     {
         let mut parents = Vec::with_capacity(alloc, rows.len())?;
-        let mut marks = Vec::with_capacity(alloc, rows.len())?;
+        let mut marks = MarkList::with_capacity(alloc, rows.len())?;
         for row in &rows {
             parents.push(row.parent)?;
             marks.push(mark_of(alloc, &row.inode)?)?;
         }
-        let kids = kids_of(alloc, &parents)?;
+        let kids = KidLists::of(alloc, &parents)?;
         let depths = depths_of(alloc, &rows)?;
         set_afters(&depths, &mut rows);
         Ok(Sheet { rows, kids, marks })
@@ -147,7 +148,7 @@ impl Sheet {
         requires { number < length self.now }
         ensures { option_map the_mark (entry_at self.now (path_at self.now number)) ≡ Some result.now }
     {
-        &self.marks[number as usize]
+        self.marks.at(number)
     }
 
     /// The numbers of the rows directly below the row of a number, in the order of their names; takes no memory.
@@ -157,7 +158,7 @@ impl Sheet {
         ensures paths { map (path_at self.now) result.now
             ≡ map (child_path (path_at self.now directory)) (names_below self.now (path_at self.now directory)) }
     {
-        self.kids[directory as usize].as_slice()
+        self.kids.below(directory)
     }
 
     /// The number of the entry `name` in the directory of a number, and `None` where there is none; takes no memory,
@@ -169,7 +170,7 @@ impl Sheet {
             (λ child. (child < length self.now) × (path_at self.now child ≡ child_path (path_at self.now directory) name.now)) }
     {
         let rows = self.rows.as_slice();
-        let kids = self.kids[directory as usize].as_slice();
+        let kids = self.kids.below(directory);
         match kids.binary_search_by(|kid| order_of_kid(rows, *kid, name)) {
             Ok(place) => Some(kids[place]),
             Err(_) => None,
@@ -276,7 +277,7 @@ impl<'a> SheetPlace<'a> {
         ensures { IfOk result (λ names. names.items ≡ names_below self.now []) }
     {
         let sheet = self.sheet;
-        let kids = sheet.kids[self.number as usize].as_slice();
+        let kids = sheet.kids.below(self.number);
         let mut names = Vec::with_capacity(alloc, kids.len())?;
         for kid in kids {
             if let Some(name) = &sheet.rows[*kid as usize].name {
@@ -293,8 +294,8 @@ struct Room {
     rows: Vec<SheetRow>,
     parents: Vec<u32>,
     afters: Vec<u32>,
-    kids: Vec<Vec<u32>>,
-    marks: Vec<Mark>,
+    kids: KidLists,
+    marks: MarkList,
 }
 
 impl Room {
@@ -309,10 +310,10 @@ impl Room {
         let mut afters = Vec::with_capacity(alloc, count)?;
         afters.push(count as u32)?;
         push_afters(&layer.children, &mut afters)?;
-        let mut marks = Vec::with_capacity(alloc, count)?;
+        let mut marks = MarkList::with_capacity(alloc, count)?;
         marks.push(mark_of(alloc, &layer.inode)?)?;
         push_marks(alloc, &layer.children, &mut marks)?;
-        let kids = kids_of(alloc, &parents)?;
+        let kids = KidLists::of(alloc, &parents)?;
         let rows = Vec::with_capacity(alloc, count)?;
         Ok(Room {
             rows,
@@ -354,9 +355,10 @@ fn push_afters(nodes: &[Node], afters: &mut Vec<u32>) -> Result<(), AllocError>
 }
 
 // Adds the mark of each entry at and under these nodes.
-fn push_marks(alloc: Global, nodes: &[Node], marks: &mut Vec<Mark>) -> Result<(), AllocError>
-    ensures { OnOk result (marks.new.items
-        ≡ marks.old.items ++ map (λ entry. the_mark entry.1) (entries_of_nodes nodes.now)) }
+fn push_marks(alloc: Global, nodes: &[Node], marks: &mut MarkList) -> Result<(), AllocError>
+    requires limit { length marks.old + length (entries_of_nodes nodes.now) ≤ entry_limit }
+    ensures { OnOk result (marks.new
+        ≡ marks.old ++ map (λ entry. the_mark entry.1) (entries_of_nodes nodes.now)) }
 {
     for node in nodes {
         marks.push(mark_of(alloc, &node.inode)?)?;
@@ -397,24 +399,6 @@ fn set_afters(depths: &[u32], rows: &mut Vec<SheetRow>)
         }
         rows[number].after = after as u32;
     }
-}
-
-// The numbers of the rows directly below each row, by the parents of all; the first row is the root.
-fn kids_of(alloc: Global, parents: &[u32]) -> Result<Vec<Vec<u32>>, AllocError>
-    requires earlier { IsTrue (are_earlier 1 (drop 1 parents.now)) }
-    requires limit { length parents.now < 2 ^ 32 }
-    ensures { IfOk result (λ kids. (length kids.items ≡ length parents.now)
-        × ((number : ℕ) → number < length parents.now
-        → slice_get (map (λ own. own.items) kids.items) number ≡ Some (kid_numbers 1 (drop 1 parents.now) number))) }
-{
-    let mut kids = Vec::with_capacity(alloc, parents.len())?;
-    for number in 0..parents.len() {
-        kids.push(Vec::new(alloc))?;
-        if number > 0 {
-            kids[parents[number] as usize].push(number as u32)?;
-        }
-    }
-    Ok(kids)
 }
 
 impl Sheet {

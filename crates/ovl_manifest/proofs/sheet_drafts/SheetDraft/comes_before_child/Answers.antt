@@ -1,11 +1,10 @@
-use Rattle.std.proofs.Common.{◌≡◌, ◌<◌, ◌∙◌, ◌+◌, [], ℕ, List, Some, None, refl, sym, ap, length, take, arith, add-one}
+use Rattle.std.proofs.Common.{◌≡◌, ◌<◌, ◌∙◌, ◌+◌, [], ℕ, List, Some, refl, sym, ap, length, take, arith}
 use Rattle.std.specs.Prelude.{slice_get}
 use Rattle.std.specs.Ordering.{is_lt}
 use Rattle.std.proofs.lemmas.Bool.Decides.{nat_tests}
 use Rattle.std.proofs.lemmas.Option.{slice_get_read}
-use Rattle.ovl_names.specs.Names.{PathName, name_cmp}
+use Rattle.ovl_names.specs.Names.{name_cmp}
 use Rattle.ovl_names.specs.Paths.{PathNames, path_cmp, child_path}
-use Rattle.ovl_manifest.specs.declared.sheets.SheetRow.{SheetRow}
 use Rattle.ovl_manifest.proofs.SheetLemmas.{some-same}
 use Rattle.ovl_manifest.proofs.SheetDraftLemmas.{on_way, name-on_way, child_after, child_after-end}
 use Rattle.ovl_manifest.proofs.sheet_drafts.SheetDraft.comes_before_child.Goals as goal

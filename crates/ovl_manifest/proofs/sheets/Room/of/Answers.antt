@@ -31,8 +31,7 @@ returns c =
       place = root-place inode nodes parents adds;
       afters = root-afters inode nodes c.len-count.result c.push_afters.new.afters.items (omega (arith, c.len-count.ensures, c.push_parents.new.parents.ok.0, count))
           (c.in_ok-push_afters.ensures ∙ (λ j. ends j ++ afters_from (one j) (entries_of_nodes (c.deref-2.ensures.value j))));
-      kids_count = c.in_ok-kids.ensures.0 ∙ (ap length seen ∙ count);
-      kids = λ number inside. c.in_ok-kids.ensures.1 number (omega (arith, inside, ap length seen, count)) ∙ ap (λ (ns : List ℕ). Some (kid_numbers 1 (drop 1 ns) number)) seen;
+      kids = λ number inside. c.in_ok-kids.ensures number (omega (arith, inside, ap length seen, count)) ∙ ap (λ (ns : List ℕ). Some (kid_numbers 1 (drop 1 ns) number)) seen;
       marks = c.in_ok-push_marks.ensures
-          ∙ (λ j. (c.in_ok-push-3.ensures.items ∙ (λ k. c.in_ok-marks.ensures.items k ++ c.in_ok-mark_of.ensures k ∷ [])) j ++ marks_of (entries_of_nodes (c.deref-3.ensures.value j)));
+          ∙ (λ j. (c.in_ok-push-3.ensures ∙ (λ k. c.in_ok-marks.ensures k ++ c.in_ok-mark_of.ensures k ∷ [])) j ++ marks_of (entries_of_nodes (c.deref-3.ensures.value j)));
     })

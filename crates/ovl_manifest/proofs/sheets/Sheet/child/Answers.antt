@@ -1,4 +1,4 @@
-use Rattle.std.proofs.Common.{◌≡◌, ◌<◌, ◌∙◌, ℕ, [], List, Result, length, map, get_or, Ok, Err, sym, ap, subst, rules, tests, arith}
+use Rattle.std.proofs.Common.{◌≡◌, ◌<◌, ℕ, [], List, Result, length, get_or, Ok, Err, sym, ap, subst, rules, tests, arith}
 use Rattle.std.specs.List.Sorted.{IsBinarySearchResult}
 use Rattle.std.proofs.lemmas.Fn.{always_returns_same}
 use Rattle.ovl_names.specs.Names.{PathName}
@@ -8,14 +8,11 @@ use Rattle.ovl_manifest.specs.Layers.{Entries}
 use Rattle.ovl_manifest.specs.LayerTrees.{entries_under}
 use Rattle.ovl_manifest.specs.Sheets.{path_at, kid_numbers, parents_of}
 use Rattle.ovl_manifest.specs.SheetPasses.{kid_order}
-use Rattle.ovl_manifest.proofs.SheetLemmas.{count, kids-within, own-numbers, child-found, child-missing}
+use Rattle.ovl_manifest.proofs.SheetLemmas.{has-numbers, own-numbers, child-found, child-missing}
 use Rattle.ovl_manifest.proofs.sheets.Sheet.child.Goals as goal
 
-pub index-requires : goal.index-requires
-index-requires c =
-    let inside : c.args.directory < length c.self.inside.rows.items =
-    omega (arith, c.requires, ap length c.self.view_is, count _ _ _ c.self.invariant) in
-    omega (arith, kids-within (λ own. own.items) c.self.inside.kids.items c.args.directory _ (c.self.invariant.kids c.args.directory inside), c.self.inside.kids.ok.0)
+pub below-kids-requires : goal.below-kids-requires
+below-kids-requires c = has-numbers _ _ _ c.self.invariant c.args.directory (omega (arith, c.requires, ap length c.self.view_is))
 
 -- an answer of the search, said of the rows and the numbers that were searched
 answered : (rows seen : List SheetRow) (kids numbers : List ℕ) (result answer : Result ℕ ℕ) (name : PathName) → seen ≡ rows → numbers ≡ kids → result ≡ answer
@@ -29,11 +26,11 @@ pub returns-in-Ok : goal.returns-in-Ok
 returns-in-Ok c =
     let rows : List SheetRow = c.self.inside.rows.items in
     let kids : List ℕ = kid_numbers 1 (parents_of rows) c.args.directory in
-    let same : c.as_slice-kids.result.now ≡ kids =
-    c.as_slice-kids.ensures.value ∙ own-numbers (λ own. own.items) c.self.inside.kids.items rows _ c.self.invariant c.args.directory c.index.result.now (omega (arith, c.requires, ap length c.self.view_is)) c.index.ensures in
+    let same : c.below-kids.result.now ≡ kids =
+    own-numbers rows c.self.inside.kids c.self.inside.marks c.self.invariant c.args.directory c.below-kids.result.now (omega (arith, c.requires, ap length c.self.view_is)) c.below-kids.ensures in
     let position = c.binary_search_by.ensures.position (kid_order c.as_slice-rows.result.now c.args.name.now) (always_returns_same _ _ _ (λ a r q k. (search (rules, tests), search (rules, tests)))) in
-    let found = child-found rows (map (λ own. own.items) c.self.inside.kids.items) c.self.inside.marks.items c.self.invariant c.args.directory c.in-Ok.place c.args.name.now (omega (arith, c.in-Ok.ensures.bound, ap length same))
-    (answered rows c.as_slice-rows.result.now kids c.as_slice-kids.result.now c.binary_search_by.result (Ok c.in-Ok.place) c.args.name.now c.as_slice-rows.ensures.value same c.in-Ok.is position) in
+    let found = child-found rows c.self.inside.kids c.self.inside.marks c.self.invariant c.args.directory c.in-Ok.place c.args.name.now (omega (arith, c.in-Ok.ensures.bound, ap length same))
+    (answered rows c.as_slice-rows.result.now kids c.below-kids.result.now c.binary_search_by.result (Ok c.in-Ok.place) c.args.name.now c.as_slice-rows.ensures.value same c.in-Ok.is position) in
     subst (λ (numbers : List ℕ). (get_or numbers c.in-Ok.place 0 < length c.args.self.now) × (path_at c.args.self.now (get_or numbers c.in-Ok.place 0) ≡ child_path (path_at c.args.self.now c.args.directory) c.args.name.now)) (sym same)
     (subst (λ (layer : Entries). (get_or kids c.in-Ok.place 0 < length layer) × (path_at layer (get_or kids c.in-Ok.place 0) ≡ child_path (path_at layer c.args.directory) c.args.name.now)) c.self.view_is found)
 
@@ -41,9 +38,9 @@ pub returns-in-Err : goal.returns-in-Err
 returns-in-Err c =
     let rows : List SheetRow = c.self.inside.rows.items in
     let kids : List ℕ = kid_numbers 1 (parents_of rows) c.args.directory in
-    let same : c.as_slice-kids.result.now ≡ kids =
-    c.as_slice-kids.ensures.value ∙ own-numbers (λ own. own.items) c.self.inside.kids.items rows _ c.self.invariant c.args.directory c.index.result.now (omega (arith, c.requires, ap length c.self.view_is)) c.index.ensures in
+    let same : c.below-kids.result.now ≡ kids =
+    own-numbers rows c.self.inside.kids c.self.inside.marks c.self.invariant c.args.directory c.below-kids.result.now (omega (arith, c.requires, ap length c.self.view_is)) c.below-kids.ensures in
     let position = c.binary_search_by.ensures.position (kid_order c.as_slice-rows.result.now c.args.name.now) (always_returns_same _ _ _ (λ a r q k. (search (rules, tests), search (rules, tests)))) in
-    let none = child-missing rows (map (λ own. own.items) c.self.inside.kids.items) c.self.inside.marks.items c.self.invariant c.args.directory c.in-Err.field-0 c.args.name.now (omega (arith, c.requires, ap length c.self.view_is))
-    (answered rows c.as_slice-rows.result.now kids c.as_slice-kids.result.now c.binary_search_by.result (Err c.in-Err.field-0) c.args.name.now c.as_slice-rows.ensures.value same c.in-Err.is position) in
+    let none = child-missing rows c.self.inside.kids c.self.inside.marks c.self.invariant c.args.directory c.in-Err.field-0 c.args.name.now (omega (arith, c.requires, ap length c.self.view_is))
+    (answered rows c.as_slice-rows.result.now kids c.below-kids.result.now c.binary_search_by.result (Err c.in-Err.field-0) c.args.name.now c.as_slice-rows.ensures.value same c.in-Err.is position) in
     subst (λ (layer : Entries). entries_under (child_path (path_at layer c.args.directory) c.args.name.now) layer ≡ []) c.self.view_is none

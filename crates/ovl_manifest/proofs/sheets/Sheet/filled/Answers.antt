@@ -1,4 +1,4 @@
-use Rattle.std.proofs.Common.{◌≡◌, ◌<◌, ◌∙◌, ◌++◌, ◌∷◌, ℕ, suc, [], None, List, length, map, refl, sym, ap, subst, length-append, arith}
+use Rattle.std.proofs.Common.{◌≡◌, ◌<◌, ◌∙◌, ◌++◌, ◌∷◌, ℕ, suc, [], None, List, length, refl, sym, ap, subst, length-append, arith}
 use Rattle.std.specs.Prelude.{slice_index}
 use Rattle.std.proofs.lemmas.Option.{get_or_from_slice_get, slice_get_read}
 use Rattle.ovl_inode.specs.declared.inodes.Inode.{Inode}
@@ -40,10 +40,10 @@ invariant_of-result c =
     let count : length parents ≡ suc (length (entries_of_nodes nodes)) = c.requires.count ∙ ap length view in
     let place : placed_by [] parents (entries_from inode (entries_of_nodes nodes)) ≡ entries_from inode (entries_of_nodes nodes) =
     subst (λ (layer : Entries). placed_by [] parents layer ≡ layer) view c.requires.place in
-    subst (λ (rows : List SheetRow). IsSheet rows (map (λ own. own.items) c.args.room.kids.items) c.args.room.marks.items) (sym (moved c))
+    subst (λ (rows : List SheetRow). IsSheet rows c.args.room.kids c.args.room.marks) (sym (moved c))
     (filled-sheet inode nodes parents c.args.room.afters.items count place c.layer.invariant.1 c.requires.root c.requires.earlier (c.requires.afters ∙ ap (afters_from 0) view)
-    (map (λ own. own.items) c.args.room.kids.items) (λ number inside. c.requires.kids number (omega (arith, inside, ap length view)))
-    c.args.room.marks.items (c.requires.marks ∙ ap marks_of view))
+    c.args.room.kids (λ number inside. c.requires.kids number (omega (arith, inside, ap length view)))
+    c.args.room.marks (c.requires.marks ∙ ap marks_of view))
 
 pub returns : goal.returns
 returns c =

@@ -3,19 +3,15 @@ use Rattle.std.specs.List.{All}
 use Rattle.ovl_names.specs.Paths.{child_path}
 use Rattle.ovl_manifest.specs.Layers.{Entries, names_below}
 use Rattle.ovl_manifest.specs.Sheets.{path_at, kid_numbers, parents_of}
-use Rattle.ovl_manifest.proofs.SheetLemmas.{count, kids-within, own-numbers, kids-inside, kids-paths}
+use Rattle.ovl_manifest.proofs.SheetLemmas.{has-numbers, own-numbers, kids-inside, kids-paths}
 use Rattle.ovl_manifest.proofs.sheets.Sheet.kids.Goals as goal
 
-pub index-requires : goal.index-requires
-index-requires c =
-    let inside : c.args.directory < length c.self.inside.rows.items =
-    omega (arith, c.requires, ap length c.self.view_is, count _ _ _ c.self.invariant) in
-    omega (arith, kids-within (λ own. own.items) c.self.inside.kids.items c.args.directory _ (c.self.invariant.kids c.args.directory inside), c.self.inside.kids.ok.0)
+pub below-requires : goal.below-requires
+below-requires c = has-numbers _ _ _ c.self.invariant c.args.directory (omega (arith, c.requires, ap length c.self.view_is))
 
 -- the numbers that the sheet keeps
-numbers : (c : goal.After-as_slice) → c.as_slice.result.now ≡ kid_numbers 1 (parents_of c.self.inside.rows.items) c.args.directory
-numbers c =
-    c.as_slice.ensures.value ∙ own-numbers (λ own. own.items) c.self.inside.kids.items c.self.inside.rows.items _ c.self.invariant c.args.directory c.index.result.now (omega (arith, c.requires, ap length c.self.view_is)) c.index.ensures
+numbers : (c : goal.After-below) → c.below.result.now ≡ kid_numbers 1 (parents_of c.self.inside.rows.items) c.args.directory
+numbers c = own-numbers _ _ _ c.self.invariant c.args.directory c.below.result.now (omega (arith, c.requires, ap length c.self.view_is)) c.below.ensures
 
 pub returns-clause-inside : goal.returns-clause-inside
 returns-clause-inside c =

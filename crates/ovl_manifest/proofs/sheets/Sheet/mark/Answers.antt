@@ -1,7 +1,6 @@
-use Rattle.std.proofs.Common.{◌≡◌, ◌<◌, ℕ, ap, subst, refl, List, Some, length, arith}
+use Rattle.std.proofs.Common.{◌≡◌, ◌<◌, ℕ, ap, subst, List, Some, length, arith}
 use Rattle.std.specs.Option.{option_map}
 use Rattle.std.proofs.lemmas.List.{length-map}
-use Rattle.std.proofs.lemmas.Option.{slice_get_read}
 use Rattle.ovl_inode.specs.declared.marks.Mark.{Mark}
 use Rattle.ovl_inode.specs.Marks.{mark_of}
 use Rattle.ovl_manifest.specs.declared.sheets.SheetRow.{SheetRow}
@@ -15,11 +14,10 @@ within : (rows : List SheetRow) (below : List (List ℕ)) (marked : List Mark) (
 within rows below marked layer number is same inside =
     omega (arith, inside, ap length same, count rows below marked is, ap length is.marks, length-map rows (λ (row : SheetRow). mark_of row.inode))
 
-pub index-requires : goal.index-requires
-index-requires c = omega (arith, within _ _ _ c.args.self.now c.args.number c.self.invariant c.self.view_is c.requires, c.self.inside.marks.ok.0)
+pub at-requires : goal.at-requires
+at-requires c = within _ _ _ c.args.self.now c.args.number c.self.invariant c.self.view_is c.requires
 
 pub returns : goal.returns
 returns c =
-    let at = slice_get_read c.self.inside.marks.items (length c.self.inside.marks.items) c.args.number c.index.result.now refl (within _ _ _ c.args.self.now c.args.number c.self.invariant c.self.view_is c.requires) c.index.ensures in
-    subst (λ (layer : Entries). option_map mark_of (entry_at layer (path_at layer c.args.number)) ≡ Some c.index.result.now) c.self.view_is
-    (mark-at _ _ _ c.self.invariant c.args.number c.index.result.now (omega (arith, c.requires, ap length c.self.view_is)) at)
+    subst (λ (layer : Entries). option_map mark_of (entry_at layer (path_at layer c.args.number)) ≡ Some c.at.result.now) c.self.view_is
+    (mark-at _ _ _ c.self.invariant c.args.number c.at.result.now (omega (arith, c.requires, ap length c.self.view_is)) c.at.ensures)

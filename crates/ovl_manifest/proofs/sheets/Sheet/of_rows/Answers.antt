@@ -1,4 +1,4 @@
-use Rattle.std.proofs.Common.{◌≡◌, ◌∙◌, ℕ, Some, List, length, map, drop, sym, ap, subst, arith}
+use Rattle.std.proofs.Common.{◌≡◌, ◌<◌, take, length-take-le, ◌∙◌, ℕ, Some, List, length, map, drop, sym, ap, subst, arith}
 use Rattle.std.proofs.lemmas.List.{length-map, take_all, drop-map}
 use Rattle.ovl_inode.specs.Marks.{mark_of}
 use Rattle.ovl_manifest.specs.declared.sheets.SheetRow.{SheetRow}
@@ -6,8 +6,14 @@ use Rattle.ovl_manifest.specs.Sheets.{IsSheet, entries_of_rows, afters_from, kid
 use Rattle.ovl_manifest.proofs.AfterLemmas.{few-rows, set-entries, set-sheet}
 use Rattle.ovl_manifest.proofs.sheets.Sheet.of_rows.Goals as goal
 
-pub kids_of-requires-clause-limit : goal.kids_of-requires-clause-limit
-kids_of-requires-clause-limit c =
+pub push-requires-in-loop-row : goal.push-requires-in-loop-row
+push-requires-in-loop-row c =
+    let rows : List SheetRow = c.args.rows.items in
+    let inside : c.loop-row.row-index < length rows = omega (arith, c.loop-row-test.true, ap length c.deref-row-items.ensures.value) in
+    omega (arith, inside, few-rows rows c.requires, ap length c.loop-row.invariant.marks, length-map (take c.loop-row.row-index rows) (λ (row : SheetRow). mark_of row.inode), length-take-le c.loop-row.row-index rows (omega (arith, inside)))
+
+pub of-requires-clause-limit : goal.of-requires-clause-limit
+of-requires-clause-limit c =
     let rows : List SheetRow = c.args.rows.items in
     let all = take_all c.loop-row.row-index rows (omega (arith, c.loop-row-test.false, ap length c.deref-row-items.ensures.value)) in
     omega (arith, few-rows rows c.requires, ap length (c.deref.ensures.value ∙ (c.loop-row.invariant.parents ∙ ap (map (λ (row : SheetRow). row.parent)) all)), length-map rows (λ (row : SheetRow). row.parent))
@@ -25,9 +31,9 @@ invariant_of-result c =
     let parents : c.deref.result.now ≡ map (λ (row : SheetRow). row.parent) rows = c.deref.ensures.value ∙ (c.loop-row.invariant.parents ∙ ap (map (λ (row : SheetRow). row.parent)) all) in
     let below : drop 1 c.deref.result.now ≡ parents_of rows = ap (drop 1) parents ∙ drop-map (λ (row : SheetRow). row.parent) 1 rows in
     let count : length c.deref.result.now ≡ length rows = ap length parents ∙ length-map rows (λ (row : SheetRow). row.parent) in
-    subst (λ (set : List SheetRow). IsSheet set (map (λ own. own.items) c.in_ok-kids.kids.items) c.loop-row.marks.items) (sym c.set_afters.ensures)
-    (set-sheet rows c.requires (map (λ own. own.items) c.in_ok-kids.kids.items) c.loop-row.marks.items
-    (λ number inside. c.in_ok-kids.ensures.1 number (omega (arith, inside, count)) ∙ ap (λ (ns : List ℕ). Some (kid_numbers 1 ns number)) below)
+    subst (λ (set : List SheetRow). IsSheet set c.in_ok-kids.kids c.loop-row.marks) (sym c.set_afters.ensures)
+    (set-sheet rows c.requires c.in_ok-kids.kids c.loop-row.marks
+    (λ number inside. c.in_ok-kids.ensures number (omega (arith, inside, count)) ∙ ap (λ (ns : List ℕ). Some (kid_numbers 1 ns number)) below)
     (c.loop-row.invariant.marks ∙ ap (map (λ (row : SheetRow). mark_of row.inode)) all))
 
 pub returns : goal.returns

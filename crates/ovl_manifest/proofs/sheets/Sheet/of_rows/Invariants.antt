@@ -6,5 +6,5 @@ use Rattle.ovl_manifest.proofs.sheets.Sheet.of_rows.Given as goal
 abbrev pub invariant-loop-row : goal.invariant-loop-row
 invariant-loop-row l = record {
   parents : l.parents.items ≡ map (λ row. row.parent) (take l.row-index l.fn.rows.items);
-  marks : l.marks.items ≡ map (λ row. mark_of row.inode) (take l.row-index l.fn.rows.items);
+  marks : l.marks ≡ map (λ row. mark_of row.inode) (take l.row-index l.fn.rows.items);
 }

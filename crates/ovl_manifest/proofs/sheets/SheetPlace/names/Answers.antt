@@ -7,22 +7,19 @@ use Rattle.ovl_manifest.specs.Layers.{Entries, names_below}
 use Rattle.ovl_manifest.specs.Sheets.{path_at, kid_numbers, parents_of}
 use Rattle.ovl_manifest.specs.SheetPasses.{name_of_row}
 use Rattle.ovl_manifest.proofs.NodeLemmas.{names_below-under}
-use Rattle.ovl_manifest.proofs.SheetLemmas.{count, kids-within, own-numbers, own_name, kid-row, names-of, kid-names-more, some-same}
+use Rattle.ovl_manifest.proofs.SheetLemmas.{has-numbers, own-numbers, own_name, kid-row, names-of, kid-names-more, some-same}
 use Rattle.ovl_manifest.proofs.sheets.SheetPlace.names.Goals as goal
 use Rattle.ovl_manifest.proofs.sheets.SheetPlace.names.Goals.{in-Some+in_ok-copy+in_ok-push, in_default}
 
+pub below-kids-requires : goal.below-kids-requires
+below-kids-requires c = has-numbers _ _ _ c.sheet.invariant c.self.inside.number (omega (arith, c.self.invariant, ap length c.sheet.view_is))
+
 pub index-requires : goal.index-requires
 index-requires c =
-    let inside : c.self.inside.number < length c.sheet.inside.rows.items =
-    omega (arith, c.self.invariant, ap length c.sheet.view_is, count _ _ _ c.sheet.invariant) in
-    omega (arith, kids-within (λ own. own.items) c.sheet.inside.kids.items c.self.inside.number _ (c.sheet.invariant.kids c.self.inside.number inside), c.sheet.inside.kids.ok.0)
-
-pub index-requires-in-loop-kid : goal.index-requires-in-loop-kid
-index-requires-in-loop-kid c =
     let rows : List SheetRow = c.sheet.inside.rows.items in
     let kids : List ℕ = kid_numbers 1 (parents_of rows) c.self.inside.number in
-    let same : c.as_slice-kids.result.now ≡ kids =
-    c.as_slice-kids.ensures.value ∙ own-numbers (λ own. own.items) c.sheet.inside.kids.items rows _ c.sheet.invariant c.self.inside.number c.index.result.now (omega (arith, c.self.invariant, ap length c.sheet.view_is)) c.index.ensures in
+    let same : c.below-kids.result.now ≡ kids =
+    own-numbers rows c.sheet.inside.kids c.sheet.inside.marks c.sheet.invariant c.self.inside.number c.below-kids.result.now (omega (arith, c.self.invariant, ap length c.sheet.view_is)) c.below-kids.ensures in
     let row = kid-row rows _ _ c.sheet.invariant c.self.inside.number c.loop-kid.kid-index 0 (omega (arith, c.loop-kid-test.true, ap length same)) in
     let within : get_or kids c.loop-kid.kid-index 0 < length rows = slice_get_within rows (get_or kids c.loop-kid.kid-index 0) row.0 row.1 in
     omega (arith, within, ap (λ (ks : List ℕ). get_or ks c.loop-kid.kid-index 0) same, c.sheet.inside.rows.ok.0)
@@ -31,14 +28,14 @@ pub loop-kid-preserved : goal.loop-kid-preserved
 loop-kid-preserved c =
     let rows : List SheetRow = c.sheet.inside.rows.items in
     let kids : List ℕ = kid_numbers 1 (parents_of rows) c.self.inside.number in
-    let same : c.as_slice-kids.result.now ≡ kids =
-    c.as_slice-kids.ensures.value ∙ own-numbers (λ own. own.items) c.sheet.inside.kids.items rows _ c.sheet.invariant c.self.inside.number c.index.result.now (omega (arith, c.self.invariant, ap length c.sheet.view_is)) c.index.ensures in
+    let same : c.below-kids.result.now ≡ kids =
+    own-numbers rows c.sheet.inside.kids c.sheet.inside.marks c.sheet.invariant c.self.inside.number c.below-kids.result.now (omega (arith, c.self.invariant, ap length c.sheet.view_is)) c.below-kids.ensures in
     let row = kid-row rows _ _ c.sheet.invariant c.self.inside.number c.loop-kid.kid-index 0 (omega (arith, c.loop-kid-test.true, ap length same)) in
-    let number : ℕ = get_or c.as_slice-kids.result.now c.loop-kid.kid-index 0 in
+    let number : ℕ = get_or c.below-kids.result.now c.loop-kid.kid-index 0 in
     let is : get_or kids c.loop-kid.kid-index 0 ≡ number = ap (λ (ks : List ℕ). get_or ks c.loop-kid.kid-index 0) (sym same) in
     let listed : slice_get rows number ≡ Some row.0 = ap (slice_get rows) (sym is) ∙ row.1 in
-    let at : slice_get rows number ≡ Some c.index-in-loop-kid.result.now =
-    slice_get_read rows (length rows) number c.index-in-loop-kid.result.now refl (slice_get_within rows number row.0 listed) c.index-in-loop-kid.ensures in
+    let at : slice_get rows number ≡ Some c.index.result.now =
+    slice_get_read rows (length rows) number c.index.result.now refl (slice_get_within rows number row.0 listed) c.index.ensures in
     elim c.match-index.branch [
       | in-Some+in_ok-copy+in_ok-push w ↦
           let named : own_name rows number ≡ w.in-Some.name =
@@ -46,9 +43,9 @@ loop-kid-preserved c =
           ap (λ v. v.items) w.names-is
           ∙ (w.in_ok-push.ensures.items
           ∙ ((λ j. c.loop-kid.invariant j ++ (w.in_ok-copy.ensures ∙ sym named) j ∷ [])
-          ∙ sym (kid-names-more rows c.as_slice-kids.result.now c.loop-kid.kid-index c.loop-kid-test.true)))
+          ∙ sym (kid-names-more rows c.below-kids.result.now c.loop-kid.kid-index c.loop-kid-test.true)))
       | in_default w ↦
-          let one : c.index-in-loop-kid.result.now ≡ row.0 = some-same c.index-in-loop-kid.result.now row.0 (sym at ∙ listed) in
+          let one : c.index.result.now ≡ row.0 = some-same c.index.result.now row.0 (sym at ∙ listed) in
           absurd (w.in_default.not-Some row.3.0 (ap (λ (r : SheetRow). r.name) one ∙ row.3.1))
     ]
 
@@ -56,10 +53,10 @@ pub returns : goal.returns
 returns c =
     let rows : List SheetRow = c.sheet.inside.rows.items in
     let kids : List ℕ = kid_numbers 1 (parents_of rows) c.self.inside.number in
-    let same : c.as_slice-kids.result.now ≡ kids =
-    c.as_slice-kids.ensures.value ∙ own-numbers (λ own. own.items) c.sheet.inside.kids.items rows _ c.sheet.invariant c.self.inside.number c.index.result.now (omega (arith, c.self.invariant, ap length c.sheet.view_is)) c.index.ensures in
+    let same : c.below-kids.result.now ≡ kids =
+    own-numbers rows c.sheet.inside.kids c.sheet.inside.marks c.sheet.invariant c.self.inside.number c.below-kids.result.now (omega (arith, c.self.invariant, ap length c.sheet.view_is)) c.below-kids.ensures in
     c.loop-kid.invariant
-    ∙ (ap (map (own_name rows)) (take_all c.loop-kid.kid-index c.as_slice-kids.result.now c.loop-kid-test.false ∙ same)
+    ∙ (ap (map (own_name rows)) (take_all c.loop-kid.kid-index c.below-kids.result.now c.loop-kid-test.false ∙ same)
     ∙ (sym (names-of rows _ _ c.sheet.invariant c.self.inside.number (omega (arith, c.self.invariant, ap length c.sheet.view_is)))
     ∙ (ap (λ (layer : Entries). names_below layer (path_at layer c.self.inside.number)) c.sheet.view_is
     ∙ (names_below-under (path_at c.self.inside.sheet.now c.self.inside.number) c.self.inside.sheet.now
