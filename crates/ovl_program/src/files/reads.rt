@@ -13,8 +13,9 @@ use std::io::{Error, ErrorKind, Read};
 /// blobs together have at most so many; blobs that are read in parts aren't held.
 pub const INPUT_LIMIT: usize = BLOB_LIMIT;
 
-// How many bytes one read may give.
+// How many bytes one read may give, and where so few are expected that a small room does. Each room is cleared first.
 const ROOM: usize = 16384;
+const SMALL_ROOM: usize = 1024;
 
 /// Why not all of an input, a file or a folder is had.
 #[derive(Clone, Copy, Debug, PartialEq, Eq)]
@@ -51,11 +52,31 @@ pub fn read_expected<R: Read>(
     ensures end { OnOk result (IsAtEnd (R.remaining reader.new)) }
     ensures too_long { result ≡ Err TooLong → IfSome (R.remaining reader.old) (λ left. limit < length left) }
 {
-    let mut bytes = room_for(alloc, expected.min(limit as u64) as usize);
-    let mut room = [0; ROOM];
+    let bytes = room_for(alloc, expected.min(limit as u64) as usize);
+    if 0 < expected && expected <= SMALL_ROOM as u64 {
+        return read_through(reader, &mut [0; SMALL_ROOM], bytes, limit);
+    }
+    read_through(reader, &mut [0; ROOM], bytes, limit)
+}
+
+// All that a reader gives up to its end, through this room, into a vector without bytes.
+fn read_through<R: Read>(
+    reader: &mut R,
+    room: &mut [u8],
+    bytes: Vec<u8>,
+    limit: usize,
+) -> Result<Vec<u8>, ReadFault>
+    requires room { 0 < length room.old }
+    requires none { bytes.items ≡ [] }
+    ensures within { IfOk result (λ bytes. vec_len bytes ≤ limit) }
+    ensures whole { IfOk result (λ bytes. Consumes (R.remaining reader.old) (R.remaining reader.new) bytes.items) }
+    ensures end { OnOk result (IsAtEnd (R.remaining reader.new)) }
+    ensures too_long { result ≡ Err TooLong → IfSome (R.remaining reader.old) (λ left. limit < length left) }
+{
+    let mut bytes = bytes;
     // Each read but the last gives a byte at least.
     loop {
-        if read_more(reader, &mut room, &mut bytes, limit)? == 0 {
+        if read_more(reader, room, &mut bytes, limit)? == 0 {
             return Ok(bytes);
         }
     }

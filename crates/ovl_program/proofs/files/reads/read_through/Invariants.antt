@@ -1,6 +1,6 @@
 use Rattle.std.proofs.Common.{◌-◌, ◌≤◌, vec_len}
 use Rattle.std.specs.Io.KnownBytes.{Consumes}
-use Rattle.ovl_program.proofs.files.reads.read_expected.Given as goal
+use Rattle.ovl_program.proofs.files.reads.read_through.Given as goal
 
 -- the bytes so far are those that the reader gave
 abbrev pub invariant-loop-bytes : goal.invariant-loop-bytes
