@@ -83,6 +83,8 @@ dir /d, file /d/k | dir /d, file /d/k -> /d true; /d/k true; removed 2 kept 1
 bare /f metacopy= redirect=a/b | file /f -> /f false; removed 0 kept 2
 dir /d, file-b /d/k | dir /d, file /d/k -> /d true; /d/k false; removed 0 kept 3
 dir /d, file /d/k -> /d false; /d/k false; removed 0 kept 3
+bare /f metacopy= | root -> /f false; removed 0 kept 2
+bare /f metacopy= redirect=a/b | file /f -> /f false; removed 0 kept 2
 ";
 
 fn row_vacuumed(alloc: Global, row: &str) -> Result<(), Fail> {
@@ -207,10 +209,20 @@ fn is_over_the_limits(alloc: Global, stack: &Stack) -> Result<bool, Fail> {
     Ok(finish_merge(alloc, &work, parcels).err() == Some(MergeFault::LimitOut))
 }
 
+// A metacopy file without data, and one with a malformed redirect: the check finds a fault in each.
+const WITHOUT_DATA: &str = "\
+bare /f metacopy= | root
+bare /f metacopy= redirect=a/b | file /f
+";
+
 #[test]
-fn a_metacopy_file_without_data_makes_no_layer(rt: HostRuntime) -> Result<(), Fail> {
-    let stack = stack_of(rt.alloc(), "bare /f metacopy= | root")?;
-    assert!(rt; is_over_the_limits(rt.alloc(), &stack)?);
+fn a_metacopy_file_without_data_is_not_merged_and_stays_where_it_is_dereferenced(rt: HostRuntime) -> Result<(), Fail> {
+    for row in WITHOUT_DATA.lines() {
+        let stack = stack_of(rt.alloc(), row)?;
+        assert!(rt; is_over_the_limits(rt.alloc(), &stack)?);
+        let (top, _) = row.split_once(" | ").unwrap_or((row, ""));
+        assert!(rt; is_layer(rt.alloc(), &dereferenced(rt.alloc(), &stack)?, top)?);
+    }
     Ok(())
 }
 
