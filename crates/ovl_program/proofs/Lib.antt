@@ -6,6 +6,7 @@ pub mod Numbers
 pub mod Options
 pub mod Outcomes
 pub mod Performed
+pub mod Shares
 pub mod Slots
 pub mod Taken
 pub mod Telling

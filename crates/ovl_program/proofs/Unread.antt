@@ -1,5 +1,5 @@
--- Files that are read, each half of a row by itself.
-use Rattle.std.proofs.Common.{◌≡◌, ◌∙◌, ℕ, List, ◌++◌, Result, Err, sym, ap, map, take, drop}
+-- Files that are read, each share of a row by itself.
+use Rattle.std.proofs.Common.{◌≡◌, ◌∙◌, ℕ, List, ◌++◌, Result, Err, refl, sym, ap, map, take, drop}
 use Rattle.std.specs.Prelude.{Contains, IfErr}
 use Rattle.std.proofs.lemmas.List.{map-append, take-append-drop}
 use Rattle.std.proofs.lemmas.List.Elements.{Contains-append_left, Contains-append_right}
@@ -25,9 +25,14 @@ module _ {X : Type 0} (path_of : X → List ℕ) (xs : List X) (n : ℕ) where
   halves : map path_of xs ≡ map path_of (take n xs) ++ map path_of (drop n xs)
   halves = ap (map path_of) (sym (take-append-drop n xs)) ∙ map-append path_of (take n xs) (drop n xs)
 
-  -- the paths of a half are among all
-  pub within_front : (half : List X) → half ≡ take n xs → (path : List ℕ) → Contains (map path_of half) path → Contains (map path_of xs) path
+  within_front : (half : List X) → half ≡ take n xs → (path : List ℕ) → Contains (map path_of half) path → Contains (map path_of xs) path
   within_front half is path inside = rw halves (Contains-append_left (map path_of (take n xs)) (map path_of (drop n xs)) path (rw is at inside))
 
-  pub within_back : (half : List X) → half ≡ drop n xs → (path : List ℕ) → Contains (map path_of half) path → Contains (map path_of xs) path
+  within_back : (half : List X) → half ≡ drop n xs → (path : List ℕ) → Contains (map path_of half) path → Contains (map path_of xs) path
   within_back half is path inside = rw halves (Contains-append_right (map path_of (take n xs)) (map path_of (drop n xs)) path (rw is at inside))
+
+-- the paths of a share are among all
+pub within_share : {X : Type 0} (path_of : X → List ℕ) (xs : List X) (size start : ℕ) (share : List X) → share ≡ take size (drop start xs)
+    → (path : List ℕ) → Contains (map path_of share) path → Contains (map path_of xs) path
+within_share path_of xs size start share is path inside =
+    within_back path_of xs start (drop start xs) refl path (within_front path_of (drop start xs) size share is path inside)

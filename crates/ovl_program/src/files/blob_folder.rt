@@ -11,7 +11,7 @@ ghost use Rattle.ovl_program.specs.BlobFolders.{blob_path as path_of_blob, IsInF
 
 use crate::faults::ProgramFault;
 use crate::files::held_blobs::HeldBlobs;
-use crate::files::manifests::SharedFiles;
+use crate::files::manifests::{SharedFiles, share_of};
 use crate::files::reads::{INPUT_LIMIT, ReadFault};
 use ovl_engine::{BLOB_LIMIT, Blob};
 use ovl_inode::Digest;
@@ -20,7 +20,7 @@ use std::collections::BTreeSet;
 use std::fs;
 use std::fs::DirEntry;
 use std::rt::Files;
-use std::thread::{Threads, join};
+use std::thread::{Threads, map_chunks};
 
 /// The blobs of a folder, ascending by name, each name once: its regular files whose names are digests. Other names are
 /// passed over, and so is what isn't a regular file itself, a link too. A folder whose listing fails can't be read, nor
@@ -53,8 +53,7 @@ pub fn read_blobs<R: Files + SharedFiles + AllocGlobal + Clone + Drop + Threads 
     Ok(held.into_blobs())
 }
 
-// The blobs of these names in a folder, in their order, read by at most so many threads: each half by half of them.
-#[cycle(reading)]
+// The blobs of these names in a folder, in their order, read by at most so many threads, each a share of them.
 fn blobs_of<R: SharedFiles + Threads + Sync>(
     rt: &R,
     alloc: Global,
@@ -65,25 +64,16 @@ fn blobs_of<R: SharedFiles + Threads + Sync>(
     ensures same { IfOk result (λ held. map (λ blob. blob.name) held.blobs.items ≡ names.now) }
     ensures fault { IfErr result (λ fault. IsUnread (IsInFolder folder.now) fault) }
 {
-    if threads < 2 || names.len() < 2 {
-        return read_share(rt, alloc, folder, names);
+    let size = share_of(names.len(), threads);
+    let read = |_first: usize, share: &[Digest]| -> Result<HeldBlobs, ProgramFault>
+        requires { IsSync R.row }
+        ensures same { IfOk result (λ held. map (λ blob. blob.name) held.blobs.items ≡ share.entry.now) }
+        ensures fault { IfErr result (λ fault. IsUnread (IsInFolder folder.entry.now) fault) }
+    { read_share(rt, alloc, folder, share) };
+    let mut held = HeldBlobs::new(alloc);
+    for read in map_chunks(rt, alloc, names, size, &read)? {
+        held.append(read?)?;
     }
-    let (front, back) = names.split_at(names.len() / 2);
-    let (front, back) = join(
-        rt,
-        || -> Result<HeldBlobs, ProgramFault>
-            requires { IsSync R.row }
-            ensures same { IfOk result (λ held. map (λ blob. blob.name) held.blobs.items ≡ front.entry.now) }
-            ensures fault { IfErr result (λ fault. IsUnread (IsInFolder folder.entry.now) fault) }
-        { blobs_of(rt, alloc, folder, front, threads / 2) },
-        || -> Result<HeldBlobs, ProgramFault>
-            requires { IsSync R.row }
-            ensures same { IfOk result (λ held. map (λ blob. blob.name) held.blobs.items ≡ back.entry.now) }
-            ensures fault { IfErr result (λ fault. IsUnread (IsInFolder folder.entry.now) fault) }
-        { blobs_of(rt, alloc, folder, back, threads - threads / 2) },
-    );
-    let mut held = front?;
-    held.append(back?)?;
     Ok(held)
 }
 

@@ -1,4 +1,4 @@
-ghost use Rattle.std.specs.Prelude.{◌≡◌, ◌≤◌, IfOk, IfErr, MatchResult, string_bytes, vec_len, length, map, All, Contains};
+ghost use Rattle.std.specs.Prelude.{◌≡◌, ◌<◌, ◌≤◌, ◌*◌, max, IfOk, IfErr, MatchResult, string_bytes, vec_len, length, map, All, Contains};
 ghost use Rattle.std.specs.Thread.{IsSync};
 ghost use Rattle.ovl_program.specs.BlobFolders.{IsToldOf};
 ghost use Rattle.ovl_program.specs.Faults.{IsUnread};
@@ -11,7 +11,7 @@ use ovl_inode::Digest;
 use std::alloc::Global;
 use std::fs::{self, OpenFile};
 use std::rt::Files;
-use std::thread::{Threads, join};
+use std::thread::{Threads, map_chunks};
 
 /// The bytes of a file, at most [`INPUT_LIMIT`]. Links are followed. A folder can't be read.
 pub fn read_file<R: Files + AllocGlobal>(rt: &R, path: &str) -> Result<Vec<u8>, ProgramFault>
@@ -58,6 +58,14 @@ impl SharedFiles for HostRuntime {
     }
 }
 
+/// How many of so many files each thread reads, where at most so many threads read them.
+pub fn share_of(files: usize, threads: usize) -> usize
+    ensures some { 0 < result }
+    ensures all { files ≤ result * max 1 threads }
+{
+    files.div_ceil(threads.max(1)).max(1)
+}
+
 /// The bytes of each of these files, in their order, read by at most as many threads as there are workers. Where one is
 /// no regular file they are read one after another, since what a pipe gives goes to whoever reads it first. The first that
 /// can't be read is told.
@@ -81,8 +89,7 @@ fn are_regular<R: Files>(rt: &R, paths: &[String]) -> bool {
     })
 }
 
-// The bytes of each of these files, read by at most so many threads: each half by half of them.
-#[cycle(reading)]
+// The bytes of each of these files, read by at most so many threads, each a share of them.
 fn read_by<R: SharedFiles + Threads + Sync>(
     rt: &R,
     alloc: Global,
@@ -93,27 +100,17 @@ fn read_by<R: SharedFiles + Threads + Sync>(
     ensures within { IfOk result (λ files. All (λ bytes. vec_len bytes ≤ INPUT_LIMIT) files.items) }
     ensures fault { IfErr result (λ fault. IsUnread (Contains (map string_bytes paths.now)) fault) }
 {
-    if threads < 2 || paths.len() < 2 {
-        return read_share(rt, alloc, paths);
+    let size = share_of(paths.len(), threads);
+    let read = |_first: usize, share: &[String]| -> Result<Vec<Vec<u8>>, ProgramFault>
+        requires { IsSync R.row }
+        ensures each { IfOk result (λ files. vec_len files ≡ length share.entry.now) }
+        ensures within { IfOk result (λ files. All (λ bytes. vec_len bytes ≤ INPUT_LIMIT) files.items) }
+        ensures fault { IfErr result (λ fault. IsUnread (Contains (map string_bytes share.entry.now)) fault) }
+    { read_share(rt, alloc, share) };
+    let mut files = Vec::new(alloc);
+    for read in map_chunks(rt, alloc, paths, size, &read)? {
+        files.append(&mut read?)?;
     }
-    let (front, back) = paths.split_at(paths.len() / 2);
-    let (front, back) = join(
-        rt,
-        || -> Result<Vec<Vec<u8>>, ProgramFault>
-            requires { IsSync R.row }
-            ensures each { IfOk result (λ files. vec_len files ≡ length front.entry.now) }
-            ensures within { IfOk result (λ files. All (λ bytes. vec_len bytes ≤ INPUT_LIMIT) files.items) }
-            ensures fault { IfErr result (λ fault. IsUnread (Contains (map string_bytes front.entry.now)) fault) }
-        { read_by(rt, alloc, front, threads / 2) },
-        || -> Result<Vec<Vec<u8>>, ProgramFault>
-            requires { IsSync R.row }
-            ensures each { IfOk result (λ files. vec_len files ≡ length back.entry.now) }
-            ensures within { IfOk result (λ files. All (λ bytes. vec_len bytes ≤ INPUT_LIMIT) files.items) }
-            ensures fault { IfErr result (λ fault. IsUnread (Contains (map string_bytes back.entry.now)) fault) }
-        { read_by(rt, alloc, back, threads - threads / 2) },
-    );
-    let mut files = front?;
-    files.append(&mut back?)?;
     Ok(files)
 }
 
