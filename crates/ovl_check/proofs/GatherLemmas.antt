@@ -120,9 +120,9 @@ module _ (layer : Entries) (below : StackView) (directory : Directory) (is : IsG
       opaque : is_opaque (Some directory.mark.now) ≡ is_in_opaque layer child
       opaque = ap is_opaque (sym is.mark ∙ ap (mark_at layer) (sym parent))
 
-      marked : attribute_is directory.inode.now opaque_name (codes "x") ≡ is_in_marked layer child
+      marked : directory.is_marked ≡ is_in_marked layer child
       marked =
-          ap (λ (o : Option Inode). elim o as (λ _. Bool) [ Some inode ↦ attribute_is inode opaque_name (codes "x") | None ↦ false ])
+          is.marked ∙ ap (λ (o : Option Inode). elim o as (λ _. Bool) [ Some inode ↦ attribute_is inode opaque_name (codes "x") | None ↦ false ])
           (sym is.inode ∙ ap (entry_at layer) (sym parent))
 
       hidden : directory.closed ≡ (walk layer (parent_path child)).closed

@@ -72,6 +72,7 @@ pub record IsGathered (layer : Entries) (directory : Directory) : Type 0 where
   pub inode : entry_at layer directory.path.now ≡ Some directory.inode.now
   pub kind : is_directory directory.inode.now ≡ true
   pub mark : mark_at layer directory.path.now ≡ Some directory.mark.now
+  pub marked : directory.is_marked ≡ attribute_is directory.inode.now opaque_name (codes "x")
   pub next : directory.next ≡ (walk layer directory.path.now).next
   pub closed : directory.closed ≡ (walk layer directory.path.now).closed
   pub children : map child_seen directory.children.items ≡ held_in layer directory.path.now
@@ -117,7 +118,7 @@ data_size_on below place step =
 abbrev pub whiteout_in : StackView → Directory → PathName → KindFacts
 whiteout_in below directory name =
     if is_opaque (Some directory.mark.now) then WhiteoutInOpaque
-    else Whiteout (attribute_is directory.inode.now opaque_name (codes "x"))
+    else Whiteout directory.is_marked
     (not (directory.closed || is_nothing (look below (child_path directory.next name))))
 
 abbrev pub whiteout_at : Entries → StackView → PathNames → KindFacts

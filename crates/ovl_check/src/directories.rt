@@ -11,7 +11,7 @@ ghost use Rattle.ovl_check.specs.Checks.{layer_at, directory_piece};
 ghost use Rattle.ovl_check.specs.Facts.{IsGathered, IsBelowOf, IsMarked, child_seen, seen_at, held_in};
 
 use crate::below::below_children;
-use crate::marks::has_attribute;
+use crate::marks::{attribute_is, has_attribute};
 use crate::places::mark_in;
 use ovl_board::Piece;
 use ovl_inode::{Inode, Mark, is_directory, overlay};
@@ -34,6 +34,8 @@ pub(crate) struct Directory<'p, 'a> {
     pub(crate) path: &'p Path,
     pub(crate) inode: &'a Inode,
     pub(crate) mark: &'p Mark,
+    // Whether its `opaque` says that it may hold marked whiteouts.
+    pub(crate) is_marked: bool,
     // The path by which the layers below know it, and whether they are hidden there.
     pub(crate) next: Trail<'a>,
     pub(crate) closed: bool,
@@ -71,6 +73,7 @@ pub(crate) fn directory_at<'p, 'a: 'p>(
         path,
         inode,
         mark,
+        is_marked: attribute_is(inode, overlay::OPAQUE, b"x"),
         next,
         closed,
         children,

@@ -14,10 +14,9 @@ ghost use Rattle.ovl_check.specs.Facts.{IsGathered, IsBelow, IsMarked, AreFacts,
 use crate::below::{data_size_in, show_in};
 use crate::directories::{Child, Directory, hold_origin};
 use crate::facts::{Facts, KindFacts, OldPlace, ThingShown};
-use crate::marks::attribute_is;
 use crate::places::{data_size_below, is_plain_at, look_below, step_of};
 use crate::subjects::CheckWork;
-use ovl_inode::{Inode, Mark, Redirect, overlay};
+use ovl_inode::{Inode, Mark, Redirect};
 use ovl_lookup::{Look, Stack, Trail};
 use ovl_names::{Name, Path};
 use std::alloc::{AllocError, Global};
@@ -151,7 +150,7 @@ fn whiteout_in(stack: &Stack, i: usize, directory: &Directory<'_, '_>, name: &Na
     if matches!(directory.mark, Mark::DirOpaque) {
         return KindFacts::WhiteoutInOpaque;
     }
-    let is_marked = attribute_is(directory.inode, overlay::OPAQUE, b"x");
+    let is_marked = directory.is_marked;
     if directory.closed {
         return KindFacts::Whiteout {
             is_marked,
