@@ -5,8 +5,9 @@ Python 3.11, standard library. Half of the stacks are those of ample.py: as a mo
 spoilt. A few have chains of directories about as deep as a path may be, of which one goes on at the other by a redirect.
 The rest is anything: layers of few names with all marks, redirects that lead nowhere or can't be followed, contents that
 are missing, and data-only layers. Each manifest is of a version by chance; times in one of version 2 may lie below a
-second. `show`, `fsck`, `vacuum`, `deref` and `merge` must give the same standard output, standard error, status and new
-layers as the other reading. A case depends on the seed and its number alone.
+second. In a third of the stacks contents are missing, wrong, cut or doubled, and strangers lie beside them. `show`, and
+`fsck`, `vacuum`, `deref` and `merge` with and without `--any-size`, must give the same standard output, standard error,
+status and new layers as the other reading, which isn't given that word. A case depends on the seed and its number alone.
 
 The other reading is a command that takes the same words (docs/FORMATS.md); as another build of the program does.
 
@@ -31,8 +32,8 @@ from growth import METACOPY, NSEC, REDIRECT, First, chain, entry, write
 COMMANDS = ("show", "fsck", "vacuum", "deref", "merge")
 # Seconds after which a command counts as one that gives no answer, and how many bytes of an answer are printed.
 LONGEST, TOLD = 120, 400
-# The shares of the stacks as overlays leave them, and of those with chains.
-MADE, CHAINED = 0.5, 0.1
+# The shares of the stacks as overlays leave them, of those with chains, and of those whose contents are spoilt.
+MADE, CHAINED, SPOILT = 0.5, 0.1, 0.3
 NAMES, DEEPEST, MOST = ("a", "b", "c"), 3, 12
 CONTENTS = (b"", b"a", b"b", b"abc")
 ABSENT = b"no such blob"
@@ -104,11 +105,12 @@ def chains(rng, versions):
 
 @dataclass(frozen=True)
 class Case:
-    """Layers, the topmost first, and how many are data-only."""
+    """Layers, the topmost first, how many are data-only, and what lies in the folder of contents."""
 
     number: int
     layers: list
     data_only: int
+    blobs: dict
 
     def versions(self):
         """The versions of their manifests, each once."""
@@ -120,19 +122,29 @@ def in_version(layer, version):
     return First(it | {NSEC: 0} for it in layer) if version == 1 else layer
 
 
+def contents_of(rng):
+    """What lies in the folder of contents, by name; where it is spoilt, strangers lie there too."""
+    held = {hashlib.sha256(it).hexdigest(): it for it in CONTENTS[1:]}
+    if rng.random() < SPOILT:
+        spoil = (lambda it: it, lambda it: None, lambda it: it[:-1], lambda it: it + it, lambda it: b"x" * len(it))
+        held = {name: rng.choice(spoil)(it) for name, it in held.items()}
+        held |= {hashlib.sha256(ABSENT).hexdigest()[::-1]: ABSENT, "notes": b""}
+    return {name: it for name, it in held.items() if it is not None}
+
+
 def case_of(seed, number):
     rng = random.Random(f"{seed} {number}")
     chance = rng.random()
     if chance < MADE:
         stack = ample.stack_of(rng)
-        return Case(number, stack.layers, 0)
+        return Case(number, stack.layers, 0, contents_of(rng))
     versions = [rng.choice((1, 2, 2)) for _ in range(rng.choice((2, 2, 3, 3, 4) if chance < MADE + CHAINED else (1, 2, 2, 3, 4)))]
     if chance < MADE + CHAINED:
         layers, data_only = chains(rng, versions), 0
     else:
         layers = [anything(rng) for _ in versions]
         data_only = rng.choice((0, 0, 0, 0, 1, 1, 2))
-    return Case(number, [in_version(*it) for it in zip(layers, versions)], data_only)
+    return Case(number, [in_version(*it) for it in zip(layers, versions)], data_only, contents_of(rng))
 
 
 # ---- runs
@@ -145,10 +157,10 @@ class Answer:
     layers: dict
 
 
-def answer(words, what, case, blobs, files, workers):
-    """What a command says of the files, and the new layers that it makes."""
+def answer(words, what, case, blobs, files, workers, more=()):
+    """What a command says of the files, with some more words, and the new layers that it makes."""
     with tempfile.TemporaryDirectory(prefix="ovl-beside-") as out:
-        words = [*words, what, "--workers", str(workers), "--data-layers", str(case.data_only)]
+        words = [*words, what, *more, "--workers", str(workers), "--data-layers", str(case.data_only)]
         words += ["--blobs", blobs] if what != "show" else []
         words += ["--out", out] if what not in ("show", "fsck") else []
         try:
@@ -162,18 +174,22 @@ def answer(words, what, case, blobs, files, workers):
         return Answer(ran.returncode, ran.stdout, ran.stderr, layers)
 
 
-def compared(program, oracle, blobs, case):
+def compared(program, oracle, case):
     """The case, a sort of answer for each command, and those of which the program says something else."""
-    with tempfile.TemporaryDirectory(prefix="ovl-beside-") as folder:
+    with tempfile.TemporaryDirectory(prefix="ovl-beside-") as folder, tempfile.TemporaryDirectory(prefix="ovl-beside-") as blobs:
+        for name, contents in case.blobs.items():
+            with open(os.path.join(blobs, name), "wb") as out:
+                out.write(contents)
         files = write(folder, case.layers)
         sorts, differ = [], []
         for what in COMMANDS:
             wanted = answer(oracle, what, case, blobs, files, 1)
-            found = answer(program, what, case, blobs, files, 1 + case.number % 4)
-            end = wanted.told.decode(errors="replace").strip() or f"status {wanted.status}"
+            end = wanted.told.decode(errors="replace").replace(blobs, "BLOBS").strip() or f"status {wanted.status}"
             sorts.append(f"{what}: {end}")
-            if found != wanted:
-                differ.append((what, wanted, found))
+            for more in [(), ("--any-size",)][:1 if what == "show" else 2]:
+                found = answer(program, what, case, blobs, files, 1 + case.number % 4, more)
+                if found != wanted:
+                    differ.append((" ".join([what, *more]), wanted, found))
         return case, sorts, differ
 
 
@@ -205,12 +221,9 @@ def main():
     oracle = [os.path.abspath(it) if os.path.exists(it) else it for it in oracle]
 
     sorts, versions, bad = collections.Counter(), collections.Counter(), 0
-    with tempfile.TemporaryDirectory(prefix="ovl-beside-") as blobs, concurrent.futures.ThreadPoolExecutor(given.jobs) as pool:
-        for contents in CONTENTS[1:]:
-            with open(os.path.join(blobs, hashlib.sha256(contents).hexdigest()), "wb") as out:
-                out.write(contents)
+    with concurrent.futures.ThreadPoolExecutor(given.jobs) as pool:
         cases = (case_of(given.seed, number) for number in given.case or range(given.count))
-        for case, found, differ in pool.map(lambda case: compared(program, oracle, blobs, case), cases):
+        for case, found, differ in pool.map(lambda case: compared(program, oracle, case), cases):
             sorts.update(found)
             versions[" and ".join(map(str, case.versions()))] += 1
             if differ:
