@@ -216,7 +216,9 @@ bare /f metacopy= redirect=a/b | file /f
 ";
 
 #[test]
-fn a_metacopy_file_without_data_is_not_merged_and_stays_where_it_is_dereferenced(rt: HostRuntime) -> Result<(), Fail> {
+fn a_metacopy_file_without_data_is_not_merged_and_stays_where_it_is_dereferenced(
+    rt: HostRuntime,
+) -> Result<(), Fail> {
     for row in WITHOUT_DATA.lines() {
         let stack = stack_of(rt.alloc(), row)?;
         assert!(rt; is_over_the_limits(rt.alloc(), &stack)?);

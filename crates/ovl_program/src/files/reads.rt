@@ -15,6 +15,7 @@ pub const INPUT_LIMIT: usize = BLOB_LIMIT;
 
 // How many bytes one read may give, and where so few are expected that a small room does. Each room is cleared first.
 const ROOM: usize = 16384;
+
 const SMALL_ROOM: usize = 1024;
 
 /// Why not all of an input, a file or a folder is had.
