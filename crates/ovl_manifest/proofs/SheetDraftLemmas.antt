@@ -7,6 +7,7 @@ use Rattle.std.specs.declared.cmp.Ordering.{Ordering}
 use Rattle.std.specs.declared.cmp.Ordering.TheVariants.{Less, Equal, Greater}
 use Rattle.std.proofs.Math.Seq.{take-length}
 use Rattle.std.proofs.lemmas.Bool.{cases_lt, lt-ltb}
+use Rattle.std.proofs.lemmas.Option.{slice_get_read}
 use Rattle.std.proofs.lemmas.List.{length-map, map-append}
 use Rattle.std.proofs.lemmas.List.Folds.{list_all-append}
 use Rattle.ovl_names.specs.Names.{PathName, name_cmp, is_name}
@@ -228,3 +229,10 @@ module _ (rows : List SheetRow) (way : List ℕ) (last : PathNames) (is : AreDra
       name-at rows is.made number own listed
       ∙ (ap last_name (on_way (depth + 1) number (omega (arith, inside)) at).1
       ∙ (ap (λ n. last_name (take n last)) (add-one depth) ∙ last_name-take last depth d inside))
+
+  -- the same of the number and the row that are read there
+  pub named-on_way : (depth number : ℕ) (own : SheetRow) → depth < length last → number ≡ get_or way (depth + 1) number → own ≡ get_or rows number own → (d : PathName) → own.name ≡ Some (get_or last depth d)
+  named-on_way depth number own inside listed is_row d =
+      let at : slice_get way (depth + 1) ≡ Some number = slice_get_read way (length way) (depth + 1) number refl (omega (arith, is.count, inside)) listed in
+      let row : slice_get rows number ≡ Some own = slice_get_read rows (length rows) number own refl (on_way (depth + 1) number (omega (arith, inside)) at).0 is_row in
+      name-on_way depth number inside at own row d

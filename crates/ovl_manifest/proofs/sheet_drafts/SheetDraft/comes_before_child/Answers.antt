@@ -6,7 +6,7 @@ use Rattle.std.proofs.lemmas.Option.{slice_get_read}
 use Rattle.ovl_names.specs.Names.{name_cmp}
 use Rattle.ovl_names.specs.Paths.{PathNames, path_cmp, child_path}
 use Rattle.ovl_manifest.proofs.SheetLemmas.{some-same}
-use Rattle.ovl_manifest.proofs.SheetDraftLemmas.{on_way, name-on_way, child_after, child_after-end}
+use Rattle.ovl_manifest.proofs.SheetDraftLemmas.{on_way, named-on_way, child_after, child_after-end}
 use Rattle.ovl_manifest.proofs.sheet_drafts.SheetDraft.comes_before_child.Goals as goal
 
 pub returns-then-depth-len : goal.returns-then-depth-len
@@ -26,24 +26,17 @@ index-requires c =
 
 pub returns-in-Some : goal.returns-in-Some
 returns-in-Some c =
-    let draft = c.args.self.now in
-    let number : ℕ = c.index-number.result.now in
-    let inside : c.args.depth < length draft.last = grind (arith, nat_tests) in
-    let listed : slice_get draft.way.items (c.args.depth + 1) ≡ Some number =
-    slice_get_read draft.way.items (length draft.way.items) (c.args.depth + 1) number refl (omega (arith, c.requires.draft.count, inside)) c.index-number.ensures in
-    let row = slice_get_read draft.rows.items (length draft.rows.items) number c.index.result.now refl (on_way _ _ _ c.requires.draft (c.args.depth + 1) number (omega (arith, inside)) listed).0 c.index.ensures in
-    let own = some-same c.in-Some.own _ (sym c.in-Some.is ∙ name-on_way _ _ _ c.requires.draft c.args.depth number inside listed c.index.result.now row c.in-Some.own) in
+    let last : PathNames = c.args.self.now.last in
+    let inside : c.args.depth < length last = grind (arith, nat_tests) in
+    let name = named-on_way _ _ _ c.requires.draft c.args.depth c.index-number.result.now c.index.result.now inside c.index-number.ensures c.index.ensures c.in-Some.own in
+    let own = some-same c.in-Some.own _ (sym c.in-Some.is ∙ name) in
     c.is_lt.ensures
     ∙ (ap is_lt c.cmp.ensures
     ∙ ((λ j. is_lt (name_cmp (own j) c.args.name.now))
-    ∙ sym (child_after draft.last c.args.depth c.args.name.now c.in-Some.own inside)))
+    ∙ sym (child_after last c.args.depth c.args.name.now c.in-Some.own inside)))
 
 pub returns-in-None : goal.returns-in-None
 returns-in-None c =
-    let draft = c.args.self.now in
-    let number : ℕ = c.index-number.result.now in
-    let inside : c.args.depth < length draft.last = grind (arith, nat_tests) in
-    let listed : slice_get draft.way.items (c.args.depth + 1) ≡ Some number =
-    slice_get_read draft.way.items (length draft.way.items) (c.args.depth + 1) number refl (omega (arith, c.requires.draft.count, inside)) c.index-number.ensures in
-    let row = slice_get_read draft.rows.items (length draft.rows.items) number c.index.result.now refl (on_way _ _ _ c.requires.draft (c.args.depth + 1) number (omega (arith, inside)) listed).0 c.index.ensures in
-    let bad = sym c.in-None.is ∙ name-on_way _ _ _ c.requires.draft c.args.depth number inside listed c.index.result.now row [] in cc
+    let inside : c.args.depth < length c.args.self.now.last = grind (arith, nat_tests) in
+    let name = named-on_way _ _ _ c.requires.draft c.args.depth c.index-number.result.now c.index.result.now inside c.index-number.ensures c.index.ensures [] in
+    let bad = sym c.in-None.is ∙ name in cc
