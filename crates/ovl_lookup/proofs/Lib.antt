@@ -24,3 +24,4 @@ mod TopDirectoryLemmas
 mod Rows
 mod TrailLemmas
 mod TrailNameLemmas
+mod TrailOrderLemmas

@@ -1,7 +1,7 @@
--- The names of a trail that are left, from either end.
+-- The names of a trail that are left.
 use Rattle.std.proofs.Common.{◌≡◌, ℕ, zero, suc, Option, Some, None, Bor, ◌+◌, ◌<◌, ◌^◌, ◌∙◌, ◌++◌, List, [], ◌∷◌, true, IsTrue, IfSome, length, drop, slice_get, append_assoc, refl, sym, ap, subst, arith}
 use Rattle.std.specs.Option.{option_map}
-use Rattle.std.specs.Iterator.{YieldsFirstRef, YieldsLastRef}
+use Rattle.std.specs.Iterator.{YieldsFirstRef}
 use Rattle.std.proofs.lemmas.List.{append-nil}
 use Rattle.std.proofs.lemmas.Option.{slice_get_within}
 use Rattle.ovl_names.specs.Names.{PathName, is_name}
@@ -20,21 +20,9 @@ parts-push (own ∷ parts) part = ap (λ rest. own ++ rest) (parts-push parts pa
 
 -- ---- what a call gives and leaves
 
-pub moved_first : (r : Option (Bor PathName)) (a b c d : PathNames) → a ≡ c → b ≡ d → YieldsFirstRef {S = PathNames} {A = PathName} (λ names. names) a r b → YieldsFirstRef {S = PathNames} {A = PathName} (λ names. names) c r d
-moved_first r a b c d e f gives = subst (λ (s : PathNames). YieldsFirstRef {S = PathNames} {A = PathName} (λ names. names) s r d) e (subst (λ (t : PathNames). YieldsFirstRef {S = PathNames} {A = PathName} (λ names. names) a r t) f gives)
-
-pub moved_last : (r : Option (Bor PathName)) (a b c d : PathNames) → a ≡ c → b ≡ d → YieldsLastRef {S = PathNames} {A = PathName} (λ names. names) a r b → YieldsLastRef {S = PathNames} {A = PathName} (λ names. names) c r d
-moved_last r a b c d e f gives = subst (λ (s : PathNames). YieldsLastRef {S = PathNames} {A = PathName} (λ names. names) s r d) e (subst (λ (t : PathNames). YieldsLastRef {S = PathNames} {A = PathName} (λ names. names) a r t) f gives)
-
 pub at_front : (r : Option (Bor PathName)) (first left tail old : PathNames) → first ++ tail ≡ old → (first ≡ [] → ⊥) → YieldsFirstRef {S = PathNames} {A = PathName} (λ names. names) first r left → YieldsFirstRef {S = PathNames} {A = PathName} (λ names. names) old r (left ++ tail)
 at_front None first left tail old e some gives = absurd (some gives.0)
 at_front (Some name) first left tail old e some gives = sym e ∙ ap (λ names. names ++ tail) gives
-
-pub at_back : (r : Option (Bor PathName)) (first mid last left old : PathNames) → first ++ (mid ++ last) ≡ old → (last ≡ [] → ⊥) → YieldsLastRef {S = PathNames} {A = PathName} (λ names. names) last r left → YieldsLastRef {S = PathNames} {A = PathName} (λ names. names) old r (first ++ (mid ++ left))
-at_back None first mid last left old e some gives = absurd (some gives.0)
-at_back (Some name) first mid last left old e some gives =
-    sym e ∙ (ap (λ names. first ++ (mid ++ names)) gives
-    ∙ sym (append_assoc first (mid ++ left) (name.now ∷ []) ∙ ap (λ names. first ++ names) (append_assoc mid left (name.now ∷ []))))
 
 -- ---- the names that are left behind those of a number
 

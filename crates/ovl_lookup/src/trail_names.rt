@@ -1,18 +1,16 @@
 ghost use Rattle.std.specs.Prelude.{◌≡◌};
-ghost use Rattle.std.specs.Iterator.{YieldsFirstRef, YieldsLastRef, item_count};
+ghost use Rattle.std.specs.Iterator.{YieldsFirstRef, item_count};
 ghost use Rattle.ovl_lookup.specs.Trails.{names_of_parts};
 
 use ovl_names::Names;
 use std::marker::Model;
 use std::slice;
 
-// The names of a trail that are left: those of a part that has begun, of whole parts, and of one that has begun from its
-// end.
+// The names of a trail that are left: those of a part that has begun, and of whole parts.
 #[derive(Drop)]
 pub(crate) struct TrailNames<'t, 'a> {
     first: Names<'a>,
     parts: slice::Iter<'t, Names<'a>>,
-    last: Names<'a>,
 }
 
 impl<'t, 'a> Model for TrailNames<'t, 'a> {
@@ -23,7 +21,7 @@ impl<'t, 'a> Model for TrailNames<'t, 'a> {
 
     ghost Value = { PathNames };
 
-    ghost view = { λ a. a.first ++ (names_of_parts (iter_rest a.parts) ++ a.last) };
+    ghost view = { λ a. a.first ++ names_of_parts (iter_rest a.parts) };
 }
 
 impl<'t, 'a> TrailNames<'t, 'a> {
@@ -34,7 +32,6 @@ impl<'t, 'a> TrailNames<'t, 'a> {
         TrailNames {
             first: Names::none(),
             parts: parts.iter(),
-            last: Names::none(),
         }
     }
 }
@@ -49,24 +46,10 @@ impl<'t, 'a> Iterator for TrailNames<'t, 'a> {
     fn next(&mut self) -> Option<&'a str> {
         while self.first.is_empty() {
             let Some(part) = self.parts.next() else {
-                return self.last.next();
+                return None;
             };
             self.first = part.rest();
         }
         self.first.next()
-    }
-}
-
-impl<'t, 'a> DoubleEndedIterator for TrailNames<'t, 'a> {
-    ghost next_back_gives = { YieldsLastRef (λ names. names) };
-
-    fn next_back(&mut self) -> Option<&'a str> {
-        while self.last.is_empty() {
-            let Some(part) = self.parts.next_back() else {
-                return self.first.next_back();
-            };
-            self.last = part.rest();
-        }
-        self.last.next_back()
     }
 }

@@ -2,5 +2,6 @@ pub mod Ascending
 pub mod NameLemmas
 pub mod EscapeLemmas
 pub mod PathTexts
+pub mod EndLemmas
 mod OnLiterals
 mod Rows

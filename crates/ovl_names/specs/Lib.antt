@@ -2,4 +2,5 @@ pub mod Order
 pub mod Texts
 pub mod Names
 pub mod Paths
+pub mod Ends
 pub mod Escapes

@@ -1,6 +1,7 @@
 //! Names and paths of overlay layers, their order, and how reports show them.
 #![tactic(auto)]
 
+mod ends;
 mod escapes;
 mod names;
 mod path_names;

@@ -1,11 +1,14 @@
 ghost use Rattle.std.specs.Prelude.{◌≡◌, ◌∷◌, ◌++◌, [], ◌↔◌, drop, length, IsTrue, MatchOption};
 ghost use Rattle.std.specs.Cmp.{partial_equiv_from_equiv};
 ghost use Rattle.std.specs.Cmp.Lexicographic.{nat_list_eq_equiv, lists_equiv};
-ghost use Rattle.std.specs.Iterator.{YieldsFirstRef, YieldsLastRef, item_count};
+ghost use Rattle.std.specs.Iterator.{YieldsFirstRef, item_count};
 ghost use Rattle.std.specs.List.{starts_with};
 ghost use Rattle.ovl_names.specs.Names.{is_name, name_eq};
 ghost use Rattle.ovl_names.specs.Paths.{path_eq, text_names, has_names};
+ghost use Rattle.ovl_names.specs.Ends.{OrdersEnds, LeavesEnds};
 
+use crate::ends::{Ends, compared};
+use std::cmp::Ordering;
 use std::marker::Model;
 
 /// Names of a path one after the other, from the root down, in the text that holds them: all of them, or the first or
@@ -123,6 +126,25 @@ impl<'a> Names<'a> {
             None => false,
         }
     }
+
+    /// Compares these names with others from the last ones on until two differ, and gives how these two are to each
+    /// other. Where none do, both lists lose as many names at their ends as the shorter has, and the answer is `Equal`.
+    pub fn compare_ends<'b>(&mut self, other: &mut Names<'b>) -> Ordering
+        ensures order { OrdersEnds self.old other.old self.new other.new result }
+        ensures left { LeavesEnds self.old other.old self.new other.new result }
+    {
+        match compared(self.text, other.text) {
+            Ends::Apart(order) => order,
+            Ends::Left(text, other_text) => {
+                let (len, other_len) = (self.len, other.len);
+                self.text = text;
+                self.len = len.saturating_sub(other_len);
+                other.text = other_text;
+                other.len = other_len.saturating_sub(len);
+                Ordering::Equal
+            }
+        }
+    }
 }
 
 impl<'a> Iterator for Names<'a> {
@@ -137,17 +159,6 @@ impl<'a> Iterator for Names<'a> {
         self.text = rest;
         self.len -= 1;
         Some(first)
-    }
-}
-
-impl<'a> DoubleEndedIterator for Names<'a> {
-    ghost next_back_gives = { YieldsLastRef (λ names. names) };
-
-    fn next_back(&mut self) -> Option<&'a str> {
-        let (above, last) = cut_last(self.text)?;
-        self.text = above;
-        self.len -= 1;
-        Some(last)
     }
 }
 
@@ -168,7 +179,7 @@ fn cut_first(text: &str) -> Option<(&str, &str)>
 }
 
 // The text of the names above the last name of a text, and that name.
-fn cut_last(text: &str) -> Option<(&str, &str)>
+pub(crate) fn cut_last(text: &str) -> Option<(&str, &str)>
     requires { IsTrue (has_names (text_names text.now)) }
     ensures { MatchOption result
         (text.now ≡ [])

@@ -1,39 +1,31 @@
-use Rattle.std.proofs.Common.{◌≡◌, ◌∙◌, ◌++◌, List, [], length, append_assoc, sym, ap, arith}
+use Rattle.std.proofs.Common.{◌≡◌, ◌∙◌, ◌++◌, List, [], length, sym, ap, arith}
 use Rattle.std.specs.Slice.Iter.{iter_rest}
 use Rattle.ovl_names.specs.Paths.{PathNames}
 use Rattle.ovl_lookup.specs.Trails.{names_of_parts}
-use Rattle.ovl_lookup.proofs.TrailNameLemmas.{no_parts, moved_first, at_front}
+use Rattle.ovl_lookup.proofs.TrailNameLemmas.{no_parts, at_front}
 use Rattle.ovl_lookup.proofs.trail_names.TrailNamesIterator.next.Goals as goal
 
 pub returns-in_default-clause-steps : goal.returns-in_default-clause-steps
 returns-in_default-clause-steps c =
     let parts : List PathNames = iter_rest c.loop-self.self-inside.parts in
-    let last : PathNames = c.loop-self.self-inside.last in
     let first : c.loop-self.self-inside.first ≡ [] = c.is_empty.ensures.0 c.loop-self-test.true in
     let none : names_of_parts parts ≡ [] = no_parts parts c.in_default.ensures.steps.0 in
     let left : names_of_parts (iter_rest c.next.new.self) ≡ [] = ap (λ it. names_of_parts (iter_rest it)) c.in_default.ensures.steps.1 ∙ none in
-    moved_first c.next-in_default.result last c.next-in_default.new.self c.args.self.now _
-    (sym (λ j. first j ++ (none j ++ last)) ∙ c.loop-self.invariant)
-    (sym (λ j. first j ++ (left j ++ c.next-in_default.new.self)))
-    c.next-in_default.ensures.steps
+    (sym c.loop-self.invariant ∙ (λ j. first j ++ none j), λ j. first j ++ left j)
 
 pub returns-clause-steps : goal.returns-clause-steps
 returns-clause-steps c =
-    at_front c.next-2.result c.loop-self.self-inside.first c.next-2.new.self (names_of_parts (iter_rest c.loop-self.self-inside.parts) ++ c.loop-self.self-inside.last) c.args.self.now c.loop-self.invariant
+    at_front c.next-2.result c.loop-self.self-inside.first c.next-2.new.self (names_of_parts (iter_rest c.loop-self.self-inside.parts)) c.args.self.now c.loop-self.invariant
     (λ none. let bad = sym c.loop-self-test.false ∙ c.is_empty.ensures.1 none in cc)
     c.next-2.ensures.steps
 
 pub loop-self-preserved : goal.loop-self-preserved
 loop-self-preserved c =
-    let part : PathNames = c.in-Some.part.now in
-    let parts : PathNames = names_of_parts (iter_rest c.loop-self.self-inside.parts) in
     let rest : PathNames = names_of_parts (iter_rest c.next.new.self) in
-    let last : PathNames = c.loop-self.self-inside.last in
     let first : c.loop-self.self-inside.first ≡ [] = c.is_empty.ensures.0 c.loop-self-test.true in
-    ap (λ (own : PathNames). own ++ (rest ++ last)) c.rest-self-inside.ensures.value
-    ∙ (sym (append_assoc part rest last)
-    ∙ (ap (λ (all : List PathNames). names_of_parts all ++ last) (sym c.in-Some.ensures.steps)
-    ∙ (sym (ap (λ (own : PathNames). own ++ (parts ++ last)) first) ∙ c.loop-self.invariant)))
+    ap (λ (own : PathNames). own ++ rest) c.rest-self-inside.ensures.value
+    ∙ (ap names_of_parts (sym c.in-Some.ensures.steps)
+    ∙ (sym (ap (λ (own : PathNames). own ++ names_of_parts (iter_rest c.loop-self.self-inside.parts)) first) ∙ c.loop-self.invariant))
 
 pub loop-self-smaller : goal.loop-self-smaller
 loop-self-smaller c = omega (arith, ap length c.in-Some.ensures.steps)

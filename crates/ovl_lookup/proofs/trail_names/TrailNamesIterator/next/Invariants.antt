@@ -4,7 +4,7 @@ use Rattle.ovl_lookup.specs.Trails.{names_of_parts}
 use Rattle.ovl_lookup.proofs.trail_names.TrailNamesIterator.next.Given as goal
 
 abbrev pub invariant-loop-self : goal.invariant-loop-self
-invariant-loop-self l = l.self-inside.first ++ (names_of_parts (iter_rest l.self-inside.parts) ++ l.self-inside.last) ≡ l.fn.self
+invariant-loop-self l = l.self-inside.first ++ names_of_parts (iter_rest l.self-inside.parts) ≡ l.fn.self
 
 abbrev pub decreases-loop-self : goal.decreases-loop-self
 decreases-loop-self l = length (iter_rest l.self-inside.parts)
