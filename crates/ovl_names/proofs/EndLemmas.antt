@@ -1,6 +1,6 @@
 -- What two texts have in common at their ends, by bytes and by names, and how lists of names are to each other from there.
 use Rattle.std.proofs.Common.{◌≡◌, ◌≢◌, ◌⊎◌, inl, inr, ℕ, zero, suc, ◌<◌, ◌≤◌, ◌+◌, ◌-◌, List, [], ◌∷◌, ◌++◌, true, false, Bool, Option, Some, None, MatchBool, MatchOption, refl, sym, ap, subst, ◌∙◌, length, take, drop, get_or, reverse, append_assoc, length-append, length-drop, length-take, take-append-drop, take_all, drop-drop, drop-cons, get_or-drop, arith}
-use Rattle.std.specs.Prelude.{position, nat_eq, nat_lt, ◌==◌, cond}
+use Rattle.std.specs.Prelude.{position, slice_range, nat_eq, nat_lt, ◌==◌, cond}
 use Rattle.std.specs.List.{ends_with, position_or_len}
 use Rattle.std.specs.Ordering.{ordering_then, is_ne}
 use Rattle.std.specs.declared.cmp.Ordering.{Ordering}
@@ -10,7 +10,7 @@ use Rattle.std.specs.FinMap.{slice_cmp-IsAntisymmetric, nat_cmp-IsAntisymmetric}
 use Rattle.std.proofs.lemmas.Cmp.{tied_itself}
 use Rattle.std.proofs.lemmas.Bool.{eqb-true, eq-eqb}
 use Rattle.std.proofs.lemmas.Bool.Decides.{nat_tests, Decides-eqb}
-use Rattle.std.proofs.lemmas.List.{append-nil, append_cancel_right, reverse-append, drop-append-le}
+use Rattle.std.proofs.lemmas.List.{append-nil, append_cancel_right, reverse-append, drop-append-le, drop_all, take_rest}
 use Rattle.std.proofs.lemmas.List.Prefix.{end_rest}
 use Rattle.std.proofs.lemmas.List.Sums.{fails_before_first, passes_at_first}
 use Rattle.std.proofs.lemmas.Slice.Eq.{ends_is}
@@ -59,12 +59,21 @@ common-ends xs ys k n h more =
     sym (take-append-drop (length xs - k - n) own) ∙ ap (λ back. take (length xs - k - n) own ++ back) (append_cancel_right (drop (length xs - k - n) own) run (drop (length ys - k) ys) whole)
 
 -- whether more bytes are in common, by whether the bytes before end so
-pub common-tested : (xs ys : List ℕ) (k n : ℕ) (r : Bool) → HasCommonEnd k xs ys → n ≤ length ys - k → r ≡ ends_with nat_eq (take (length xs - k) xs) (drop (length ys - k - n) (take (length ys - k) ys)) → MatchBool r (HasCommonEnd (k + n) xs ys) (HasCommonEnd (k + n) xs ys → ⊥)
+common-tested : (xs ys : List ℕ) (k n : ℕ) (r : Bool) → HasCommonEnd k xs ys → n ≤ length ys - k → r ≡ ends_with nat_eq (take (length xs - k) xs) (drop (length ys - k - n) (take (length ys - k) ys)) → MatchBool r (HasCommonEnd (k + n) xs ys) (HasCommonEnd (k + n) xs ys → ⊥)
 common-tested xs ys k n r h fits is = by r (ends_is Decides-eqb (take (length xs - k) xs) (drop (length ys - k - n) (take (length ys - k) ys)) r is)
   where
     by : (r : Bool) → (r ≡ true → take (length xs - k) xs ≡ take (length (take (length xs - k) xs) - length (drop (length ys - k - n) (take (length ys - k) ys))) (take (length xs - k) xs) ++ drop (length ys - k - n) (take (length ys - k) ys)) × ((front : List ℕ) → take (length xs - k) xs ≡ front ++ drop (length ys - k - n) (take (length ys - k) ys) → r ≡ true) → MatchBool r (HasCommonEnd (k + n) xs ys) (HasCommonEnd (k + n) xs ys → ⊥)
     by true ends = common-more xs ys k n _ h fits (ends.0 refl)
     by false ends = λ more. let bad : false ≡ true = ends.1 (take (length xs - k - n) (take (length xs - k) xs)) (common-ends xs ys k n h more) in cc
+
+-- the same, of the bytes as ranges of a text
+pub common-in_ranges : (xs ys : List ℕ) (k n : ℕ) (r : Bool) → HasCommonEnd k xs ys → n ≤ length (take (length ys - k) ys) → r ≡ ends_with nat_eq (take (length xs - k) xs) (take (length (take (length ys - k) ys) - (length (take (length ys - k) ys) - n)) (drop (length (take (length ys - k) ys) - n) (take (length ys - k) ys))) → MatchBool r (HasCommonEnd (k + n) xs ys) (HasCommonEnd (k + n) xs ys → ⊥)
+common-in_ranges xs ys k n r h fits is =
+    let other : List ℕ = take (length ys - k) ys in
+    let other-length : length other ≡ length ys - k = omega (arith, length-take (length ys - k) ys) in
+    let at : length other - n ≡ length ys - k - n = omega (arith, other-length) in
+    common-tested xs ys k n r h (omega (arith, fits, other-length))
+    (is ∙ ap (ends_with nat_eq (take (length xs - k) xs)) (take_rest other (length other - n) ∙ ap (λ i. drop i other) at))
 
 -- fewer bytes are in common, too
 pub common-fewer : (xs ys : List ℕ) (k n : ℕ) → k ≤ n → HasCommonEnd n xs ys → HasCommonEnd k xs ys
@@ -84,11 +93,15 @@ common-fewer xs ys k n less h =
     }
 
 pub common-none : (xs ys : List ℕ) → HasCommonEnd 0 xs ys
-common-none xs ys = record { own_fits = omega arith; other_fits = omega arith; same = drop-end xs ∙ sym (drop-end ys) }
-  where
-    drop-end : (zs : List ℕ) → drop (length zs - 0) zs ≡ []
-    drop-end [] = refl
-    drop-end (z ∷ zs) = drop-end zs
+common-none xs ys = record {
+  own_fits = omega arith;
+  other_fits = omega arith;
+  same = drop_all (length xs - 0) xs (omega arith) ∙ sym (drop_all (length ys - 0) ys (omega arith));
+}
+
+-- the front of a text, as a range of it
+pub front-range : (text : List ℕ) (n : ℕ) → slice_range text 0 n ≡ take n text
+front-range text n = let all : n - 0 ≡ n = omega arith in ap (λ k. take k text) all
 
 -- ---- the first separator
 
@@ -199,6 +212,11 @@ loses-orders own other own_left other_left lost above other_above =
     (λ j. path_cmp (reverse (above ++ lost.1 j)) (reverse (other_above ++ lost.2 j)))
     ∙ ((λ j. path_cmp (reversed-end above own_left lost.0 j) (reversed-end other_above other_left lost.0 j))
     ∙ path_cmp-common (reverse lost.0) (reverse (above ++ own_left)) (reverse (other_above ++ other_left)))
+
+pub tied : (o : Ordering) → is_ne o ≡ false → o ≡ Equal
+tied Less e = let bad : true ≡ false = e in cc
+tied Equal e = refl
+tied Greater e = let bad : true ≡ false = e in cc
 
 then-apart : (o p q : Ordering) → is_ne o ≡ true → ordering_then o p ≡ ordering_then o q
 then-apart Less p q ne = refl

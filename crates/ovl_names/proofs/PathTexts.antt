@@ -384,7 +384,7 @@ named-parts (part ∷ parts) clean utf8 = by (named-parts parts) (name_fault par
     by later None e = rw (e, utf8s.0, later (rw e at clean) utf8s.1) refl
     by later (Some fault) e = let bad : true ≡ false = rw e at clean in cc
 
-absurd_of : {b : Bool} → b ≡ false → b ≡ true → ⊥
+pub absurd_of : {b : Bool} → b ≡ false → b ≡ true → ⊥
 absurd_of fails passes = let bad : false ≡ true = sym fails ∙ passes in cc
 
 -- the parts of a text are texts

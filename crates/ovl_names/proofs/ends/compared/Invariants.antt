@@ -1,4 +1,5 @@
 use Rattle.std.proofs.Common.{◌≡◌, true, length}
+use Rattle.std.specs.Str.{IsUtf8}
 use Rattle.ovl_names.specs.Paths.{text_names, has_names}
 use Rattle.ovl_names.specs.Ends.{LosesEnd}
 use Rattle.ovl_names.proofs.ends.compared.Given as goal
@@ -9,6 +10,8 @@ invariant-loop-above l = record {
   named : has_names (text_names l.own) ≡ true;
   their_named : has_names (text_names l.their) ≡ true;
   lost : LosesEnd (text_names l.fn.text) (text_names l.fn.other) (text_names l.own) (text_names l.their);
+  utf8 : IsUtf8 l.own;
+  their_utf8 : IsUtf8 l.their;
 }
 
 abbrev pub decreases-loop-above : goal.decreases-loop-above
