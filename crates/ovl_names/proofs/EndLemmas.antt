@@ -55,7 +55,7 @@ common-ends xs ys k n h more =
     let own : List ℕ = take (length xs - k) xs in
     let run : List ℕ = drop (length ys - k - n) (take (length ys - k) ys) in
     let whole : drop (length xs - k - n) own ++ drop (length ys - k) ys ≡ run ++ drop (length ys - k) ys =
-        ap (λ back. drop (length xs - k - n) own ++ back) (sym h.same) ∙ (sym (end-more xs k n more.own_fits) ∙ (more.same ∙ end-more ys k n more.other_fits)) in
+    ap (λ back. drop (length xs - k - n) own ++ back) (sym h.same) ∙ (sym (end-more xs k n more.own_fits) ∙ (more.same ∙ end-more ys k n more.other_fits)) in
     sym (take-append-drop (length xs - k - n) own) ∙ ap (λ back. take (length xs - k - n) own ++ back) (append_cancel_right (drop (length xs - k - n) own) run (drop (length ys - k) ys) whole)
 
 -- whether more bytes are in common, by whether the bytes before end so
@@ -86,10 +86,10 @@ common-fewer xs ys k n less h =
       own_fits = omega arith;
       other_fits = omega arith;
       same =
-        ap (λ i. drop i xs) one
-        ∙ (sym (drop-drop (n - k) (length xs - n) xs)
-        ∙ (ap (drop (n - k)) h.same
-        ∙ (drop-drop (n - k) (length ys - n) ys ∙ sym (ap (λ i. drop i ys) other))));
+          ap (λ i. drop i xs) one
+          ∙ (sym (drop-drop (n - k) (length xs - n) xs)
+          ∙ (ap (drop (n - k)) h.same
+          ∙ (drop-drop (n - k) (length ys - n) ys ∙ sym (ap (λ i. drop i ys) other))));
     }
 
 pub common-none : (xs ys : List ℕ) → HasCommonEnd 0 xs ys
