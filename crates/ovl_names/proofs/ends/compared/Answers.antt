@@ -1,4 +1,4 @@
-use Rattle.std.proofs.Common.{◌≡◌, ◌∙◌, ◌∷◌, ◌++◌, ◌-◌, ℕ, List, [], Ordering, Equal, true, false, length, length-append, take, sym, ap, subst, arith}
+use Rattle.std.proofs.Common.{◌≡◌, ◌∙◌, ◌∷◌, ◌++◌, ◌-◌, ℕ, List, [], Ordering, Equal, true, length, length-append, take, sym, ap, subst, arith}
 use Rattle.std.specs.Ordering.{is_ne}
 use Rattle.ovl_names.specs.Names.{name_cmp}
 use Rattle.ovl_names.specs.Paths.{PathNames, text_names, has_names}
