@@ -25,6 +25,10 @@ use simdutf8::compat::from_utf8;
 use std::alloc::Global;
 use std::borrow::CowStr;
 
+// The bytes that an entry of most layers has in its manifest: room is made for so many entries at once, and for more as
+// they come.
+const ENTRY_TEXT: usize = 192;
+
 /// The sheet of the layer whose manifest these bytes are, byte for byte as [`write_layer`](crate::write_layer) writes
 /// it, or wrote it in the first version; the newline at its end may be missing. Gives none of manifests that are
 /// written in another way, of any fault and where memory runs out.
@@ -75,8 +79,9 @@ fn read_entries(alloc: Global, version: Version, rest: &mut Rest<'_>) -> Option<
     ensures layer { IfSome result (λ sheet. IsLayer sheet) }
     ensures stated { IfSome result (λ sheet. list_all (is_stated_by version) sheet ≡ true) }
 {
+    let room = (rest.len() / ENTRY_TEXT).min(ENTRY_LIMIT);
     let (text, root) = read_entry(alloc, version, rest)?;
-    let mut draft = start(alloc, text.as_str(), root)?;
+    let mut draft = start(alloc, text.as_str(), root, room)?;
     let mut last = CowStr::Borrowed("");
     let mut number = 1;
     'entries: while rest.take(",").is_some() {
@@ -102,8 +107,8 @@ fn read_entries(alloc: Global, version: Version, rest: &mut Rest<'_>) -> Option<
     }
 }
 
-// The draft of the entry of a sound inode, whose path a text spells, if it can be a layer's first.
-fn start(alloc: Global, text: &str, inode: Inode) -> Option<SheetDraft>
+// The draft of the entry of a sound inode, whose path a text spells, if it can be a layer's first; it has room for so many.
+fn start(alloc: Global, text: &str, inode: Inode, room: usize) -> Option<SheetDraft>
     requires { is_sound_inode inode ≡ true }
     ensures root { IfSome result (λ _. text.now ≡ path_text []) }
     ensures draft { IfSome result (λ draft. IsSheetDraft draft) }
@@ -113,7 +118,7 @@ fn start(alloc: Global, text: &str, inode: Inode) -> Option<SheetDraft>
     if text != "/" || has_escaped_name(&inode.attrs) || !is_directory(&inode) {
         return None;
     }
-    match SheetDraft::start(alloc, inode) {
+    match SheetDraft::start(alloc, inode, room) {
         Ok(draft) => Some(draft),
         Err(_) => None,
     }

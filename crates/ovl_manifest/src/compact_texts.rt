@@ -39,6 +39,13 @@ impl<'a> Rest<'a> {
         Rest { text }
     }
 
+    /// The number of bytes.
+    pub(crate) fn len(&self) -> usize
+        ensures { result ≡ length self.now }
+    {
+        self.text.len()
+    }
+
     /// Whether nothing is left.
     pub(crate) fn is_empty(&self) -> bool
         ensures { IsTrue result → self.now ≡ [] }

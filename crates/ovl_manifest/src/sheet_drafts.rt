@@ -22,8 +22,12 @@ pub(crate) struct SheetDraft {
 }
 
 impl SheetDraft {
-    /// The layer of a root alone.
-    pub(crate) fn start(alloc: Global, inode: Inode) -> Result<SheetDraft, AllocError>
+    /// The layer of a root alone, with room for so many entries.
+    pub(crate) fn start(
+        alloc: Global,
+        inode: Inode,
+        room: usize,
+    ) -> Result<SheetDraft, AllocError>
         requires directory { IsTrue (is_directory inode) }
         requires sound { IsTrue (is_sound_inode inode) }
         requires unescaped { has_escaped_name inode.attrs ≡ false }
@@ -31,7 +35,7 @@ impl SheetDraft {
         ensures draft { IfOk result (λ draft. IsSheetDraft draft) }
         ensures last { IfOk result (λ draft. draft.last ≡ []) }
     {
-        let mut rows = Vec::new(alloc);
+        let mut rows = Vec::with_capacity(alloc, room)?;
         rows.push(SheetRow {
             name: None,
             inode,
