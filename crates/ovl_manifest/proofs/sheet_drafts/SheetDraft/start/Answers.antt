@@ -8,7 +8,7 @@ use Rattle.ovl_manifest.proofs.sheet_drafts.SheetDraft.start.Goals as goal
 pub returns-clause-draft : goal.returns-clause-draft
 returns-clause-draft c =
     let rows : c.push.new.self.items ≡ (record { name = None; inode = c.args.inode; parent = 0; after = 1 }) ∷ [] =
-    c.in_ok-push.ensures.items ∙ ap (λ (before : List SheetRow). before ++ (record { name = None; inode = c.args.inode; parent = 0; after = 1 }) ∷ []) c.in_ok-with_capacity.ensures.items in
+    c.in_ok-push.ensures.items ∙ ap (λ (before : List SheetRow). before ++ (record { name = None; inode = c.args.inode; parent = 0; after = 1 }) ∷ []) c.in_ok-rows.ensures.items in
     let way : c.push-2.new.self.items ≡ 0 ∷ [] = c.in_ok-push-2.ensures.items ∙ ap (λ (before : List ℕ). before ++ 0 ∷ []) c.new-way.ensures.items in
     subst (λ (last : PathNames). AreDrafted c.push.new.self.items c.push-2.new.self.items last) (sym c.root.ensures)
     (subst (λ (numbers : List ℕ). AreDrafted c.push.new.self.items numbers []) (sym way)
