@@ -26,7 +26,7 @@ use Rattle.ovl_check.proofs.ListFacts.{filter-after, filter-before, filter-map}
 abbrev pub first_of : Blob → ℕ
 first_of blob = slice_index blob.name 0
 
-less-first : (one other : List ℕ) → digest_cmp one other ≡ Less → slice_index one 0 ≤ slice_index other 0
+pub less-first : (one other : List ℕ) → digest_cmp one other ≡ Less → slice_index one 0 ≤ slice_index other 0
 less-first [] other less = omega arith
 less-first (x ∷ one) [] less = absurd (cc)
 less-first (x ∷ one) (y ∷ other) less = by (nat_cmp x y) (ranked x y (nat_cmp x y) refl) less

@@ -3,6 +3,7 @@ mod Plain
 mod Moves
 mod BlobLemmas
 mod BlobRanges
+mod StartLemmas
 mod DataLemmas
 mod FindLemmas
 mod LayerFacts

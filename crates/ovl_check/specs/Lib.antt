@@ -2,6 +2,7 @@ pub mod Blobs
 pub mod Codes
 pub mod Conditions
 pub mod Contents
+pub mod Starts
 pub mod Stated
 pub mod Told
 pub mod Findings

@@ -20,6 +20,7 @@ use crate::findings::{Code, Finding};
 use crate::gathering::{facts_of_child, facts_of_directory};
 use crate::marks::is_moved;
 use crate::sources::{HeldBlobs, ToldContents};
+use crate::starts::{starts_of_blobs, starts_of_contents};
 use crate::subjects::{CheckOut, CheckWork, ToldBlobs};
 use ovl_board::{Piece, Work};
 use ovl_inode::{Digest, Mark, is_directory};
@@ -38,7 +39,11 @@ impl<'a> CheckWork<'a> {
     {
         CheckWork {
             stack,
-            told: ToldBlobs::Held(HeldBlobs { blobs, wrong }),
+            told: ToldBlobs::Held(HeldBlobs {
+                blobs,
+                wrong,
+                starts: starts_of_blobs(blobs),
+            }),
         }
     }
 
@@ -49,7 +54,10 @@ impl<'a> CheckWork<'a> {
     {
         CheckWork {
             stack,
-            told: ToldBlobs::Told(ToldContents { contents }),
+            told: ToldBlobs::Told(ToldContents {
+                contents,
+                starts: starts_of_contents(contents),
+            }),
         }
     }
 }

@@ -14,6 +14,7 @@ pub mod laws;
 mod marks;
 mod places;
 mod sources;
+mod starts;
 mod stated;
 mod subjects;
 mod tellings;

@@ -42,8 +42,8 @@ impl ToldBlobs<'_> {
         ensures { result ≡ the_blob_named (told_contents self.now) inode.now }
     {
         match self {
-            ToldBlobs::Held(held) => blob_named(held.blobs, held.wrong, inode),
-            ToldBlobs::Told(told) => content_named(told.contents, inode),
+            ToldBlobs::Held(held) => blob_named(held.blobs, &held.starts, held.wrong, inode),
+            ToldBlobs::Told(told) => content_named(told.contents, &told.starts, inode),
         }
     }
 }

@@ -1,17 +1,22 @@
-ghost use Rattle.std.specs.Prelude.{◌≡◌, true, false, Some, IfOk};
-ghost use Rattle.std.specs.List.{filter_map};
+ghost use Rattle.std.specs.Prelude.{◌≡◌, ◌<◌, ◌++◌, [], true, false, Some, length, IfOk, IfSome, OnOk};
+ghost use Rattle.std.specs.List.{cons_option, filter_map};
 ghost use Rattle.ovl_names.specs.Paths.{child_path};
 ghost use Rattle.ovl_inode.specs.Marks.{mark_of as the_mark};
 ghost use Rattle.ovl_manifest.specs.Layers.{entry_at};
+ghost use Rattle.ovl_manifest.specs.Sheets.{path_at};
+ghost use Rattle.ovl_lookup.specs.Merged.{look as the_look};
+ghost use Rattle.ovl_lookup.specs.DirViews.{IsViewOf};
 ghost use Rattle.ovl_lookup.specs.Sound.{is_moved as moved_test};
 ghost use Rattle.ovl_lookup.specs.Words.{top_layer, lower_layers};
+ghost use Rattle.ovl_deref.specs.declared.directories.OwnPlace.TheVariants.{Row};
 ghost use Rattle.ovl_deref.specs.Deref.{dereferenced_inode, inode_shown};
-ghost use Rattle.ovl_deref.specs.Directories.{is_at_moved as at_moved_test, new_at, names_in as the_names, inodes_in as the_inodes};
-ghost use Rattle.ovl_deref.specs.Visits.{shown_inode};
+ghost use Rattle.ovl_deref.specs.Directories.{is_at_moved as at_moved_test, inodes_in as the_inodes};
+ghost use Rattle.ovl_deref.specs.Visits.{IsOwnPlace, IsKid, named_at, shown_inode};
 
 use crate::inodes::{filled, unfolded};
 use ovl_inode::{Inode, Mark};
-use ovl_lookup::{DirView, Found, Look, Stack, TopDirectory};
+use ovl_lookup::{DirView, Found, Look, Stack};
+use ovl_manifest::Sheet;
 use ovl_names::{Name, Path};
 use std::alloc::{AllocError, Global};
 
@@ -24,33 +29,48 @@ pub(crate) fn inodes_in(
 ) -> Result<Vec<(Name, Inode)>, AllocError>
     ensures { IfOk result (λ inodes. inodes.items ≡ the_inodes stack.now dir.now) }
 {
-    if is_at_moved(stack, dir) {
-        return shown_inodes(alloc, stack, dir);
-    }
-    match TopDirectory::of(alloc, stack, dir)? {
-        Some(directory) => own_inodes(alloc, &directory),
-        None => Ok(Vec::new(alloc)),
+    match own_place(stack, dir) {
+        OwnPlace::Moved => shown_inodes(alloc, stack, dir),
+        OwnPlace::Row(row) => own_inodes(alloc, stack, dir, row),
+        OwnPlace::Absent => Ok(Vec::new(alloc)),
     }
 }
 
-// Whether the directory or one above it is moved.
-fn is_at_moved(stack: &Stack, dir: &Path) -> bool
-    ensures { result ≡ at_moved_test (top_layer stack.now) dir.now }
+// What the topmost layer has at the path of a directory.
+#[derive(Clone, Copy)]
+enum OwnPlace {
+    // It or one above it is moved.
+    Moved,
+    // The row of this number; neither it nor one above it is moved.
+    Row(u32),
+    // Nothing, and none above it is moved.
+    Absent,
+}
+
+// What the topmost layer has there, by one walk.
+fn own_place(stack: &Stack, dir: &Path) -> OwnPlace
+    ensures { IsOwnPlace (top_layer stack.now) dir.now result }
 {
-    // A stack has a topmost layer.
-    let _layers = stack.ordinary();
-    let sheet = stack.sheet(0);
+    let sheet = top_sheet(stack);
     let mut row = sheet.root_number();
     for name in dir.names() {
         let Some(child) = sheet.child(row, name) else {
-            return false;
+            return OwnPlace::Absent;
         };
         if is_moved(sheet.mark(child)) {
-            return true;
+            return OwnPlace::Moved;
         }
         row = child;
     }
-    false
+    OwnPlace::Row(row)
+}
+
+fn top_sheet(stack: &Stack) -> &Sheet
+    ensures { result.now ≡ top_layer stack.now }
+{
+    // A stack has a topmost layer.
+    let _layers = stack.ordinary();
+    stack.sheet(0)
 }
 
 // Whether this is the mark of a moved directory.
@@ -97,64 +117,90 @@ fn inode_of(look: Look) -> Option<Inode>
     }
 }
 
-// The topmost layer's own names in a directory, where neither it nor a directory above it is moved, each with its inode
-// in the new layer.
-fn own_inodes(alloc: Global, directory: &TopDirectory<'_>) -> Result<Vec<(Name, Inode)>, AllocError>
-    requires { at_moved_test (top_layer directory.now.stack) directory.now.path ≡ false }
-    ensures { IfOk result (λ inodes. inodes.items ≡ the_inodes directory.now.stack directory.now.path) }
+// The topmost layer's own names in the directory of a row, where neither it nor one above it is moved, each with its
+// inode in the new layer, in one pass over the rows.
+fn own_inodes(
+    alloc: Global,
+    stack: &Stack,
+    dir: &Path,
+    row: u32,
+) -> Result<Vec<(Name, Inode)>, AllocError>
+    requires { IsOwnPlace (top_layer stack.now) dir.now (Row row) }
+    ensures { IfOk result (λ inodes. inodes.items ≡ the_inodes stack.now dir.now) }
 {
-    let names = own_names(alloc, directory)?;
-    let mut inodes = Vec::with_capacity(alloc, names.len())?;
-    for name in names {
-        if let Some(inode) = new_inode(alloc, directory, &name)? {
-            inodes.push((name, inode))?;
-        }
+    let sheet = top_sheet(stack);
+    let kids = sheet.kids(row);
+    let mut view = None;
+    let mut inodes = Vec::with_capacity(alloc, kids.len())?;
+    for kid in kids {
+        push_own(alloc, stack, &mut view, dir, *kid, &mut inodes)?;
     }
     Ok(inodes)
 }
 
-// The names alone.
-fn own_names(alloc: Global, directory: &TopDirectory<'_>) -> Result<Vec<Name>, AllocError>
-    requires { at_moved_test (top_layer directory.now.stack) directory.now.path ≡ false }
-    ensures { IfOk result (λ names. names.items ≡ the_names directory.now.stack directory.now.path) }
-{
-    directory.names(alloc)
-}
-
-// What the new layer has at a name there.
-fn new_inode(
+// Adds what becomes of the entry of a row, which lies directly in such a directory, by the view of that.
+fn push_own(
     alloc: Global,
-    directory: &TopDirectory<'_>,
-    name: &Name,
-) -> Result<Option<Inode>, AllocError>
-    requires { at_moved_test (top_layer directory.now.stack) directory.now.path ≡ false }
-    ensures { IfOk result (λ found. found ≡ new_at directory.now.stack (child_path directory.now.path name.now)) }
+    stack: &Stack,
+    view: &mut Option<DirView>,
+    dir: &Path,
+    number: u32,
+    inodes: &mut Vec<(Name, Inode)>,
+) -> Result<(), AllocError>
+    requires free { at_moved_test (top_layer stack.now) dir.now ≡ false }
+    requires inside { number < length (top_layer stack.now) }
+    requires kid { IsKid dir.now (path_at (top_layer stack.now) number) }
+    requires view { IfSome view.old (IsViewOf stack.now 0 dir.now) }
+    ensures inodes { OnOk result (inodes.new.items
+        ≡ inodes.old.items ++ cons_option (named_at stack.now (path_at (top_layer stack.now) number)) []) }
+    ensures view { IfSome view.new (IsViewOf stack.now 0 dir.now) }
 {
     // Each layer of a stack is one.
-    let _layers = directory.stack().ordinary();
-    match directory.entry(name) {
-        Some(entry) => Ok(Some(dereferenced(alloc, directory, name, &entry)?)),
-        None => Ok(None),
+    let _layers = stack.ordinary();
+    let sheet = top_sheet(stack);
+    // The root alone has no name.
+    let Some(name) = sheet.name(number) else {
+        return Ok(());
+    };
+    let entry = entry_of(sheet, number);
+    let inode = dereferenced(alloc, stack, view, dir, name, &entry)?;
+    inodes.push((name.copy(alloc)?, inode))?;
+    Ok(())
+}
+
+// What a layer has in the row of a number.
+fn entry_of(sheet: &Sheet, number: u32) -> Found<'_>
+    requires { number < length sheet.now }
+    ensures value { entry_at sheet.now (path_at sheet.now number) ≡ Some result.inode.now }
+    ensures marked { result.mark.now ≡ the_mark result.inode.now }
+{
+    Found {
+        inode: sheet.inode(number),
+        mark: sheet.mark(number),
     }
 }
 
-// What becomes of the entry at a name there.
+// What becomes of the entry at a name in a directory, by the view of that.
 fn dereferenced(
     alloc: Global,
-    directory: &TopDirectory<'_>,
+    stack: &Stack,
+    view: &mut Option<DirView>,
+    dir: &Path,
     name: &Name,
     entry: &Found<'_>,
 ) -> Result<Inode, AllocError>
-    requires entry { entry_at (top_layer directory.now.stack) (child_path directory.now.path name.now) ≡ Some entry.now.inode.now }
+    requires view { IfSome view.old (IsViewOf stack.now 0 dir.now) }
+    requires entry { entry_at (top_layer stack.now) (child_path dir.now name.now) ≡ Some entry.now.inode.now }
     requires marked { entry.now.mark.now ≡ the_mark entry.now.inode.now }
-    ensures { IfOk result (λ new. new ≡ dereferenced_inode (top_layer directory.now.stack) (lower_layers directory.now.stack)
-        (child_path directory.now.path name.now) entry.now.inode.now) }
+    ensures inode { IfOk result (λ new. new ≡ dereferenced_inode (top_layer stack.now) (lower_layers stack.now)
+        (child_path dir.now name.now) entry.now.inode.now) }
+    ensures view { IfSome view.new (IsViewOf stack.now 0 dir.now) }
 {
     // A stack has a topmost layer.
-    let _layers = directory.stack().ordinary();
+    let _layers = stack.ordinary();
     match entry.mark {
         Mark::DirMoved(_) => unfolded(alloc, entry.inode),
-        Mark::Meta(_) => filled(alloc, entry.inode, &directory.look(alloc, name)?),
+        Mark::Meta(_) => filled(alloc, entry.inode, &look_in(alloc, stack, view, dir, name)?),
         Mark::Whiteout
         | Mark::DirOpaque
         | Mark::DirBad
@@ -162,4 +208,30 @@ fn dereferenced(
         | Mark::MetaBad
         | Mark::Leaf => entry.inode.copy(alloc),
     }
+}
+
+// What the stack shows at a name in a directory, by the view of that, which is made with the first name that is asked
+// for and kept for the others.
+fn look_in(
+    alloc: Global,
+    stack: &Stack,
+    view: &mut Option<DirView>,
+    dir: &Path,
+    name: &Name,
+) -> Result<Look, AllocError>
+    requires { IfSome view.old (IsViewOf stack.now 0 dir.now) }
+    ensures look { IfOk result (λ look. look ≡ the_look stack.now (child_path dir.now name.now)) }
+    ensures view { IfSome view.new (IsViewOf stack.now 0 dir.now) }
+{
+    // Each layer of a stack is one.
+    let _layers = stack.ordinary();
+    if let Some(made) = view.as_ref() {
+        return made.look(alloc, stack, name);
+    }
+    let Some(made) = DirView::of(alloc, stack, 0, dir)? else {
+        return Ok(Look::Nothing);
+    };
+    let look = made.look(alloc, stack, name)?;
+    *view = Some(made);
+    Ok(look)
 }

@@ -1,19 +1,38 @@
-use Rattle.std.proofs.Common.{◌∙◌, Some, None, sym}
-use Rattle.std.proofs.lemmas.List.{append-nil}
-use Rattle.ovl_deref.proofs.VisitLemmas.{listed-more, not-some}
+use Rattle.std.proofs.Common.{◌∙◌, List, ℕ, ap, arith, length, take_all}
+use Rattle.std.specs.List.{filter_map}
+use Rattle.ovl_names.specs.Paths.{PathNames}
+use Rattle.ovl_manifest.specs.Layers.{Entries, names_below}
+use Rattle.ovl_manifest.specs.Sheets.{path_at}
+use Rattle.ovl_lookup.specs.Words.{top_layer}
+use Rattle.ovl_deref.specs.Visits.{named_at}
+use Rattle.ovl_deref.proofs.VisitLemmas.{rows-below, each-kid, rows-listed, kept-more}
 use Rattle.ovl_deref.proofs.directories.own_inodes.Goals as goal
 
-pub loop-name-preserved-in-Continue-branch-5 : goal.loop-name-preserved-in-Continue-branch-5
-loop-name-preserved-in-Continue-branch-5 c =
-    c.in_ok-push.ensures.items
-    ∙ listed-more c.args.directory.now.stack c.args.directory.now.path c.loop-name.yielded c.in-Some.name c.loop-name.inodes.items (Some c.in-Some-2.inode) c.loop-name.invariant (sym c.in-Some-2.is ∙ c.in_ok-inode.ensures)
+pub kids-kids-requires : goal.kids-kids-requires
+kids-kids-requires c = omega (arith, ap length c.top_sheet-sheet.ensures, c.requires.1)
 
-pub loop-name-preserved : goal.loop-name-preserved
-loop-name-preserved c =
-    sym (append-nil c.loop-name.inodes.items)
-    ∙ listed-more c.args.directory.now.stack c.args.directory.now.path c.loop-name.yielded c.in-Some.name c.loop-name.inodes.items None c.loop-name.invariant (sym (not-some c.in_ok-inode.field-0 c.in_default.not-Some) ∙ c.in_ok-inode.ensures)
+pub push_own-requires-clause-kid : goal.push_own-requires-clause-kid
+push_own-requires-clause-kid c =
+    let top : Entries = top_layer c.args.stack.now in
+    let dir : PathNames = c.args.dir.now in
+    let kids : List ℕ = c.kids-kids.result.now in
+    each-kid top dir kids (names_below top dir)
+    (rows-below c.top_sheet-sheet.result.now top c.top_sheet-sheet.ensures c.args.row dir c.requires.2 kids c.kids-kids.ensures.paths)
+    c.loop-kid.kid-index 0 (omega arith)
 
-pub loop-name-preserved-in_default : goal.loop-name-preserved-in_default
-loop-name-preserved-in_default c =
-    sym (append-nil c.loop-name.inodes.items)
-    ∙ listed-more c.args.directory.now.stack c.args.directory.now.path c.loop-name.yielded c.in-Some.name c.loop-name.inodes.items None c.loop-name.invariant (sym (not-some c.in_ok-inode.field-0 c.in_default.not-Some) ∙ c.in_ok-inode.ensures)
+pub loop-kid-preserved : goal.loop-kid-preserved
+loop-kid-preserved c = record {
+  listed = kept-more (λ kid. named_at c.args.stack.now (path_at (top_layer c.args.stack.now) kid)) c.kids-kids.result.now c.loop-kid.kid-index 0 c.loop-kid.inodes.items c.push_own.new.inodes.items (omega arith) c.loop-kid.invariant.listed c.in_ok-push_own.ensures.inodes;
+  view = c.in_ok-push_own.ensures.view;
+}
+
+pub returns : goal.returns
+returns c =
+    let stack = c.args.stack.now in
+    let top : Entries = top_layer stack in
+    let dir : PathNames = c.args.dir.now in
+    let kids : List ℕ = c.kids-kids.result.now in
+    c.loop-kid.invariant.listed
+    ∙ (ap (filter_map (λ kid. named_at stack (path_at top kid))) (take_all c.loop-kid.kid-index kids (omega arith))
+    ∙ rows-listed stack dir c.requires.0 kids
+    (rows-below c.top_sheet-sheet.result.now top c.top_sheet-sheet.ensures c.args.row dir c.requires.2 kids c.kids-kids.ensures.paths))

@@ -1,7 +1,7 @@
 use Rattle.std.proofs.Common.{◌≡◌, ◌<◌, ◌++◌, length, false}
 use Rattle.ovl_manifest.specs.Sheets.{path_at}
 use Rattle.ovl_deref.specs.Directories.{is_at_moved}
-use Rattle.ovl_deref.proofs.directories.is_at_moved.Given as goal
+use Rattle.ovl_deref.proofs.directories.own_place.Given as goal
 
 -- the path so far, with the names that are left, is all
 abbrev pub invariant-loop-name : goal.invariant-loop-name

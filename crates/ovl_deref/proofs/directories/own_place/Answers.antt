@@ -1,5 +1,4 @@
-use Rattle.std.proofs.Common.{◌≡◌, ◌∙◌, ◌++◌, ◌∷◌, false, Option, [], sym, ap, append_assoc, append-nil}
-use Rattle.std.specs.Prelude.{unwrap_or}
+use Rattle.std.proofs.Common.{◌≡◌, ◌∙◌, ◌++◌, ◌∷◌, false, [], sym, ap, subst, append_assoc, append-nil}
 use Rattle.std.specs.Option.{option_map}
 use Rattle.ovl_names.specs.Names.{PathName}
 use Rattle.ovl_names.specs.Paths.{PathNames, child_path}
@@ -7,38 +6,41 @@ use Rattle.ovl_inode.specs.Marks.{mark_of}
 use Rattle.ovl_manifest.specs.Layers.{Entries, entry_at}
 use Rattle.ovl_manifest.specs.Sheets.{path_at}
 use Rattle.ovl_lookup.specs.Sound.{is_moved}
-use Rattle.ovl_lookup.specs.Words.{top_layer}
+use Rattle.ovl_deref.specs.declared.directories.OwnPlace.TheVariants.{Moved, Row, Absent}
 use Rattle.ovl_deref.specs.Directories.{is_at_moved}
-use Rattle.ovl_deref.proofs.VisitLemmas.{moved-there, moved-above, nothing-moved}
-use Rattle.ovl_deref.proofs.directories.is_at_moved.Goals as goal
+use Rattle.ovl_deref.specs.Visits.{IsOwnPlace}
+use Rattle.ovl_deref.proofs.VisitLemmas.{moved-there, moved-above, nothing-beyond, nothing-moved}
+use Rattle.ovl_deref.proofs.directories.own_place.Goals as goal
 
 pub returns-in_default : goal.returns-in_default
 returns-in_default c =
-    let layer : Entries = c.sheet-sheet.result.now in
-    let same : layer ≡ top_layer c.args.stack.now = sym (ap (λ (o : Option Entries). unwrap_or o []) c.sheet-sheet.ensures) in
+    let layer : Entries = c.top_sheet-sheet.result.now in
     let above : PathNames = path_at layer c.loop-name.row in
     let name : PathName = c.in-Some.name.now in
     let rest : PathNames = c.next.new.self in
     let whole : above ++ name ∷ rest ≡ c.args.dir.now = sym (ap (λ (left : PathNames). above ++ left) c.in-Some.ensures.steps) ∙ c.loop-name.invariant.there in
-    sym (nothing-moved layer above name c.loop-name.invariant.free rest c.in_default.ensures)
-    ∙ (λ j. is_at_moved (same j) (whole j))
+    subst (λ (top : Entries). IsOwnPlace top c.args.dir.now Absent) c.top_sheet-sheet.ensures
+    (subst (λ (path : PathNames). IsOwnPlace layer path Absent) whole (
+      nothing-moved layer above name c.loop-name.invariant.free rest c.in_default.ensures,
+      nothing-beyond layer above name c.loop-name.invariant.free rest c.in_default.ensures,
+    ))
 
 pub returns-then-is_moved : goal.returns-then-is_moved
 returns-then-is_moved c =
-    let layer : Entries = c.sheet-sheet.result.now in
-    let same : layer ≡ top_layer c.args.stack.now = sym (ap (λ (o : Option Entries). unwrap_or o []) c.sheet-sheet.ensures) in
+    let layer : Entries = c.top_sheet-sheet.result.now in
     let above : PathNames = path_at layer c.loop-name.row in
     let name : PathName = c.in-Some.name.now in
     let rest : PathNames = c.next.new.self in
     let whole : above ++ name ∷ rest ≡ c.args.dir.now = sym (ap (λ (left : PathNames). above ++ left) c.in-Some.ensures.steps) ∙ c.loop-name.invariant.there in
     let place : path_at layer c.in-Some-child.child ≡ child_path above name = c.in-Some-child.ensures.1 in
-    sym (moved-above layer above name c.loop-name.invariant.free rest
-    (sym c.if-is_moved.true ∙ (c.is_moved.ensures ∙ ap is_moved (sym c.mark.ensures ∙ ap (λ (path : PathNames). option_map mark_of (entry_at layer path)) place))))
-    ∙ (λ j. is_at_moved (same j) (whole j))
+    subst (λ (top : Entries). IsOwnPlace top c.args.dir.now Moved) c.top_sheet-sheet.ensures
+    (subst (λ (path : PathNames). IsOwnPlace layer path Moved) whole
+    (moved-above layer above name c.loop-name.invariant.free rest
+    (sym c.if-is_moved.true ∙ (c.is_moved.ensures ∙ ap is_moved (sym c.mark.ensures ∙ ap (λ (path : PathNames). option_map mark_of (entry_at layer path)) place)))))
 
 pub loop-name-preserved : goal.loop-name-preserved
 loop-name-preserved c =
-    let layer : Entries = c.sheet-sheet.result.now in
+    let layer : Entries = c.top_sheet-sheet.result.now in
     let above : PathNames = path_at layer c.loop-name.row in
     let name : PathName = c.in-Some.name.now in
     let rest : PathNames = c.next.new.self in
@@ -54,9 +56,10 @@ loop-name-preserved c =
 
 pub returns : goal.returns
 returns c =
-    let layer : Entries = c.sheet-sheet.result.now in
-    let same : layer ≡ top_layer c.args.stack.now = sym (ap (λ (o : Option Entries). unwrap_or o []) c.sheet-sheet.ensures) in
-    let above : PathNames = path_at layer c.loop-name.row in
+    let layer : Entries = c.top_sheet-sheet.result.now in
+    let row = c.loop-name.row in
+    let above : PathNames = path_at layer row in
     let whole : above ≡ c.args.dir.now =
     sym (append-nil above) ∙ (sym (ap (λ (left : PathNames). above ++ left) c.in-None.ensures.steps.0) ∙ c.loop-name.invariant.there) in
-    sym c.loop-name.invariant.free ∙ (λ j. is_at_moved (same j) (whole j))
+    subst (λ (top : Entries). IsOwnPlace top c.args.dir.now (Row row)) c.top_sheet-sheet.ensures
+    (ap (is_at_moved layer) (sym whole) ∙ c.loop-name.invariant.free, c.loop-name.invariant.inside, whole)
