@@ -1,8 +1,10 @@
 -- Layers that are read one after another.
-use Rattle.std.proofs.Common.{◌≡◌, ℕ, zero, suc, ◌+◌, ◌*◌, ◌<◌, ◌≤◌, List, [], ◌∷◌, ◌++◌, None, Result, Ok, Err, refl, sym, ap, ◌∙◌, length, take, drop, map, get_or, MatchResult, subst, arith, length-take-le}
+use Rattle.std.proofs.Common.{◌≡◌, ℕ, zero, suc, ◌+◌, ◌*◌, ◌<◌, ◌≤◌, List, [], ◌∷◌, ◌++◌, None, Result, Ok, Err, refl, sym, ap, ◌∙◌, length, take, drop, map, arith}
 use native.Mathlib.Nat.{zero-mul}
-use Rattle.std.specs.Fork.{slice_chunk}
-use Rattle.std.proofs.lemmas.List.{take_more, take-append-drop, map-append, length-map}
+use Rattle.std.specs.Iterator.{Yields}
+use Rattle.std.specs.Vec.Iter.{into_iter_items, into_iter_steps}
+use Rattle.std.specs.declared.vec.IntoIter.{IntoIter}
+use Rattle.std.proofs.lemmas.List.{take-append-drop, map-append, length-map}
 use Rattle.ovl_manifest.specs.Layers.{Entries}
 use Rattle.ovl_manifest.specs.Manifest.{read_layer, IsFaultOf}
 use Rattle.ovl_manifest.specs.declared.faults.LayerFault.{LayerFault}
@@ -10,7 +12,6 @@ use Rattle.ovl_manifest.specs.declared.faults.LayerFault.TheVariants.{NotJson, S
 use Rattle.ovl_engine.specs.declared.faults.EngineFault.{EngineFault}
 use Rattle.ovl_engine.specs.declared.faults.EngineFault.TheVariants.{Workers, Layers, Layer, BlobOrder, BlobSize, NoLower, Faulty, LimitOut, Run, Memory, DataLayers}
 use Rattle.ovl_engine.specs.Refusals.{layers_from, under_layer, unread_layer, stated_layers, first_unread, IsUnread}
-use Rattle.ovl_engine.proofs.ShareLemmas.{share_here}
 
 -- layers on top of what others give
 abbrev over : List Entries → Result (List Entries) EngineFault → Result (List Entries) EngineFault
@@ -94,7 +95,7 @@ all_read manifests layers is = rw (is, first_unread) refl
 pub all_stated : (manifests : List (List ℕ)) (layers : List Entries) → layers_from 0 manifests ≡ Ok layers → stated_layers manifests ≡ layers
 all_stated manifests layers is = rw (is, stated_layers) refl
 
-pub counted : (k : ℕ) (manifests : List (List ℕ)) (layers : List Entries) → layers_from k manifests ≡ Ok layers → length layers ≡ length manifests
+counted : (k : ℕ) (manifests : List (List ℕ)) (layers : List Entries) → layers_from k manifests ≡ Ok layers → length layers ≡ length manifests
 counted k [] layers is = let none : [] ≡ layers = cc in ap length (sym none)
 counted k (first ∷ manifests) layers is = by (counted (suc k) manifests) (read_layer first) refl
   where
@@ -106,26 +107,24 @@ counted k (first ∷ manifests) layers is = by (counted (suc k) manifests) (read
     by more (Ok top) e = below more top (layers_from (suc k) manifests) refl (rw (e, layers_from) at is)
     by more (Err fault) e = let bad : Err (Layer k fault) ≡ Ok layers = rw (e, layers_from) at is in cc
 
--- the same of vectors of bytes, one after another
-split_here : {X : Type 0} (xs : List X) (i : ℕ) (d : X) → i < length xs → take i xs ++ get_or xs i d ∷ drop (suc i) xs ≡ xs
-split_here [] i d inside = absurd (omega arith)
-split_here (x ∷ xs) zero d inside = refl
-split_here (x ∷ xs) (suc i) d inside = ap (λ rest. x ∷ rest) (split_here xs i d (omega arith))
+pub counted_by : {X : Type 0} (k : ℕ) (bytes : X → List ℕ) (manifests : List X) (layers : List Entries) → layers_from k (map bytes manifests) ≡ Ok layers → length layers ≡ length manifests
+counted_by k bytes manifests layers is = counted k (map bytes manifests) layers is ∙ length-map manifests bytes
 
-module _ {X : Type 0} (k : ℕ) (bytes : X → List ℕ) (xs : List X) (i : ℕ) (x : X) (inside : i < length xs) (is : x ≡ get_or xs i x) (layers : List Entries) (so_far : layers_from k (map bytes (take i xs)) ≡ Ok layers) where
-  pub further : (layer : Entries) → read_layer (bytes x) ≡ Ok layer → layers_from k (map bytes (take (i + 1) xs)) ≡ Ok (layers ++ layer ∷ [])
-  further layer one =
-      ap (layers_from k) (ap (map bytes) (take_more xs i x inside) ∙ (map-append bytes (take i xs) (get_or xs i x ∷ []) ∙ ap (λ y. map bytes (take i xs) ++ bytes y ∷ []) (sym is)))
-      ∙ one_more k (map bytes (take i xs)) layers (bytes x) layer so_far one
+-- a vector's items, of which some were taken, and one more
+pub taken : {X Z : Type 0} (s : IntoIter X Z) (read : List X) (t : IntoIter X Z) → Yields into_iter_steps s read t → into_iter_items s ≡ read ++ into_iter_items t
+taken s [] t yields = ap into_iter_items yields
+taken s (x ∷ read) t yields = yields.1.0 ∙ ap (λ rest. x ∷ rest) (taken yields.0 read t yields.2)
 
-  pub fails_here : (fault : LayerFault) → read_layer (bytes x) ≡ Err fault → layers_from k (map bytes xs) ≡ Err (Layer (k + i) fault)
-  fails_here fault one =
-      ap (layers_from k) (ap (map bytes) (sym (split_here xs i x inside)) ∙ (map-append bytes (take i xs) (get_or xs i x ∷ drop (suc i) xs) ∙ ap (λ y. map bytes (take i xs) ++ bytes y ∷ map bytes (drop (suc i) xs)) (sym is)))
-      ∙ (unread k (map bytes (take i xs)) layers (bytes x) (map bytes (drop (suc i) xs)) fault so_far one
-      ∙ ap (λ (n : ℕ). Err (Layer (k + n) fault)) place)
-    where
-      place : length (map bytes (take i xs)) ≡ i
-      place = omega (arith, length-map (take i xs) bytes, length-take-le i xs (omega (arith, inside)))
+-- things that have bytes, and one more behind them
+module _ {X : Type 0} (k : ℕ) (bytes : X → List ℕ) (read : List X) (x : X) (layers : List Entries) (so_far : layers_from k (map bytes read) ≡ Ok layers) where
+  pub further : (layer : Entries) → read_layer (bytes x) ≡ Ok layer → layers_from k (map bytes (read ++ x ∷ [])) ≡ Ok (layers ++ layer ∷ [])
+  further layer one = ap (layers_from k) (map-append bytes read (x ∷ [])) ∙ one_more k (map bytes read) layers (bytes x) layer so_far one
+
+  pub fails_here : (n : ℕ) → n ≡ length layers → (more : List X) (fault : LayerFault) → read_layer (bytes x) ≡ Err fault → layers_from k (map bytes (read ++ x ∷ more)) ≡ Err (Layer (k + n) fault)
+  fails_here n number more fault one =
+      ap (layers_from k) (map-append bytes read (x ∷ more))
+      ∙ (unread k (map bytes read) layers (bytes x) (map bytes more) fault so_far one
+      ∙ ap (λ (m : ℕ). Err (Layer (k + m) fault)) (sym (number ∙ counted k (map bytes read) layers so_far)))
 
 -- what is told of some manifests is told of all, where their fault is that of all
 told_of_all : (read all : Result (List Entries) EngineFault) → ((fault : EngineFault) → read ≡ Err fault → all ≡ Err fault) → (fault : EngineFault) → IsUnread read fault → IsUnread all fault
@@ -141,35 +140,32 @@ told_of_all read all fails (Faulty report) is = absurd is
 told_of_all read all fails LimitOut is = absurd is
 told_of_all read all fails (Run fault) is = absurd is
 
--- one more share of the manifests, each share of the same size
-module _ {X : Type 0} (bytes : X → List ℕ) (xs : List X) (size n : ℕ) (inside : n * size ≤ length xs) (layers : List Entries) (so_far : layers_from 0 (map bytes (take (n * size) xs)) ≡ Ok layers) where
-  with_share : layers_from 0 (map bytes (take (suc n * size) xs)) ≡ over layers (layers_from (n * size) (map bytes (slice_chunk xs size n)))
-  with_share =
-      ap (λ (front : List X). layers_from 0 (map bytes front)) (share_here xs size n)
-      ∙ (ap (layers_from 0) (map-append bytes (take (n * size) xs) (slice_chunk xs size n))
-      ∙ (behind 0 (map bytes (take (n * size) xs)) (map bytes (slice_chunk xs size n)) layers so_far
-      ∙ ap (λ (k : ℕ). over layers (layers_from k (map bytes (slice_chunk xs size n)))) place))
-    where
-      place : 0 + length (map bytes (take (n * size) xs)) ≡ n * size
-      place = omega (arith, length-map (take (n * size) xs) bytes, length-take-le (n * size) xs inside)
+-- things that have bytes, in two parts, the first of n of them
+module _ {X : Type 0} (k n : ℕ) (bytes : X → List ℕ) (all front back : List X) (first : front ≡ take n all) (rest : back ≡ drop n all) (len : length front ≡ n) where
+  in_parts : layers_from k (map bytes all) ≡ layers_from k (map bytes front ++ map bytes back)
+  in_parts =
+      ap (λ (ms : List X). layers_from k (map bytes ms)) (sym ((λ j. first j ++ rest j) ∙ take-append-drop n all))
+      ∙ ap (layers_from k) (map-append bytes front back)
 
-  fails : (fault : EngineFault) → layers_from (n * size) (map bytes (slice_chunk xs size n)) ≡ Err fault → layers_from 0 (map bytes xs) ≡ Err fault
-  fails fault one =
-      ap (λ (all : List X). layers_from 0 (map bytes all)) (sym (take-append-drop (suc n * size) xs))
-      ∙ (ap (layers_from 0) (map-append bytes (take (suc n * size) xs) (drop (suc n * size) xs))
-      ∙ before 0 (map bytes (take (suc n * size) xs)) (map bytes (drop (suc n * size) xs)) fault (with_share ∙ ap (over layers) one))
+  pub front_unread : (fault : EngineFault) → IsUnread (layers_from k (map bytes front)) fault → IsUnread (layers_from k (map bytes all)) fault
+  front_unread =
+      told_of_all (layers_from k (map bytes front)) (layers_from k (map bytes all))
+      (λ fault fails. in_parts ∙ before k (map bytes front) (map bytes back) fault fails)
 
-  -- what a thread gave of the share
-  module _ {L : Type 0} (entries : L → List Entries) (given read : Result L EngineFault) (share : List X) (gives : MatchResult given (λ rest. layers_from (n * size) (map bytes share) ≡ Ok (entries rest)) (λ fault. IsUnread (layers_from (n * size) (map bytes share)) fault)) (same : given ≡ read) (here : share ≡ slice_chunk xs size n) where
-    pub share_read : (rest : L) → read ≡ Ok rest → layers_from 0 (map bytes (take (suc n * size) xs)) ≡ Ok (layers ++ entries rest)
-    share_read rest is =
-        let one : layers_from (n * size) (map bytes share) ≡ Ok (entries rest) = subst (λ (r : Result L EngineFault). MatchResult r (λ rest. layers_from (n * size) (map bytes share) ≡ Ok (entries rest)) (λ fault. IsUnread (layers_from (n * size) (map bytes share)) fault)) (same ∙ is) gives in
-        with_share ∙ ap (over layers) (subst (λ (part : List X). layers_from (n * size) (map bytes part) ≡ Ok (entries rest)) here one)
+  module _ (layers : List Entries) (read : layers_from k (map bytes front) ≡ Ok layers) where
+    over_back : layers_from k (map bytes all) ≡ over layers (layers_from (k + n) (map bytes back))
+    over_back =
+        in_parts
+        ∙ (behind k (map bytes front) (map bytes back) layers read
+        ∙ ap (λ (m : ℕ). over layers (layers_from (k + m) (map bytes back))) (length-map front bytes ∙ len))
 
-    pub share_unread : (fault : EngineFault) → read ≡ Err fault → IsUnread (layers_from 0 (map bytes xs)) fault
-    share_unread fault is =
-        let one : IsUnread (layers_from (n * size) (map bytes share)) fault = subst (λ (r : Result L EngineFault). MatchResult r (λ rest. layers_from (n * size) (map bytes share) ≡ Ok (entries rest)) (λ fault. IsUnread (layers_from (n * size) (map bytes share)) fault)) (same ∙ is) gives in
-        told_of_all (layers_from (n * size) (map bytes (slice_chunk xs size n))) (layers_from 0 (map bytes xs)) fails fault (subst (λ (part : List X). IsUnread (layers_from (n * size) (map bytes part)) fault) here one)
+    pub both_read : (more : List Entries) → layers_from (k + n) (map bytes back) ≡ Ok more → layers_from k (map bytes all) ≡ Ok (layers ++ more)
+    both_read more is = over_back ∙ ap (over layers) is
+
+    pub back_unread : (fault : EngineFault) → IsUnread (layers_from (k + n) (map bytes back)) fault → IsUnread (layers_from k (map bytes all)) fault
+    back_unread =
+        told_of_all (layers_from (k + n) (map bytes back)) (layers_from k (map bytes all))
+        (λ fault fails. over_back ∙ ap (over layers) fails)
 
 -- shares that cover some manifests aren't empty
 pub some_share : (size workers count : ℕ) → 0 < count → count ≤ size * workers → 0 < size

@@ -14,6 +14,10 @@ pub record Request : Type 0 where
   pub blobs : List BlobView
   pub workers : ℕ
 
+-- manifests in memory
+abbrev pub Texts : Type 0
+Texts = List (Vec ℕ Global)
+
 -- the request of these arguments
 abbrev pub request_of : Command → List (Vec ℕ Global) → ℕ → List Blob → ℕ → Request
 request_of what manifests bottom blobs workers = record {

@@ -19,6 +19,7 @@ use crate::derefs::deref;
 use crate::faults::EngineFault;
 use crate::fsck_reports::{fsck_report_by, is_clean};
 use crate::listings::report_by;
+use crate::manifests::Manifests;
 use crate::merges::merge;
 use crate::requests::{Answer, Command};
 use crate::stacks::{let_go, read_stack};
@@ -104,8 +105,7 @@ pub fn command_of<G: Gate + Sync, R: Threads + Wait + Sync>(
         ↔ ((outside_test worker_limit workers ≡ false) × (outside_test layer_limit (length manifests.items) ≡ false)
         × (nat_le (length manifests.items) bottom ≡ true)) }
 {
-    let stack = stack_for(rt, alloc, what, &manifests, bottom, blobs, workers)?;
-    drop(manifests);
+    let stack = stack_for(rt, alloc, what, manifests, bottom, blobs, workers)?;
     let team = Team {
         rt,
         alloc,
@@ -115,28 +115,29 @@ pub fn command_of<G: Gate + Sync, R: Threads + Wait + Sync>(
     answer_of(&team, what, stack, blobs)
 }
 
-/// The stack of the layers that the manifests state, where nothing refuses the command before its work.
-pub(crate) fn stack_for<R: Threads + Sync>(
+/// The stack of the layers that the manifests state, where nothing refuses the command before its work. Its own manifests go
+/// while they are read.
+pub(crate) fn stack_for<R: Threads + Sync, M: Manifests + Drop>(
     rt: &R,
     alloc: Global,
     what: Command,
-    manifests: &[Vec<u8>],
+    manifests: M,
     bottom: u16,
     blobs: &[Blob],
     workers: usize,
 ) -> Result<Stack, EngineFault>
-    ensures accepted { OnOk result (IsAccepted (request_of what manifests.now bottom blobs.now workers)) }
-    ensures read { IfOk result (λ stack. IsRequestOf stack (request_of what manifests.now bottom blobs.now workers)) }
+    ensures accepted { OnOk result (IsAccepted (request_of what (M.held manifests) bottom blobs.now workers)) }
+    ensures read { IfOk result (λ stack. IsRequestOf stack (request_of what (M.held manifests) bottom blobs.now workers)) }
     ensures number { OnOk result ((0 < workers) × (workers ≤ worker_limit)) }
     ensures ascend { OnOk result (are_in_order (blob_views blobs.now) ≡ true) }
     ensures several { IfOk result (λ stack. lower_test what ≡ true → 1 < length stack.layers) }
-    ensures refused { IfErr result (IsRefusal (request_of what manifests.now bottom blobs.now workers)) }
+    ensures refused { IfErr result (IsRefusal (request_of what (M.held manifests) bottom blobs.now workers)) }
     ensures workers { (result ≡ Err Workers) ↔ (outside_test worker_limit workers ≡ true) }
     ensures layers { (result ≡ Err Layers)
-        ↔ ((outside_test worker_limit workers ≡ false) × (outside_test layer_limit (length manifests.now) ≡ true)) }
+        ↔ ((outside_test worker_limit workers ≡ false) × (outside_test layer_limit (length (M.held manifests)) ≡ true)) }
     ensures data_layers { (result ≡ Err DataLayers)
-        ↔ ((outside_test worker_limit workers ≡ false) × (outside_test layer_limit (length manifests.now) ≡ false)
-        × (nat_le (length manifests.now) bottom ≡ true)) }
+        ↔ ((outside_test worker_limit workers ≡ false) × (outside_test layer_limit (length (M.held manifests)) ≡ false)
+        × (nat_le (length (M.held manifests)) bottom ≡ true)) }
 {
     if is_outside(WORKER_LIMIT, workers) {
         return Err(EngineFault::Workers);
@@ -148,7 +149,7 @@ pub(crate) fn stack_for<R: Threads + Sync>(
     if bottom >= manifests.len() {
         return Err(EngineFault::DataLayers);
     }
-    let stack = read_stack(rt, alloc, manifests, bottom, workers)?;
+    let stack = read_stack(rt, alloc, manifests.listed(alloc)?, bottom, workers)?;
     if !blobs_in_order(blobs) {
         return Err(EngineFault::BlobOrder);
     }

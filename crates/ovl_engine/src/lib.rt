@@ -11,6 +11,7 @@ mod faults;
 mod fsck_reports;
 mod layer_reports;
 mod listings;
+mod manifests;
 mod merges;
 mod questions;
 mod reports;

@@ -20,6 +20,9 @@ use ovl_names::Name;
 use std::alloc::{AllocError, Global};
 use std::thread::{Threads, map_indices};
 
+// The room that is made for each line: most take less. A text that has to grow may lie in memory twice.
+const LINE_ROOM: usize = 160;
+
 /// The report of `show` of the whole merged tree, with no list of its paths: see [`crate::report_of`].
 /// The parcels are the plain walk of the work from `/` of space 0. Fails only when out of memory.
 pub fn report_of_walk(
@@ -136,7 +139,7 @@ fn lines_from(
         → string_bytes lines ≡ flat_map show_line (take share (drop first (merged_tree stack)))) }
 {
     let end = first.checked_add(share).ok_or(AllocError)?;
-    let mut lines = String::new(alloc);
+    let mut lines = String::with_capacity(alloc, share.saturating_mul(LINE_ROOM))?;
     push_wanted(alloc, &mut lines, first == 0, "", "", root)?;
     let mut told = 1;
     let mut open = Vec::new(alloc);

@@ -93,8 +93,7 @@ pub fn question_of<R: Threads + Sync>(
         ↔ ((is_outside worker_limit workers ≡ false) × (is_outside layer_limit (length manifests.items) ≡ false)
         × (nat_le (length manifests.items) bottom ≡ true)) }
 {
-    let stack = stack_for(rt, alloc, what, &manifests, bottom, &[], workers)?;
-    drop(manifests);
+    let stack = stack_for(rt, alloc, what, manifests, bottom, &[], workers)?;
     let names = names_for(alloc, what, &stack)?;
     Ok(Question { what, stack, names })
 }

@@ -1,4 +1,5 @@
-ghost use Rattle.std.specs.Prelude.{◌≡◌, ◌+◌, ◌-◌, ◌^◌, ◌<◌, ◌≤◌, None, Ok, IfOk, IfErr, MatchResult, length, map};
+ghost use Rattle.std.specs.Prelude.{◌≡◌, ◌+◌, ◌-◌, ◌*◌, ◌^◌, ◌<◌, ◌≤◌, None, Ok, IfOk, IfErr, MatchResult, length, map};
+ghost use Rattle.std.specs.Thread.{IsSync, IsSend};
 ghost use Rattle.ovl_lookup.specs.Stacks.{layer_limit, stack_with};
 ghost use Rattle.ovl_engine.specs.Refusals.{layers_from, stated_layers, first_unread, IsUnread};
 
@@ -6,27 +7,31 @@ use crate::faults::EngineFault;
 use ovl_lookup::Stack;
 use ovl_manifest::{Sheet, read_sheet};
 use std::alloc::Global;
-use std::thread::{Threads, for_each_mut, map_chunks};
+use std::convert::AsSlice;
+use std::thread::{Threads, for_each_mut, join};
 
 /// The stack of the layers that 1 to [`LAYER_LIMIT`](ovl_lookup::LAYER_LIMIT) manifests state, the topmost first, of which
-/// the last `bottom`, fewer than all, are data-only. They are read by at most as many threads as there are workers.
-pub(crate) fn read_stack<R: Threads + Sync>(
+/// the last `bottom`, fewer than all, are data-only. They are read by at most as many threads as there are workers, and each
+/// is let go once it is read.
+pub(crate) fn read_stack<R: Threads + Sync, M: AsSlice<u8> + Send + Drop>(
     rt: &R,
     alloc: Global,
-    manifests: &[Vec<u8>],
+    manifests: Vec<M>,
     bottom: usize,
     workers: usize,
 ) -> Result<Stack, EngineFault>
     requires number { 0 < workers }
-    requires limit { length manifests.now ≤ layer_limit }
-    requires some { bottom < length manifests.now }
-    ensures read { IfOk result (λ _. first_unread (map (λ manifest. manifest.items) manifests.now) ≡ None) }
-    ensures stack { IfOk result (λ stack. stack ≡ stack_with (stated_layers (map (λ manifest. manifest.items) manifests.now)) bottom) }
-    ensures count { IfOk result (λ stack. length stack.layers ≡ length manifests.now - bottom) }
-    ensures unread { IfErr result (λ fault. IsUnread (layers_from 0 (map (λ manifest. manifest.items) manifests.now)) fault) }
+    requires limit { length manifests.items ≤ layer_limit }
+    requires some { bottom < length manifests.items }
+    ensures read { IfOk result (λ _. first_unread (map M.items manifests.items) ≡ None) }
+    ensures stack { IfOk result (λ stack. stack ≡ stack_with (stated_layers (map M.items manifests.items)) bottom) }
+    ensures count { IfOk result (λ stack. length stack.layers ≡ length manifests.items - bottom) }
+    ensures unread { IfErr result (λ fault. IsUnread (layers_from 0 (map M.items manifests.items)) fault) }
 {
-    let mut layers = read_layers(rt, alloc, manifests, workers)?;
-    let data_only = layers.split_off(layers.len() - bottom)?;
+    let ordinary = manifests.len() - bottom;
+    let share = manifests.len().div_ceil(workers);
+    let mut layers = read_layers(rt, alloc, 0, manifests, share)?;
+    let data_only = layers.split_off(ordinary)?;
     match Stack::of_sheets(layers, data_only) {
         Ok(stack) => Ok(stack),
         // There are as many layers as manifests.
@@ -34,47 +39,64 @@ pub(crate) fn read_stack<R: Threads + Sync>(
     }
 }
 
-// The layers that the manifests state. Each thread reads a share of the manifests; one worker reads all in the calling
-// thread.
-fn read_layers<R: Threads + Sync>(
+// The layers that the manifests state, of which the first has this index. Each share of so many of them is read by a thread
+// of its own, the last by this one.
+#[cycle(shares)]
+fn read_layers<R: Threads + Sync, M: AsSlice<u8> + Send + Drop>(
     rt: &R,
     alloc: Global,
-    manifests: &[Vec<u8>],
-    workers: usize,
+    first: usize,
+    mut manifests: Vec<M>,
+    share: usize,
 ) -> Result<Vec<Sheet>, EngineFault>
-    requires number { 0 < workers }
-    requires some { 0 < length manifests.now }
-    ensures read { MatchResult result
-        (λ layers. layers_from 0 (map (λ manifest. manifest.items) manifests.now) ≡ Ok layers.items)
-        (λ fault. IsUnread (layers_from 0 (map (λ manifest. manifest.items) manifests.now)) fault) }
-    ensures count { IfOk result (λ layers. length layers.items ≡ length manifests.now) }
+    requires some { 0 < share }
+    requires room { first + length manifests.items < 2 ^ 64 }
+    ensures { MatchResult result
+        (λ layers. layers_from first (map M.items manifests.items) ≡ Ok layers.items)
+        (λ fault. IsUnread (layers_from first (map M.items manifests.items)) fault) }
 {
-    let share = manifests.len().div_ceil(workers);
-    let read = |first: usize, manifests: &[Vec<u8>]| -> Result<Vec<Sheet>, EngineFault>
-        requires { first + length manifests.now < 2 ^ 64 }
-        ensures { MatchResult result
-            (λ layers. layers_from first (map (λ manifest. manifest.items) manifests.entry.now) ≡ Ok layers.items)
-            (λ fault. IsUnread (layers_from first (map (λ manifest. manifest.items) manifests.entry.now)) fault) }
-    { read_share(alloc, first, manifests) };
-    let mut layers = Vec::new(alloc);
-    for read in map_chunks(rt, alloc, manifests, share, &read)? {
-        layers.append(&mut read?)?;
+    if manifests.len() <= share {
+        return read_share(alloc, first, manifests);
     }
+    let rest = manifests.split_off(share)?;
+    let behind = first + share;
+    let front = || -> Result<Vec<Sheet>, EngineFault>
+        requires { first + length manifests.items < 2 ^ 64 }
+        ensures { MatchResult result
+            (λ layers. layers_from first (map M.items manifests.items) ≡ Ok layers.items)
+            (λ fault. IsUnread (layers_from first (map M.items manifests.items)) fault) }
+    { read_share(alloc, first, manifests) };
+    let back = || -> Result<Vec<Sheet>, EngineFault>
+        requires shared { IsSync R.row × IsSend M.row }
+        requires some { 0 < share }
+        requires room { behind + length rest.items < 2 ^ 64 }
+        ensures { MatchResult result
+            (λ layers. layers_from behind (map M.items rest.items) ≡ Ok layers.items)
+            (λ fault. IsUnread (layers_from behind (map M.items rest.items)) fault) }
+    { read_layers(rt, alloc, behind, rest, share) };
+    let (read, more) = join(rt, front, back);
+    let mut layers = read?;
+    layers.append(&mut more?)?;
     Ok(layers)
 }
 
-// The layers that manifests state, whose indices begin with the first's.
-fn read_share(alloc: Global, first: usize, manifests: &[Vec<u8>]) -> Result<Vec<Sheet>, EngineFault>
-    requires { first + length manifests.now < 2 ^ 64 }
+// The layers that the manifests state, of which the first has this index, read one after another. Each manifest goes once it
+// is read.
+fn read_share<M: AsSlice<u8> + Drop>(
+    alloc: Global,
+    first: usize,
+    manifests: Vec<M>,
+) -> Result<Vec<Sheet>, EngineFault>
+    requires { first + length manifests.items < 2 ^ 64 }
     ensures { MatchResult result
-        (λ layers. layers_from first (map (λ manifest. manifest.items) manifests.now) ≡ Ok layers.items)
-        (λ fault. IsUnread (layers_from first (map (λ manifest. manifest.items) manifests.now)) fault) }
+        (λ layers. layers_from first (map M.items manifests.items) ≡ Ok layers.items)
+        (λ fault. IsUnread (layers_from first (map M.items manifests.items)) fault) }
 {
     let mut layers = Vec::new(alloc);
-    for (index, manifest) in manifests.iter().enumerate() {
+    for manifest in manifests {
         match read_sheet(alloc, manifest.as_slice()) {
             Ok(layer) => layers.push(layer)?,
-            Err(fault) => return Err(EngineFault::unread(first + index, fault)),
+            Err(fault) => return Err(EngineFault::unread(first + layers.len(), fault)),
         }
     }
     Ok(layers)

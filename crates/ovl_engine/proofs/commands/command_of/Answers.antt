@@ -5,11 +5,9 @@ use Rattle.ovl_engine.proofs.commands.command_of.Goals as goal
 pub returns-clause-keeps : goal.returns-clause-keeps
 returns-clause-keeps g c =
     let request = request_of c.args.what c.args.manifests.items c.args.bottom c.args.blobs.now c.args.workers in
-    let read = rw c.deref.ensures.value at c.in_ok-stack.ensures.read in
-    IfOk-weaker c.answer_of.result _ _ (λ answer keeps makes. keeps makes request read) c.answer_of.ensures.keeps
+    IfOk-weaker c.answer_of.result _ _ (λ answer keeps makes. keeps makes request c.in_ok-stack.ensures.read) c.answer_of.ensures.keeps
 
 pub returns-clause-sound : goal.returns-clause-sound
 returns-clause-sound g c =
     let request = request_of c.args.what c.args.manifests.items c.args.bottom c.args.blobs.now c.args.workers in
-    let read = rw c.deref.ensures.value at c.in_ok-stack.ensures.read in
-    IfOk-weaker c.answer_of.result _ _ (λ answer sound stays. sound stays request read) c.answer_of.ensures.sound
+    IfOk-weaker c.answer_of.result _ _ (λ answer sound stays. sound stays request c.in_ok-stack.ensures.read) c.answer_of.ensures.sound

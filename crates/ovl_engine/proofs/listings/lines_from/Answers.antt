@@ -22,7 +22,7 @@ loop-directory-init c =
           subst (IsListing stack c.args.first lines 1 c.enter.new.opened.items) (sym opened.0)
           (subst (λ opens. IsListing stack c.args.first lines 1 opens first.1.0) (sym (opened.1.1.0 ∙ ap (λ opens. opens ++ top ∷ []) c.new-open.ensures.items))
           (listing-first stack c.args.first tree.each tree.some first.0 first.1.0 (subst (λ parcels. IsShowWalk stack (views_of parcels)) first.1.1 tree.walk) lines
-          (c.in_ok-push_wanted.ensures ∙ (λ j. c.new-lines.ensures.bytes j ++ cond (c.args.first == 0) (look_line (codes "/") (tree.root_is j)) []))
+          (c.in_ok-push_wanted.ensures ∙ (λ j. c.in_ok-lines.ensures.bytes j ++ cond (c.args.first == 0) (look_line (codes "/") (tree.root_is j)) []))
           top opened.1.1.1 opened.1.1.2 (opened.1.1.3 ∙ c.new.ensures.bytes))),
       omega (arith, end, c.requires),
     )

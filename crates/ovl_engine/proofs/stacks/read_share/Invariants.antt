@@ -1,7 +1,7 @@
-use Rattle.std.proofs.Common.{◌≡◌, Ok, map, take}
+use Rattle.std.proofs.Common.{◌≡◌, Ok, map}
 use Rattle.ovl_engine.specs.Refusals.{layers_from}
 use Rattle.ovl_engine.proofs.stacks.read_share.Given as goal
 
 -- the layers of the manifests so far
-abbrev pub invariant-loop-index : goal.invariant-loop-index
-invariant-loop-index l = layers_from l.fn.first (map (λ manifest. manifest.items) (take l.index l.fn.manifests)) ≡ Ok l.layers.items
+abbrev pub invariant-loop-manifest : goal.invariant-loop-manifest
+invariant-loop-manifest g l = layers_from l.fn.first (map g.M.AsSlice.items l.yielded) ≡ Ok l.layers.items
