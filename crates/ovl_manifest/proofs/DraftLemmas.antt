@@ -1,14 +1,15 @@
 -- What a draft's spine says of its entries.
-use Rattle.std.proofs.Common.{◌≡◌, ℕ, ◌-◌, ◌<◌, ◌≤◌, length, take, true, false, List, [], ◌∷◌, ◌++◌, map, refl, sym, ap, ◌∙◌, subst, append_assoc, vec_len, Option, Some}
+use Rattle.std.proofs.Common.{◌≡◌, ℕ, zero, suc, ◌-◌, ◌<◌, ◌≤◌, length, take, get_or, Bool, true, false, List, [], ◌∷◌, ◌++◌, map, refl, sym, ap, ◌∙◌, subst, append_assoc, vec_len, Option, Some, None, arith}
 use Rattle.std.proofs.lemmas.List.{length-map}
+use Rattle.std.specs.List.{list_all}
 use Rattle.std.specs.Ordering.{is_lt}
-use Rattle.std.specs.Cmp.Lexicographic.{bytes_decides, pointwise_decides}
 use Rattle.ovl_names.specs.Names.{PathName}
-use Rattle.ovl_names.specs.Paths.{PathNames, path_cmp, path_eq, parent_path, child_path}
+use Rattle.ovl_names.specs.Paths.{PathNames, path_cmp, path_eq, parent_path, child_path, has_names}
 use Rattle.ovl_names.specs.Order.{ascends}
+use Rattle.ovl_names.proofs.Ascending.{both, list_all-front}
 use Rattle.ovl_inode.specs.declared.inodes.Inode.{Inode}
 use Rattle.ovl_inode.specs.Marks.{is_directory}
-use Rattle.ovl_manifest.specs.Layers.{Entries, entry_cmp, entry_at, is_directory_at}
+use Rattle.ovl_manifest.specs.Layers.{Entry, Entries, entry_cmp, entry_at, is_directory_at}
 use Rattle.ovl_manifest.specs.LayerTrees.{NodeView, entries_from, entries_of_nodes}
 use Rattle.ovl_manifest.specs.Manifest.{comes_after}
 use Rattle.ovl_manifest.specs.Drafts.{entries_of_open, draft_entries, inode_on_way, IsDraft}
@@ -20,15 +21,41 @@ use Rattle.ovl_manifest.proofs.LayerLemmas.{parent_on_way, no_parent-deep, no_pa
 abbrev pub names_of : List NodeView → PathNames
 names_of spine = map (λ node. node.name) spine
 
+name-at : (spine : List NodeView) (k : ℕ) (d : NodeView) → k < length spine → get_or (names_of spine) k d.name ≡ (get_or spine k d).name
+name-at [] k d inside = absurd (omega (arith, inside))
+name-at (node ∷ spine) zero d inside = refl
+name-at (node ∷ spine) (suc k) d inside = name-at spine k d (omega (arith, inside))
+
 module _ (draft : Draft) (is : IsDraft draft) where
   pub spine_length : length draft.last ≡ vec_len draft.spine
   spine_length = ap length (sym is.spelled) ∙ (length-map draft.spine.items (λ (node : NodeView). node.name) ∙ sym draft.spine.ok.0)
 
   -- what comes after all entries comes after the last
+  pub after-is_last : (path : PathNames) → comes_after (draft_entries draft) path ≡ is_lt (path_cmp draft.last path)
+  after-is_last path =
+      ap (λ (es : Entries). comes_after es path) is.ends.2
+      ∙ comes_after-last is.ends.0 draft.last path is.ends.1 (subst (λ (es : Entries). ascends entry_cmp es ≡ true) is.ends.2 is.layer.in_order)
+
   pub after_last : (path : PathNames) → comes_after (draft_entries draft) path ≡ true → is_lt (path_cmp draft.last path) ≡ true
-  after_last path after =
-      sym (comes_after-last is.ends.0 draft.last path is.ends.1 (subst (λ (es : Entries). ascends entry_cmp es ≡ true) is.ends.2 is.layer.in_order))
-      ∙ (sym (ap (λ (es : Entries). comes_after es path) is.ends.2) ∙ after)
+  after_last path after = sym (after-is_last path) ∙ after
+
+  -- the last path is made of names, which the spine has
+  pub last_named : has_names draft.last ≡ true
+  last_named =
+      let all = subst (λ (es : Entries). list_all (λ entry. has_names entry.0) es ≡ true) is.ends.2 is.layer.named in
+      let here = (list_all-front (λ (entry : Entry). has_names entry.0) is.ends.0 ((draft.last, is.ends.1) ∷ []) all).1 in
+      (both {a = has_names draft.last} {b = true} here).0
+
+  pub name-on_way : (depth : ℕ) (d : NodeView) → depth < length draft.last → (get_or draft.spine.items depth d).name ≡ get_or draft.last depth d.name
+  name-on_way depth d inside =
+      sym (name-at draft.spine.items depth d (omega (arith, inside, ap length is.spelled, length-map draft.spine.items (λ (node : NodeView). node.name))))
+      ∙ ap (λ (path : PathNames). get_or path depth d.name) is.spelled
+
+  pub directory-above : (depth : ℕ) → depth ≤ length draft.last → is_directory_at (draft_entries draft) (take depth draft.last) ≡ is_directory (inode_on_way draft.inode draft.spine.items depth)
+  directory-above depth inside =
+      let at = entry_at-on_way draft.inode (entries_of_nodes draft.children.items) draft.spine.items depth is.layer.in_order (omega (arith, inside, ap length is.spelled, length-map draft.spine.items (λ (node : NodeView). node.name))) in
+      ap (λ (o : Option Inode). elim o as (λ _. Bool) [ Some inode ↦ is_directory inode | None ↦ false ])
+      (ap (λ (names : PathNames). entry_at (draft_entries draft) (take depth names)) (sym is.spelled) ∙ at)
 
   module _ (path : PathNames) (after : is_lt (path_cmp draft.last path) ≡ true) where
     pub deep : vec_len draft.spine < length path - 1 → is_directory_at (draft_entries draft) (parent_path path) ≡ false
@@ -36,16 +63,6 @@ module _ (draft : Draft) (is : IsDraft draft) where
 
     pub other : path_eq (take (length path - 1) path) (take (length path - 1) draft.last) ≡ false → is_directory_at (draft_entries draft) (parent_path path) ≡ false
     other differs = no_parent-other (draft_entries draft) is.ends.0 draft.last path is.ends.1 is.ends.2 is.layer.in_order after differs
-
-    pub on_way : length path - 1 ≤ vec_len draft.spine → path_eq (take (length path - 1) path) (take (length path - 1) draft.last) ≡ true → is_directory_at (draft_entries draft) (parent_path path) ≡ is_directory (inode_on_way draft.inode draft.spine.items (length path - 1))
-    on_way inside same =
-        let depth : ℕ = length path - 1 in
-        let way : parent_path path ≡ take depth (names_of draft.spine.items) = (pointwise_decides bytes_decides (take depth path) (take depth draft.last)).0 same ∙ ap (take depth) (sym is.spelled) in
-        let at = entry_at-on_way draft.inode (entries_of_nodes draft.children.items) draft.spine.items depth is.layer.in_order (rw (sym draft.spine.ok.0) inside) in
-        seen (entry_at (draft_entries draft) (parent_path path)) refl (ap (entry_at (draft_entries draft)) way ∙ at)
-      where
-        seen : (o : Option Inode) → entry_at (draft_entries draft) (parent_path path) ≡ o → o ≡ Some (inode_on_way draft.inode draft.spine.items (length path - 1)) → is_directory_at (draft_entries draft) (parent_path path) ≡ is_directory (inode_on_way draft.inode draft.spine.items (length path - 1))
-        seen o e is_some = rw (e ∙ is_some, is_directory_at) refl
 
     pub parent : is_directory_at (draft_entries draft) (parent_path path) ≡ true → (length path - 1 ≤ vec_len draft.spine) × (take (length path - 1) draft.last ≡ parent_path path)
     parent there =

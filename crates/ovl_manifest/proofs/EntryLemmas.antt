@@ -1,14 +1,16 @@
 -- Entries that a manifest can state, and the limits of their paths.
-use Rattle.std.proofs.Common.{◌≡◌, ℕ, suc, ◌+◌, ◌++◌, ◌<◌, ◌≤◌, ◌∙◌, subst, Ok, List, [], ◌∷◌, Bool, true, false, Option, Some, None, refl, sym, ap, length, length-append, map, take, get_or, arith, le-leb}
+use Rattle.std.proofs.Common.{◌≡◌, ℕ, suc, ◌+◌, ◌*◌, ◌++◌, ◌<◌, ◌≤◌, ◌∙◌, subst, Ok, List, [], ◌∷◌, Bool, true, false, Option, Some, None, refl, sym, ap, length, length-append, length-take, map, take, get_or, arith, le-leb}
 use Rattle.std.specs.Prelude.{◌==◌, ◌&&◌, ◌↔◌, not, Result, Err, IfSome, IsTrue, nat_le, nat_lt, is_none, if◌then◌else◌}
 use Rattle.std.specs.Result.{result_err}
+use Rattle.std.specs.List.{starts_with}
+use Rattle.std.specs.Cmp.Lexicographic.{bytes_decides, pointwise_decides}
 use Rattle.std.proofs.lemmas.Bool.Decides.{nat_tests}
 use Rattle.std.proofs.lemmas.Grind.{flat_map-append}
 use Rattle.std.proofs.lemmas.List.{take_more, length-map}
 use Rattle.serde_json.specs.Data.{Data}
-use Rattle.ovl_names.specs.Names.{name_fault, is_name, slash, name_limit}
+use Rattle.ovl_names.specs.Names.{name_fault, is_name, name_eq, slash, name_limit}
 use Rattle.ovl_names.specs.declared.names.NameFault.TheVariants.{Empty, TooLong}
-use Rattle.ovl_names.specs.Paths.{PathNames, parent_path, is_root, depth_limit, text_limit}
+use Rattle.ovl_names.specs.Paths.{PathNames, parent_path, is_root, has_names, depth_limit, text_limit}
 use Rattle.ovl_names.proofs.Ascending.{both}
 use Rattle.ovl_inode.specs.Attributes.{has_escaped_name}
 use Rattle.ovl_inode.specs.Marks.{is_directory}
@@ -51,6 +53,32 @@ slashed-more names k d inside =
 pub limits : (path : PathNames) → length path ≤ depth_limit → nat_le (length (slashed path)) text_limit ≡ is_within_limits path
 limits [] shallow = refl
 limits (name ∷ path) shallow = rw (le-leb (length (name ∷ path)) depth_limit shallow) refl
+
+-- each name takes at most 256 bytes
+pub slashed-short : (path : PathNames) → has_names path ≡ true → length (slashed path) ≤ 256 * length path
+slashed-short [] named = omega arith
+slashed-short (name ∷ names) named =
+    let parts = both {a = is_name name} {b = has_names names} named in
+    omega (arith, name_length name parts.0, slashed-short names parts.1, length-append (slash ∷ name) (slashed names))
+
+-- so that a short path keeps the limits
+pub short-limits : (path : PathNames) → has_names path ≡ true → length path ≤ 15 → is_within_limits path ≡ true
+short-limits path named short =
+    let bytes : length (slashed path) ≤ text_limit = omega (arith, slashed-short path named, short) in
+    sym (limits path (omega (arith, short))) ∙ le-leb (length (slashed path)) text_limit bytes
+
+-- ---- an entry of a directory on the way to the last
+
+pub on_way : (last directory : PathNames) → starts_with name_eq last directory ≡ true → (take (length directory) last ≡ directory) × (length directory ≤ length last)
+on_way last directory begins =
+    let same : directory ≡ take (length directory) last = (pointwise_decides bytes_decides directory (take (length directory) last)).0 begins in
+    (sym same, omega (arith, ap length same, length-take (length directory) last))
+
+-- it is taken where it has no fault
+pub entry-taken : (first : Entry) (before : Entries) (entry : Entry) → has_escaped_name entry.1.attrs ≡ false → comes_after (first ∷ before) entry.0 ≡ true → is_directory_at (first ∷ before) (parent_path entry.0) ≡ true → entry_after (first ∷ before) (Some entry) ≡ Ok ((first ∷ before) ++ entry ∷ [])
+entry-taken first before entry whole after parent =
+    let others : Entries = first ∷ before in
+    λ j. elim (if whole j then Some (Escaped (length others)) else if not (after j) then Some (Order (length others)) else if not (parent j) then Some (NoParent (length others)) else None) as (λ _. Result Entries LayerFault) [ Some fault ↦ Err fault | None ↦ Ok (others ++ entry ∷ []) ]
 
 -- ---- pairs, one after another
 

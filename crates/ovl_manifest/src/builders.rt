@@ -1,13 +1,14 @@
 ghost use Rattle.std.specs.Prelude.{◌≡◌, [], Ok, Err, IfOk, MatchResult};
+ghost use Rattle.ovl_names.specs.Paths.{child_path};
 ghost use Rattle.ovl_manifest.specs.Manifest.{entry_after, stated_pair, IsFaultOf};
 ghost use Rattle.ovl_manifest.specs.Builders.{pair_after};
 
 use crate::drafts::Draft;
-use crate::entries::{ENTRY_LIMIT, add, start, stated};
+use crate::entries::{ENTRY_LIMIT, add_child, start, stated};
 use crate::faults::LayerFault;
 use crate::trees::Layer;
 use ovl_inode::Inode;
-use ovl_names::Path;
+use ovl_names::{Name, Path};
 use std::alloc::{AllocError, Global};
 use std::marker::Model;
 
@@ -41,24 +42,25 @@ impl LayerBuilder {
         Ok(LayerBuilder { draft, count: 1 })
     }
 
-    /// The layer with one more entry. It is refused with `Count` behind [`ENTRY_LIMIT`] entries, and else as
-    /// [`from_entries`](crate::from_entries) refuses the entry that comes after those so far; `Memory` can come at any
-    /// time.
-    pub fn with_entry(
+    /// The layer with one more entry, `name` in a directory. It is refused with `Count` behind [`ENTRY_LIMIT`] entries,
+    /// and else as [`from_entries`](crate::from_entries) refuses the entry that comes after those so far; `Memory` can
+    /// come at any time.
+    pub fn with_child(
         self,
         alloc: Global,
-        path: Path,
+        directory: &Path,
+        name: Name,
         inode: Inode,
     ) -> Result<LayerBuilder, LayerFault>
         ensures { MatchResult result
-            (λ builder. pair_after self (path, inode) ≡ Ok builder)
-            (λ fault. IsFaultOf (pair_after self (path, inode)) fault) }
+            (λ builder. pair_after self (child_path directory.now name, inode) ≡ Ok builder)
+            (λ fault. IsFaultOf (pair_after self (child_path directory.now name, inode)) fault) }
     {
         let LayerBuilder { draft, count } = self;
         if count as usize == ENTRY_LIMIT {
             return Err(LayerFault::Count);
         }
-        let draft = add(alloc, draft, count, stated((path, inode)))?;
+        let draft = add_child(alloc, draft, count, directory, name, inode)?;
         Ok(LayerBuilder {
             draft,
             count: count + 1,

@@ -1,6 +1,8 @@
-ghost use Rattle.std.specs.Prelude.{◌≡◌, ◌≤◌, ◌+◌, ◌-◌, true, false, [], ◌∷◌, ◌++◌, IsTrue, IfOk, map, take, vec_len};
+ghost use Rattle.std.specs.Prelude.{◌≡◌, ◌≤◌, ◌+◌, ◌-◌, true, false, [], ◌∷◌, ◌++◌, IsTrue, IfOk, length, map, take, vec_len};
+ghost use Rattle.std.specs.List.{starts_with};
+ghost use Rattle.ovl_names.specs.Names.{name_eq};
 ghost use Rattle.ovl_names.specs.Order.{ascends};
-ghost use Rattle.ovl_names.specs.Paths.{path_cmp, parent_path};
+ghost use Rattle.ovl_names.specs.Paths.{path_cmp, child_path, parent_path};
 ghost use Rattle.ovl_inode.specs.Attributes.{has_escaped_name};
 ghost use Rattle.ovl_inode.specs.Marks.{is_directory};
 ghost use Rattle.ovl_inode.specs.Sound.{is_sound_inode};
@@ -63,7 +65,7 @@ impl Draft {
         if depth > self.spine.len() || !self.last.names().starts_with(&above) {
             return false;
         }
-        is_directory(self.inode_on_way(depth))
+        self.is_directory_above(depth)
     }
 
     // The inode of the directory on the way to the last entry that has `depth` names.
@@ -78,23 +80,70 @@ impl Draft {
         }
     }
 
+    /// Whether the path of a directory is the last one, or leads to it.
+    pub(crate) fn is_within(&self, directory: &Path) -> bool
+        ensures { result ≡ starts_with name_eq self.now.last directory.now }
+    {
+        self.last.names().starts_with(&directory.names())
+    }
+
+    /// Whether the entry `name` of the directory of the first `depth` names of the last path comes after all entries.
+    pub(crate) fn comes_before_child(&self, depth: usize, name: &Name) -> bool
+        requires draft { IsDraft self.now }
+        requires depth { depth ≤ length self.now.last }
+        ensures { result ≡ comes_after (draft_entries self.now) (child_path (take depth self.now.last) name.now) }
+    {
+        if depth == self.spine.len() {
+            return true;
+        }
+        self.spine[depth].name.cmp(name).is_lt()
+    }
+
+    /// Whether the path of the first `depth` names of the last path is a directory's.
+    pub(crate) fn is_directory_above(&self, depth: usize) -> bool
+        requires draft { IsDraft self.now }
+        requires depth { depth ≤ length self.now.last }
+        ensures { result ≡ is_directory_at (draft_entries self.now) (take depth self.now.last) }
+    {
+        is_directory(self.inode_on_way(depth))
+    }
+
     /// The draft with one more entry, which comes after all others and whose directory is there.
-    pub(crate) fn with(self, alloc: Global, path: Path, inode: Inode) -> Result<Draft, AllocError>
+    pub(crate) fn with(self, alloc: Global, path: &Path, inode: Inode) -> Result<Draft, AllocError>
         requires draft { IsDraft self }
-        requires entry { CanTake self path inode }
-        ensures entries { IfOk result (λ draft. draft_entries draft ≡ draft_entries self ++ (path, inode) ∷ []) }
+        requires entry { CanTake self path.now inode }
+        ensures entries { IfOk result (λ draft. draft_entries draft ≡ draft_entries self ++ (path.now, inode) ∷ []) }
         ensures draft { IfOk result (λ draft. IsDraft draft) }
     {
         let (name, above) = path.names().split_last().unwrap();
         let name = Name::copy_of(alloc, name)?;
+        self.with_child(alloc, above.len(), name, inode)
+    }
+
+    /// The draft with the entry `name` of the directory of the first `depth` names of the last path, which is there; the
+    /// entry comes after all others.
+    pub(crate) fn with_child(
+        self,
+        alloc: Global,
+        depth: usize,
+        name: Name,
+        inode: Inode,
+    ) -> Result<Draft, AllocError>
+        requires draft { IsDraft self }
+        requires depth { depth ≤ length self.last }
+        requires entry { CanTake self (child_path (take depth self.last) name) inode }
+        ensures entries { IfOk result (λ draft. draft_entries draft
+            ≡ draft_entries self ++ (child_path (take depth self.last) name, inode) ∷ []) }
+        ensures draft { IfOk result (λ draft. IsDraft draft) }
+    {
         let mut draft = self;
-        draft.close(above.len())?;
+        draft.close(depth)?;
+        draft.last.go_to(depth, &name)?;
         draft.spine.push(Node {
             name,
             inode,
             children: Vec::new(alloc),
         })?;
-        draft.last = path;
         Ok(draft)
     }
 
@@ -121,6 +170,7 @@ impl Draft {
         ensures spine { IfOk result (λ _. map (λ node. node.name) self.new.spine.items
             ≡ take depth (map (λ node. node.name) self.old.spine.items)) }
         ensures count { IfOk result (λ _. vec_len self.new.spine ≡ depth) }
+        ensures last { IfOk result (λ _. self.new.last ≡ self.old.last) }
     {
         while self.spine.len() > depth {
             self.close_last()?;
@@ -136,6 +186,7 @@ impl Draft {
         ensures spine { IfOk result (λ _. map (λ node. node.name) self.new.spine.items
             ≡ take (vec_len self.old.spine - 1) (map (λ node. node.name) self.old.spine.items)) }
         ensures count { IfOk result (λ _. vec_len self.new.spine + 1 ≡ vec_len self.old.spine) }
+        ensures last { IfOk result (λ _. self.new.last ≡ self.old.last) }
     {
         let node = self.spine.pop().unwrap();
         let Some(parent) = self.spine.pop() else {

@@ -1,4 +1,5 @@
-ghost use Rattle.std.specs.Prelude.{◌≡◌, ◌<◌, ◌↔◌, Ok, Err, Some, IfSome, IsTrue, MatchResult, [], length};
+ghost use Rattle.std.specs.Prelude.{◌≡◌, ◌<◌, ◌≤◌, ◌↔◌, Ok, Err, Some, IfSome, IsTrue, MatchResult, [], length, take};
+ghost use Rattle.ovl_names.specs.Paths.{child_path};
 ghost use Rattle.ovl_inode.specs.Attributes.{has_escaped_name as escaped_test, is_escaped_name as escaped_name_test};
 ghost use Rattle.ovl_manifest.specs.Layers.{entry_limit, is_within_limits as within_limits_test};
 ghost use Rattle.ovl_manifest.specs.Manifest.{is_statable, stated_pair, entry_after, layer_of_pairs, is_miscounted, first_fault, is_of_first, IsFaultOf};
@@ -10,7 +11,7 @@ use crate::drafts::Draft;
 use crate::faults::LayerFault;
 use crate::trees::Layer;
 use ovl_inode::{Attrs, Inode, is_directory, overlay, sound};
-use ovl_names::{DEPTH_LIMIT, Path, TEXT_LIMIT};
+use ovl_names::{DEPTH_LIMIT, Name, Path, TEXT_LIMIT};
 use std::alloc::Global;
 
 /// The most entries of a layer.
@@ -90,7 +91,70 @@ pub(crate) fn add(
     if !draft.has_parent(&path) {
         return Err(LayerFault::NoParent(number));
     }
-    Ok(draft.with(alloc, path, inode)?)
+    Ok(draft.with(alloc, &path, inode)?)
+}
+
+/// The draft with the entry of this number, `name` in a directory, if one is stated.
+pub(crate) fn add_child(
+    alloc: Global,
+    draft: Draft,
+    number: u32,
+    directory: &Path,
+    name: Name,
+    inode: Inode,
+) -> Result<Draft, LayerFault>
+    requires draft { IsDraft draft }
+    requires number { number ≡ length (draft_entries draft) }
+    requires room { number < entry_limit }
+    ensures { MatchResult result
+        (λ more. (entry_after (draft_entries draft) (stated_pair (child_path directory.now name, inode)) ≡ Ok (draft_entries more)) × IsDraft more)
+        (λ fault. IsFaultOf (entry_after (draft_entries draft) (stated_pair (child_path directory.now name, inode))) fault) }
+{
+    if !draft.is_within(directory) {
+        let path = directory.child(alloc, &name)?;
+        return add(alloc, draft, number, stated((path, inode)));
+    }
+    if !is_child_statable(directory, &name, &inode) {
+        return Err(LayerFault::Entry(number));
+    }
+    add_on_way(alloc, draft, number, directory.len(), name, inode)
+}
+
+// The same in the directory of the first `depth` names of the last path, where a manifest can state it.
+fn add_on_way(
+    alloc: Global,
+    draft: Draft,
+    number: u32,
+    depth: usize,
+    name: Name,
+    inode: Inode,
+) -> Result<Draft, LayerFault>
+    requires draft { IsDraft draft }
+    requires number { number ≡ length (draft_entries draft) }
+    requires room { number < entry_limit }
+    requires depth { depth ≤ length draft.last }
+    requires stated { IsTrue (is_statable (child_path (take depth draft.last) name, inode)) }
+    ensures { MatchResult result
+        (λ more. (entry_after (draft_entries draft) (Some (child_path (take depth draft.last) name, inode)) ≡ Ok (draft_entries more)) × IsDraft more)
+        (λ fault. IsFaultOf (entry_after (draft_entries draft) (Some (child_path (take depth draft.last) name, inode))) fault) }
+{
+    if has_escaped_name(&inode.attrs) {
+        return Err(LayerFault::Escaped(number));
+    }
+    if !draft.comes_before_child(depth, &name) {
+        return Err(LayerFault::Order(number));
+    }
+    if !draft.is_directory_above(depth) {
+        return Err(LayerFault::NoParent(number));
+    }
+    Ok(draft.with_child(alloc, depth, name, inode)?)
+}
+
+// Whether a manifest can state the entry `name` of a directory.
+fn is_child_statable(directory: &Path, name: &Name, inode: &Inode) -> bool
+    ensures { result ≡ is_statable (child_path directory.now name.now, inode.now) }
+{
+    is_child_within_limits(directory, name) && sound(inode)
 }
 
 /// The entry that a pair states, and `None` where a manifest can't state it.
@@ -114,6 +178,28 @@ fn is_within_limits(path: &Path) -> bool
     let mut bytes = 0;
     for name in path.names() {
         bytes += 1 + name.len();
+    }
+    bytes <= TEXT_LIMIT
+}
+
+// The most names of a path that can't pass `TEXT_LIMIT`: each takes at most 256 bytes with its separator.
+const SHORT: usize = 15;
+
+// The same of the path of the entry `name` of a directory.
+fn is_child_within_limits(directory: &Path, name: &Name) -> bool
+    ensures { result ≡ within_limits_test (child_path directory.now name.now) }
+{
+    let names = directory.names();
+    let last = name.as_str();
+    if names.len() < SHORT {
+        return true;
+    }
+    if names.len() >= DEPTH_LIMIT {
+        return false;
+    }
+    let mut bytes = 1 + last.len();
+    for above in names {
+        bytes += 1 + above.len();
     }
     bytes <= TEXT_LIMIT
 }

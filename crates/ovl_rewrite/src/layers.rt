@@ -93,9 +93,8 @@ fn with_under(
         return Ok(builder);
     };
     for (name, inode) in out {
-        let path = entry_path(alloc, &piece.dir, name)?;
         let is_above = is_directory(&inode);
-        builder = with_entry(alloc, builder, path, inode)?;
+        builder = with_child(alloc, builder, &piece.dir, name, inode)?;
         if is_above {
             builder = with_under(alloc, builder, rest)?;
         }
@@ -103,25 +102,19 @@ fn with_under(
     Ok(builder)
 }
 
-// The new layer with one more entry; `LimitOut` comes only where no layer goes on with it.
-fn with_entry(
+// The new layer with the entry `name` of a directory; `LimitOut` comes only where no layer goes on with it.
+fn with_child(
     alloc: Global,
     builder: LayerBuilder,
-    path: Path,
+    directory: &Path,
+    name: Name,
     inode: Inode,
 ) -> Result<LayerBuilder, RewriteFault>
-    ensures entries { IfOk result (λ more. more ≡ builder ++ (path, inode) ∷ []) }
-    ensures limit { result ≡ Err LimitOut → (more : Entries) → IsLayer (builder ++ (path, inode) ∷ more) → ⊥ }
+    ensures entries { IfOk result (λ more. more ≡ builder ++ (child_path directory.now name, inode) ∷ []) }
+    ensures limit { result ≡ Err LimitOut → (more : Entries) → IsLayer (builder ++ (child_path directory.now name, inode) ∷ more) → ⊥ }
 {
-    match builder.with_entry(alloc, path, inode) {
+    match builder.with_child(alloc, directory, name, inode) {
         Ok(more) => Ok(more),
         Err(fault) => Err(refusal(fault)),
     }
-}
-
-// The path of the entry of this name in a directory.
-fn entry_path(alloc: Global, directory: &Path, name: Name) -> Result<Path, AllocError>
-    ensures { IfOk result (λ path. path ≡ child_path directory.now name) }
-{
-    directory.child(alloc, &name)
 }

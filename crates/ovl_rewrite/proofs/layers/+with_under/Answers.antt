@@ -1,8 +1,6 @@
-use Rattle.std.proofs.Common.{◌≡◌, ◌≤◌, [], ◌∷◌, length, List, ◌++◌, Err, sym, ap, subst, refl, arith, ◌∙◌, append_assoc, length-append}
+use Rattle.std.proofs.Common.{◌≡◌, ◌≤◌, [], ◌∷◌, length, List, ◌++◌, Err, sym, ap, refl, arith, ◌∙◌, append_assoc, length-append}
 use Rattle.std.proofs.lemmas.Result.{err_from_is_err_and}
-use Rattle.ovl_names.specs.Paths.{PathNames}
 use Rattle.std.specs.Vec.Iter.{into_iter_items}
-use Rattle.ovl_manifest.specs.Layers.{IsLayer}
 use Rattle.ovl_board.specs.Parcels.{parcel_view, parcel_views}
 use Rattle.ovl_rewrite.specs.Directories.{NamedInode, inodes_seen}
 use Rattle.ovl_rewrite.specs.Passes.{View}
@@ -28,7 +26,7 @@ loop-name-preserved t c =
       next-file (parcel_views inodes_seen (into_iter_items c.args.rest.now)) (parcel_view inodes_seen c.in-Some.field-0) (parcel_views inodes_seen (into_iter_items c.next.new.self))
           (ap (parcel_views inodes_seen) c.in-Some.ensures.items) (parcel_views inodes_seen (into_iter_items c.loop-name.rest)) done left entry
           (sym c.into_iter-name-iterator.ensures.into_iter_gives.0 ∙ given) c.args.builder c.loop-name.builder c.loop-name.invariant.1 c.in_ok-builder.builder
-          (c.in_ok-builder.ensures.entries ∙ ap (λ path. c.loop-name.builder ++ (path, entry.1) ∷ []) c.in_ok-path.ensures) (sym c.if-is_above.ensures),
+          c.in_ok-builder.ensures.entries (sym c.if-is_above.ensures),
       given ∙ sym (append_assoc done (entry ∷ []) left),
     )
 
@@ -42,14 +40,14 @@ loop-name-preserved-then-is_above t c =
       next-directory (parcel_views inodes_seen (into_iter_items c.args.rest.now)) (parcel_view inodes_seen c.in-Some.field-0) (parcel_views inodes_seen (into_iter_items c.next.new.self))
           (ap (parcel_views inodes_seen) c.in-Some.ensures.items) (parcel_views inodes_seen (into_iter_items c.loop-name.rest)) done left entry
           (sym c.into_iter-name-iterator.ensures.into_iter_gives.0 ∙ given) c.args.builder c.loop-name.builder c.loop-name.invariant.1 c.in_ok-builder.builder
-          (c.in_ok-builder.ensures.entries ∙ ap (λ path. c.loop-name.builder ++ (path, entry.1) ∷ []) c.in_ok-path.ensures) (sym c.if-is_above.ensures)
+          c.in_ok-builder.ensures.entries (sym c.if-is_above.ensures)
           (parcel_views inodes_seen (into_iter_items c.with_under.new.rest)) c.in_ok-builder-2.builder c.in_ok-builder-2.ensures.entries,
       given ∙ sym (append_assoc done (entry ∷ []) left),
     )
 
 pub returns-in_err-builder-clause-limit : goal.returns-in_err-builder-clause-limit
 returns-in_err-builder-clause-limit t c is =
-    let out = err_from_is_err_and c.from_residual-in_err-builder.result c.from_residual-in_err-builder.ensures.1 in
+    let out = err_from_is_err_and c.from_residual.result c.from_residual.ensures.1 in
     let told = sym (out.1 ∙ ap Err out.2) ∙ is in
     let entry : NamedInode = (c.in-Some-2.name, c.in-Some-2.inode) in
     let done : List NamedInode = c.loop-name.yielded in
@@ -58,7 +56,7 @@ returns-in_err-builder-clause-limit t c is =
     stops-next (parcel_views inodes_seen (into_iter_items c.args.rest.now)) (parcel_view inodes_seen c.in-Some.field-0) (parcel_views inodes_seen (into_iter_items c.next.new.self))
     (ap (parcel_views inodes_seen) c.in-Some.ensures.items) (parcel_views inodes_seen (into_iter_items c.loop-name.rest)) done left entry
     (sym c.into_iter-name-iterator.ensures.into_iter_gives.0 ∙ given) c.args.builder c.loop-name.builder c.loop-name.invariant.1
-    (λ more layer. c.in_err-builder.ensures.limit told more (subst (λ (path : PathNames). IsLayer (c.loop-name.builder ++ (path, entry.1) ∷ more)) (sym c.in_ok-path.ensures) layer))
+    (c.in_err-builder.ensures.limit told)
 
 pub returns-in_err-builder-2-clause-limit : goal.returns-in_err-builder-2-clause-limit
 returns-in_err-builder-2-clause-limit t c is =
@@ -71,7 +69,7 @@ returns-in_err-builder-2-clause-limit t c is =
     stops-below (parcel_views inodes_seen (into_iter_items c.args.rest.now)) (parcel_view inodes_seen c.in-Some.field-0) (parcel_views inodes_seen (into_iter_items c.next.new.self))
     (ap (parcel_views inodes_seen) c.in-Some.ensures.items) (parcel_views inodes_seen (into_iter_items c.loop-name.rest)) done left entry
     (sym c.into_iter-name-iterator.ensures.into_iter_gives.0 ∙ given) c.args.builder c.loop-name.builder c.loop-name.invariant.1
-    c.in_ok-builder.builder (c.in_ok-builder.ensures.entries ∙ ap (λ path. c.loop-name.builder ++ (path, entry.1) ∷ []) c.in_ok-path.ensures) (sym c.if-is_above.ensures)
+    c.in_ok-builder.builder c.in_ok-builder.ensures.entries (sym c.if-is_above.ensures)
     (c.in_err-builder-2.ensures.limit told)
 
 pub returns-clause-entries : goal.returns-clause-entries

@@ -1,10 +1,11 @@
-use Rattle.std.proofs.Common.{◌≡◌, ◌∙◌, ◌-◌, ◌++◌, ◌∷◌, [], List, ℕ, sym, ap, arith, length, length-append, take}
-use Rattle.ovl_inode.specs.Marks.{is_directory}
-use Rattle.ovl_manifest.specs.Drafts.{inode_on_way}
+use Rattle.std.proofs.Common.{◌≡◌, ◌∙◌, ◌-◌, ◌++◌, ◌∷◌, [], List, ℕ, true, sym, ap, arith, length, length-append, take}
+use Rattle.std.specs.Cmp.Lexicographic.{bytes_decides, pointwise_decides}
+use Rattle.ovl_manifest.specs.Drafts.{draft_entries}
 use Rattle.ovl_names.specs.Paths.{PathNames, path_eq, parent_path}
 use Rattle.ovl_names.proofs.PathTexts.{parent_path-child}
+use Rattle.ovl_manifest.specs.Layers.{is_directory_at}
 use Rattle.ovl_manifest.proofs.LayerLemmas.{after-some}
-use Rattle.ovl_manifest.proofs.DraftLemmas.{deep, other, on_way}
+use Rattle.ovl_manifest.proofs.DraftLemmas.{spine_length, deep, other}
 use Rattle.ovl_manifest.proofs.drafts.Draft.has_parent.Goals as goal
 use Rattle.ovl_manifest.proofs.drafts.Draft.has_parent.Goals.{then-depth-len-via-then-depth-len, then-depth-len-via-else-depth-len+then-not-starts_with}
 
@@ -29,12 +30,17 @@ returns-then-depth-len c =
           ((λ j. path_eq (cut.1 j) (take (cut.0 j) (sym w.names-else-depth-len.ensures.value j))) ∙ (sym w.starts_with.ensures ∙ w.if-not-starts_with.true)))
     ]
 
+pub is_directory_above-requires-clause-depth : goal.is_directory_above-requires-clause-depth
+is_directory_above-requires-clause-depth c = omega (arith, c.if-depth-len.false, c.len.ensures, spine_length c.args.self.now c.requires.draft)
+
 pub returns : goal.returns
 returns c =
     let path : PathNames = c.args.path.now in
+    let last : PathNames = c.args.self.now.last in
     let above : PathNames = c.in-Some.above in
     let cut = more path above c.in-Some.field-0-0.now (sym c.names.ensures.value ∙ c.in-Some.ensures.value) in
-    let way = on_way c.args.self.now c.requires.draft path c.requires.after (omega (arith, c.if-depth-len.false, c.len.ensures, c.len-depth.ensures, cut.0))
-    ((λ j. path_eq (cut.1 j) (take (cut.0 j) (sym c.names-else-depth-len.ensures.value j))) ∙ (sym c.starts_with.ensures ∙ c.if-not-starts_with.false)) in
-    c.is_directory.ensures ∙ (ap is_directory c.inode_on_way.ensures
-    ∙ (ap (λ (n : ℕ). is_directory (inode_on_way c.args.self.now.inode c.args.self.now.spine.items n)) (c.len-depth.ensures ∙ sym cut.0) ∙ sym way))
+    let same : path_eq (parent_path path) (take (length path - 1) last) ≡ true =
+    (λ j. path_eq (cut.1 j) (take (cut.0 j) (sym c.names-else-depth-len.ensures.value j))) ∙ (sym c.starts_with.ensures ∙ c.if-not-starts_with.false) in
+    let way : take c.len-depth.result last ≡ parent_path path =
+    ap (λ n. take n last) (c.len-depth.ensures ∙ sym cut.0) ∙ sym ((pointwise_decides bytes_decides (parent_path path) (take (length path - 1) last)).0 same) in
+    c.is_directory_above.ensures ∙ ap (is_directory_at (draft_entries c.args.self.now)) way
