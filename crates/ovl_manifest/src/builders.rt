@@ -4,7 +4,7 @@ ghost use Rattle.ovl_manifest.specs.Manifest.{entry_after, stated_pair, IsFaultO
 ghost use Rattle.ovl_manifest.specs.Builders.{pair_after};
 
 use crate::drafts::Draft;
-use crate::entries::{ENTRY_LIMIT, add_child, start, stated};
+use crate::entries::{ENTRY_LIMIT, add, add_child, start, stated};
 use crate::faults::LayerFault;
 use crate::trees::Layer;
 use ovl_inode::Inode;
@@ -42,9 +42,31 @@ impl LayerBuilder {
         Ok(LayerBuilder { draft, count: 1 })
     }
 
-    /// The layer with one more entry, `name` in a directory. It is refused with `Count` behind [`ENTRY_LIMIT`] entries,
-    /// and else as [`from_entries`](crate::from_entries) refuses the entry that comes after those so far; `Memory` can
-    /// come at any time.
+    /// The layer with one more entry. It is refused with `Count` behind [`ENTRY_LIMIT`] entries, and else as
+    /// [`from_entries`](crate::from_entries) refuses the entry that comes after those so far; `Memory` can come at any
+    /// time.
+    pub fn with_entry(
+        self,
+        alloc: Global,
+        path: Path,
+        inode: Inode,
+    ) -> Result<LayerBuilder, LayerFault>
+        ensures { MatchResult result
+            (λ builder. pair_after self (path, inode) ≡ Ok builder)
+            (λ fault. IsFaultOf (pair_after self (path, inode)) fault) }
+    {
+        let LayerBuilder { draft, count } = self;
+        if count as usize == ENTRY_LIMIT {
+            return Err(LayerFault::Count);
+        }
+        let draft = add(alloc, draft, count, stated((path, inode)))?;
+        Ok(LayerBuilder {
+            draft,
+            count: count + 1,
+        })
+    }
+
+    /// The same for the entry `name` of a directory, of which no path is made.
     pub fn with_child(
         self,
         alloc: Global,
