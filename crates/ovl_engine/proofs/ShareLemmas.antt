@@ -9,7 +9,7 @@ use Rattle.std.proofs.lemmas.List.Concat.{flat_map-append}
 use Rattle.ovl_engine.specs.Shares.{AreJoined}
 
 -- one share more
-share_here : {X : Type 0} (xs : List X) (size n : ℕ) → take (suc n * size) xs ≡ take (n * size) xs ++ slice_chunk xs size n
+pub share_here : {X : Type 0} (xs : List X) (size n : ℕ) → take (suc n * size) xs ≡ take (n * size) xs ++ slice_chunk xs size n
 share_here {X} xs size n =
     let ys = take (n * size + size) xs in
     ap (λ (k : ℕ). take k xs) (suc-mul n size)

@@ -12,7 +12,7 @@ use std::thread::{Threads, for_each_mut, join};
 
 /// The stack of the layers that 1 to [`LAYER_LIMIT`](ovl_lookup::LAYER_LIMIT) manifests state, the topmost first, of which
 /// the last `bottom`, fewer than all, are data-only. They are read by at most as many threads as there are workers, and each
-/// is let go once it is read.
+/// goes once its layer is read.
 pub(crate) fn read_stack<R: Threads + Sync, M: AsSlice<u8> + Send + Drop>(
     rt: &R,
     alloc: Global,
@@ -80,8 +80,8 @@ fn read_layers<R: Threads + Sync, M: AsSlice<u8> + Send + Drop>(
     Ok(layers)
 }
 
-// The layers that the manifests state, of which the first has this index, read one after another. Each manifest goes once it
-// is read.
+// The layers that the manifests state, of which the first has this index, read one after another. Each manifest goes before
+// the next is read.
 fn read_share<M: AsSlice<u8> + Drop>(
     alloc: Global,
     first: usize,
