@@ -1,5 +1,5 @@
 -- The order of trails, where one of them has no names left.
-use Rattle.std.proofs.Common.{◌≡◌, ◌⊎◌, inl, inr, ◌<◌, ◌++◌, ◌∷◌, List, [], Less, Equal, Greater, nat_cmp, length, reverse, length-append, refl, sym, ap, ◌∙◌, arith}
+use Rattle.std.proofs.Common.{◌≡◌, ◌⊎◌, inl, inr, ◌<◌, ◌++◌, ◌∷◌, [], Less, Equal, Greater, nat_cmp, length, reverse, length-append, refl, sym, ap, ◌∙◌, arith}
 use Rattle.std.specs.Cmp.{nat_cmp_is}
 use Rattle.std.proofs.lemmas.List.{length-reverse}
 use Rattle.ovl_names.specs.Paths.{PathNames, path_cmp}
