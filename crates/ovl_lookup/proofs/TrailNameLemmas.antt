@@ -1,5 +1,5 @@
 -- The names of a trail that are left.
-use Rattle.std.proofs.Common.{◌≡◌, ℕ, zero, suc, Option, Some, None, Bor, ◌+◌, ◌<◌, ◌^◌, ◌∙◌, ◌++◌, List, [], ◌∷◌, true, IsTrue, IfSome, length, drop, slice_get, append_assoc, refl, sym, ap, subst, arith}
+use Rattle.std.proofs.Common.{◌≡◌, ℕ, zero, suc, Option, Some, None, Bor, ◌+◌, ◌<◌, ◌^◌, ◌∙◌, ◌++◌, List, [], ◌∷◌, true, IsTrue, IfSome, length, drop, slice_get, append_assoc, refl, sym, ap, arith}
 use Rattle.std.specs.Option.{option_map}
 use Rattle.std.specs.Iterator.{YieldsFirstRef}
 use Rattle.std.proofs.lemmas.List.{append-nil}

@@ -9,6 +9,7 @@ mod stacks;
 mod steps;
 mod top_directories;
 mod tops;
+mod trail_ends;
 mod trail_names;
 mod trails;
 mod view_looks;

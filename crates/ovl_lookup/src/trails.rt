@@ -4,17 +4,16 @@ ghost use Rattle.std.specs.Cmp.Lexicographic.{nat_list_cmp_total, nat_list_eq_eq
 ghost use Rattle.std.proofs.Common.{refl};
 ghost use Rattle.std.proofs.lemmas.Cmp.{on_total, on_equiv};
 ghost use Rattle.std.specs.Option.{option_map};
-ghost use Rattle.std.specs.Slice.Iter.{iter_rest};
 ghost use Rattle.ovl_names.specs.Names.{name_cmp, is_name};
 ghost use Rattle.ovl_names.specs.Paths.{child_path, has_names};
-ghost use Rattle.ovl_lookup.specs.Trails.{names_of_parts, trail_cmp, trail_eq};
+ghost use Rattle.ovl_lookup.specs.Trails.{trail_cmp, trail_eq};
 
+use crate::trail_ends::TrailEnd;
 use crate::trail_names::TrailNames;
 use ovl_names::{Names, Path};
 use std::alloc::{AllocError, Global};
 use std::cmp::Ordering;
 use std::marker::Model;
-use std::slice;
 
 /// A path from the root in parts that others hold, so that no name of it is copied. Trails are ordered name by name from
 /// the last one on, as those below one redirect begin with all its names.
@@ -143,35 +142,19 @@ impl<'a> Trail<'a> {
     fn compared(&self, other: &Trail<'_>) -> Ordering
         ensures { result ≡ trail_cmp self.now other.now }
     {
-        let (mut ours, mut theirs) = (self.parts.iter(), other.parts.iter());
-        let mut own = or_last_part(Names::none(), &mut ours);
-        let mut their = or_last_part(Names::none(), &mut theirs);
-        while !own.is_empty() && !their.is_empty() {
-            let order = own.compare_ends(&mut their);
+        let mut ours = TrailEnd::of(&self.parts);
+        let mut theirs = TrailEnd::of(&other.parts);
+        while !ours.last.is_empty() && !theirs.last.is_empty() {
+            let order = ours.last.compare_ends(&mut theirs.last);
             if order.is_ne() {
                 return order;
             }
-            own = or_last_part(own, &mut ours);
-            their = or_last_part(their, &mut theirs);
+            ours.refill();
+            theirs.refill();
         }
         // No name is left of the shorter trail.
-        own.len().cmp(&their.len())
+        ours.last.len().cmp(&theirs.last.len())
     }
-}
-
-// These names or, where they are none, those of the last part that has some, which is taken from the parts.
-fn or_last_part<'a>(names: Names<'a>, parts: &mut slice::Iter<'_, Names<'a>>) -> Names<'a>
-    ensures names { names_of_parts (iter_rest parts.new) ++ result ≡ names_of_parts (iter_rest parts.old) ++ names.entry }
-    ensures all { result ≡ [] → names_of_parts (iter_rest parts.new) ≡ [] }
-{
-    let mut names = names;
-    while names.is_empty() {
-        let Some(part) = parts.next_back() else {
-            return names;
-        };
-        names = part.rest();
-    }
-    names
 }
 
 impl<'a> PartialEq for Trail<'a> {

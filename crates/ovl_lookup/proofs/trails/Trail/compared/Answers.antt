@@ -1,18 +1,17 @@
-use Rattle.std.proofs.Common.{◌≡◌, ◌∙◌, ◌++◌, ◌⊎◌, inl, inr, [], length, reverse, length-append, sym, ap, arith}
+use Rattle.std.proofs.Common.{◌≡◌, ◌∙◌, ◌⊎◌, inl, inr, [], nat_cmp, sym}
 use Rattle.std.specs.Slice.Iter.{iter_rest}
-use Rattle.ovl_names.specs.Paths.{PathNames, path_cmp}
 use Rattle.ovl_lookup.specs.Trails.{names_of_parts}
-use Rattle.ovl_lookup.proofs.TrailOrderLemmas.{then-ne, then-eq, order-at_end, fewer-left}
+use Rattle.ovl_lookup.proofs.TrailOrderLemmas.{order-at_end}
+use Rattle.ovl_lookup.proofs.trails.Trail.compared.Goals.{then-loop-theirs-test+else-not-is_empty, else-loop-theirs-test}
 use Rattle.ovl_lookup.proofs.trails.Trail.compared.Goals as goal
 
-pub returns-then-is_ne : goal.returns-then-is_ne
-returns-then-is_ne c = ?
-
 pub returns : goal.returns
-returns c = ?
-
-pub loop-own-preserved : goal.loop-own-preserved
-loop-own-preserved c = ?
-
-pub loop-own-smaller : goal.loop-own-smaller
-loop-own-smaller c = ?
+returns c =
+    let one : (c.loop-theirs.ours.last ≡ []) ⊎ (c.loop-theirs.theirs.last ≡ []) = elim c.loop-theirs-test.branch [
+      | then-loop-theirs-test+else-not-is_empty w ↦ inr (w.is_empty-in-loop-theirs.ensures.0 w.if-not-is_empty.false)
+      | else-loop-theirs-test w ↦ inl (c.is_empty.ensures.0 w.loop-theirs-test.false)
+    ] in
+    c.cmp.ensures
+    ∙ ((λ j. nat_cmp (c.len.ensures j) (c.len-2.ensures j))
+    ∙ (sym (order-at_end (names_of_parts (iter_rest c.loop-theirs.ours.parts)) c.loop-theirs.ours.last (names_of_parts (iter_rest c.loop-theirs.theirs.parts)) c.loop-theirs.theirs.last c.loop-theirs.invariant.all c.loop-theirs.invariant.their_all one)
+    ∙ c.loop-theirs.invariant.order))

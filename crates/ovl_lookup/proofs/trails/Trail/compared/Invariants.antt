@@ -1,16 +1,16 @@
-use Rattle.std.proofs.Common.{◌≡◌, ◌+◌, ◌++◌, [], length, reverse}
+use Rattle.std.proofs.Common.{◌≡◌, ◌++◌, [], length, reverse}
 use Rattle.std.specs.Slice.Iter.{iter_rest}
 use Rattle.ovl_names.specs.Paths.{path_cmp}
 use Rattle.ovl_lookup.specs.Trails.{names_of_parts}
 use Rattle.ovl_lookup.proofs.trails.Trail.compared.Given as goal
 
--- the names that are left are to each other as all of them, and where a part has none left, none are
-abbrev pub invariant-loop-own : goal.invariant-loop-own
-invariant-loop-own l = record {
-  order : path_cmp (reverse (names_of_parts (iter_rest l.ours) ++ l.own)) (reverse (names_of_parts (iter_rest l.theirs) ++ l.their)) ≡ path_cmp (reverse l.self) (reverse l.other);
-  all : l.own ≡ [] → names_of_parts (iter_rest l.ours) ≡ [];
-  their_all : l.their ≡ [] → names_of_parts (iter_rest l.theirs) ≡ [];
+-- the names that are left are to each other as all of them, and where the last part has none left, none are
+abbrev pub invariant-loop-theirs : goal.invariant-loop-theirs
+invariant-loop-theirs l = record {
+  order : path_cmp (reverse (names_of_parts (iter_rest l.ours.parts) ++ l.ours.last)) (reverse (names_of_parts (iter_rest l.theirs.parts) ++ l.theirs.last)) ≡ path_cmp (reverse l.self) (reverse l.other);
+  all : l.ours.last ≡ [] → names_of_parts (iter_rest l.ours.parts) ≡ [];
+  their_all : l.theirs.last ≡ [] → names_of_parts (iter_rest l.theirs.parts) ≡ [];
 }
 
-abbrev pub decreases-loop-own : goal.decreases-loop-own
-decreases-loop-own l = length (names_of_parts (iter_rest l.ours) ++ l.own)
+abbrev pub decreases-loop-theirs : goal.decreases-loop-theirs
+decreases-loop-theirs l = length (names_of_parts (iter_rest l.ours.parts) ++ l.ours.last)
