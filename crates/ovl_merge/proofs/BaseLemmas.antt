@@ -1,11 +1,11 @@
 -- Where a directory lies in the lower layer and in the rest, by where the one above does.
-use Rattle.std.proofs.Common.{◌≡◌, ℕ, Bool, true, false, cond, Option, Some, None, [], refl, sym, ap, ◌∙◌, subst, inl, inr, ◌⊎◌}
+use Rattle.std.proofs.Common.{◌≡◌, Bool, true, false, cond, Option, Some, None, [], refl, sym, ap, ◌∙◌, subst, inl, inr, ◌⊎◌}
 use Rattle.std.specs.Prelude.{not, IfSome, MatchOption}
 use Rattle.std.specs.List.{All}
 use Rattle.std.proofs.lemmas.Option.{IfSome_then}
-use Rattle.ovl_names.specs.Names.{PathName, is_name}
+use Rattle.ovl_names.specs.Names.{PathName}
 use Rattle.ovl_names.specs.Paths.{PathNames, child_path}
-use Rattle.ovl_manifest.specs.Layers.{Entries, IsLayer}
+use Rattle.ovl_manifest.specs.Layers.{IsLayer}
 use Rattle.ovl_lookup.specs.declared.looks.Look.{Look}
 use Rattle.ovl_lookup.specs.declared.looks.Look.TheVariants.{Nothing}
 use Rattle.ovl_lookup.specs.declared.views.DirView.{DirView}
@@ -15,36 +15,16 @@ use Rattle.ovl_lookup.specs.Merged.{shows_directory, is_shown_directory, is_noth
 use Rattle.ovl_lookup.specs.DirViews.{IsViewOf}
 use Rattle.ovl_lookup.proofs.LawsOfKids.{none-along}
 use Rattle.ovl_lookup.proofs.LawsOfLooks.{nothing-under}
-use Rattle.ovl_merge.specs.declared.stands.Stand.{Stand}
-use Rattle.ovl_merge.specs.declared.stands.Entered.{Entered}
 use Rattle.ovl_merge.specs.declared.bases.Base.{Base}
 use Rattle.ovl_merge.specs.declared.bases.Base.TheVariants.{Reached, Apart, Hidden}
 use Rattle.ovl_merge.specs.declared.directories.Lower.{Lower}
 use Rattle.ovl_merge.specs.Places.{merge_of, shows_directory_at, shows_at, reach, base, child_of}
 use Rattle.ovl_merge.specs.Directories.{base_names}
-use Rattle.ovl_merge.specs.Stands.{IsStand, IsBesideAfter}
-use Rattle.ovl_merge.specs.Reckoned.{IsBelow, IsBesideBelow, IsBelowNear, IsLowerNear, IsReached, IsUnreached, IsBase, onward_at, reach_from}
+use Rattle.ovl_merge.specs.Reckoned.{IsBesideBelow, IsLowerNear, IsReached, IsUnreached, IsBase, onward_at, reach_from}
 
 pub at-some : {X : Type 0} → (o : Option X) (P : X → Type 0) (x : X) → o ≡ Some x → IfSome o P → P x
 at-some None P x is h = let bad : None ≡ Some x = is in cc
 at-some (Some y) P x is h = let same : y ≡ x = cc in subst P same h
-
--- ---- in the lower layer
-
--- where the upper one goes on by a name, and the walk stood somewhere, it goes on by that name
-pub near-below : (layer : Entries) (lower : Stand) (upper : Entered) → IsBelowNear layer (Some lower) upper
-    → IfSome upper.beside (λ name. (is_name name.now ≡ true)
-    × ((path : PathNames) × IsStand layer path lower
-    × ((stand : Stand) → IsStand layer (child_path path name.now) stand → IsBelow layer upper.stand.next (Some stand))))
-near-below layer lower upper near = by near.before near.below near.beside
-  where
-    by : (before : Option PathNames) → IsBelow layer before (Some lower) → IsBesideAfter before upper
-        → IfSome upper.beside (λ name. (is_name name.now ≡ true)
-        × ((path : PathNames) × IsStand layer path lower
-        × ((stand : Stand) → IsStand layer (child_path path name.now) stand → IsBelow layer upper.stand.next (Some stand))))
-    by None below beside = absurd below
-    by (Some path) below beside =
-        IfSome_then upper.beside beside (λ name parts. (parts.0, (path, below, λ stand is. subst (λ (o : Option PathNames). IsBelow layer o (Some stand)) (sym parts.1) is)))
 
 -- ---- in the rest
 
@@ -77,27 +57,6 @@ view-reached stack path (Some view) of = (
   ap (λ (b : Bool). cond b (Some path) None) of.shown ∙ ap (λ (p : PathNames). Some p) (sym of.stands),
   subst (λ (p : PathNames). IsViewOf stack 2 p view) (sym of.stands) of,
 )
-
--- where that above goes on, another goes on beside it in the same directory
-pub beside-reached : (stack : StackView) (dir : PathNames) (view : DirView) → IsBase stack dir (Reached view) → (lower : Lower) → IsLowerNear (merge_of stack) dir lower
-    → IfSome lower.beside (λ name. (found : Option DirView) → MatchOption found (shows_directory (from_layer view.from stack) (child_path view.path name.now) ≡ false) (λ below. IsViewOf stack view.from (child_path view.path name.now) below)
-    → IsReached stack (reach_from (merge_of stack).rest (onward_at lower.stand)) found)
-beside-reached stack dir view (reached, of) lower near = by near.before (sym near.reached ∙ reached) near.beside
-  where
-    some : (b : Bool) (place other : PathNames) → cond b (Some place) None ≡ Some other → place ≡ other
-    some true place other e = cc
-    some false place other e = let bad : None ≡ Some other = e in cc
-
-    by : (before : Option PathNames) → reach_from (merge_of stack).rest before ≡ Some view.path → IsBesideBelow before lower
-        → IfSome lower.beside (λ name. (found : Option DirView) → MatchOption found (shows_directory (from_layer view.from stack) (child_path view.path name.now) ≡ false) (λ below. IsViewOf stack view.from (child_path view.path name.now) below)
-        → IsReached stack (reach_from (merge_of stack).rest (onward_at lower.stand)) found)
-    by None e beside = let bad : None ≡ Some view.path = e in cc
-    by (Some place) e beside =
-        IfSome_then lower.beside beside (λ name parts. λ found below.
-        subst (λ (o : Option PathNames). IsReached stack (reach_from (merge_of stack).rest o) found)
-        (ap (λ (p : PathNames). Some (child_path p name.now)) (sym (some (shows_directory (merge_of stack).rest place) place view.path e)) ∙ sym parts.1)
-        (view-reached stack (child_path view.path name.now) found
-        (subst (λ (n : ℕ). MatchOption found (shows_directory (from_layer n stack) (child_path view.path name.now) ≡ false) (λ own. IsViewOf stack n (child_path view.path name.now) own)) of.starts below)))
 
 -- where it goes on nowhere
 pub none-reached : (stack : StackView) (dir : PathNames) (own : Base) → IsBase stack dir own → ((place : PathNames) × (own ≡ Apart place)) ⊎ (own ≡ Hidden) → reach (merge_of stack) dir ≡ None

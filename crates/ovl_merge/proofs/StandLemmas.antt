@@ -18,7 +18,7 @@ use Rattle.ovl_lookup.specs.declared.steps.Step.{Step}
 use Rattle.ovl_lookup.specs.Stacks.{StackView}
 use Rattle.ovl_lookup.specs.Walk.{walk, walk_beyond, walk_to_file, nothing_found}
 use Rattle.ovl_lookup.specs.Passes.{IsOwnDirectory, entered_path, entered_closed}
-use Rattle.ovl_lookup.proofs.LawsOfInodes.{by_reading, is_directory_mark, mark-directory, directory-marked, directory-no_whiteout}
+use Rattle.ovl_lookup.proofs.LawsOfInodes.{is_directory_mark, mark-directory, directory-marked, directory-no_whiteout}
 use Rattle.ovl_lookup.proofs.LawsOfWalks.{directory_found, walk-whole, walk-child_end, file-is_found, file-found, found-file, whiteout-closes, own-missing, own-file, own-entered}
 use Rattle.ovl_merge.specs.declared.stands.Stand.{Stand}
 use Rattle.ovl_merge.specs.declared.stands.Passing.{Passing}
@@ -74,40 +74,9 @@ root-stands layer is row inside here =
 
 -- ---- marks
 
-abbrev is_whiteout_mark : Mark → Bool
-is_whiteout_mark Whiteout = true
-is_whiteout_mark _ = false
-
-whiteout-marked : (inode : Inode) → is_whiteout inode ≡ false → is_whiteout_mark (mark_of inode) ≡ false
-whiteout-marked inode none =
-    ap (λ (b : Bool). is_whiteout_mark (cond b Whiteout (cond (is_directory inode && has_opaque inode) DirOpaque (cond (is_directory inode) (directory_mark (redirect_reading inode)) (cond (is_regular inode && has_metacopy inode) (metacopy_mark (redirect_reading inode)) Leaf))))) none
-    ∙ by (is_directory inode && has_opaque inode) (is_directory inode) (is_regular inode && has_metacopy inode) (directory_mark (redirect_reading inode)) (metacopy_mark (redirect_reading inode))
-    (by_reading (λ own meta. (is_whiteout_mark own ≡ false) × (is_whiteout_mark meta ≡ false)) (refl, refl) (refl, refl) (λ redirect. (refl, refl)) inode)
-  where
-    by : (o d f : Bool) (own meta : Mark) → (is_whiteout_mark own ≡ false) × (is_whiteout_mark meta ≡ false) → is_whiteout_mark (cond o DirOpaque (cond d own (cond f meta Leaf))) ≡ false
-    by true d f own meta none = refl
-    by false true f own meta none = none.0
-    by false false true own meta none = none.1
-    by false false false own meta none = refl
-
 marked-whiteout : (inode : Inode) → is_whiteout inode ≡ true → mark_of inode ≡ Whiteout
 marked-whiteout inode white =
     ap (λ (b : Bool). cond b Whiteout (cond (is_directory inode && has_opaque inode) DirOpaque (cond (is_directory inode) (directory_mark (redirect_reading inode)) (cond (is_regular inode && has_metacopy inode) (metacopy_mark (redirect_reading inode)) Leaf)))) white
-
--- a whiteout's mark, and that of nothing else
-pub mark-whiteout : (inode : Inode) (mark : Mark) → mark ≡ mark_of inode → mark ≡ Whiteout → is_whiteout inode ≡ true
-mark-whiteout inode mark is white = by (is_whiteout inode) refl
-  where
-    by : (b : Bool) → is_whiteout inode ≡ b → is_whiteout inode ≡ true
-    by true e = e
-    by false e = let bad : false ≡ true = sym (whiteout-marked inode e) ∙ ap is_whiteout_mark (sym is ∙ white) in cc
-
-pub mark-other : (inode : Inode) (mark : Mark) → mark ≡ mark_of inode → (mark ≡ Whiteout → ⊥) → is_whiteout inode ≡ false
-mark-other inode mark is never = by (is_whiteout inode) refl
-  where
-    by : (b : Bool) → is_whiteout inode ≡ b → is_whiteout inode ≡ false
-    by false e = e
-    by true e = absurd (never (is ∙ marked-whiteout inode e))
 
 module _ (next : PathNames) (name : PathName) where
   -- where the walk of a directory goes on
