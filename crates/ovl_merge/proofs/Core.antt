@@ -57,10 +57,6 @@ natural-child m path name =
     ∙ (λ j. child_of (base_at m (parent_path-child path name j) (natural_at m (length path) (parent_path-child path name j))) (last_name-child path name j))
 
 -- the natural place of a name in a directory, by the directory's base
-pub natural-in : (m : Merge) (dir path : PathNames) (name : PathName) (from place : Option PathNames) → place ≡ child_of from name → from ≡ base m dir → path ≡ child_path dir name → place ≡ natural m path
-natural-in m dir path name from place is own at =
-    is ∙ (ap (λ (b : Option PathNames). child_of b name) own ∙ (sym (natural-child m dir name) ∙ ap (natural m) (sym at)))
-
 -- ---- how a redirect is followed
 
 -- the walk goes on at a place, or is closed where there is none

@@ -12,9 +12,11 @@ pub mod LayerLemmas
 pub mod DirectoryLemmas
 pub mod NameLists
 pub mod VisitLemmas
-pub mod WalkedLemmas
-pub mod Stands
-pub mod Glances
+pub mod StandLemmas
+pub mod ShownLemmas
+pub mod BaseLemmas
+pub mod PassageLemmas
+pub mod EntryLemmas
 pub mod CandidateLemmas
 pub mod FinishLemmas
 mod Rows

@@ -1,39 +1,33 @@
 -- What a visit of a merge reckons.
-use Rattle.std.proofs.Common.{◌≡◌, ℕ, ◌<◌, subst, Bool, true, false, cond, Option, Some, None, is_some, List, [], ◌∷◌, ◌++◌, length, drop, refl, sym, ap, ◌∙◌, append_assoc, arith}
-use Rattle.std.specs.Prelude.{◌&&◌, not, is_none, slice_get, unwrap_or, IfSome, MatchOption}
+use Rattle.std.proofs.Common.{◌≡◌, ℕ, ◌<◌, subst, Bool, true, false, cond, Option, Some, None, List, [], ◌∷◌, ◌++◌, length, drop, refl, sym, ap, ◌∙◌, append_assoc, arith}
+use Rattle.std.specs.Prelude.{slice_get, unwrap_or, IfSome}
 use Rattle.std.specs.Option.{option_map}
 use Rattle.std.specs.List.{cons_option, filter_map, All}
 use Rattle.std.specs.Cmp.Lexicographic.{pointwise_decides, bytes_decides}
 use Rattle.std.proofs.lemmas.List.{append-nil}
 use Rattle.std.proofs.lemmas.List.Elements.{filter_map-append}
 use Rattle.ovl_names.specs.Names.{PathName, name_eq}
-use Rattle.ovl_names.specs.Paths.{PathNames, child_path, parent_path, path_eq, path_text, is_root}
+use Rattle.ovl_names.specs.Paths.{PathNames, child_path, parent_path, path_eq, path_text}
 use Rattle.ovl_inode.specs.declared.inodes.Inode.{Inode}
 use Rattle.ovl_inode.specs.Attributes.{redirect_name, metacopy_name}
 use Rattle.ovl_inode.specs.Marks.{is_directory}
 use Rattle.ovl_inode.specs.Inodes.{visible}
 use Rattle.ovl_manifest.specs.Layers.{Entries, IsLayer, names_below}
-use Rattle.ovl_lookup.specs.declared.steps.Step.{Step}
 use Rattle.ovl_lookup.specs.declared.looks.Look.{Look}
-use Rattle.ovl_lookup.specs.declared.looks.Look.TheVariants.{Nothing}
 use Rattle.ovl_lookup.specs.declared.views.DirView.{DirView}
 use Rattle.ovl_lookup.specs.DirViews.{IsViewOf}
-use Rattle.ovl_lookup.proofs.LawsOfLooks.{nothing-under}
 use Rattle.ovl_lookup.specs.Walk.{walk}
 use Rattle.ovl_lookup.specs.Stacks.{StackView, from_layer}
 use Rattle.ovl_lookup.specs.Passes.{own_names_along, put_names, kids_along}
-use Rattle.ovl_lookup.specs.Merged.{look, shows_directory, AreKids}
+use Rattle.ovl_lookup.specs.Merged.{look, AreKids}
 use Rattle.ovl_lookup.specs.Words.{top_layer, lower_layers}
 use Rattle.ovl_lookup.proofs.LawsOfPaths.{length-child, parent_path-child}
 use Rattle.ovl_lookup.proofs.LawsOfKids.{put_names-append, kids-unique}
 use Rattle.ovl_rewrite.specs.Directories.{NamedInode}
-use Rattle.ovl_merge.specs.declared.passages.Passage.{Passage}
-use Rattle.ovl_merge.specs.declared.near.Near.{Near}
-use Rattle.ovl_merge.specs.Places.{Merge, two_layers, merge_of, lower_path, first_hit, passes, shows_own_directory, reach, reach_of, shows_directory_at, goes_on_at, gets_opaque_at, last_name}
+use Rattle.ovl_merge.specs.Places.{Merge, two_layers, merge_of, lower_path, first_hit, passes, shows_own_directory, reach, last_name}
 use Rattle.ovl_merge.specs.MergeDown.{with_value, with_contents, redirected, redirected_from, merged_directory, merged_metacopy, unreached_metacopy, kept_place, merged_inode, merged_entry, merged_entry_of}
 use Rattle.ovl_merge.specs.Directories.{named_inode, candidate_names, entries_in}
-use Rattle.ovl_merge.specs.Reckoned.{IsPassage, IsViewIn, IsNear, found_by, first_in, name_directly_in}
-use Rattle.ovl_merge.proofs.Firsts.{first_step, first_hit-steps}
+use Rattle.ovl_merge.specs.Reckoned.{name_directly_in}
 use Rattle.ovl_merge.proofs.Core.{last_name-child}
 use Rattle.ovl_merge.proofs.MergedEntries.{entry-stands}
 use Rattle.ovl_merge.proofs.FinishLemmas.{merge-whole}
@@ -55,48 +49,6 @@ lower-layer stack several P = by stack.layers several
     by [] none h = absurd (omega (arith, none))
     by (upper ∷ []) none h = absurd (omega (arith, none))
     by (upper ∷ lower ∷ layers) several h = h
-
--- ---- what the walks of a path find
-
-pub passage-first : (m : Merge) (path : PathNames) (passage : Passage) → IsPassage m path passage → first_in passage ≡ first_hit m path
-passage-first m path passage is =
-    (λ j. cond (is_some (is.upper j).found) (is.upper j).found (found_by (is.lower j)))
-    ∙ (by (walk m.upper path).found (walk m.upper path).closed (walk m.lower (lower_path m path)) ∙ sym (first_hit-steps m path))
-  where
-    end : (found : Option Inode) (closed : Bool) → found ≡ first_step found closed None
-    end (Some inode) closed = refl
-    end None true = refl
-    end None false = refl
-
-    by : (found : Option Inode) (closed : Bool) (step : Step) → cond (is_some found) found (found_by (cond closed None (Some step))) ≡ first_step found closed (first_step step.found step.closed None)
-    by (Some inode) closed step = refl
-    by None true step = refl
-    by None false step = end step.found step.closed
-
--- where a thing that is found goes on, by the walk of the lower layer
-pub reach-told : (m : Merge) (path : PathNames) (passage : Passage) → IsPassage m path passage → (inode : Inode) → Some inode ≡ first_in passage → (lower : Step) → passage.lower ≡ Some lower → lower.closed ≡ false
-    → reach m path ≡ cond (goes_on_at m inode lower.found lower.next) (Some lower.next) None
-reach-told m path passage is inode first lower there opened = by (walk m.upper path).closed refl (sym is.lower ∙ there)
-  where
-    by : (closed : Bool) → (walk m.upper path).closed ≡ closed → cond (walk m.upper path).closed None (Some (walk m.lower (lower_path m path))) ≡ Some lower → reach m path ≡ cond (goes_on_at m inode lower.found lower.next) (Some lower.next) None
-    by true e k = let bad : None ≡ Some lower = sym (ap (λ (c : Bool). cond c None (Some (walk m.lower (lower_path m path)))) e) ∙ k in cc
-    by false e k =
-        let some : Some (walk m.lower (lower_path m path)) ≡ Some lower = sym (ap (λ (c : Bool). cond c None (Some (walk m.lower (lower_path m path)))) e) ∙ k in
-        let w : walk m.lower (lower_path m path) ≡ lower = cc in
-        ap (reach_of m path) (sym (first ∙ passage-first m path passage is))
-        ∙ ((λ j. cond ((not (e j) && not (w j).closed) && goes_on_at m inode (w j).found (w j).next) (Some (w j).next) None)
-        ∙ (λ j. cond (not (opened j) && goes_on_at m inode lower.found lower.next) (Some lower.next) None))
-
--- ---- places
-
-pub opaque-unshown : (m : Merge) (path : PathNames) (place : Option PathNames) → shows_own_directory m path ≡ false → gets_opaque_at m path place ≡ false
-opaque-unshown m path place none =
-    (λ j. not (is_root path) && none j && is_none (reach m path) && shows_directory_at m.rest place)
-    ∙ ap (λ (b : Bool). b && is_none (reach m path) && shows_directory_at m.rest place) (neither (not (is_root path)))
-  where
-    neither : (a : Bool) → (a && false) ≡ false
-    neither true = refl
-    neither false = refl
 
 -- ---- redirects
 
@@ -212,50 +164,6 @@ kept-told m path inode shown seen own none kept is place some copied made =
     (λ j. with_value (made j) redirect_name (path_text place))
     ∙ ((λ j. with_value (with_value (seen j) metacopy_name []) redirect_name (path_text place))
     ∙ sym (ap (merged_metacopy m path inode) none ∙ ap (unreached_metacopy m path inode) (sym is ∙ some)))
-
--- ---- looks near a directory of the rest
-
--- a path that lies directly in a directory is that with a name
-pub directly-in : (base : Option PathNames) (path : PathNames) (name : PathName) → Some name ≡ name_directly_in base path → (directory : PathNames) × (base ≡ Some directory) × (path ≡ child_path directory name)
-directly-in None path name e = let bad : Some name ≡ None = e in cc
-directly-in (Some directory) path name e = by (path_eq path (child_path directory (last_name path))) refl e
-  where
-    by : (b : Bool) → path_eq path (child_path directory (last_name path)) ≡ b → Some name ≡ cond b (Some (last_name path)) None → (other : PathNames) × (Some directory ≡ Some other) × (path ≡ child_path other name)
-    by true is e =
-        let last : name ≡ last_name path = cc in
-        (directory, refl, (pointwise_decides bytes_decides path (child_path directory (last_name path))).0 is ∙ ap (child_path directory) (sym last))
-    by false is e = let bad : Some name ≡ None = e in cc
-
-pub below-named : (dir path : PathNames) (name : PathName) → Some name ≡ name_directly_in (Some dir) path → path ≡ child_path dir name
-below-named dir path name e =
-    let found = directly-in (Some dir) path name e in
-    found.2 ∙ ap (λ (d : PathNames). child_path d name) (sym (ap (λ (o : Option PathNames). unwrap_or o dir) found.1))
-
-module _ (stack : StackView) (near : Near) (is : IsNear stack near) (path : PathNames) (name : PathName) (here : Some name ≡ name_directly_in near.base path) where
-  pub near-directory : (directory : PathNames) × (near.base ≡ Some directory) × (path ≡ child_path directory name)
-  near-directory = directly-in near.base path name here
-
-  viewed : IsViewIn stack near-directory.0 near.view
-  viewed = subst (λ (base : Option PathNames). IfSome base (λ d. IsViewIn stack d near.view)) near-directory.1 is.base
-
-  pub near-view : (view : DirView) → near.view ≡ Some view → IsViewOf stack 2 near-directory.0 view
-  near-view view there = subst (IsViewIn stack near-directory.0) there viewed
-
-  pub near-look : (view : DirView) → near.view ≡ Some view → look (from_layer view.from stack) (child_path view.path name) ≡ look (from_layer 2 stack) path
-  near-look view there =
-      let of = near-view view there in
-      (λ j. look (from_layer (of.starts j) stack) (child_path (of.stands j) name)) ∙ ap (look (from_layer 2 stack)) (sym near-directory.2)
-
-  pub near-nothing : All IsLayer (from_layer 2 stack).layers → near.view ≡ None → Nothing ≡ look (from_layer 2 stack) path
-  near-nothing each none =
-      sym (ap (look (from_layer 2 stack)) near-directory.2 ∙ nothing-under (from_layer 2 stack) each near-directory.0 name [] (subst (IsViewIn stack near-directory.0) none viewed))
-
-  pub near-child : (view : DirView) → near.view ≡ Some view → (found : Option DirView)
-      → MatchOption found (shows_directory (from_layer view.from stack) (child_path view.path name) ≡ false) (λ below. IsViewOf stack view.from (child_path view.path name) below) → IsViewIn stack path found
-  near-child view there found below =
-      let of = near-view view there in
-      subst (λ (p : PathNames). IsViewIn stack p found) (ap (λ (d : PathNames). child_path d name) of.stands ∙ sym near-directory.2)
-      (subst (λ (n : ℕ). MatchOption found (shows_directory (from_layer n stack) (child_path view.path name) ≡ false) (λ own. IsViewOf stack n (child_path view.path name) own)) of.starts below)
 
 -- ---- names
 

@@ -3,5 +3,7 @@ pub mod MergeDown
 pub mod Laws
 pub mod Directories
 pub mod Limits
+pub mod Stands
 pub mod Reckoned
+pub mod Passages
 pub mod Candidates

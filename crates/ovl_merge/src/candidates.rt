@@ -9,7 +9,6 @@ ghost use Rattle.ovl_merge.specs.Reckoned.{IsVisited};
 ghost use Rattle.ovl_merge.specs.Candidates.{first_order, IsFirstTaken};
 
 use crate::directories::Directory;
-use crate::rest::names_at;
 use ovl_lookup::Stack;
 use ovl_names::Name;
 use std::alloc::{AllocError, Global};
@@ -31,10 +30,10 @@ pub(crate) fn candidates(
     // Each layer of a stack is one.
     let _layers = stack.ordinary();
     let names = own_names(alloc, stack, directory)?;
-    if directory.near.is_open() {
+    if directory.is_open() {
         return Ok(names);
     }
-    let shown = names_at(alloc, stack, &directory.near)?;
+    let shown = directory.base.names(alloc, stack, &directory.path)?;
     merged(alloc, names, shown)
 }
 
@@ -48,10 +47,10 @@ fn own_names(alloc: Global, stack: &Stack, directory: &Directory) -> Result<Vec<
     // Each layer of a stack is one.
     let _layers = stack.ordinary();
     let upper = stack.own_names(alloc, 0, &directory.path)?;
-    let Some(below) = &directory.near.lower else {
+    let Some(below) = directory.upper.onward() else {
         return Ok(upper);
     };
-    let lower = stack.own_names(alloc, 1, below.path())?;
+    let lower = stack.own_names(alloc, 1, below)?;
     merged(alloc, upper, lower)
 }
 

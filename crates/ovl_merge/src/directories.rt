@@ -1,31 +1,32 @@
-ghost use Rattle.std.specs.Prelude.{◌≡◌, ◌<◌, ◌||◌, [], None, Some, false, if◌then◌else◌, length, IfOk, MatchOption};
+ghost use Rattle.std.specs.Prelude.{◌≡◌, ◌<◌, ◌||◌, [], None, false, length, is_some, IfOk, IfSome, IsTrue, MatchOption};
 ghost use Rattle.std.specs.Option.{option_map};
+ghost use Rattle.ovl_names.specs.Names.{is_name};
 ghost use Rattle.ovl_names.specs.Paths.{child_path};
-ghost use Rattle.ovl_lookup.specs.DirViews.{IsViewOf};
-ghost use Rattle.ovl_merge.specs.Places.{merge_of, shows_own_directory, natural as the_natural, child_of, shows_directory_at as directory_test};
-ghost use Rattle.ovl_merge.specs.Reckoned.{IsNear, IsVisited, IsGlanceAt, is_inside, is_inside_at, onward_at, reach_from};
+ghost use Rattle.ovl_merge.specs.Places.{merge_of, shows_own_directory};
+ghost use Rattle.ovl_merge.specs.Reckoned.{IsVisited, IsBelow, IsBelowNear, IsBesideBelow, is_inside_at, onward_at};
 
-use crate::near::Near;
-use crate::rest::shows_directory_at;
-use crate::walked::{Glance, Walked};
-use ovl_lookup::{DirView, Stack};
-use ovl_names::{Name, Path};
+use crate::bases::Base;
+use crate::stands::{Entered, Stand};
+use ovl_lookup::Stack;
+use ovl_names::{Names, Path};
 use std::alloc::{AllocError, Global};
 
 // A directory that the two topmost layers show, and what is kept of it for the names in it.
 #[derive(Drop)]
 pub(crate) struct Directory {
     pub(crate) path: Path,
-    // Where it goes on in the rest.
-    pub(crate) reach: Option<Path>,
-    pub(crate) near: Near,
+    // Where its walk in the upper layer stands, and where that in the lower one does, if it goes on there.
+    pub(crate) upper: Stand,
+    pub(crate) lower: Option<Stand>,
+    pub(crate) base: Base,
 }
 
-// Where a directory goes on in the rest, and its view there.
+// Where the walk in the lower layer stands with one more name.
 #[derive(Drop)]
-pub(crate) struct Reached {
-    place: Path,
-    view: DirView,
+pub(crate) struct Lower<'a> {
+    pub(crate) stand: Option<Stand>,
+    // The name by which the rest goes on in the same directory, if it does.
+    pub(crate) beside: Option<&'a str>,
 }
 
 impl Directory {
@@ -39,138 +40,143 @@ impl Directory {
         requires { 1 < length stack.now.layers }
         ensures { IfOk result (λ found. MatchOption found
             (shows_own_directory (merge_of stack.now) dir.now ≡ false)
-            (λ directory. IsVisited stack.now dir.now directory)) }
+            (IsVisited stack.now dir.now)) }
     {
         // Each layer of a stack is one.
         let _layers = stack.ordinary();
-        let Some(mut directory) = Directory::root(alloc, stack)? else {
-            return Ok(None);
-        };
+        let mut directory = Directory::root(alloc, stack)?;
         for name in dir.names() {
-            let name = Name::copy_of(alloc, name)?;
-            let Some(child) = directory.child(alloc, stack, &name)? else {
+            let Some(below) = directory.child(alloc, stack, name)? else {
                 return Ok(None);
             };
-            directory = child;
+            directory = below;
         }
         Ok(Some(directory))
     }
 
     // The root.
-    fn root(alloc: Global, stack: &Stack) -> Result<Option<Directory>, AllocError>
+    fn root(alloc: Global, stack: &Stack) -> Result<Directory, AllocError>
         requires { 1 < length stack.now.layers }
-        ensures { IfOk result (λ found. MatchOption found
-            (shows_own_directory (merge_of stack.now) [] ≡ false)
-            (λ directory. IsVisited stack.now [] directory)) }
+        ensures { IfOk result (IsVisited stack.now []) }
     {
-        let natural = Some(Path::root(alloc));
-        Directory::of(alloc, stack, &Near::nowhere(), Path::root(alloc), natural)
+        // Each layer of a stack is one.
+        let _layers = stack.ordinary();
+        Ok(Directory {
+            path: Path::root(alloc),
+            upper: Stand::root(alloc, stack.sheet(0)),
+            lower: Some(Stand::root(alloc, stack.sheet(1))),
+            base: Base::root(alloc, stack)?,
+        })
     }
 
     // The directory `name` in this one, and `None` where they show none there.
     fn child(
-        &self,
+        self,
         alloc: Global,
         stack: &Stack,
-        name: &Name,
+        name: &str,
     ) -> Result<Option<Directory>, AllocError>
         requires several { 1 < length stack.now.layers }
-        requires visited { IsVisited stack.now self.now.path self.now }
+        requires visited { IsVisited stack.now self.path self }
+        requires name { IsTrue (is_name name.now) }
         ensures { IfOk result (λ found. MatchOption found
-            (shows_own_directory (merge_of stack.now) (child_path self.now.path name.now) ≡ false)
-            (λ directory. IsVisited stack.now (child_path self.now.path name.now) directory)) }
-    {
-        let path = self.path.child(alloc, name)?;
-        let natural = self.natural_place(alloc, name)?;
-        Directory::of(alloc, stack, &self.near, path, natural)
-    }
-
-    // The natural place of a name in it.
-    pub(crate) fn natural_place(
-        &self,
-        alloc: Global,
-        name: &Name,
-    ) -> Result<Option<Path>, AllocError>
-        ensures { IfOk result (λ place. place ≡ child_of self.now.near.base name.now) }
-    {
-        match &self.near.base {
-            Some(base) => Ok(Some(base.child(alloc, name)?)),
-            None => Ok(None),
-        }
-    }
-
-    // The directory at a path whose natural place this is, by what is kept of the directory above it, and `None` where
-    // they show none there.
-    fn of(
-        alloc: Global,
-        stack: &Stack,
-        above: &Near,
-        path: Path,
-        natural: Option<Path>,
-    ) -> Result<Option<Directory>, AllocError>
-        requires several { 1 < length stack.now.layers }
-        requires near { IsNear stack.now above.now }
-        requires natural { natural ≡ the_natural (merge_of stack.now) path }
-        ensures { IfOk result (λ found. MatchOption found
-            (shows_own_directory (merge_of stack.now) path ≡ false)
-            (λ directory. IsVisited stack.now path directory)) }
+            (shows_own_directory (merge_of stack.now) (child_path self.path name.now) ≡ false)
+            (IsVisited stack.now (child_path self.path name.now))) }
     {
         // Each layer of a stack is one.
         let _layers = stack.ordinary();
-        let upper = Walked::of(alloc, stack.sheet(0), &above.upper, &path)?;
-        let lower = above.lower_at(alloc, stack, &upper)?;
-        if !is_shown(&upper, &lower) {
+        let Directory {
+            path,
+            upper,
+            lower,
+            base,
+        } = self;
+        let entered = upper.enter(alloc, stack.sheet(0), name)?;
+        let lower = lower_below(alloc, stack, lower, &entered)?;
+        if !is_shown(&entered.stand, &lower.stand) {
             return Ok(None);
         }
-        let Some(Reached { place, view }) = shown_reach(alloc, stack, above, &lower)? else {
-            let base = base_without_reach(alloc, stack, above, natural)?;
-            let near = Near {
-                upper: Some(upper),
-                lower,
-                base,
-                view: None,
-            };
-            return Ok(Some(Directory {
-                path,
-                reach: None,
-                near,
-            }));
-        };
-        let reach = Some(place.copy(alloc)?);
-        let near = Near {
-            upper: Some(upper),
-            lower,
-            base: Some(place),
-            view: Some(view),
-        };
-        Ok(Some(Directory { path, reach, near }))
+        let base = base.below(alloc, stack, &path, &lower, name)?;
+        let mut path = path;
+        path.extend(&Names::one(name))?;
+        Ok(Some(Directory {
+            path,
+            upper: entered.stand,
+            lower: lower.stand,
+            base,
+        }))
     }
+}
 
-    // What the walks of the two layers tell at a glance of a name in it.
-    pub(crate) fn glance<'a>(&self, stack: &'a Stack, name: &Name) -> Glance<'a>
-        requires several { 1 < length stack.now.layers }
-        requires visited { IsVisited stack.now self.now.path self.now }
-        ensures { IsGlanceAt (merge_of stack.now) (child_path self.now.path name.now) result }
+impl Directory {
+    // Whether the walks of a name that neither layer has in it go on in the rest.
+    pub(crate) fn is_open(&self) -> bool
+        ensures { result ≡ is_some (onward_at self.now.lower) }
     {
-        // Each layer of a stack is one.
-        let _layers = stack.ordinary();
-        let Some(upper) = &self.near.upper else {
-            return Glance::Unsaid;
-        };
-        match upper.glance(stack.sheet(0), name) {
-            Glance::Plain(inode) => Glance::Plain(inode),
-            Glance::Passed => match &self.near.lower {
-                Some(lower) => lower.glance(stack.sheet(1), name),
-                None => Glance::Unsaid,
-            },
-            Glance::Unsaid => Glance::Unsaid,
+        match &self.lower {
+            Some(lower) => lower.onward().is_some(),
+            None => false,
         }
     }
 }
 
+impl<'a> Lower<'a> {
+    // The path by which the rest knows the directory, where both walks are open.
+    pub(crate) fn onward(&self) -> Option<&Path>
+        ensures { option_map (λ path. path.now) result ≡ onward_at self.now.stand }
+    {
+        match &self.stand {
+            Some(stand) => stand.onward(),
+            None => None,
+        }
+    }
+}
+
+// Where the walk in the lower layer stands with one more name, by where it stood and where that in the upper one does.
+fn lower_below<'a>(
+    alloc: Global,
+    stack: &'a Stack,
+    lower: Option<Stand>,
+    upper: &Entered<'a>,
+) -> Result<Lower<'a>, AllocError>
+    requires several { 1 < length stack.now.layers }
+    requires near { IsBelowNear (merge_of stack.now).lower lower upper.now }
+    ensures stand { IfOk result (λ below. IsBelow (merge_of stack.now).lower upper.now.stand.next below.stand) }
+    ensures beside { IfOk result (IsBesideBelow (onward_at lower)) }
+{
+    match (lower, upper.beside) {
+        (Some(lower), Some(name)) => {
+            let entered = lower.enter(alloc, stack.sheet(1), name)?;
+            Ok(Lower {
+                stand: Some(entered.stand),
+                beside: entered.beside,
+            })
+        }
+        _ => lower_at(alloc, stack, &upper.stand),
+    }
+}
+
+// The same by a walk from the root.
+fn lower_at<'a>(alloc: Global, stack: &Stack, upper: &Stand) -> Result<Lower<'a>, AllocError>
+    requires { 1 < length stack.now.layers }
+    ensures stand { IfOk result (λ below. IsBelow (merge_of stack.now).lower upper.now.next below.stand) }
+    ensures beside { IfOk result (λ below. below.beside ≡ None) }
+{
+    match upper.onward() {
+        Some(path) => Ok(Lower {
+            stand: Some(Stand::at(alloc, stack.sheet(1), path)?),
+            beside: None,
+        }),
+        None => Ok(Lower {
+            stand: None,
+            beside: None,
+        }),
+    }
+}
+
 // Whether the two layers show a directory where the walks of its path stand.
-fn is_shown(upper: &Walked, lower: &Option<Walked>) -> bool
-    ensures { result ≡ (is_inside upper.now.stand || is_inside_at lower.now) }
+fn is_shown(upper: &Stand, lower: &Option<Stand>) -> bool
+    ensures { result ≡ (is_some upper.now.row || is_inside_at lower.now) }
 {
     if upper.is_inside() {
         return true;
@@ -179,54 +185,4 @@ fn is_shown(upper: &Walked, lower: &Option<Walked>) -> bool
         Some(lower) => lower.is_inside(),
         None => false,
     }
-}
-
-// Where a shown directory goes on in the rest, by the walk of its path in the lower layer.
-fn shown_reach(
-    alloc: Global,
-    stack: &Stack,
-    above: &Near,
-    lower: &Option<Walked>,
-) -> Result<Option<Reached>, AllocError>
-    requires several { 1 < length stack.now.layers }
-    requires near { IsNear stack.now above.now }
-    ensures { IfOk result (λ found. MatchOption found
-        (reach_from (merge_of stack.now).rest (onward_at lower.now) ≡ None)
-        (λ reached. (reach_from (merge_of stack.now).rest (onward_at lower.now) ≡ Some reached.place) × IsViewOf stack.now 2 reached.place reached.view)) }
-{
-    let Some(next) = onward_of(lower) else {
-        return Ok(None);
-    };
-    let Some(view) = above.view_at(alloc, stack, next)? else {
-        return Ok(None);
-    };
-    let place = next.copy(alloc)?;
-    Ok(Some(Reached { place, view }))
-}
-
-// The path by which the rest knows a directory, where both walks are open.
-fn onward_of(lower: &Option<Walked>) -> Option<&Path>
-    ensures { option_map (λ path. path.now) result ≡ onward_at lower.now }
-{
-    match lower {
-        Some(lower) => lower.onward(),
-        None => None,
-    }
-}
-
-// The base of a shown directory that doesn't go on in the rest: its natural place, unless it hides a directory there.
-fn base_without_reach(
-    alloc: Global,
-    stack: &Stack,
-    above: &Near,
-    natural: Option<Path>,
-) -> Result<Option<Path>, AllocError>
-    requires several { 1 < length stack.now.layers }
-    requires near { IsNear stack.now above.now }
-    ensures { IfOk result (λ base. base ≡ (if directory_test (merge_of stack.now).rest natural then None else natural)) }
-{
-    if shows_directory_at(alloc, stack, above, &natural)? {
-        return Ok(None);
-    }
-    Ok(natural)
 }

@@ -1,18 +1,20 @@
-ghost use Rattle.std.specs.Prelude.{◌≡◌, ◌<◌, IfOk, IfSome, string_bytes, length};
-ghost use Rattle.ovl_names.specs.Paths.{child_path, path_text as text_of_path};
+ghost use Rattle.std.specs.Prelude.{◌≡◌, ◌<◌, Option, Some, None, true, IfOk, IfSome, IsTrue, string_bytes, length};
+ghost use Rattle.std.specs.Option.{option_map};
+ghost use Rattle.ovl_names.specs.Names.{is_name};
+ghost use Rattle.ovl_names.specs.Paths.{PathNames, child_path, path_text as text_of_path};
+ghost use Rattle.ovl_inode.specs.Marks.{mark_of as the_mark, is_directory as directory_test};
 ghost use Rattle.ovl_lookup.specs.Merged.{look as the_look};
 ghost use Rattle.ovl_lookup.specs.DirViews.{IsViewOf};
-ghost use Rattle.ovl_merge.specs.Places.{merge_of};
+ghost use Rattle.ovl_merge.specs.Places.{merge_of, reach as the_reach};
 ghost use Rattle.ovl_merge.specs.MergeDown.{with_value as the_valued, redirected_from, with_contents as the_filled, new_whiteout as the_whiteout, merged_directory as the_directory, merged_metacopy as the_metacopy, kept_place as the_kept, has_data_alone as data_alone_test, merged_inode as the_inode, merged_entry};
-ghost use Rattle.ovl_merge.specs.Reckoned.{IsPlace, IsVisited};
+ghost use Rattle.ovl_merge.specs.Reckoned.{IsVisited, name_directly_in, onward_at, reached_in};
+ghost use Rattle.ovl_merge.specs.Passages.{IsPassage, IsOwn, first_in, place_from};
 
+use crate::bases::Base;
 use crate::directories::Directory;
-use crate::passages::is_metacopy;
-use crate::places::Place;
-use crate::rest::{name_in, shows_at};
-use crate::walked::Glance;
+use crate::passages::{Passage, Place, is_meta};
 use ovl_inode::{Attrs, Inode, Kind, is_directory, overlay, visible};
-use ovl_lookup::{DirView, Look, Stack};
+use ovl_lookup::{DirView, Found, Look, Stack};
 use ovl_names::{Name, Path};
 use std::alloc::{AllocError, Global};
 
@@ -30,38 +32,37 @@ pub(crate) fn inode_in(
     ensures inode { IfOk result (λ found. found ≡ merged_entry (merge_of stack.now) (child_path above.now.path name.now)) }
     ensures whole { IfSome whole.new (IsViewOf stack.now 0 above.now.path) }
 {
-    match above.glance(stack, name) {
-        Glance::Plain(inode) => Ok(Some(visible(alloc, inode)?)),
-        Glance::Passed => Ok(None),
-        Glance::Unsaid => inode_at(alloc, stack, whole, above, name),
+    let passage = Passage::of(alloc, stack, above, name.as_str())?;
+    match passage.first() {
+        Some(found) => {
+            let inode = merged_inode(alloc, stack, whole, above, name, &passage, found)?;
+            Ok(Some(inode))
+        }
+        None => Ok(unfound(alloc, stack, above, name, &passage)),
     }
 }
 
-// The same, by the place of the name.
-fn inode_at(
+// The same where the two layers show nothing: a whiteout, if they hide what the rest shows there.
+fn unfound(
     alloc: Global,
     stack: &Stack,
-    whole: &mut Option<DirView>,
     above: &Directory,
     name: &Name,
-) -> Result<Option<Inode>, AllocError>
+    passage: &Passage<'_>,
+) -> Option<Inode>
     requires several { 1 < length stack.now.layers }
-    requires whole { IfSome whole.old (IsViewOf stack.now 0 above.now.path) }
     requires above { IsVisited stack.now above.now.path above.now }
-    ensures inode { IfOk result (λ found. found ≡ merged_entry (merge_of stack.now) (child_path above.now.path name.now)) }
-    ensures whole { IfSome whole.new (IsViewOf stack.now 0 above.now.path) }
+    requires passage { IsPassage (merge_of stack.now) (child_path above.now.path name.now) (onward_at above.now.lower) passage.now }
+    requires none { first_in passage.now ≡ None }
+    ensures { result ≡ merged_entry (merge_of stack.now) (child_path above.now.path name.now) }
 {
-    let place = Place::within(alloc, stack, above, name)?;
-    if let Some(inode) = &place.first {
-        return Ok(Some(merged_inode(alloc, stack, whole, above, name, &place, inode)?));
+    if passage.lower.rest.is_some() {
+        return None;
     }
-    if !place.hidden {
-        return Ok(None);
+    if !above.base.shows(stack, &above.path, name) {
+        return None;
     }
-    if !shows_at(alloc, stack, &above.near, &place.natural)? {
-        return Ok(None);
-    }
-    Ok(Some(new_whiteout(alloc)))
+    Some(new_whiteout(alloc))
 }
 
 // A whiteout as a merge writes it. overlayfs.rst: "whiteouts and opaque directories".
@@ -79,57 +80,62 @@ fn new_whiteout(alloc: Global) -> Inode
     }
 }
 
-// The new inode of what the two layers show at a name in the directory `above`.
+// The new inode of what the two layers show first at a name in the directory.
 fn merged_inode(
     alloc: Global,
     stack: &Stack,
     whole: &mut Option<DirView>,
     above: &Directory,
     name: &Name,
-    place: &Place,
-    inode: &Inode,
+    passage: &Passage<'_>,
+    found: &Found<'_>,
 ) -> Result<Inode, AllocError>
-    requires several { 1 < length stack.now.layers }
     requires whole { IfSome whole.old (IsViewOf stack.now 0 above.now.path) }
+    requires several { 1 < length stack.now.layers }
     requires above { IsVisited stack.now above.now.path above.now }
-    requires path { place.now.path ≡ child_path above.now.path name.now }
-    requires is { IsPlace (merge_of stack.now) place.now }
-    ensures inode { IfOk result (λ new. new ≡ the_inode (merge_of stack.now) place.now.path inode.now) }
+    requires passage { IsPassage (merge_of stack.now) (child_path above.now.path name.now) (onward_at above.now.lower) passage.now }
+    requires first { Some found.now.inode.now ≡ first_in passage.now }
+    requires marked { found.now.mark.now ≡ the_mark found.now.inode.now }
+    ensures inode { IfOk result (λ new. new ≡ the_inode (merge_of stack.now) (child_path above.now.path name.now) found.now.inode.now) }
     ensures whole { IfSome whole.new (IsViewOf stack.now 0 above.now.path) }
 {
-    if is_directory(inode) {
-        return merged_directory(alloc, stack, above, name, place, inode);
+    if is_directory(found.inode) {
+        return merged_directory(alloc, stack, above, name, passage, found);
     }
-    if is_metacopy(alloc, inode)? {
-        return merged_metacopy(alloc, stack, whole, above, name, place, inode);
+    if is_meta(found.mark) {
+        return merged_metacopy(alloc, stack, whole, above, name, passage, found);
     }
-    visible(alloc, inode)
+    visible(alloc, found.inode)
 }
 
 // The new inode of a directory: it goes on at its reach, or hides what the rest has. overlayfs.rst: "renaming
 // directories", "whiteouts and opaque directories".
 fn merged_directory(
     alloc: Global,
-    _stack: &Stack,
+    stack: &Stack,
     above: &Directory,
     name: &Name,
-    place: &Place,
-    inode: &Inode,
+    passage: &Passage<'_>,
+    found: &Found<'_>,
 ) -> Result<Inode, AllocError>
-    requires above { IsVisited _stack.now above.now.path above.now }
-    requires path { place.now.path ≡ child_path above.now.path name.now }
-    requires is { IsPlace (merge_of _stack.now) place.now }
-    ensures { IfOk result (λ new. new ≡ the_directory (merge_of _stack.now) place.now.path inode.now place.now.reach) }
+    requires several { 1 < length stack.now.layers }
+    requires above { IsVisited stack.now above.now.path above.now }
+    requires passage { IsPassage (merge_of stack.now) (child_path above.now.path name.now) (onward_at above.now.lower) passage.now }
+    requires first { Some found.now.inode.now ≡ first_in passage.now }
+    requires marked { found.now.mark.now ≡ the_mark found.now.inode.now }
+    requires directory { directory_test found.now.inode.now ≡ true }
+    ensures { IfOk result (λ new. new ≡ the_directory (merge_of stack.now) (child_path above.now.path name.now) found.now.inode.now
+        (the_reach (merge_of stack.now) (child_path above.now.path name.now))) }
 {
-    let shown = visible(alloc, inode)?;
-    match &place.reach {
-        Some(reach) => redirected(alloc, above, name, shown, reach),
-        None => if place.opaque {
-            with_value(shown, overlay::OPAQUE, b"y")
-        } else {
-            Ok(shown)
-        },
+    let shown = visible(alloc, found.inode)?;
+    if let Some(place) = passage.reach(alloc, stack, above, name, found)? {
+        return redirected(alloc, stack, above, name, shown, place);
     }
+    let hidden = above.base.look(alloc, stack, &above.path, name.as_str())?;
+    if hidden.is_shown_directory() {
+        return with_value(shown, overlay::OPAQUE, b"y");
+    }
+    Ok(shown)
 }
 
 // The new inode of a metacopy file: it stays one where it goes on at its reach, and has its contents else.
@@ -140,35 +146,32 @@ fn merged_metacopy(
     whole: &mut Option<DirView>,
     above: &Directory,
     name: &Name,
-    place: &Place,
-    inode: &Inode,
+    passage: &Passage<'_>,
+    found: &Found<'_>,
 ) -> Result<Inode, AllocError>
-    requires several { 1 < length stack.now.layers }
     requires whole { IfSome whole.old (IsViewOf stack.now 0 above.now.path) }
+    requires several { 1 < length stack.now.layers }
     requires above { IsVisited stack.now above.now.path above.now }
-    requires path { place.now.path ≡ child_path above.now.path name.now }
-    requires is { IsPlace (merge_of stack.now) place.now }
-    ensures inode { IfOk result (λ new. new ≡ the_metacopy (merge_of stack.now) place.now.path inode.now place.now.reach) }
+    requires passage { IsPassage (merge_of stack.now) (child_path above.now.path name.now) (onward_at above.now.lower) passage.now }
+    requires first { Some found.now.inode.now ≡ first_in passage.now }
+    requires marked { found.now.mark.now ≡ the_mark found.now.inode.now }
+    ensures inode { IfOk result (λ new. new ≡ the_metacopy (merge_of stack.now) (child_path above.now.path name.now) found.now.inode.now
+        (the_reach (merge_of stack.now) (child_path above.now.path name.now))) }
     ensures whole { IfSome whole.new (IsViewOf stack.now 0 above.now.path) }
 {
-    let shown = visible(alloc, inode)?;
-    match &place.reach {
-        Some(reach) => {
-            let copied = with_value(shown, overlay::METACOPY, b"")?;
-            redirected(alloc, above, name, copied, reach)
-        }
-        None => match kept_place(alloc, stack, &place.path)? {
-            Some(kept) => {
-                let copied = with_value(shown, overlay::METACOPY, b"")?;
-                let text = path_text(alloc, &kept)?;
-                with_value(copied, overlay::REDIRECT, text.as_bytes())
-            }
-            None => {
-                let found = look_in_whole(alloc, stack, whole, above, name)?;
-                with_contents(alloc, shown, &found)
-            }
-        },
+    let shown = visible(alloc, found.inode)?;
+    if let Some(place) = passage.reach(alloc, stack, above, name, found)? {
+        let copied = with_value(shown, overlay::METACOPY, b"")?;
+        return redirected(alloc, stack, above, name, copied, place);
     }
+    let path = above.path.child(alloc, name)?;
+    if let Some(kept) = kept_place(alloc, stack, &path)? {
+        let copied = with_value(shown, overlay::METACOPY, b"")?;
+        let text = path_text(alloc, &kept)?;
+        return with_value(copied, overlay::REDIRECT, text.as_bytes());
+    }
+    let contents = look_in_whole(alloc, stack, whole, above, name)?;
+    with_contents(alloc, shown, &contents)
 }
 
 // Where data-only layers have the data of a path, as the last of the metacopy files found there says, if the rest shows
@@ -224,25 +227,62 @@ fn look_in_whole(
     Ok(look)
 }
 
-// An entry `name` of a directory that goes on at `reach`: with no redirect where the reach of the
-// directory has it by this name, with one name where it has it by another, else with the whole path.
+// An entry `name` of a directory that goes on at a place: with no redirect where the reach of the directory has it by
+// this name, with one name where it has it by another, else with the whole path.
 fn redirected(
     alloc: Global,
+    stack: &Stack,
     above: &Directory,
     name: &Name,
     inode: Inode,
-    reach: &Path,
+    place: &Place<'_>,
 ) -> Result<Inode, AllocError>
-    ensures { IfOk result (λ new. new ≡ redirected_from above.now.reach name.now inode reach.now) }
+    requires several { 1 < length stack.now.layers }
+    requires above { IsVisited stack.now above.now.path above.now }
+    requires place { place_from (onward_at above.now.lower) place.now ≡ the_reach (merge_of stack.now) (child_path above.now.path name.now) }
+    ensures { IfOk result (λ new. (path : PathNames) → the_reach (merge_of stack.now) (child_path above.now.path name.now) ≡ Some path
+        → new ≡ redirected_from (the_reach (merge_of stack.now) above.now.path) name.now inode path) }
 {
-    if let Some(beside) = name_in(alloc, &above.reach, reach)? {
-        if beside == *name {
-            return Ok(inode);
-        }
-        return with_value(inode, overlay::REDIRECT, beside.as_str().as_bytes());
+    // Each layer of a stack is one.
+    let _layers = stack.ordinary();
+    match place {
+        Place::Beside(own) => renamed(inode, name, own),
+        Place::At(path) => match name_in(&above.base, path) {
+            Some(own) => renamed(inode, name, own),
+            None => {
+                let text = path_text(alloc, path)?;
+                with_value(inode, overlay::REDIRECT, text.as_bytes())
+            }
+        },
     }
-    let text = path_text(alloc, reach)?;
-    with_value(inode, overlay::REDIRECT, text.as_bytes())
+}
+
+// The name by which a path lies directly in the directory of the rest in which one goes on, if it does.
+fn name_in<'a>(base: &Base, path: &'a Path) -> Option<&'a str>
+    ensures { option_map (λ name. name.now) result ≡ name_directly_in (reached_in base.now) path.now }
+{
+    let Base::Reached(view) = base else {
+        return None;
+    };
+    match path.names().split_last() {
+        Some((last, above)) => if above == view.path().names() {
+            Some(last)
+        } else {
+            None
+        },
+        None => None,
+    }
+}
+
+// The inode that goes on by the name `own` in the directory in which that above goes on.
+fn renamed(inode: Inode, name: &Name, own: &str) -> Result<Inode, AllocError>
+    ensures { IfOk result (λ new. (above : Option PathNames) (path : PathNames) → Some own.now ≡ name_directly_in above path
+        → new ≡ redirected_from above name.now inode path) }
+{
+    if own == name.as_str() {
+        return Ok(inode);
+    }
+    with_value(inode, overlay::REDIRECT, own.as_bytes())
 }
 
 // The inode with this value of an attribute of the overlay's own.

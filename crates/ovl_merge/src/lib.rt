@@ -1,17 +1,15 @@
 //! A stack's topmost layer put into the next, as work in pieces.
 #![tactic(auto)]
 
+mod bases;
 mod candidates;
 mod directories;
 mod entries;
 mod faults;
 mod finish;
 pub mod laws;
-mod near;
 mod passages;
-mod places;
-mod rest;
-mod walked;
+mod stands;
 mod works;
 
 pub use faults::MergeFault;

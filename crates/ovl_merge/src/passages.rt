@@ -1,176 +1,298 @@
-ghost use Rattle.std.specs.Prelude.{◌≡◌, ◌<◌, length, IfOk};
-ghost use Rattle.std.specs.Option.{option_map};
-ghost use Rattle.ovl_inode.specs.Marks.{is_directory as directory_test, is_metacopy as metacopy_test};
-ghost use Rattle.ovl_merge.specs.Places.{merge_of, is_hidden as hidden_test, is_nothing_or, passes, is_shown_regular as regular_look, goes_on_at, reach as the_reach};
-ghost use Rattle.ovl_merge.specs.Reckoned.{IsNear, IsPassage, first_in, next_of};
+ghost use Rattle.std.specs.Prelude.{◌≡◌, ◌≢◌, ◌<◌, Option, None, Some, length, IfOk, IfSome, IsTrue};
+ghost use Rattle.std.specs.Option.{option_map, option_and_then};
+ghost use Rattle.ovl_names.specs.Names.{is_name};
+ghost use Rattle.ovl_names.specs.Paths.{PathNames, child_path};
+ghost use Rattle.ovl_inode.specs.Marks.{mark_of as the_mark, is_directory as directory_test, is_metacopy as metacopy_test, is_metacopy_mark};
+ghost use Rattle.ovl_manifest.specs.Layers.{entry_at};
+ghost use Rattle.ovl_lookup.specs.Merged.{look as the_look};
+ghost use Rattle.ovl_merge.specs.Places.{merge_of, is_nothing_or, is_shown_regular as regular_look, reach as the_reach, goes_on_at};
+ghost use Rattle.ovl_merge.specs.Reckoned.{IsVisited, onward_at};
+ghost use Rattle.ovl_merge.specs.Stands.{IsNamed, name_on, onward_on, onward_to};
+ghost use Rattle.ovl_merge.specs.Passages.{IsPassage, IsPassed, IsMarked, IsPlaced, IsOwn, first_in, told_in, place_from, rest_from};
 
-use crate::near::Near;
-use crate::rest::look_in_rest;
-use crate::walked::walk_near;
-use ovl_inode::{Inode, Kind, Mark, is_directory, mark_of};
-use ovl_lookup::{Look, Stack, Step};
-use ovl_names::Path;
+use crate::directories::Directory;
+use crate::stands::{Onward, Passing, Stand};
+use ovl_inode::{Inode, Kind, Mark, is_directory};
+use ovl_lookup::{Found, Look, Stack, Step, walk};
+use ovl_manifest::Sheet;
+use ovl_names::{Name, Path};
 use std::alloc::{AllocError, Global};
 
-// The walks of a path: that in the upper layer, and where it is open that in the lower one.
+// The walks of a name in a directory.
 #[derive(Drop)]
-pub(crate) struct Passage {
-    pub(crate) upper: Step,
-    pub(crate) lower: Option<Step>,
+pub(crate) struct Passage<'a> {
+    // What that in the upper layer finds.
+    pub(crate) upper: Option<Found<'a>>,
+    // How that in the lower one ends, where it goes on there.
+    pub(crate) lower: Passed<'a>,
 }
 
-impl Passage {
-    // The walks of a path in the two topmost layers of a stack.
+// How a walk in the lower layer ends.
+#[derive(Drop)]
+pub(crate) struct Passed<'a> {
+    pub(crate) found: Option<Found<'a>>,
+    // Where it goes on in the rest, which is what lies below the two layers.
+    pub(crate) rest: Option<Place<'a>>,
+}
+
+// A place in the rest.
+#[derive(Drop)]
+pub(crate) enum Place<'a> {
+    // By this name in the directory as which the rest knows the one above.
+    Beside(&'a str),
+    // By its path from the root.
+    At(Path),
+}
+
+impl<'a> Passage<'a> {
+    // The walks of a name in the directory.
     pub(crate) fn of(
         alloc: Global,
-        stack: &Stack,
-        near: &Near,
-        path: &Path,
-    ) -> Result<Passage, AllocError>
+        stack: &'a Stack,
+        above: &Directory,
+        name: &'a str,
+    ) -> Result<Passage<'a>, AllocError>
         requires several { 1 < length stack.now.layers }
-        requires near { IsNear stack.now near.now }
-        ensures { IfOk result (λ passage. IsPassage (merge_of stack.now) path.now passage) }
+        requires above { IsVisited stack.now above.now.path above.now }
+        requires name { IsTrue (is_name name.now) }
+        ensures { IfOk result (IsPassage (merge_of stack.now) (child_path above.now.path name.now) (onward_at above.now.lower)) }
     {
-        let upper = walk_near(alloc, stack.sheet(0), &near.upper, path)?;
-        if upper.closed {
-            return Ok(Passage { upper, lower: None });
-        }
-        let lower = walk_near(alloc, stack.sheet(1), &near.lower, &upper.next)?;
+        let Passing { found, onward, .. } = above.upper.pass(stack.sheet(0), name);
+        let lower = Passed::of(alloc, stack, above, onward)?;
         Ok(Passage {
-            upper,
-            lower: Some(lower),
+            upper: found,
+            lower,
         })
     }
 
     // The first thing that the two layers have there.
-    pub(crate) fn first(&self) -> Option<&Inode>
-        ensures { option_map (λ inode. inode.now) result ≡ first_in self.now }
+    pub(crate) fn first(&self) -> Option<&Found<'a>>
+        ensures first { option_map (λ found. found.now.inode.now) result ≡ first_in self.now }
+        ensures marked { IsMarked self.now.upper → IsMarked self.now.lower.found
+            → IfSome result (λ found. found.now.mark.now ≡ the_mark found.now.inode.now) }
     {
-        match &self.upper.found {
-            Some(inode) => Some(inode),
-            None => match &self.lower {
-                Some(step) => step.found.as_ref(),
-                None => None,
-            },
+        match &self.upper {
+            Some(found) => Some(found),
+            None => self.lower.found.as_ref(),
         }
     }
 
-    // Where the path goes on in the rest, if both walks are open.
-    pub(crate) fn rest(&self) -> Option<&Path>
-        ensures { option_map (λ path. path.now) result ≡ next_of self.now.lower }
-    {
-        match &self.lower {
-            Some(step) => if step.closed { None } else { Some(&step.next) },
-            None => None,
-        }
-    }
-
-    // Whether the first thing that the two layers have there is a directory.
-    pub(crate) fn finds_directory(&self) -> bool
-        ensures { result ≡ passes directory_test (first_in self.now) }
-    {
-        match self.first() {
-            Some(inode) => is_directory(inode),
-            None => false,
-        }
-    }
-
-    // The first thing itself.
-    pub(crate) fn into_first(self) -> Option<Inode>
-        ensures { result ≡ first_in self }
-    {
-        let Passage { upper, lower } = self;
-        let Step { found, .. } = upper;
-        if found.is_some() {
-            return found;
-        }
-        match lower {
-            Some(Step { found, .. }) => found,
-            None => None,
-        }
-    }
-
-    // Whether the two layers show nothing there and hide what the rest has.
-    pub(crate) fn is_hidden(&self, _stack: &Stack, _path: &Path) -> bool
-        requires { IsPassage (merge_of _stack.now) _path.now self.now }
-        ensures { result ≡ hidden_test (merge_of _stack.now) _path.now }
-    {
-        self.first().is_none() && self.rest().is_none()
-    }
-
-    // Where the directory or metacopy file that is shown there goes on in the rest.
+    // Where this first thing goes on in the rest, if it is a directory or a metacopy file that does.
     pub(crate) fn reach(
         &self,
         alloc: Global,
         stack: &Stack,
-        near: &Near,
-        _path: &Path,
-    ) -> Result<Option<Path>, AllocError>
+        above: &Directory,
+        _name: &Name,
+        found: &Found<'_>,
+    ) -> Result<Option<&Place<'a>>, AllocError>
         requires several { 1 < length stack.now.layers }
-        requires near { IsNear stack.now near.now }
-        requires walked { IsPassage (merge_of stack.now) _path.now self.now }
-        ensures { IfOk result (λ reach. reach ≡ the_reach (merge_of stack.now) _path.now) }
+        requires above { IsVisited stack.now above.now.path above.now }
+        requires passage { IsPassage (merge_of stack.now) (child_path above.now.path _name.now) (onward_at above.now.lower) self.now }
+        requires first { Some found.now.inode.now ≡ first_in self.now }
+        requires marked { found.now.mark.now ≡ the_mark found.now.inode.now }
+        ensures reach { IfOk result (λ reach. option_and_then (λ place. place_from (onward_at above.now.lower) place.now) reach
+            ≡ the_reach (merge_of stack.now) (child_path above.now.path _name.now)) }
+        ensures own { IfOk result (λ reach. IfSome reach (λ place. IsOwn place.now)) }
+        ensures goes { IfOk result (λ reach. IfSome reach (λ _. the_reach (merge_of stack.now) (child_path above.now.path _name.now) ≢ None)) }
     {
-        let Some(inode) = self.first() else {
+        let Some(place) = &self.lower.rest else {
             return Ok(None);
         };
-        let Some(lower) = &self.lower else {
-            return Ok(None);
-        };
-        if lower.closed {
-            return Ok(None);
-        }
-        if goes_on(alloc, stack, near, inode, lower)? {
-            return Ok(Some(lower.next.copy(alloc)?));
+        if goes_on(alloc, stack, above, found, &self.lower.found, place)? {
+            return Ok(Some(place));
         }
         Ok(None)
     }
 }
 
-// Whether a thing goes on where this walk of the lower layer does.
+impl<'a> Passed<'a> {
+    // How the walk of a name in the directory ends, of which that in the upper layer goes on like this.
+    fn of(
+        alloc: Global,
+        stack: &'a Stack,
+        above: &Directory,
+        onward: Onward<'a>,
+    ) -> Result<Passed<'a>, AllocError>
+        requires several { 1 < length stack.now.layers }
+        requires above { IsVisited stack.now above.now.path above.now }
+        requires named { IsNamed onward }
+        ensures { IfOk result (IsPassed (merge_of stack.now).lower (onward_to above.now.upper.next onward.entry) (onward_at above.now.lower)) }
+    {
+        match onward {
+            Onward::Beside(own) => Passed::beside(alloc, stack, above, own),
+            Onward::At(origin) => Passed::at(alloc, stack.sheet(1), origin),
+            Onward::Nowhere => Ok(Passed::nothing()),
+        }
+    }
+
+    // That of a name in the directory in the lower layer.
+    fn beside(
+        alloc: Global,
+        stack: &'a Stack,
+        above: &Directory,
+        name: &'a str,
+    ) -> Result<Passed<'a>, AllocError>
+        requires several { 1 < length stack.now.layers }
+        requires above { IsVisited stack.now above.now.path above.now }
+        requires name { IsTrue (is_name name.now) }
+        ensures { IfOk result (IsPassed (merge_of stack.now).lower (name_on above.now.upper.next name.now) (onward_at above.now.lower)) }
+    {
+        let Some(lower) = &above.lower else {
+            return Ok(Passed::nothing());
+        };
+        let Passing { found, onward, .. } = lower.pass(stack.sheet(1), name);
+        let rest = place_of(alloc, lower, onward)?;
+        Ok(Passed { found, rest })
+    }
+
+    // That of a path from the root.
+    fn at(alloc: Global, sheet: &'a Sheet, path: &Path) -> Result<Passed<'a>, AllocError>
+        ensures { (above : Option PathNames) → IfOk result (IsPassed sheet.now (Some path.now) above) }
+    {
+        // Each sheet is a layer.
+        let _root = sheet.root_number();
+        let Step {
+            found,
+            next,
+            closed,
+        } = walk(alloc, sheet, path)?;
+        let found = found_at(sheet, path, &found);
+        let rest = rest_at(next, closed);
+        Ok(Passed { found, rest })
+    }
+
+    // That of none.
+    fn nothing() -> Passed<'a>
+        ensures found { result.found ≡ None }
+        ensures rest { result.rest ≡ None }
+    {
+        Passed {
+            found: None,
+            rest: None,
+        }
+    }
+}
+
+// What the layer has at a path where a walk has found this.
+fn found_at<'a>(sheet: &'a Sheet, path: &Path, found: &Option<Inode>) -> Option<Found<'a>>
+    requires { IfSome found.now (λ inode. entry_at sheet.now path.now ≡ Some inode) }
+    ensures found { option_map (λ found. found.inode.now) result ≡ found.now }
+    ensures marked { IfSome result (λ found. found.mark.now ≡ the_mark found.inode.now) }
+{
+    let Some(_found) = found else {
+        return None;
+    };
+    let Some(place) = sheet.place(path) else {
+        return None;
+    };
+    Some(Found {
+        inode: place.inode(),
+        mark: place.mark(),
+    })
+}
+
+// The place at which a walk goes on from the root, unless it is closed.
+fn rest_at<'a>(next: Path, closed: bool) -> Option<Place<'a>>
+    ensures rest { (above : Option PathNames) → rest_from above result ≡ onward_on next closed }
+    ensures placed { (above : Option PathNames) → IsPlaced above result }
+    ensures own { IfSome result IsOwn }
+{
+    if closed {
+        return None;
+    }
+    Some(Place::At(next))
+}
+
+// The place at which the walk of a name goes on, where that of its directory stands so, if it does.
+fn place_of<'a>(
+    alloc: Global,
+    stand: &Stand,
+    onward: Onward<'a>,
+) -> Result<Option<Place<'a>>, AllocError>
+    requires { IsNamed onward }
+    ensures rest { IfOk result (λ place. rest_from stand.now.next place ≡ onward_to stand.now.next onward.entry) }
+    ensures placed { IfOk result (IsPlaced stand.now.next) }
+    ensures own { IfOk result (λ place. IfSome place IsOwn) }
+{
+    match onward {
+        Onward::Beside(name) => match stand.onward() {
+            Some(_path) => Ok(Some(Place::Beside(name))),
+            None => Ok(None),
+        },
+        Onward::At(path) => Ok(Some(Place::At(path.copy(alloc)?))),
+        Onward::Nowhere => Ok(None),
+    }
+}
+
+impl<'a> Place<'a> {
+    // What the rest shows there.
+    fn look(&self, alloc: Global, stack: &Stack, above: &Directory) -> Result<Look, AllocError>
+        requires several { 1 < length stack.now.layers }
+        requires above { IsVisited stack.now above.now.path above.now }
+        requires own { IsOwn self.now }
+        ensures { IfOk result (λ look. (path : PathNames) → place_from (onward_at above.now.lower) self.now ≡ Some path
+            → look ≡ the_look (merge_of stack.now).rest path) }
+    {
+        // Each layer of a stack is one.
+        let _layers = stack.ordinary();
+        match self {
+            Place::Beside(name) => above.base.look(alloc, stack, &above.path, name),
+            Place::At(path) => stack.look(alloc, 2, path),
+        }
+    }
+}
+
+// Whether a thing goes on at a place of the rest, where the lower layer has this on the way.
 fn goes_on(
     alloc: Global,
     stack: &Stack,
-    near: &Near,
-    inode: &Inode,
-    lower: &Step,
+    above: &Directory,
+    found: &Found<'_>,
+    passed: &Option<Found<'_>>,
+    place: &Place<'_>,
 ) -> Result<bool, AllocError>
     requires several { 1 < length stack.now.layers }
-    requires near { IsNear stack.now near.now }
-    ensures { IfOk result (λ answer. answer ≡ goes_on_at (merge_of stack.now) inode.now lower.now.found lower.now.next) }
+    requires above { IsVisited stack.now above.now.path above.now }
+    requires marked { found.now.mark.now ≡ the_mark found.now.inode.now }
+    requires passed { IfSome passed.now (λ found. found.mark.now ≡ the_mark found.inode.now) }
+    requires own { IsOwn place.now }
+    ensures { IfOk result (λ answer. (path : PathNames) → place_from (onward_at above.now.lower) place.now ≡ Some path
+        → answer ≡ goes_on_at (merge_of stack.now) found.now.inode.now (told_in passed.now) path) }
 {
-    if is_directory(inode) {
-        if !is_nothing_or_directory(&lower.found) {
+    if is_directory(found.inode) {
+        if !is_nothing_or_directory(passed) {
             return Ok(false);
         }
-        let shown = look_in_rest(alloc, stack, near, &lower.next)?;
+        let shown = place.look(alloc, stack, above)?;
         return Ok(shown.is_shown_directory());
     }
-    if !is_metacopy(alloc, inode)? {
+    if !is_meta(found.mark) {
         return Ok(false);
     }
-    if !is_nothing_or_metacopy(alloc, &lower.found)? {
+    if !is_nothing_or_metacopy(passed) {
         return Ok(false);
     }
-    let shown = look_in_rest(alloc, stack, near, &lower.next)?;
+    let shown = place.look(alloc, stack, above)?;
     Ok(is_shown_regular(&shown))
 }
 
-fn is_nothing_or_directory(found: &Option<Inode>) -> bool
-    ensures { result ≡ is_nothing_or directory_test found.now }
+fn is_nothing_or_directory(found: &Option<Found<'_>>) -> bool
+    ensures { result ≡ is_nothing_or directory_test (told_in found.now) }
 {
     match found {
-        Some(inode) => is_directory(inode),
+        Some(found) => is_directory(found.inode),
         None => true,
     }
 }
 
-fn is_nothing_or_metacopy(alloc: Global, found: &Option<Inode>) -> Result<bool, AllocError>
-    ensures { IfOk result (λ answer. answer ≡ is_nothing_or metacopy_test found.now) }
+fn is_nothing_or_metacopy(found: &Option<Found<'_>>) -> bool
+    requires { IfSome found.now (λ found. found.mark.now ≡ the_mark found.inode.now) }
+    ensures { result ≡ is_nothing_or metacopy_test (told_in found.now) }
 {
     match found {
-        Some(inode) => is_metacopy(alloc, inode),
-        None => Ok(true),
+        Some(found) => is_meta(found.mark),
+        None => true,
     }
 }
 
@@ -184,9 +306,9 @@ fn is_shown_regular(look: &Look) -> bool
     }
 }
 
-// Whether the inode is a metacopy file whose `redirect` is absent or well formed.
-pub(crate) fn is_metacopy(alloc: Global, inode: &Inode) -> Result<bool, AllocError>
-    ensures { IfOk result (λ answer. answer ≡ metacopy_test inode.now) }
+// Whether this is the mark of a metacopy file whose `redirect` is absent or well formed.
+pub(crate) fn is_meta(mark: &Mark) -> bool
+    ensures { result ≡ is_metacopy_mark mark.now }
 {
-    Ok(matches!(mark_of(alloc, inode)?, Mark::Meta(_)))
+    matches!(mark, Mark::Meta(_))
 }

@@ -1,21 +1,48 @@
-use Rattle.std.proofs.Common.{◌∙◌, sym, ap}
+use Rattle.std.proofs.Common.{◌≡◌, ◌∙◌, Some, refl, sym, ap}
 use Rattle.std.proofs.lemmas.Result.{IfOk-weaker}
+use Rattle.ovl_names.specs.Paths.{child_path, path_text}
 use Rattle.ovl_inode.specs.Attributes.{redirect_name}
+use Rattle.ovl_merge.specs.Places.{merge_of, reach}
 use Rattle.ovl_merge.specs.MergeDown.{with_value}
-use Rattle.ovl_merge.proofs.VisitLemmas.{not-some, redirect-own, redirect-beside, redirect-far}
+use Rattle.ovl_merge.specs.Reckoned.{name_directly_in, onward_at}
+use Rattle.ovl_merge.specs.Passages.{place_from}
+use Rattle.ovl_merge.proofs.FinishLemmas.{merge-each}
+use Rattle.ovl_merge.proofs.LayerLemmas.{rest}
+use Rattle.ovl_merge.proofs.VisitLemmas.{redirect-far}
+use Rattle.ovl_merge.proofs.ShownLemmas.{visited-reach}
+use Rattle.ovl_merge.proofs.PassageLemmas.{reach-above}
+use Rattle.ovl_merge.proofs.EntryLemmas.{directly-child, base-reached}
 use Rattle.ovl_merge.proofs.entries.redirected.Goals as goal
 
-pub returns-then-eq : goal.returns-then-eq
-returns-then-eq c = redirect-own c.args.reach.now c.args.name.now c.args.inode c.args.above.now.reach c.in-Some.beside (sym c.in-Some.is ∙ c.in_ok-beside.ensures) (sym c.if-eq.ensures)
+pub returns-in-Beside : goal.returns-in-Beside
+returns-in-Beside c =
+    let stack = c.args.stack.now in
+    let m = merge_of stack in
+    let above = c.args.above.now in
+    let each = rest m (merge-each stack stack refl c.requires.several c.ordinary-layers.ensures.each) in
+    IfOk-weaker c.renamed.result _ _ (λ new h. λ path goes.
+    (let found = reach-above stack each above.path (onward_at above.lower) (visited-reach stack above.path above c.requires.above) (child_path above.path c.args.name.now) path goes c.in-Beside.own.now
+    (sym (ap (place_from (onward_at above.lower)) c.in-Beside.is) ∙ (c.requires.place ∙ goes)) in
+    h (reach m above.path) path (directly-child found.0 c.in-Beside.own.now ∙ (λ j. name_directly_in (sym found.1 j) (sym found.2 j))))) c.renamed.ensures
 
 pub returns-in-Some : goal.returns-in-Some
 returns-in-Some c =
-    IfOk-weaker c.with_value.result _ _ (λ new h. h
-    ∙ (ap (with_value c.args.inode redirect_name) (c.as_bytes.ensures.value ∙ c.as_str.ensures.value)
-    ∙ redirect-beside c.args.reach.now c.args.name.now c.args.inode c.args.above.now.reach c.in-Some.beside (sym c.in-Some.is ∙ c.in_ok-beside.ensures) (sym c.if-eq.ensures))) c.with_value.ensures
+    let stack = c.args.stack.now in
+    let m = merge_of stack in
+    let above = c.args.above.now in
+    IfOk-weaker c.renamed-in-Some.result _ _ (λ new h. λ path goes.
+    (let some : Some c.in-At.path ≡ Some path = sym (ap (place_from (onward_at above.lower)) c.in-At.is) ∙ (c.requires.place ∙ goes) in
+    let same : c.in-At.path ≡ path = cc in
+    h (reach m above.path) path (c.in-Some.ensures ∙ (λ j. name_directly_in (base-reached stack above.path above.base c.requires.above.base j) (same j))))) c.renamed-in-Some.ensures
 
-pub returns : goal.returns
-returns c =
-    IfOk-weaker c.with_value-2.result _ _ (λ new h. h
-    ∙ (ap (with_value c.args.inode redirect_name) (c.as_bytes-2.ensures.value ∙ c.in_ok-text.ensures)
-    ∙ redirect-far c.args.reach.now c.args.name.now c.args.inode c.args.above.now.reach (sym (not-some c.in_ok-beside.field-0 c.in_default.not-Some) ∙ c.in_ok-beside.ensures))) c.with_value-2.ensures
+pub returns-in_ok-text-in-None : goal.returns-in_ok-text-in-None
+returns-in_ok-text-in-None c =
+    let stack = c.args.stack.now in
+    let m = merge_of stack in
+    let above = c.args.above.now in
+    IfOk-weaker c.with_value.result _ _ (λ new h. λ path goes.
+    (let some : Some c.in-At.path ≡ Some path = sym (ap (place_from (onward_at above.lower)) c.in-At.is) ∙ (c.requires.place ∙ goes) in
+    let same : c.in-At.path ≡ path = cc in
+    h ∙ (ap (with_value c.args.inode redirect_name) (c.as_bytes.ensures.value ∙ (c.in_ok-text-in-None.ensures ∙ ap path_text same))
+    ∙ redirect-far path c.args.name.now c.args.inode (reach m above.path)
+    (c.in-None.ensures ∙ (λ j. name_directly_in (base-reached stack above.path above.base c.requires.above.base j) (same j)))))) c.with_value.ensures

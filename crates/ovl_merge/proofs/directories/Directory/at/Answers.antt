@@ -8,46 +8,45 @@ use Rattle.ovl_merge.specs.Places.{merge_of, shows_own_directory}
 use Rattle.ovl_merge.specs.Reckoned.{IsVisited}
 use Rattle.ovl_merge.proofs.FinishLemmas.{merge-each}
 use Rattle.ovl_merge.proofs.LayerLemmas.{upper, lower}
-use Rattle.ovl_merge.proofs.VisitLemmas.{unshown-under, unshown-from}
+use Rattle.ovl_merge.proofs.VisitLemmas.{unshown-from}
 use Rattle.ovl_merge.proofs.directories.Directory.at.Goals as goal
+
+pub loop-name-init : goal.loop-name-init
+loop-name-init c =
+    let same : c.into_iter-name-iterator.result ≡ c.args.dir.now = c.into_iter-name-iterator.ensures.into_iter_gives ∙ c.names-name-items.ensures.value in
+    record {
+      visited = subst (λ (p : PathNames). IsVisited c.args.stack.now p c.in_ok-directory.directory) (sym c.in_ok-directory.ensures.path) c.in_ok-directory.ensures;
+      there = ap (λ (p : PathNames). p ++ c.into_iter-name-iterator.result) c.in_ok-directory.ensures.path ∙ same;
+      names = ap has_names same ∙ c.names-name-items.ensures.names;
+    }
 
 pub returns-in_default : goal.returns-in_default
 returns-in_default c =
     let stack = c.args.stack.now in
     let m = merge_of stack in
     let each = merge-each stack stack refl c.requires c.ordinary-layers.ensures.each in
-    unshown-under m (upper m each) (lower m each) [] c.args.dir.now
-    (subst (λ (found : Option Directory). MatchOption found (shows_own_directory m [] ≡ false) (λ directory. IsVisited stack [] directory)) c.in_default.is c.in_ok-directory.ensures)
-
-pub returns-in_default-2 : goal.returns-in_default-2
-returns-in_default-2 c =
-    let stack = c.args.stack.now in
-    let m = merge_of stack in
-    let each = merge-each stack stack refl c.requires c.ordinary-layers.ensures.each in
     let above : PathNames = c.loop-name.directory.path in
-    let name : PathName = c.in-Some-name.name.now in
+    let name : PathName = c.in-Some.name.now in
     let rest : PathNames = c.next.new.self in
-    let whole : above ++ name ∷ rest ≡ c.args.dir.now = sym (ap (λ (left : PathNames). above ++ left) c.in-Some-name.ensures.steps) ∙ c.loop-name.invariant.there in
-    let below : PathNames = child_path above c.in_ok-name.name in
-    let none : shows_own_directory m below ≡ false = subst (λ (found : Option Directory). MatchOption found (shows_own_directory m below ≡ false) (λ directory. IsVisited stack below directory)) c.in_default-2.is c.in_ok-child.ensures in
-    ap (shows_own_directory m) (sym whole)
-    ∙ unshown-from m (upper m each) (lower m each) above name rest (ap (λ (own : PathName). shows_own_directory m (child_path above own)) (sym c.in_ok-name.ensures) ∙ none)
+    let whole : above ++ name ∷ rest ≡ c.args.dir.now = sym (ap (λ (left : PathNames). above ++ left) c.in-Some.ensures.steps) ∙ c.loop-name.invariant.there in
+    let below : PathNames = child_path above name in
+    let none : shows_own_directory m below ≡ false = subst (λ (found : Option Directory). MatchOption found (shows_own_directory m below ≡ false) (IsVisited stack below)) c.in_default.is c.in_ok-below.ensures in
+    ap (shows_own_directory m) (sym whole) ∙ unshown-from m (upper m each) (lower m each) above name rest none
 
 pub loop-name-preserved : goal.loop-name-preserved
 loop-name-preserved c =
     let stack = c.args.stack.now in
     let m = merge_of stack in
     let above : PathNames = c.loop-name.directory.path in
-    let name : PathName = c.in-Some-name.name.now in
+    let name : PathName = c.in-Some.name.now in
     let rest : PathNames = c.next.new.self in
-    let whole : above ++ name ∷ rest ≡ c.args.dir.now = sym (ap (λ (left : PathNames). above ++ left) c.in-Some-name.ensures.steps) ∙ c.loop-name.invariant.there in
-    let below : PathNames = child_path above c.in_ok-name.name in
-    let visited : IsVisited stack below c.in-Some-2.child = subst (λ (found : Option Directory). MatchOption found (shows_own_directory m below ≡ false) (λ directory. IsVisited stack below directory)) c.in-Some-2.is c.in_ok-child.ensures in
-    let there : c.in-Some-2.child.path ≡ child_path above name = visited.path ∙ ap (child_path above) c.in_ok-name.ensures in
+    let whole : above ++ name ∷ rest ≡ c.args.dir.now = sym (ap (λ (left : PathNames). above ++ left) c.in-Some.ensures.steps) ∙ c.loop-name.invariant.there in
+    let below : PathNames = child_path above name in
+    let on : IsVisited stack below c.in-Some-2.below = subst (λ (found : Option Directory). MatchOption found (shows_own_directory m below ≡ false) (IsVisited stack below)) c.in-Some-2.is c.in_ok-below.ensures in
     record {
-      visited = subst (λ (p : PathNames). IsVisited stack p c.in-Some-2.child) (sym visited.path) visited;
-      there = ap (λ (p : PathNames). p ++ rest) there ∙ (append_assoc above (name ∷ []) rest ∙ whole);
-      names = (both {a = is_name name} {b = has_names rest} (sym (ap has_names c.in-Some-name.ensures.steps) ∙ c.loop-name.invariant.names)).1;
+      visited = subst (λ (p : PathNames). IsVisited stack p c.in-Some-2.below) (sym on.path) on;
+      there = ap (λ (p : PathNames). p ++ rest) on.path ∙ (append_assoc above (name ∷ []) rest ∙ whole);
+      names = (both {a = is_name name} {b = has_names rest} (sym (ap has_names c.in-Some.ensures.steps) ∙ c.loop-name.invariant.names)).1;
     }
 
 pub returns : goal.returns

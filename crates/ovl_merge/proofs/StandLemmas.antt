@@ -1,0 +1,309 @@
+-- Where the walk of a directory stands in a layer, and how those of the names in it end.
+use Rattle.std.proofs.Common.{◌≡◌, ℕ, ◌<◌, Bool, true, false, cond, Option, Some, None, [], ◌∷◌, ◌++◌, length, refl, sym, ap, ◌∙◌, subst, append_assoc}
+use Rattle.std.specs.Prelude.{◌&&◌, is_some, is_none, slice_get, unwrap_or, IfSome, MatchOption}
+use Rattle.std.specs.Option.{option_map}
+use Rattle.ovl_names.specs.Names.{PathName}
+use Rattle.ovl_names.specs.Paths.{PathNames, child_path}
+use Rattle.ovl_inode.specs.declared.inodes.Inode.{Inode}
+use Rattle.ovl_inode.specs.declared.marks.Mark.{Mark}
+use Rattle.ovl_inode.specs.declared.marks.Mark.TheVariants.{Whiteout, DirOpaque, DirMoved, DirBad, DirPlain, Meta, MetaBad, Leaf}
+use Rattle.ovl_inode.specs.declared.marks.Redirect.TheVariants.{To, Beside as ByName}
+use Rattle.ovl_inode.specs.Marks.{mark_of, is_directory, is_regular, is_whiteout, has_opaque, has_metacopy, redirect_reading, directory_mark, metacopy_mark}
+use Rattle.ovl_manifest.specs.Layers.{Entries, IsLayer, entry_at, is_directory_at}
+use Rattle.ovl_manifest.specs.LayerTrees.{entries_under}
+use Rattle.ovl_manifest.specs.Sheets.{path_at}
+use Rattle.ovl_lookup.specs.declared.steps.Found.{Found}
+use Rattle.ovl_lookup.specs.declared.steps.OwnDirectory.{OwnDirectory}
+use Rattle.ovl_lookup.specs.declared.steps.Step.{Step}
+use Rattle.ovl_lookup.specs.Stacks.{StackView}
+use Rattle.ovl_lookup.specs.Walk.{walk, walk_beyond, walk_to_file, nothing_found}
+use Rattle.ovl_lookup.specs.Passes.{IsOwnDirectory, entered_path, entered_closed}
+use Rattle.ovl_lookup.proofs.LawsOfInodes.{is_directory_mark, mark-directory, directory-marked, directory-no_whiteout}
+use Rattle.ovl_lookup.proofs.LawsOfWalks.{directory_found, walk-whole, walk-child_end, file-is_found, file-found, found-file, whiteout-closes, own-missing, own-file, own-entered}
+use Rattle.ovl_merge.specs.declared.stands.Stand.{Stand}
+use Rattle.ovl_merge.specs.declared.stands.Passing.{Passing}
+use Rattle.ovl_merge.specs.Places.{merge_of, passes}
+use Rattle.ovl_merge.specs.Stands.{IsInside, IsPast, StandsAt, IsStand, IsOver, IsThing, IsPassing, onward_on, step_onward, past_onward, name_on, onward_by, onward_to}
+use Rattle.ovl_merge.specs.Reckoned.{IsBelow}
+use Rattle.ovl_merge.proofs.VisitLemmas.{lower-layer}
+
+-- the sheets of the two layers
+pub upper-sheet : (stack : StackView) (layer : Entries) → slice_get stack.layers 0 ≡ Some layer → (merge_of stack).upper ≡ layer
+upper-sheet stack layer at = ap (λ (o : Option Entries). unwrap_or o []) at
+
+pub lower-sheet : (stack : StackView) → 1 < length stack.layers → (layer : Entries) → slice_get stack.layers 1 ≡ Some layer → (merge_of stack).lower ≡ layer
+lower-sheet stack several layer at =
+    lower-layer stack several (λ own. own ≡ layer) (subst (λ (o : Option Entries). IfSome o (λ own. own ≡ layer)) (sym at) refl)
+
+-- ---- a stand
+
+pub over-stand : (layer : Entries) (path : PathNames) (stand : Stand) → IsStand layer path stand → IsOver layer stand
+over-stand layer path stand is = by stand.row is
+  where
+    by : (row : Option ℕ) → StandsAt layer path row stand.next → IfSome row (λ r. r < length layer)
+    by None is = tt
+    by (Some row) is = is.inside
+
+pub below-over : (layer : Entries) (onward : Option PathNames) (stand : Stand) → IsBelow layer onward (Some stand) → IsOver layer stand
+below-over layer None stand below = absurd below
+below-over layer (Some path) stand below = over-stand layer path stand below
+
+passes-same : (found : Option Inode) → directory_found found ≡ passes is_directory found
+passes-same None = refl
+passes-same (Some inode) = refl
+
+pub inside-found : (layer : Entries) (path : PathNames) → is_directory_at layer path ≡ true → passes is_directory (walk layer path).found ≡ true
+inside-found layer path is = ap (λ (s : Step). passes is_directory s.found) (walk-whole layer path is) ∙ (sym (passes-same (entry_at layer path)) ∙ is)
+
+pub stand-found : (layer : Entries) (path : PathNames) (row : Option ℕ) (next : Option PathNames) → StandsAt layer path row next → passes is_directory (walk layer path).found ≡ is_some row
+stand-found layer path (Some row) next is = inside-found layer path is.directory
+stand-found layer path None next is = is.no_directory
+
+-- what is no directory for its walk is none
+no-directory : (layer : Entries) (path : PathNames) → passes is_directory (walk layer path).found ≡ false → is_directory_at layer path ≡ false
+no-directory layer path none = by (is_directory_at layer path) refl
+  where
+    by : (b : Bool) → is_directory_at layer path ≡ b → is_directory_at layer path ≡ false
+    by false e = e
+    by true e = let bad : false ≡ true = sym none ∙ inside-found layer path e in cc
+
+-- the root's
+pub root-stands : (layer : Entries) → IsLayer layer → (row : ℕ) → row < length layer → path_at layer row ≡ [] → IsInside layer [] row (Some [])
+root-stands layer is row inside here =
+    record { inside = inside; here = here; directory = is.rooted; onward = sym (ap step_onward (walk-whole layer [] is.rooted)) }
+
+-- ---- marks
+
+marked-whiteout : (inode : Inode) → is_whiteout inode ≡ true → mark_of inode ≡ Whiteout
+marked-whiteout inode white =
+    ap (λ (b : Bool). cond b Whiteout (cond (is_directory inode && has_opaque inode) DirOpaque (cond (is_directory inode) (directory_mark (redirect_reading inode)) (cond (is_regular inode && has_metacopy inode) (metacopy_mark (redirect_reading inode)) Leaf)))) white
+
+module _ (next : PathNames) (name : PathName) where
+  -- where the walk of a directory goes on
+  directory-onward : (mark : Mark) → is_directory_mark mark ≡ true → (closed : Bool) → onward_by mark (onward_on next closed) name ≡ onward_on (entered_path mark next name) (entered_closed mark closed)
+  directory-onward DirPlain is true = refl
+  directory-onward DirPlain is false = refl
+  directory-onward (DirMoved (To origin)) is closed = refl
+  directory-onward (DirMoved (ByName own)) is true = refl
+  directory-onward (DirMoved (ByName own)) is false = refl
+  directory-onward DirOpaque is true = refl
+  directory-onward DirOpaque is false = refl
+  directory-onward DirBad is true = refl
+  directory-onward DirBad is false = refl
+  directory-onward Whiteout is closed = let bad : false ≡ true = is in cc
+  directory-onward (Meta redirect) is closed = let bad : false ≡ true = is in cc
+  directory-onward MetaBad is closed = let bad : false ≡ true = is in cc
+  directory-onward Leaf is closed = let bad : false ≡ true = is in cc
+
+  -- and that of a file
+  file-onward : (inode : Inode) (mark : Mark) → is_directory_mark mark ≡ false → (closed : Bool) → onward_by mark (onward_on next closed) name ≡ step_onward (walk_to_file inode mark next closed name)
+  file-onward inode (Meta None) is true = refl
+  file-onward inode (Meta None) is false = refl
+  file-onward inode (Meta (Some (To origin))) is closed = refl
+  file-onward inode (Meta (Some (ByName own))) is true = refl
+  file-onward inode (Meta (Some (ByName own))) is false = refl
+  file-onward inode MetaBad is closed = refl
+  file-onward inode Leaf is closed = refl
+  file-onward inode Whiteout is closed = refl
+  file-onward inode DirPlain is closed = let bad : true ≡ false = is in cc
+  file-onward inode (DirMoved redirect) is closed = let bad : true ≡ false = is in cc
+  file-onward inode DirOpaque is closed = let bad : true ≡ false = is in cc
+  file-onward inode DirBad is closed = let bad : true ≡ false = is in cc
+
+-- ---- the end of a name's walk
+
+abbrev IsRow : Entries → PathNames → Option ℕ → Type 0
+IsRow layer path row =
+    MatchOption row (passes is_directory (walk layer path).found ≡ false) (λ r. (r < length layer) × (path_at layer r ≡ path) × (is_directory_at layer path ≡ true))
+
+-- at a name that the layer doesn't have
+module _ (layer : Entries) (path : PathNames) (name : PathName) (next : Option PathNames) (passing : Passing) (found : passing.found ≡ None) (row : passing.row ≡ None) (onward : (n : Option PathNames) → onward_to n passing.onward ≡ name_on n name) where
+  ended : (walk layer (child_path path name)).found ≡ None → name_on next name ≡ step_onward (walk layer (child_path path name)) → IsPassing layer (child_path path name) next passing
+  ended none on = record {
+    found = ap (option_map (λ (f : Found). f.inode.now)) found ∙ sym none;
+    marked = subst (λ (o : Option Found). IfSome o (λ f. f.mark.now ≡ mark_of f.inode.now)) (sym found) tt;
+    row = subst (IsRow layer (child_path path name)) (sym row) (ap (passes is_directory) none);
+    onward = onward next ∙ on;
+  }
+
+  pub pass-past : IsPast layer path next → IsPassing layer (child_path path name) next passing
+  pass-past is = ended (is.nothing name []) (sym (is.below name []))
+
+  name-onward : (n : PathNames) (closed : Bool) → name_on (onward_on n closed) name ≡ onward_on (child_path n name) closed
+  name-onward n true = refl
+  name-onward n false = refl
+
+  pub pass-nothing : IsLayer layer → (directory : ℕ) → IsInside layer path directory next → entries_under (child_path (path_at layer directory) name) layer ≡ [] → IsPassing layer (child_path path name) next passing
+  pass-nothing layered directory is nothing =
+      let own : OwnDirectory PathNames = record { row = directory; next = (walk layer path).next; closed = (walk layer path).closed } in
+      let stands : IsOwnDirectory layer path own = record { inside = is.inside; here = is.here; directory = is.directory; next = refl; closed = refl } in
+      let step = own-missing layer path name layered own stands (ap (λ (p : PathNames). entries_under (child_path p name) layer) (sym is.here) ∙ nothing) in
+      ended (sym (ap (λ (s : Step). s.found) step))
+      (ap (λ (o : Option PathNames). name_on o name) is.onward ∙ (name-onward (walk layer path).next (walk layer path).closed ∙ ap step_onward step))
+
+-- at a thing in its row
+pub pass-thing : (layer : Entries) → IsLayer layer → (path : PathNames) (name : PathName) (directory : ℕ) (next : Option PathNames) → IsInside layer path directory next
+    → (row : ℕ) → row < length layer → path_at layer row ≡ child_path (path_at layer directory) name → (passing : Passing) → IsThing layer row name passing → IsPassing layer (child_path path name) next passing
+pass-thing layer layered path name directory next is row inside there passing thing = by (is_directory inode) refl
+  where
+    inode : Inode
+    inode = thing.inode
+
+    turned : PathNames
+    turned = (walk layer path).next
+
+    shut : Bool
+    shut = (walk layer path).closed
+
+    own : OwnDirectory PathNames
+    own = record { row = directory; next = turned; closed = shut }
+
+    stands : IsOwnDirectory layer path own
+    stands = record { inside = is.inside; here = is.here; directory = is.directory; next = refl; closed = refl }
+
+    place : path_at layer row ≡ child_path path name
+    place = there ∙ ap (λ (p : PathNames). child_path p name) is.here
+
+    here : entry_at layer (child_path path name) ≡ Some inode
+    here = ap (entry_at layer) (sym place) ∙ thing.here
+
+    known : onward_to next passing.onward ≡ onward_by (mark_of inode) (onward_on turned shut) name
+    known = thing.onward next ∙ ap (λ (o : Option PathNames). onward_by (mark_of inode) o name) is.onward
+
+    file : is_directory inode ≡ false → (step : Step) → step ≡ walk layer (child_path path name) → cond (is_whiteout inode) None (Some inode) ≡ step.found → passes is_directory step.found ≡ false → onward_by (mark_of inode) (onward_on turned shut) name ≡ step_onward step
+        → IsPassing layer (child_path path name) next passing
+    file d step same found none onward = record {
+      found = thing.found ∙ (found ∙ ap (λ (s : Step). s.found) same);
+      marked = thing.marked;
+      row = subst (IsRow layer (child_path path name)) (sym (thing.directory ∙ ap (λ (b : Bool). cond b (Some row) None) d)) (sym (ap (λ (s : Step). passes is_directory s.found) same) ∙ none);
+      onward = known ∙ (onward ∙ ap step_onward same);
+    }
+
+    by : (b : Bool) → is_directory inode ≡ b → IsPassing layer (child_path path name) next passing
+    by true d =
+        let step = own-entered layer path name layered own stands inode here d in
+        record {
+          found = thing.found ∙ (ap (λ (b : Bool). cond b None (Some inode)) (directory-no_whiteout inode d) ∙ ap (λ (s : Step). s.found) step);
+          marked = thing.marked;
+          row = subst (IsRow layer (child_path path name)) (sym (thing.directory ∙ ap (λ (b : Bool). cond b (Some row) None) d)) (inside, place, ap directory_found here ∙ d);
+          onward = known ∙ (directory-onward turned name (mark_of inode) (directory-marked inode d) shut ∙ ap step_onward step);
+        }
+    by false d = white (is_whiteout inode) refl
+      where
+        step : walk_beyond (Some inode) turned shut name [] ≡ walk layer (child_path path name)
+        step = own-file layer path name layered own stands inode here d
+
+        white : (b : Bool) → is_whiteout inode ≡ b → IsPassing layer (child_path path name) next passing
+        white true w =
+            file d (nothing_found (child_path turned name) true) (sym (whiteout-closes inode turned shut name w) ∙ step)
+            (ap (λ (b : Bool). cond b None (Some inode)) w) refl
+            (ap (λ (mark : Mark). onward_by mark (onward_on turned shut) name) (marked-whiteout inode w))
+        white false w =
+            file d (walk_to_file inode (mark_of inode) turned shut name) (sym (file-found inode turned shut name w) ∙ step)
+            (ap (λ (b : Bool). cond b None (Some inode)) w ∙ sym (found-file inode (mark_of inode) turned shut name))
+            (ap (passes is_directory) (found-file inode (mark_of inode) turned shut name) ∙ d)
+            (file-onward turned name inode (mark_of inode) (mark-directory inode w ∙ d) shut)
+
+-- ---- a stand with one more name
+
+-- past what the layer has
+module _ (layer : Entries) (layered : IsLayer layer) (path : PathNames) (own : PathName) where
+  joined : (name : PathName) (names : PathNames) → child_path path own ++ name ∷ names ≡ path ++ own ∷ name ∷ names
+  joined name names = append_assoc path (own ∷ []) (name ∷ names)
+
+  under-past : (next : Option PathNames) → IsPast layer path next → passes is_directory (walk layer (child_path path own)).found ≡ false → (below : Option PathNames) → below ≡ past_onward (walk layer (child_path path own)) → IsPast layer (child_path path own) below
+  under-past next is none below told = record {
+    no_directory = none;
+    onward = told;
+    nothing = λ name names. ap (λ (p : PathNames). (walk layer p).found) (joined name names) ∙ is.nothing own (name ∷ names);
+    below = λ name names. ap (λ (p : PathNames). step_onward (walk layer p)) (joined name names) ∙ (is.below own (name ∷ names) ∙ (further next name names ∙ sym (ap (option_map (λ (above : PathNames). above ++ name ∷ names)) on)));
+  }
+    where
+      on : below ≡ option_map (λ (above : PathNames). above ++ own ∷ []) next
+      on = told ∙ (ap (λ (o : Option Inode). cond (is_some o) None (step_onward (walk layer (child_path path own)))) (is.nothing own []) ∙ is.below own [])
+
+      further : (o : Option PathNames) (name : PathName) (names : PathNames) → option_map (λ (above : PathNames). above ++ own ∷ name ∷ names) o ≡ option_map (λ (above : PathNames). above ++ name ∷ names) (option_map (λ (above : PathNames). above ++ own ∷ []) o)
+      further None name names = refl
+      further (Some above) name names = ap (λ (p : PathNames). Some p) (sym (append_assoc above (own ∷ []) (name ∷ names)))
+
+  under-directory : (row : ℕ) (next : Option PathNames) → IsInside layer path row next → passes is_directory (walk layer (child_path path own)).found ≡ false → (below : Option PathNames) → below ≡ past_onward (walk layer (child_path path own)) → IsPast layer (child_path path own) below
+  under-directory row next is none below told = record {
+    no_directory = none;
+    onward = told;
+    nothing = λ name names. ap (λ (s : Step). s.found) (ends (entry_at layer (child_path path own)) refl name names) ∙ unfound (entry_at layer (child_path path own)) name names;
+    below = λ name names. ap step_onward (ends (entry_at layer (child_path path own)) refl name names) ∙ goes (entry_at layer (child_path path own)) refl name names;
+  }
+    where
+      turned : PathNames
+      turned = (walk layer path).next
+
+      shut : Bool
+      shut = (walk layer path).closed
+
+      file : directory_found (entry_at layer (child_path path own)) ≡ false
+      file = no-directory layer (child_path path own) none
+
+      ends : (found : Option Inode) → entry_at layer (child_path path own) ≡ found → (name : PathName) (names : PathNames) → walk layer (child_path path own ++ name ∷ names) ≡ walk_beyond found turned shut own (name ∷ names)
+      ends found here name names =
+          ap (walk layer) (joined name names)
+          ∙ walk-child_end layer path own layered found is.directory here (ap directory_found (sym here) ∙ file) (name ∷ names)
+
+      here-ends : (found : Option Inode) → entry_at layer (child_path path own) ≡ found → walk layer (child_path path own) ≡ walk_beyond found turned shut own []
+      here-ends found here = walk-child_end layer path own layered found is.directory here (ap directory_found (sym here) ∙ file) []
+
+      unfound : (found : Option Inode) (name : PathName) (names : PathNames) → (walk_beyond found turned shut own (name ∷ names)).found ≡ None
+      unfound None name names = refl
+      unfound (Some inode) name names = refl
+
+      goes : (found : Option Inode) → entry_at layer (child_path path own) ≡ found → (name : PathName) (names : PathNames) → step_onward (walk_beyond found turned shut own (name ∷ names)) ≡ option_map (λ (above : PathNames). above ++ name ∷ names) below
+      goes None here name names =
+          by shut ∙ sym (ap (option_map (λ (above : PathNames). above ++ name ∷ names)) (told ∙ ap past_onward (here-ends None here)))
+        where
+          by : (closed : Bool) → onward_on (turned ++ own ∷ name ∷ names) closed ≡ option_map (λ (above : PathNames). above ++ name ∷ names) (onward_on (turned ++ own ∷ []) closed)
+          by true = refl
+          by false = ap (λ (p : PathNames). Some p) (sym (append_assoc turned (own ∷ []) (name ∷ names)))
+      goes (Some inode) here name names = sym (ap (option_map (λ (above : PathNames). above ++ name ∷ names)) (told ∙ (ap past_onward (here-ends (Some inode) here) ∙ by (is_whiteout inode) refl)))
+        where
+          by : (b : Bool) → is_whiteout inode ≡ b → past_onward (walk_beyond (Some inode) turned shut own []) ≡ None
+          by true w = ap past_onward (whiteout-closes inode turned shut own w)
+          by false w = ap (λ (o : Option Inode). cond (is_some o) None (step_onward (walk_beyond (Some inode) turned shut own []))) (file-is_found inode turned shut own w)
+
+  enter-past : (row : Option ℕ) (next : Option PathNames) → StandsAt layer path row next → passes is_directory (walk layer (child_path path own)).found ≡ false → (below : Option PathNames) → below ≡ past_onward (walk layer (child_path path own)) → IsPast layer (child_path path own) below
+  enter-past None next is none below told = under-past next is none below told
+  enter-past (Some row) next is none below told = under-directory row next is none below told
+
+  module _ (row : Option ℕ) (next : Option PathNames) (is : StandsAt layer path row next) (passing : Passing) (passes-by : IsPassing layer (child_path path own) next passing) where
+    -- a file hides all under it
+    pub enter-file : (is_some passing.found && is_none passing.row) ≡ true → StandsAt layer (child_path path own) None None
+    enter-file file =
+        enter-past row next is (by passing.row passes-by.row file) None
+        (sym (ap (λ (b : Bool). cond b None (step_onward (walk layer (child_path path own)))) (sym (ap is_some passes-by.found) ∙ told passing.found file)))
+      where
+        by : (r : Option ℕ) → IsRow layer (child_path path own) r → (is_some passing.found && is_none r) ≡ true → passes is_directory (walk layer (child_path path own)).found ≡ false
+        by None none file = none
+        by (Some r) own-row file = let bad : false ≡ true = sym (never (is_some passing.found)) ∙ file in cc
+          where
+            never : (b : Bool) → (b && false) ≡ false
+            never true = refl
+            never false = refl
+
+        told : (o : Option Found) → (is_some o && is_none passing.row) ≡ true → is_some (option_map (λ (f : Found). f.inode.now) o) ≡ true
+        told None file = let bad : false ≡ true = file in cc
+        told (Some f) file = refl
+
+    -- what else is there, or nothing
+    pub enter-on : (is_some passing.found && is_none passing.row) ≡ false → (below : Option PathNames) → below ≡ onward_to next passing.onward → StandsAt layer (child_path path own) passing.row below
+    enter-on apart below on = by passing.row refl passes-by.row apart
+      where
+        nothing : (o : Option Found) → (is_some o && true) ≡ false → option_map (λ (f : Found). f.inode.now) o ≡ None
+        nothing None e = refl
+        nothing (Some f) e = let bad : true ≡ false = e in cc
+
+        by : (r : Option ℕ) → passing.row ≡ r → IsRow layer (child_path path own) r → (is_some passing.found && is_none r) ≡ false → StandsAt layer (child_path path own) passing.row below
+        by (Some r) there own-row apart =
+            subst (λ (o : Option ℕ). StandsAt layer (child_path path own) o below) (sym there)
+            (record { inside = own-row.0; here = own-row.1; directory = own-row.2; onward = on ∙ passes-by.onward })
+        by None there file apart =
+            subst (λ (o : Option ℕ). StandsAt layer (child_path path own) o below) (sym there)
+            (enter-past row next is file below
+            (on ∙ (passes-by.onward ∙ ap (λ (o : Option Inode). cond (is_some o) None (step_onward (walk layer (child_path path own)))) (sym (sym passes-by.found ∙ nothing passing.found apart)))))

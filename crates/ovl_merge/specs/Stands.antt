@@ -1,0 +1,117 @@
+-- Where the walks of a directory and of the names in it stand and end in a layer, as the program reckons it.
+use Rattle.std.specs.Prelude.{◌≡◌, ℕ, ◌<◌, Bool, true, false, Option, Some, None, ◌∷◌, ◌++◌, if◌then◌else◌, length, is_some, IfSome, MatchOption, ⊤}
+use Rattle.std.specs.Option.{option_map}
+use Rattle.ovl_names.specs.Names.{PathName, is_name}
+use Rattle.ovl_names.specs.Paths.{PathNames, child_path}
+use Rattle.ovl_inode.specs.declared.inodes.Inode.{Inode}
+use Rattle.ovl_inode.specs.declared.marks.Mark.{Mark}
+use Rattle.ovl_inode.specs.declared.marks.Mark.TheVariants.{DirMoved, DirPlain, Meta}
+use Rattle.ovl_inode.specs.declared.marks.Redirect.TheVariants.{To, Beside as ByName}
+use Rattle.ovl_inode.specs.Marks.{mark_of, is_directory, is_whiteout}
+use Rattle.ovl_manifest.specs.Layers.{Entries, entry_at, is_directory_at}
+use Rattle.ovl_manifest.specs.Sheets.{path_at}
+use Rattle.ovl_lookup.specs.declared.steps.Step.{Step}
+use Rattle.ovl_lookup.specs.Walk.{walk}
+use Rattle.ovl_merge.specs.declared.stands.Stand.{Stand}
+use Rattle.ovl_merge.specs.declared.stands.Entered.{Entered}
+use Rattle.ovl_merge.specs.declared.stands.Passing.{Passing}
+use Rattle.ovl_merge.specs.declared.stands.Onward.{Onward}
+use Rattle.ovl_merge.specs.declared.stands.Onward.TheVariants.{Beside, At, Nowhere}
+use Rattle.ovl_merge.specs.Places.{passes}
+
+-- ---- where a walk goes on
+
+-- at this path, unless it is closed
+abbrev pub onward_on : PathNames → Bool → Option PathNames
+onward_on next closed = if closed then None else Some next
+
+abbrev pub step_onward : Step → Option PathNames
+step_onward step = onward_on step.next step.closed
+
+-- a name in a directory that is known by a path, if it is
+abbrev pub name_on : Option PathNames → PathName → Option PathNames
+name_on next name = option_map (λ path. child_path path name) next
+
+-- by where the layer below knows the directory above
+abbrev pub onward_to : Option PathNames → Onward → Option PathNames
+onward_to next (Beside name) = name_on next name.now
+onward_to next (At path) = Some path.now
+onward_to next Nowhere = None
+
+-- a name by which it goes on is one
+abbrev pub IsNamed : Onward → Type 0
+IsNamed (Beside name) = is_name name.now ≡ true
+IsNamed (At path) = ⊤
+IsNamed Nowhere = ⊤
+
+-- at a thing of this mark and name
+abbrev pub onward_by : Mark → Option PathNames → PathName → Option PathNames
+onward_by (DirMoved (To origin)) next name = Some origin
+onward_by (Meta (Some (To origin))) next name = Some origin
+onward_by (DirMoved (ByName own)) next name = name_on next own
+onward_by (Meta (Some (ByName own))) next name = name_on next own
+onward_by DirPlain next name = name_on next name
+onward_by (Meta None) next name = name_on next name
+onward_by _ next name = None
+
+-- ---- where the walk of a directory's path stands
+
+-- in a directory of the layer
+pub record IsInside (layer : Entries) (path : PathNames) (row : ℕ) (next : Option PathNames) : Type 0 where
+  pub inside : row < length layer
+  pub here : path_at layer row ≡ path
+  pub directory : is_directory_at layer path ≡ true
+  pub onward : next ≡ step_onward (walk layer path)
+
+-- where a walk goes on past a path at which there is no directory: a thing hides all under it
+abbrev pub past_onward : Step → Option PathNames
+past_onward step = if is_some step.found then None else step_onward step
+
+-- past what the layer has: nothing is found at any path below, and the layers below know that by the same names below
+-- `next`
+pub record IsPast (layer : Entries) (path : PathNames) (next : Option PathNames) : Type 0 where
+  pub no_directory : passes is_directory (walk layer path).found ≡ false
+  pub onward : next ≡ past_onward (walk layer path)
+  pub nothing : (name : PathName) (names : PathNames) → (walk layer (path ++ name ∷ names)).found ≡ None
+  pub below : (name : PathName) (names : PathNames) → step_onward (walk layer (path ++ name ∷ names)) ≡ option_map (λ above. above ++ name ∷ names) next
+
+abbrev pub StandsAt : Entries → PathNames → Option ℕ → Option PathNames → Type 0
+StandsAt layer path (Some row) next = IsInside layer path row next
+StandsAt layer path None next = IsPast layer path next
+
+abbrev pub IsStand : Entries → PathNames → Stand → Type 0
+IsStand layer path stand = StandsAt layer path stand.row stand.next
+
+-- its row is one of the layer
+abbrev pub IsOver : Entries → Stand → Type 0
+IsOver layer stand = IfSome stand.row (λ row. row < length layer)
+
+-- the path with the names that are left is the whole, and the walk stands there
+pub record IsOnWay (layer : Entries) (whole left : PathNames) (stand : Stand) : Type 0 where
+  pub above : PathNames
+  pub there : above ++ left ≡ whole
+  pub stands : IsStand layer above stand
+
+-- by a name that is kept the layer below goes on in the directory as which it knows the one above
+abbrev pub IsBesideAfter : Option PathNames → Entered → Type 0
+IsBesideAfter before entered = IfSome entered.beside (λ name. (is_name name.now ≡ true) × (entered.stand.next ≡ name_on before name.now))
+
+-- ---- how the walk of a name in it ends
+
+-- what a layer has in a row, and where a walk goes on there by this name
+pub record IsThing (layer : Entries) (row : ℕ) (name : PathName) (passing : Passing) : Type 0 where
+  pub inode : Inode
+  pub here : entry_at layer (path_at layer row) ≡ Some inode
+  pub found : option_map (λ found. found.inode.now) passing.found ≡ (if is_whiteout inode then None else Some inode)
+  pub marked : IfSome passing.found (λ found. found.mark.now ≡ mark_of found.inode.now)
+  pub directory : passing.row ≡ (if is_directory inode then Some row else None)
+  pub onward : (next : Option PathNames) → onward_to next passing.onward ≡ onward_by (mark_of inode) next name
+  pub named : IsNamed passing.onward
+
+-- the walk of a path, by where the layer below knows the directory above
+pub record IsPassing (layer : Entries) (path : PathNames) (next : Option PathNames) (passing : Passing) : Type 0 where
+  pub found : option_map (λ found. found.inode.now) passing.found ≡ (walk layer path).found
+  pub marked : IfSome passing.found (λ found. found.mark.now ≡ mark_of found.inode.now)
+  pub row : MatchOption passing.row (passes is_directory (walk layer path).found ≡ false)
+      (λ row. (row < length layer) × (path_at layer row ≡ path) × (is_directory_at layer path ≡ true))
+  pub onward : onward_to next passing.onward ≡ step_onward (walk layer path)

@@ -1,0 +1,241 @@
+ghost use Rattle.std.specs.Prelude.{◌≡◌, ◌<◌, ◌&&◌, [], Option, None, Some, length, is_some, is_none, IfOk, IsTrue};
+ghost use Rattle.std.specs.Option.{option_map};
+ghost use Rattle.ovl_names.specs.Names.{is_name};
+ghost use Rattle.ovl_names.specs.Paths.{PathNames, child_path};
+ghost use Rattle.ovl_merge.specs.Stands.{IsOver, IsStand, IsThing, IsPassing, IsBesideAfter, IsNamed, name_on, onward_to, onward_by};
+
+use ovl_inode::{Mark, Redirect, is_directory};
+use ovl_lookup::Found;
+use ovl_manifest::Sheet;
+use ovl_names::{Names, Path};
+use std::alloc::{AllocError, Global};
+
+// Where the walk of a directory's path stands in a layer.
+#[derive(Drop)]
+pub(crate) struct Stand {
+    // The number of its row, if the layer has the directory; else nothing is found at any name in it.
+    row: Option<u32>,
+    // The path by which the layer below knows the directory, unless it is hidden there.
+    next: Option<Path>,
+}
+
+// Where it stands with one more name.
+#[derive(Drop)]
+pub(crate) struct Entered<'a> {
+    pub(crate) stand: Stand,
+    // The name by which the layer below goes on in the directory as which it knows the one above, if it does.
+    pub(crate) beside: Option<&'a str>,
+}
+
+// How the walk of a name in a directory ends in a layer, with nothing copied.
+#[derive(Drop)]
+pub(crate) struct Passing<'a> {
+    pub(crate) found: Option<Found<'a>>,
+    // The number of its row, if that is a directory.
+    row: Option<u32>,
+    pub(crate) onward: Onward<'a>,
+}
+
+// Where a walk goes on in the layer below.
+#[derive(Drop)]
+pub(crate) enum Onward<'a> {
+    // By this name in the directory as which that layer knows the one above.
+    Beside(&'a str),
+    // At this path from the root.
+    At(&'a Path),
+    // No further.
+    Nowhere,
+}
+
+impl Stand {
+    // That of the root.
+    pub(crate) fn root(alloc: Global, sheet: &Sheet) -> Stand
+        ensures stand { IsStand sheet.now [] result }
+        ensures next { result.next ≡ Some [] }
+    {
+        Stand {
+            row: Some(sheet.root_number()),
+            next: Some(Path::root(alloc)),
+        }
+    }
+
+    // That of a path.
+    pub(crate) fn at(alloc: Global, sheet: &Sheet, path: &Path) -> Result<Stand, AllocError>
+        ensures { IfOk result (IsStand sheet.now path.now) }
+    {
+        let mut stand = Stand::root(alloc, sheet);
+        for name in path.names() {
+            let entered = stand.enter(alloc, sheet, name)?;
+            stand = entered.stand;
+        }
+        Ok(stand)
+    }
+
+    // That of a name in the directory.
+    pub(crate) fn enter<'a>(
+        self,
+        alloc: Global,
+        sheet: &'a Sheet,
+        name: &'a str,
+    ) -> Result<Entered<'a>, AllocError>
+        requires over { IsOver sheet.now self }
+        requires name { IsTrue (is_name name.now) }
+        ensures stand { IfOk result (λ entered. (path : PathNames) → IsStand sheet.now path self
+            → IsStand sheet.now (child_path path name.now) entered.stand) }
+        ensures beside { IfOk result (IsBesideAfter self.next) }
+    {
+        // Each sheet is a layer.
+        let _root = sheet.root_number();
+        let passing = self.pass(sheet, name);
+        if passing.is_file() {
+            return Ok(Entered {
+                stand: Stand {
+                    row: None,
+                    next: None,
+                },
+                beside: None,
+            });
+        }
+        let Passing { row, onward, .. } = passing;
+        match onward {
+            Onward::Beside(own) => {
+                let next = child_of(self.next, own)?;
+                Ok(Entered {
+                    stand: Stand { row, next },
+                    beside: Some(own),
+                })
+            }
+            Onward::At(origin) => {
+                let next = Some(origin.copy(alloc)?);
+                Ok(Entered {
+                    stand: Stand { row, next },
+                    beside: None,
+                })
+            }
+            Onward::Nowhere => Ok(Entered {
+                stand: Stand { row, next: None },
+                beside: None,
+            }),
+        }
+    }
+
+    // Whether the layer has the directory.
+    pub(crate) fn is_inside(&self) -> bool
+        ensures { result ≡ is_some self.now.row }
+    {
+        self.row.is_some()
+    }
+
+    // The path by which the layer below knows the directory, unless it is hidden there.
+    pub(crate) fn onward(&self) -> Option<&Path>
+        ensures { option_map (λ path. path.now) result ≡ self.now.next }
+    {
+        self.next.as_ref()
+    }
+
+    // How the walk of a name in it ends.
+    pub(crate) fn pass<'a>(&self, sheet: &'a Sheet, name: &'a str) -> Passing<'a>
+        requires over { IsOver sheet.now self.now }
+        requires name { IsTrue (is_name name.now) }
+        ensures passes { (path : PathNames) → IsStand sheet.now path self.now → IsPassing sheet.now (child_path path name.now) self.now.next result }
+        ensures named { IsNamed result.onward }
+    {
+        // Each sheet is a layer.
+        let _root = sheet.root_number();
+        let Some(directory) = self.row else {
+            return nothing_at(name);
+        };
+        match sheet.child(directory, name) {
+            Some(row) => thing_at(sheet, row, name),
+            None => nothing_at(name),
+        }
+    }
+}
+
+impl Passing<'_> {
+    // Whether a file is found, which hides all that the layers below have under it.
+    fn is_file(&self) -> bool
+        ensures { result ≡ (is_some self.now.found && is_none self.now.row) }
+    {
+        self.found.is_some() && self.row.is_none()
+    }
+}
+
+// The path of the entry `name` in a directory, if there is one.
+fn child_of(dir: Option<Path>, name: &str) -> Result<Option<Path>, AllocError>
+    requires { IsTrue (is_name name.now) }
+    ensures { IfOk result (λ path. path ≡ name_on dir name.now) }
+{
+    let Some(path) = dir else {
+        return Ok(None);
+    };
+    let mut path = path;
+    path.extend(&Names::one(name))?;
+    Ok(Some(path))
+}
+
+// The walk's end at a name that the layer doesn't have.
+fn nothing_at(name: &str) -> Passing<'_>
+    requires { IsTrue (is_name name.now) }
+    ensures found { result.found ≡ None }
+    ensures row { result.row ≡ None }
+    ensures onward { (next : Option PathNames) → onward_to next result.onward ≡ name_on next name.now }
+    ensures named { IsNamed result.onward }
+{
+    Passing {
+        found: None,
+        row: None,
+        onward: Onward::Beside(name),
+    }
+}
+
+// The walk's end at what it has by this name in the row of a number.
+fn thing_at<'a>(sheet: &'a Sheet, row: u32, name: &'a str) -> Passing<'a>
+    requires row { row < length sheet.now }
+    requires name { IsTrue (is_name name.now) }
+    ensures { IsThing sheet.now row name.now result }
+{
+    let (inode, mark) = (sheet.inode(row), sheet.mark(row));
+    let onward = onward_at(mark, name);
+    if matches!(mark, Mark::Whiteout) {
+        return Passing {
+            found: None,
+            row: None,
+            onward,
+        };
+    }
+    let found = Some(Found { inode, mark });
+    if !is_directory(inode) {
+        return Passing {
+            found,
+            row: None,
+            onward,
+        };
+    }
+    Passing {
+        found,
+        row: Some(row),
+        onward,
+    }
+}
+
+// Where a walk goes on at a thing of this mark and name. overlayfs.rst: "whiteouts and opaque directories", "renaming
+// directories", "Metadata only copy up".
+fn onward_at<'a>(mark: &'a Mark, name: &'a str) -> Onward<'a>
+    requires { IsTrue (is_name name.now) }
+    ensures onward { (next : Option PathNames) → onward_to next result ≡ onward_by mark.now next name.now }
+    ensures named { IsNamed result }
+{
+    match mark {
+        Mark::DirMoved(Redirect::To(origin)) | Mark::Meta(Some(Redirect::To(origin))) => {
+            Onward::At(origin)
+        }
+        Mark::DirMoved(Redirect::Beside(own)) | Mark::Meta(Some(Redirect::Beside(own))) => {
+            Onward::Beside(own.as_str())
+        }
+        Mark::DirPlain | Mark::Meta(None) => Onward::Beside(name),
+        Mark::Whiteout | Mark::DirOpaque | Mark::DirBad | Mark::MetaBad | Mark::Leaf => {
+            Onward::Nowhere
+        }
+    }
+}
