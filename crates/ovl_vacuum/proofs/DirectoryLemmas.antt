@@ -1,11 +1,10 @@
 -- The directories of a layer as pieces: their kids are lawful.
-use Rattle.std.proofs.Common.{◌≡◌, ℕ, zero, suc, ◌≤◌, inl, inr, Bool, true, false, cond, Option, Some, None, List, [], ◌∷◌, ◌++◌, length, map, refl, sym, ap, ◌∙◌, subst, append_assoc, arith}
+use Rattle.std.proofs.Common.{◌≡◌, ◌≤◌, inl, inr, Bool, true, false, cond, Option, Some, None, List, [], ◌∷◌, length, map, refl, sym, ap, ◌∙◌, subst}
 use Rattle.std.specs.Prelude.{filter}
-use Rattle.std.specs.List.{cons_option, flat_map, list_all}
+use Rattle.std.specs.List.{cons_option, list_all}
 use Rattle.std.specs.Ordering.{is_lt, ordering_then}
 use Rattle.std.specs.declared.cmp.Ordering.TheVariants.{Less}
 use Rattle.std.specs.Cmp.Lexicographic.{nat_list_cmp_total, pointwise_decides, bytes_decides}
-use Rattle.std.proofs.lemmas.List.{append-nil, map-append}
 use Rattle.std.proofs.lemmas.Cmp.{tied_itself, nat_cmp_total}
 use Rattle.ovl_names.specs.Names.{PathName, name_eq, name_cmp}
 use Rattle.ovl_names.specs.Order.{ascends}
@@ -13,15 +12,12 @@ use Rattle.ovl_names.specs.Paths.{PathNames, child_path, path_eq, path_cmp, dept
 use Rattle.ovl_names.proofs.Ascending.{both, is_lt-Less}
 use Rattle.ovl_inode.specs.declared.inodes.Inode.{Inode}
 use Rattle.ovl_manifest.specs.Layers.{Entries, Entry, entry_at, entry_cmp, name_below, names_below, IsLayer}
-use Rattle.ovl_lookup.proofs.LawsOfWalks.{entry-limited, name_below-child, directory-entry, entry-above}
-use Rattle.ovl_lookup.proofs.LawsOfPaths.{filter-all}
+use Rattle.ovl_lookup.proofs.LawsOfWalks.{entry-limited, name_below-child}
 use Rattle.ovl_board.specs.declared.pieces.Piece.{Piece}
 use Rattle.ovl_board.specs.Pieces.{IsBefore, IsOneBelow, HasLawfulKids}
-use Rattle.ovl_board.specs.Walks.{Reached, start, next, IsWalk, ToKid, preorder}
-use Rattle.ovl_board.proofs.LawsOfMembers.{In, Every, Rises, All-Every, Every-All, AllPairs-Rises, Rises-AllPairs, Contains-In, In-Contains, In-map, In-map-cases, In-filter-cases, Rises-filter, rising_same}
-use Rattle.ovl_board.proofs.LawsOfPieces.{siblings, fork_before, before_trans, less_differs, piece_eq}
-use Rattle.ovl_board.proofs.LawsOfWalks.{IsWalk-preorder}
-use Rattle.ovl_vacuum.specs.Directories.{piece_in, vacuum_root}
+use Rattle.ovl_board.proofs.LawsOfMembers.{In, Every, Rises, All-Every, AllPairs-Rises, In-map-cases, In-filter-cases, Rises-filter}
+use Rattle.ovl_board.proofs.LawsOfPieces.{siblings, fork_before}
+use Rattle.ovl_vacuum.specs.Directories.{piece_in}
 
 -- ---- the paths of a layer
 

@@ -1,10 +1,10 @@
 -- The rows of the topmost layer: which are told to be idle, and which go.
-use Rattle.std.proofs.Common.{◌≡◌, ◌≢◌, ℕ, zero, suc, ◌+◌, ◌-◌, ◌<◌, ◌≤◌, ◌⊎◌, inl, inr, Bool, true, false, cond, Option, Some, None, Ok, List, [], ◌∷◌, ◌++◌, length, map, get_or, set, replicate, take, drop, refl, sym, ap, subst, ◌∙◌, append_assoc, arith, length-append}
+use Rattle.std.proofs.Common.{◌≡◌, ℕ, zero, suc, ◌+◌, ◌-◌, ◌<◌, ◌≤◌, ◌⊎◌, inl, inr, Bool, true, false, cond, Option, Some, None, Ok, List, [], ◌∷◌, ◌++◌, length, map, get_or, set, replicate, take, drop, refl, sym, ap, subst, ◌∙◌, append_assoc, arith, length-append}
 use Rattle.std.specs.Prelude.{Vec, All, IsSomeAnd, slice_get, filter, is_none, ◌&&◌, ◌||◌, not, unwrap_or}
 use Rattle.std.specs.Global.{Global}
 use Rattle.std.specs.List.{list_all}
 use Rattle.std.specs.Ordering.{is_lt, ordering_then, ordering_reverse}
-use Rattle.std.specs.Cmp.Lexicographic.{nat_list_cmp_total, pointwise_decides, bytes_decides}
+use Rattle.std.specs.Cmp.Lexicographic.{nat_list_cmp_total}
 use Rattle.std.specs.declared.cmp.Ordering.{Ordering}
 use Rattle.std.specs.declared.cmp.Ordering.TheVariants.{Less, Equal, Greater}
 use Rattle.std.proofs.Math.Bool.{or-true, and-false}
@@ -14,7 +14,7 @@ use Rattle.std.proofs.lemmas.List.Elements.{filter_more, filter-append}
 use Rattle.std.proofs.lemmas.Option.{slice_get-get_or, slice_get_within}
 use Rattle.ovl_names.specs.Names.{PathName, name_cmp}
 use Rattle.ovl_names.specs.Order.{ascends}
-use Rattle.ovl_names.specs.Paths.{PathNames, child_path, parent_path, path_cmp, is_root}
+use Rattle.ovl_names.specs.Paths.{PathNames, child_path, parent_path, path_cmp}
 use Rattle.ovl_names.proofs.Ascending.{both, list_all-get, list_all-from_each}
 use Rattle.ovl_inode.specs.declared.inodes.Inode.{Inode}
 use Rattle.ovl_manifest.specs.Layers.{Entries, Entry, entry_at, entry_cmp, is_directory_at, name_below, names_below, IsLayer}
@@ -31,14 +31,14 @@ use Rattle.ovl_board.specs.declared.works.Parcel.{Parcel}
 use Rattle.ovl_board.specs.Parcels.{ParcelView, parcel_view, parcel_views, pieces_of, own_view}
 use Rattle.ovl_board.specs.Pieces.{IsBefore}
 use Rattle.ovl_board.specs.Walks.{Reached, start, next, ToKid}
-use Rattle.ovl_board.proofs.LawsOfMembers.{In, Every, Rises, AllPairs-Rises, Rises-AllPairs, Contains-In, In-Contains, In-map, In-map-cases, In-filter-cases, Rises-filter, Every-All, place, rising_same}
+use Rattle.ovl_board.proofs.LawsOfMembers.{In, Rises, AllPairs-Rises, Rises-AllPairs, Contains-In, In-Contains, In-map, In-map-cases, In-filter-cases, Rises-filter, Every-All, place, rising_same}
 use Rattle.ovl_board.proofs.LawsOfPieces.{before_trans, less_differs, piece_eq}
 use Rattle.ovl_vacuum.specs.Vacuum.{is_idle, is_idle_throughout, vacuumed_layer, removed_paths}
 use Rattle.ovl_vacuum.specs.Directories.{IdleName, idle_name, names_seen, is_idle_at, piece_in, vacuum_kids, vacuum_out, vacuum_root, IsVacuumWalk}
 use Rattle.ovl_vacuum.specs.Passes.{idle_flags, gone_flags, names_told, IsTold, TellsBelow}
 use Rattle.ovl_vacuum.proofs.VacuumLemmas.{idle-at}
 use Rattle.ovl_vacuum.proofs.KeptLemmas.{root-stays, throughout-child, IsLayer-vacuumed}
-use Rattle.ovl_vacuum.proofs.DirectoryLemmas.{paths_of, PathBefore, paths-rise, path-entry, entry-path, name-path, name-In, In-name, kid-path}
+use Rattle.ovl_vacuum.proofs.DirectoryLemmas.{paths_of, PathBefore, paths-rise, entry-path, name-path, In-name, kid-path}
 
 -- ---- the rows of a layer by their numbers
 
@@ -229,9 +229,9 @@ module _ (stack : StackView) (is : IsLayer (top_layer stack)) where
       (pieces-rise directories (Rises-filter PathBefore (is_directory_at layer) (paths_of layer) (paths-rise layer is.in_order)))
       (λ piece h. reached-told piece (Every-All (Reached (ToKid (vacuum_kids stack)) vacuum_root) (pieces_of views) plain.walk.reached piece h))
       (λ piece h.
-          let one = In-map-cases piece_of piece directories h in
-          let holds = (In-filter-cases (is_directory_at layer) one.0 (paths_of layer) one.1.0).1 in
-          In-Contains piece (pieces_of views) (plain.walk.whole piece (subst (Reached (ToKid (vacuum_kids stack)) vacuum_root) (sym one.1.1) (reach [] one.0 start holds))))
+      let one = In-map-cases piece_of piece directories h in
+      let holds = (In-filter-cases (is_directory_at layer) one.0 (paths_of layer) one.1.0).1 in
+      In-Contains piece (pieces_of views) (plain.walk.whole piece (subst (Reached (ToKid (vacuum_kids stack)) vacuum_root) (sym one.1.1) (reach [] one.0 start holds))))
 
 -- the parcels from a place on are those of the directories among the rows from a number on
 abbrev pub AreLeft : StackView → List (Parcel (Vec IdleName Global)) → ℕ → ℕ → Type 0

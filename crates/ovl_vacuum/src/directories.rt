@@ -136,12 +136,7 @@ impl<'a> Directory<'a> {
     }
 
     // What the stack shows at a name in it.
-    fn look(
-        &self,
-        alloc: Global,
-        whole: &Option<DirView>,
-        name: &Name,
-    ) -> Result<Look, AllocError>
+    fn look(&self, alloc: Global, whole: &Option<DirView>, name: &Name) -> Result<Look, AllocError>
         requires { IsWhole self.now.stack.now self.now.path.now whole.now }
         ensures { IfOk result (λ look. look ≡ the_look self.now.stack.now (child_path self.now.path.now name.now)) }
     {

@@ -1,4 +1,4 @@
-use Rattle.std.proofs.Common.{◌≡◌, ◌<◌, ◌++◌, List, Option, Some, IfOk, IfSome, MatchOption, false, length, length-append, subst, arith}
+use Rattle.std.proofs.Common.{◌≡◌, Option, IfOk, IfSome, MatchOption, false, length-append, subst, arith}
 use Rattle.std.proofs.lemmas.Result.{IfOk-weaker}
 use Rattle.ovl_manifest.specs.Layers.{Entries, is_directory_at}
 use Rattle.ovl_lookup.specs.Passes.{IsOwnDirectory}

@@ -1,4 +1,4 @@
-use Rattle.std.proofs.Common.{◌≡◌, ◌||◌, not, ap, sym}
+use Rattle.std.proofs.Common.{◌||◌, not, ap}
 use Rattle.std.proofs.lemmas.Result.{IfOk-weaker}
 use Rattle.ovl_lookup.specs.Merged.{shows_directory}
 use Rattle.ovl_lookup.specs.Words.{lower_layers}

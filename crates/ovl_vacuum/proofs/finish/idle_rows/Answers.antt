@@ -1,4 +1,4 @@
-use Rattle.std.proofs.Common.{◌≡◌, ◌∙◌, ◌+◌, ◌<◌, ℕ, List, true, false, length, replicate, refl, sym, ap, subst, rules, arith}
+use Rattle.std.proofs.Common.{◌≡◌, ◌∙◌, ◌+◌, ◌<◌, ℕ, true, false, length, replicate, refl, sym, ap, subst, rules, arith}
 use Rattle.std.specs.Prelude.{Vec}
 use Rattle.std.specs.Global.{Global}
 use Rattle.ovl_board.specs.declared.works.Parcel.{Parcel}
@@ -68,17 +68,17 @@ loop-number-preserved c =
     let directory = row-directory (top_layer stack) is number inside (path_at (top_layer stack) number) refl c.top_sheet-sheet.result.now c.top_sheet-sheet.ensures.value c.inode.result.now c.inode.ensures ∙ sym c.is_directory.ensures in
     elim c.if-is_directory.branch [
       | then-is_directory w ↦ record {
-          left = subst (λ p. AreLeft stack c.args.parcels.now p (number + 1)) (sym w.place-is)
-              (left-after stack is c.args.parcels.now c.requires c.loop-number.place number inside c.loop-number.invariant.left (directory ∙ w.if-is_directory.true));
-          told = subst (λ fs. ToldTo stack (number + 1) fs) (sym (ap (λ flags. flags.items) w.idle-is))
-              (told-directory stack is number c.loop-number.idle.items w.tell_below.new.idle.items c.loop-number.invariant.told w.tell_below.ensures);
-        }
+        left = subst (λ p. AreLeft stack c.args.parcels.now p (number + 1)) (sym w.place-is)
+            (left-after stack is c.args.parcels.now c.requires c.loop-number.place number inside c.loop-number.invariant.left (directory ∙ w.if-is_directory.true));
+        told = subst (λ fs. ToldTo stack (number + 1) fs) (sym (ap (λ flags. flags.items) w.idle-is))
+            (told-directory stack is number c.loop-number.idle.items w.tell_below.new.idle.items c.loop-number.invariant.told w.tell_below.ensures);
+      }
       | else-is_directory w ↦ record {
-          left = subst (λ p. AreLeft stack c.args.parcels.now p (number + 1)) (sym w.place-is)
-              (left-file stack is c.args.parcels.now c.requires c.loop-number.place number inside c.loop-number.invariant.left (directory ∙ w.if-is_directory.false));
-          told = subst (λ fs. ToldTo stack (number + 1) fs) (sym (ap (λ flags. flags.items) w.idle-is))
-              (told-file stack is number c.loop-number.idle.items (directory ∙ w.if-is_directory.false) c.loop-number.invariant.told);
-        }
+        left = subst (λ p. AreLeft stack c.args.parcels.now p (number + 1)) (sym w.place-is)
+            (left-file stack is c.args.parcels.now c.requires c.loop-number.place number inside c.loop-number.invariant.left (directory ∙ w.if-is_directory.false));
+        told = subst (λ fs. ToldTo stack (number + 1) fs) (sym (ap (λ flags. flags.items) w.idle-is))
+            (told-file stack is number c.loop-number.idle.items (directory ∙ w.if-is_directory.false) c.loop-number.invariant.told);
+      }
     ]
 
 pub returns : goal.returns

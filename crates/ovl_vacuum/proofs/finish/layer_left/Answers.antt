@@ -1,13 +1,12 @@
-use Rattle.std.proofs.Common.{◌≡◌, ◌∙◌, ◌+◌, ◌<◌, ℕ, List, Some, true, false, length, sym, ap, subst, arith}
+use Rattle.std.proofs.Common.{◌≡◌, ◌∙◌, ◌<◌, ℕ, Some, length, sym, ap, subst, arith}
 use Rattle.std.proofs.lemmas.Result.{IfOk-weaker}
-use Rattle.ovl_names.specs.Paths.{PathNames}
 use Rattle.ovl_inode.specs.declared.inodes.Inode.{Inode}
 use Rattle.ovl_manifest.specs.Layers.{Entries, entry_at}
 use Rattle.ovl_manifest.specs.Sheets.{path_at}
 use Rattle.ovl_lookup.specs.Stacks.{StackView}
 use Rattle.ovl_lookup.specs.Words.{top_layer}
 use Rattle.ovl_lookup.proofs.LawsOfLooks.{top-layer}
-use Rattle.ovl_vacuum.proofs.RowLemmas.{left_to, left-first, left-taken, left-passed, left-all, root-first}
+use Rattle.ovl_vacuum.proofs.RowLemmas.{left-first, left-taken, left-passed, left-all, root-first}
 use Rattle.ovl_vacuum.proofs.finish.layer_left.Goals as goal
 use Rattle.ovl_vacuum.proofs.finish.layer_left.Goals.{then-not-gone-number+in_ok-path+in_ok-inode+in_ok-builder-2, then-own-directory+in_ok-above, else-own-directory, else-not-gone-number}
 
@@ -45,9 +44,9 @@ loop-number-preserved c =
             above = w.above-is ∙ (kept ∙ ap (path_at (top_layer stack)) (sym w.directory-is));
           }
       | else-not-gone-number w ↦ record {
-          left = w.builder-is ∙ left-passed stack is number inside c.args.gone.now c.loop-number.builder c.requires w.if-not-gone-number.false c.loop-number.invariant.left;
-          above = w.above-is ∙ (c.loop-number.invariant.above ∙ ap (path_at (top_layer stack)) (sym w.directory-is));
-        }
+        left = w.builder-is ∙ left-passed stack is number inside c.args.gone.now c.loop-number.builder c.requires w.if-not-gone-number.false c.loop-number.invariant.left;
+        above = w.above-is ∙ (c.loop-number.invariant.above ∙ ap (path_at (top_layer stack)) (sym w.directory-is));
+      }
     ]
 
 pub returns : goal.returns

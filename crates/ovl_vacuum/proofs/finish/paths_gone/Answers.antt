@@ -1,8 +1,4 @@
-use Rattle.std.proofs.Common.{◌≡◌, ◌∙◌, ◌+◌, ◌<◌, ℕ, List, Some, [], ◌∷◌, ◌++◌, true, false, length, refl, sym, ap, subst, arith}
-use Rattle.std.proofs.lemmas.Result.{IfOk-weaker}
-use Rattle.ovl_names.specs.Paths.{PathNames}
-use Rattle.ovl_inode.specs.declared.inodes.Inode.{Inode}
-use Rattle.ovl_manifest.specs.Layers.{Entries, entry_at}
+use Rattle.std.proofs.Common.{◌≡◌, ◌∙◌, ◌<◌, ℕ, [], ◌∷◌, ◌++◌, length, refl, sym, ap, arith}
 use Rattle.ovl_manifest.specs.Sheets.{path_at}
 use Rattle.ovl_lookup.specs.Stacks.{StackView}
 use Rattle.ovl_lookup.specs.Words.{top_layer}
@@ -41,9 +37,9 @@ loop-number-preserved c =
             above = w.above-is ∙ (kept ∙ ap (path_at (top_layer stack)) (sym w.directory-is));
           }
       | else-gone-number w ↦ record {
-          gone = ap (λ ps. ps.items) w.paths-is ∙ gone-passed stack number inside c.args.gone.now c.loop-number.paths.items c.requires w.if-gone-number.false c.loop-number.invariant.gone;
-          above = w.above-is ∙ (c.loop-number.invariant.above ∙ ap (path_at (top_layer stack)) (sym w.directory-is));
-        }
+        gone = ap (λ ps. ps.items) w.paths-is ∙ gone-passed stack number inside c.args.gone.now c.loop-number.paths.items c.requires w.if-gone-number.false c.loop-number.invariant.gone;
+        above = w.above-is ∙ (c.loop-number.invariant.above ∙ ap (path_at (top_layer stack)) (sym w.directory-is));
+      }
     ]
 
 pub returns : goal.returns

@@ -1,7 +1,6 @@
-use Rattle.std.proofs.Common.{◌∙◌, ◌<◌, ℕ, length, get_or, refl, arith}
+use Rattle.std.proofs.Common.{◌<◌, ℕ, length, get_or, arith}
 use Rattle.ovl_lookup.specs.Words.{top_layer}
-use Rattle.ovl_lookup.specs.Stacks.{StackView}
-use Rattle.std.proofs.Common.{◌≡◌, ap, subst, List, map, sym}
+use Rattle.std.proofs.Common.{◌≡◌, subst, List, map}
 use Rattle.std.specs.List.{All}
 use Rattle.ovl_names.specs.Paths.{child_path}
 use Rattle.ovl_manifest.specs.Layers.{Entries, names_below}

@@ -1,7 +1,7 @@
-use Rattle.std.proofs.Common.{◌≡◌, ◌∙◌, length, sym, ap, arith}
+use Rattle.std.proofs.Common.{◌∙◌, sym}
 use Rattle.ovl_names.specs.Paths.{PathNames, child_path}
 use Rattle.ovl_manifest.specs.Sheets.{path_at}
-use Rattle.ovl_vacuum.proofs.RowLemmas.{named-path, unnamed-path, shorter}
+use Rattle.ovl_vacuum.proofs.RowLemmas.{named-path, unnamed-path}
 use Rattle.ovl_vacuum.proofs.places.+path_of.Goals as goal
 
 pub returns-in_default : goal.returns-in_default
