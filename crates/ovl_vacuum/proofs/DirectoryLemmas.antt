@@ -1,11 +1,10 @@
--- The directories of a layer as pieces: their kids are lawful, and all its paths are those under its root, in order.
-use Rattle.std.proofs.Common.{◌≡◌, ℕ, zero, suc, ◌≤◌, inl, inr, Bool, true, false, cond, Option, Some, None, List, [], ◌∷◌, ◌++◌, length, map, refl, sym, ap, ◌∙◌, subst, append_assoc, arith}
+-- The directories of a layer as pieces: their kids are lawful.
+use Rattle.std.proofs.Common.{◌≡◌, ◌≤◌, inl, inr, Bool, true, false, cond, Option, Some, None, List, [], ◌∷◌, length, map, refl, sym, ap, ◌∙◌, subst}
 use Rattle.std.specs.Prelude.{filter}
-use Rattle.std.specs.List.{cons_option, flat_map, list_all}
+use Rattle.std.specs.List.{cons_option, list_all}
 use Rattle.std.specs.Ordering.{is_lt, ordering_then}
 use Rattle.std.specs.declared.cmp.Ordering.TheVariants.{Less}
 use Rattle.std.specs.Cmp.Lexicographic.{nat_list_cmp_total, pointwise_decides, bytes_decides}
-use Rattle.std.proofs.lemmas.List.{append-nil, map-append}
 use Rattle.std.proofs.lemmas.Cmp.{tied_itself, nat_cmp_total}
 use Rattle.ovl_names.specs.Names.{PathName, name_eq, name_cmp}
 use Rattle.ovl_names.specs.Order.{ascends}
@@ -13,23 +12,19 @@ use Rattle.ovl_names.specs.Paths.{PathNames, child_path, path_eq, path_cmp, dept
 use Rattle.ovl_names.proofs.Ascending.{both, is_lt-Less}
 use Rattle.ovl_inode.specs.declared.inodes.Inode.{Inode}
 use Rattle.ovl_manifest.specs.Layers.{Entries, Entry, entry_at, entry_cmp, name_below, names_below, IsLayer}
-use Rattle.ovl_lookup.proofs.LawsOfWalks.{entry-limited, name_below-child, directory-entry, entry-above}
-use Rattle.ovl_lookup.proofs.LawsOfPaths.{filter-all}
+use Rattle.ovl_lookup.proofs.LawsOfWalks.{entry-limited, name_below-child}
 use Rattle.ovl_board.specs.declared.pieces.Piece.{Piece}
 use Rattle.ovl_board.specs.Pieces.{IsBefore, IsOneBelow, HasLawfulKids}
-use Rattle.ovl_board.specs.Walks.{Reached, start, next, IsWalk, ToKid, preorder}
-use Rattle.ovl_board.proofs.LawsOfMembers.{In, Every, Rises, All-Every, Every-All, AllPairs-Rises, Rises-AllPairs, Contains-In, In-Contains, In-map, In-map-cases, In-filter-cases, Rises-filter, rising_same}
-use Rattle.ovl_board.proofs.LawsOfPieces.{siblings, fork_before, before_trans, less_differs, piece_eq}
-use Rattle.ovl_board.proofs.LawsOfWalks.{IsWalk-preorder}
-use Rattle.ovl_vacuum.specs.Directories.{piece_in, vacuum_root}
-use Rattle.ovl_vacuum.specs.Passes.{paths_under}
+use Rattle.ovl_board.proofs.LawsOfMembers.{In, Every, Rises, All-Every, AllPairs-Rises, In-map-cases, In-filter-cases, Rises-filter}
+use Rattle.ovl_board.proofs.LawsOfPieces.{siblings, fork_before}
+use Rattle.ovl_vacuum.specs.Directories.{piece_in}
 
 -- ---- the paths of a layer
 
 abbrev pub paths_of : Entries → List PathNames
 paths_of layer = map (λ (entry : Entry). entry.0) layer
 
-abbrev PathBefore : PathNames → PathNames → Type 0
+abbrev pub PathBefore : PathNames → PathNames → Type 0
 PathBefore one other = path_cmp one other ≡ Less
 
 pub path-entry : (layer : Entries) (path : PathNames) → In path (paths_of layer) → (inode : Inode) × (entry_at layer path ≡ Some inode)
@@ -60,7 +55,7 @@ each-later entry (other ∷ layer) all path h = by (each-later entry layer parts
     by later (inl same) = ap (path_cmp entry.0) same ∙ is_lt-Less (entry_cmp entry other) parts.0
     by later (inr h) = later h
 
-paths-rise : (layer : Entries) → ascends entry_cmp layer ≡ true → Rises PathBefore (paths_of layer)
+pub paths-rise : (layer : Entries) → ascends entry_cmp layer ≡ true → Rises PathBefore (paths_of layer)
 paths-rise [] up = tt
 paths-rise (entry ∷ layer) up =
     let parts = both {a = list_all (λ later. is_lt (entry_cmp entry later)) layer} {b = ascends entry_cmp layer} up in
@@ -68,7 +63,7 @@ paths-rise (entry ∷ layer) up =
 
 -- ---- the names in a directory
 
-name-path : (directory path : PathNames) (name : PathName) → name_below directory path ≡ Some name → path ≡ child_path directory name
+pub name-path : (directory path : PathNames) (name : PathName) → name_below directory path ≡ Some name → path ≡ child_path directory name
 name-path [] [] name is = let bad : None ≡ Some name = is in cc
 name-path [] (own ∷ []) name is = ap (λ (o : Option PathName). elim o as (λ _. PathNames) [ Some n ↦ n ∷ [] | None ↦ [] ]) is
 name-path [] (own ∷ other ∷ names) name is = let bad : None ≡ Some name = is in cc
@@ -154,91 +149,3 @@ module _ (layer : Entries) (test : PathNames → Bool) where
         let entry = path-entry layer (child_path piece.dir one.0) one.1.0 in
         subst (λ (p : Piece). length p.dir ≤ depth_limit) (sym one.1.1.1) (entry-limited layer (child_path piece.dir one.0) entry.0 is entry.1));
   }
-
--- ---- all paths are those under the root
-
-abbrev piece_of : PathNames → Piece
-piece_of path = record { space = 0; dir = path }
-
-abbrev every_path : PathNames → Bool
-every_path path = true
-
-list_all-true : {X : Type 0} (xs : List X) → list_all (λ x. true) xs ≡ true
-list_all-true [] = refl
-list_all-true (x ∷ xs) = list_all-true xs
-
-pieces-rise : (paths : List PathNames) → Rises PathBefore paths → Rises IsBefore (map piece_of paths)
-pieces-rise [] up = tt
-pieces-rise (path ∷ paths) up = (
-  (λ piece h.
-      let other = In-map-cases piece_of piece paths h in
-      subst (IsBefore (piece_of path)) (sym other.1.1) (up.0 other.0 other.1.0)),
-  pieces-rise paths up.1,
-)
-
-module _ (layer : Entries) where
-  abbrev kids_all : Piece → List Piece
-  kids_all = kids_that layer every_path
-
-  all-names : (piece : Piece) → kids_all piece ≡ map (piece_in piece) (names_below layer piece.dir)
-  all-names piece = ap (map (piece_in piece)) (filter-all (λ name. every_path (child_path piece.dir name)) (names_below layer piece.dir) (list_all-true (names_below layer piece.dir)))
-
-  -- the walk over all paths has those under a path, in order
-  walk-paths : (depth : ℕ) (piece : Piece) → map (λ (p : Piece). p.dir) (preorder kids_all depth piece) ≡ piece.dir ∷ paths_under depth layer piece.dir
-  walk-paths zero piece = refl
-  walk-paths (suc depth) piece =
-      ap (λ (kids : List Piece). piece.dir ∷ map (λ (p : Piece). p.dir) (flat_map (λ kid. preorder kids_all depth kid) kids)) (all-names piece)
-      ∙ ap (λ (rest : List PathNames). piece.dir ∷ rest) (each (names_below layer piece.dir) (λ name. walk-paths depth (piece_in piece name)))
-    where
-      each : (names : List PathName) → ((name : PathName) → map (λ (p : Piece). p.dir) (preorder kids_all depth (piece_in piece name)) ≡ child_path piece.dir name ∷ paths_under depth layer (child_path piece.dir name))
-          → map (λ (p : Piece). p.dir) (flat_map (λ kid. preorder kids_all depth kid) (map (piece_in piece) names)) ≡ flat_map (λ name. child_path piece.dir name ∷ paths_under depth layer (child_path piece.dir name)) names
-      each [] is = refl
-      each (name ∷ names) is =
-          map-append (λ (p : Piece). p.dir) (preorder kids_all depth (piece_in piece name)) (flat_map (λ kid. preorder kids_all depth kid) (map (piece_in piece) names))
-          ∙ (λ j. is name j ++ each names is j)
-
-  module _ (is : IsLayer layer) where
-    -- what is reached is a path of the layer
-    reached-path : (piece : Piece) → Reached (ToKid kids_all) vacuum_root piece → In piece (map piece_of (paths_of layer))
-    reached-path _ start = let root = directory-entry layer [] is.rooted in In-map piece_of [] (paths_of layer) (entry-path layer [] root.0 root.1)
-    reached-path _ (next {p = piece} {q = kid} reached step) =
-        let above = In-map-cases piece_of piece (paths_of layer) (reached-path piece reached) in
-        let one = kid-path layer every_path piece kid (In-Contains kid (kids_all piece) step) in
-        let same : kid ≡ piece_of (child_path piece.dir one.0) = one.1.1.1 ∙ piece_eq (piece_in piece one.0) (piece_of (child_path piece.dir one.0)) (ap (λ (p : Piece). p.space) above.1.1) refl in
-        subst (λ (p : Piece). In p (map piece_of (paths_of layer))) (sym same) (In-map piece_of (child_path piece.dir one.0) (paths_of layer) one.1.0)
-
-    step-to : (path : PathNames) (name : PathName) (inode : Inode) → entry_at layer (child_path path name) ≡ Some inode → ToKid kids_all (piece_of path) (piece_of (child_path path name))
-    step-to path name inode here =
-        Contains-In (piece_of (child_path path name)) (kids_all (piece_of path))
-        (subst (In (piece_of (child_path path name))) (sym (all-names (piece_of path)))
-        (In-map (piece_in (piece_of path)) name (names_below layer path) (In-name layer path name (entry-path layer (child_path path name) inode here))))
-
-    reach : (front rest : PathNames) (inode : Inode) → Reached (ToKid kids_all) vacuum_root (piece_of front) → entry_at layer (front ++ rest) ≡ Some inode → Reached (ToKid kids_all) vacuum_root (piece_of (front ++ rest))
-    reach front [] inode reached here = subst (λ (p : PathNames). Reached (ToKid kids_all) vacuum_root (piece_of p)) (sym (append-nil front)) reached
-    reach front (name ∷ []) inode reached here = next reached (step-to front name inode here)
-    reach front (name ∷ other ∷ rest) inode reached here =
-        let there : entry_at layer (child_path front name ++ other ∷ rest) ≡ Some inode = ap (entry_at layer) (append_assoc front (name ∷ []) (other ∷ rest)) ∙ here in
-        let above = directory-entry layer (child_path front name) (entry-above layer (child_path front name) other rest inode is there) in
-        subst (λ (p : PathNames). Reached (ToKid kids_all) vacuum_root (piece_of p)) (append_assoc front (name ∷ []) (other ∷ rest))
-        (reach (child_path front name) (other ∷ rest) inode (next reached (step-to front name above.0 above.1)) there)
-
-    path-reached : (piece : Piece) → In piece (map piece_of (paths_of layer)) → Reached (ToKid kids_all) vacuum_root piece
-    path-reached piece h =
-        let one = In-map-cases piece_of piece (paths_of layer) h in
-        let entry = path-entry layer one.0 one.1.0 in
-        subst (Reached (ToKid kids_all) vacuum_root) (sym one.1.1) (reach [] one.0 entry.0 start entry.1)
-
-    pub all-paths : [] ∷ paths_under depth_limit layer [] ≡ paths_of layer
-    all-paths =
-        let walked : List Piece = preorder kids_all depth_limit vacuum_root in
-        let walk : IsWalk (ToKid kids_all) vacuum_root walked = IsWalk-preorder kids_all depth_limit (kids-lawful layer every_path is) depth_limit vacuum_root (omega arith) in
-        let same : walked ≡ map piece_of (paths_of layer) = rising_same IsBefore (λ x lt. less_differs x x lt refl) before_trans walked (map piece_of (paths_of layer))
-        (Rises-AllPairs IsBefore walked walk.ascend)
-        (pieces-rise (paths_of layer) (paths-rise layer is.in_order))
-        (λ piece h. reached-path piece (Every-All (Reached (ToKid kids_all) vacuum_root) walked walk.reached piece h))
-        (λ piece h. In-Contains piece walked (walk.whole piece (path-reached piece h))) in
-        sym (walk-paths depth_limit vacuum_root) ∙ (ap (map (λ (p : Piece). p.dir)) same ∙ dirs (paths_of layer))
-      where
-        dirs : (paths : List PathNames) → map (λ (p : Piece). p.dir) (map piece_of paths) ≡ paths
-        dirs [] = refl
-        dirs (path ∷ paths) = ap (λ (rest : List PathNames). path ∷ rest) (dirs paths)

@@ -1,9 +1,7 @@
 pub mod VacuumLemmas
 pub mod KeptLemmas
 pub mod SoundLemmas
-pub mod FoldLemmas
 pub mod DirectoryLemmas
-pub mod UnderLemmas
+pub mod RowLemmas
 pub mod VisitLemmas
-pub mod FinishLemmas
 mod Rows

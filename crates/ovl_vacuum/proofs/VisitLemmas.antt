@@ -1,66 +1,259 @@
 -- What a visit finds in its directory, and whether an entry is idle, by the walk of its directory.
-use Rattle.std.proofs.Common.{◌≡◌, ℕ, ◌<◌, inl, inr, Bool, true, false, cond, Option, Some, None, List, [], ◌∷◌, length, map, refl, sym, ap, ◌∙◌}
-use Rattle.std.specs.Prelude.{◌&&◌, ◌||◌, not, filter, All}
+use Rattle.std.proofs.Common.{◌≡◌, ℕ, ◌+◌, ◌<◌, ◌≤◌, inl, inr, Bool, true, false, cond, Option, Some, None, List, [], ◌∷◌, ◌++◌, length, map, get_or, take, refl, sym, ap, subst, ◌∙◌, arith}
+use Rattle.std.specs.Prelude.{◌&&◌, ◌||◌, not, filter, All, MatchOption, slice_get, unwrap_or}
 use Rattle.std.specs.Option.{option_map}
-use Rattle.std.specs.List.{list_any}
+use Rattle.std.specs.List.{list_any, cons_option}
 use Rattle.std.specs.Map.{lookup}
 use Rattle.std.specs.Cmp.Lexicographic.{bytes_decides}
-use Rattle.std.proofs.lemmas.List.Elements.{All-drop}
+use Rattle.std.proofs.lemmas.List.{append-nil, map-append, length-map, get_or-map, take_more, take_all}
+use Rattle.std.proofs.lemmas.List.Elements.{filter-append}
 use Rattle.ovl_names.specs.Names.{PathName, name_eq, name_cmp}
 use Rattle.ovl_names.specs.Order.{ascends}
 use Rattle.ovl_names.specs.Paths.{PathNames, child_path}
+use Rattle.ovl_names.proofs.Ascending.{not_true}
 use Rattle.ovl_inode.specs.declared.inodes.Inode.{Inode}
-use Rattle.ovl_inode.specs.Marks.{mark_of}
+use Rattle.ovl_inode.specs.declared.marks.Mark.{Mark}
+use Rattle.ovl_inode.specs.declared.marks.Mark.TheVariants.{Whiteout, DirOpaque, DirMoved, DirBad, DirPlain, Meta, MetaBad, Leaf}
+use Rattle.ovl_inode.specs.Inodes.{visible}
+use Rattle.ovl_inode.specs.Marks.{mark_of, is_directory, is_regular, is_whiteout, has_opaque, has_metacopy, redirect_reading, directory_mark, metacopy_mark}
 use Rattle.ovl_manifest.specs.Layers.{Entries, entry_at, is_directory_at, names_below, IsLayer}
+use Rattle.ovl_manifest.specs.Sheets.{path_at, last_name}
+use Rattle.ovl_manifest.proofs.SheetLemmas.{last_name-child}
 use Rattle.ovl_lookup.specs.declared.looks.Look.{Look}
+use Rattle.ovl_lookup.specs.declared.looks.Look.TheVariants.{Nothing, Shown, Broken}
 use Rattle.ovl_lookup.specs.declared.steps.Step.{Step}
 use Rattle.ovl_lookup.specs.declared.views.DirView.{DirView}
+use Rattle.ovl_lookup.specs.declared.steps.OwnDirectory.{OwnDirectory}
+use Rattle.ovl_lookup.specs.DirViews.{IsViewOf}
+use Rattle.ovl_lookup.specs.Passes.{IsOwnDirectory}
 use Rattle.ovl_lookup.specs.Walk.{walk}
-use Rattle.ovl_lookup.specs.Stacks.{StackView, from_layer}
-use Rattle.ovl_lookup.specs.Merged.{look}
-use Rattle.ovl_lookup.specs.TopDirectories.{IsSought}
-use Rattle.ovl_lookup.specs.Words.{over, top_layer, lower_layers}
+use Rattle.ovl_lookup.specs.Stacks.{StackView}
+use Rattle.ovl_lookup.specs.Trace.{things_found}
+use Rattle.ovl_lookup.specs.Merged.{look, is_nothing, shown_of, shows_directory}
+use Rattle.ovl_lookup.specs.Words.{top_layer, lower_layers}
 use Rattle.ovl_lookup.specs.Equal.{look_eq}
-use Rattle.ovl_lookup.proofs.LawsOfLooks.{nothing-under, top-over, top-layer}
+use Rattle.ovl_lookup.specs.Sound.{is_meta, is_malformed}
+use Rattle.ovl_lookup.proofs.LawsOfInodes.{bare-mark}
+use Rattle.ovl_lookup.proofs.LawsOfFound.{things_found-step, shown_of-full, shown-any}
+use Rattle.ovl_lookup.proofs.LawsOfLooks.{nothing-under, top-over, top-layer, lower-layers}
 use Rattle.ovl_lookup.proofs.LawsOfPaths.{length-child, parent_path-child}
-use Rattle.ovl_lookup.proofs.LawsOfWalks.{natural_path-child, names_below-has}
+use Rattle.ovl_lookup.proofs.LawsOfWalks.{natural_path-child, names_below-has, entry-parent, walk-child_directory, walk-child_end, file-is_found, entry-of_row, own-mark, directory_found}
 use Rattle.ovl_lookup.proofs.LawsOfKids.{kid-names-ascend}
 use Rattle.ovl_board.specs.declared.pieces.Piece.{Piece}
 use Rattle.ovl_board.proofs.LawsOfMembers.{In}
 use Rattle.ovl_vacuum.specs.Vacuum.{may_be_idle, is_idle}
 use Rattle.ovl_vacuum.specs.Directories.{is_idle_at, IdleName, idle_name, piece_in, TellsIdle}
-use Rattle.ovl_vacuum.specs.Visits.{look_by}
+use Rattle.ovl_vacuum.specs.declared.directories.Directory.{Directory}
+use Rattle.ovl_vacuum.specs.Visits.{IsBelow, IsVisited, is_metacopy}
 use Rattle.ovl_vacuum.proofs.DirectoryLemmas.{name-In, path-entry}
 
--- ---- what is sought once below a directory
+-- ---- the topmost layer, and what lies below it at a path
 
-module _ (stack : StackView) (from : ℕ) (path : PathNames) where
-  pub sought-look : All IsLayer stack.layers → (name : PathName) (found : Option DirView) → IsSought stack from path found
-      → look_by stack name found ≡ look (from_layer from stack) (child_path path name)
-  sought-look each name None none = sym (nothing-under (from_layer from stack) (All-drop IsLayer from stack.layers each) path name [] none)
-  sought-look each name (Some view) is = (λ j. look (from_layer (is.starts j) stack) (child_path (is.stands j) name))
+pub top-first : (layers data_only : List Entries) → 0 < length layers → slice_get (layers ++ data_only) 0 ≡ Some (unwrap_or (slice_get layers 0) [])
+top-first [] data_only some = absurd (omega arith)
+top-first (layer ∷ layers) data_only some = refl
+
+pub below-open : (stack : StackView) (next path : PathNames) (closed : Bool) → closed ≡ false → path ≡ next → (found : Option DirView)
+    → MatchOption found (shows_directory (lower_layers stack) path ≡ false) (IsViewOf stack 1 path) → IsBelow stack next closed found
+below-open stack next path closed opened same None none = λ j. opened j || not ((ap (shows_directory (lower_layers stack)) (sym same) ∙ none) j)
+below-open stack next path closed opened same (Some view) is = (opened, subst (λ (p : PathNames). IsViewOf stack 1 p view) same is)
+
+-- ---- what is no directory has nothing in it
+
+no_names : (layer : Entries) → IsLayer layer → (directory : PathNames) → is_directory_at layer directory ≡ false → (names : List PathName) → names_below layer directory ≡ names → names ≡ []
+no_names layer is directory file [] e = refl
+no_names layer is directory file (name ∷ names) e =
+    let entry = path-entry layer (child_path directory name) (name-In layer directory name (subst (In name) (sym e) (inl refl))) in
+    let bad : true ≡ false = sym (entry-parent layer directory name entry.0 is entry.1) ∙ file in cc
+
+pub file-names : (layer : Entries) → IsLayer layer → (directory : PathNames) → is_directory_at layer directory ≡ false → names_below layer directory ≡ []
+file-names layer is directory file = no_names layer is directory file (names_below layer directory) refl
+
+pub own-found : (layer : Entries) → IsLayer layer → (path : PathNames) (found : Option (OwnDirectory PathNames)) → MatchOption found (is_directory_at layer path ≡ false) (IsOwnDirectory layer path)
+    → MatchOption found (names_below layer path ≡ []) (IsOwnDirectory layer path)
+own-found layer is path None file = file-names layer is path file
+own-found layer is path (Some own) stands = stands
+
+-- a directory is visited as what it is
+pub visited-own : (stack : StackView) (path : PathNames) (directory : Directory) → IsVisited stack path directory → IsVisited directory.stack.now directory.path.now directory
+visited-own stack path directory is =
+    subst (λ (p : PathNames). IsVisited directory.stack.now p directory) (sym is.stands) (subst (λ (s : StackView). IsVisited s path directory) (sym is.over) is)
+
+-- ---- the rows in a directory, and their names
+
+module _ (layer : Entries) (directory : PathNames) (rows : List ℕ) (paths : map (path_at layer) rows ≡ map (child_path directory) (names_below layer directory)) where
+  pub same-count : length rows ≡ length (names_below layer directory)
+  same-count = omega (arith, ap length paths, length-map rows (path_at layer), length-map (names_below layer directory) (child_path directory))
+
+  pub row-stands : (i : ℕ) → i < length rows → path_at layer (get_or rows i 0) ≡ child_path directory (get_or (names_below layer directory) i [])
+  row-stands i inside =
+      sym (get_or-map (path_at layer) rows i 0 [] inside)
+      ∙ (ap (λ (ps : List PathNames). get_or ps i []) paths
+      ∙ get_or-map (child_path directory) (names_below layer directory) i [] [] (omega (arith, inside, same-count)))
+
+  -- a row's name is the one at its place
+  pub row-named : (i : ℕ) → i < length rows → (name : PathName) → Some name ≡ last_name (path_at layer (get_or rows i 0)) → name ≡ get_or (names_below layer directory) i []
+  row-named i inside name named =
+      let own : PathName = get_or (names_below layer directory) i [] in
+      let same : Some name ≡ Some own = named ∙ (ap last_name (row-stands i inside) ∙ last_name-child directory own) in
+      ap (λ (o : Option PathName). unwrap_or o name) same
+
+  pub row-unnamed : (i : ℕ) → i < length rows → None ≡ last_name (path_at layer (get_or rows i 0)) → ⊥
+  row-unnamed i inside unnamed =
+      let own : PathName = get_or (names_below layer directory) i [] in
+      let bad : None ≡ Some own = unnamed ∙ (ap last_name (row-stands i inside) ∙ last_name-child directory own) in cc
+
+  pub names-more : (i : ℕ) → i < length rows → take (i + 1) (names_below layer directory) ≡ take i (names_below layer directory) ++ get_or (names_below layer directory) i [] ∷ []
+  names-more i inside = take_more (names_below layer directory) i [] (omega (arith, inside, same-count))
+
+  pub names-all : (i : ℕ) → length rows ≤ i → take i (names_below layer directory) ≡ names_below layer directory
+  names-all i end = take_all i (names_below layer directory) (omega (arith, end, same-count))
+
+-- the same of a sheet that is the layer
+pub rows-paths : (sheet layer : Entries) → sheet ≡ layer → (rows : List ℕ) (directory : ℕ) (path : PathNames) → path_at layer directory ≡ path
+    → map (path_at sheet) rows ≡ map (child_path (path_at sheet directory)) (names_below sheet (path_at sheet directory)) → map (path_at layer) rows ≡ map (child_path path) (names_below layer path)
+rows-paths sheet layer same rows directory path here are =
+    subst (λ (p : PathNames). map (path_at layer) rows ≡ map (child_path p) (names_below layer p)) here
+    (subst (λ (l : Entries). map (path_at l) rows ≡ map (child_path (path_at l directory)) (names_below l (path_at l directory))) same are)
+
+-- what stands in a row
+module _ (layer : Entries) (is : IsLayer layer) (row : ℕ) (inside : row < length layer) (path : PathNames) (stands : path_at layer row ≡ path) (sheet : Entries) (same : sheet ≡ layer) where
+  pub row-inode : (inode : Inode) → entry_at sheet (path_at sheet row) ≡ Some inode → entry_at layer path ≡ Some inode
+  row-inode inode at = ap (entry_at layer) (sym stands) ∙ subst (λ (l : Entries). entry_at l (path_at l row) ≡ Some inode) same at
+
+  pub row-directory : (inode : Inode) → entry_at sheet (path_at sheet row) ≡ Some inode → is_directory_at layer path ≡ is_directory inode
+  row-directory inode at = ap directory_found (row-inode inode at)
+
+  pub row-mark : (mark : Mark) → option_map mark_of (entry_at sheet (path_at sheet row)) ≡ Some mark → (inode : Inode) × (entry_at layer path ≡ Some inode) × (mark ≡ mark_of inode)
+  row-mark mark at =
+      let found = entry-of_row layer row is inside in
+      let told : option_map mark_of (entry_at layer (path_at layer row)) ≡ Some mark = subst (λ (l : Entries). option_map mark_of (entry_at l (path_at l row)) ≡ Some mark) same at in
+      (found.0, ap (entry_at layer) (sym stands) ∙ found.1, own-mark found.0 mark (sym (ap (option_map mark_of) found.1) ∙ told))
+
+-- the kids with one more name
+module _ (stack : StackView) (piece : Piece) (old : List PathName) (name : PathName) where
+  abbrev kids_in : List PathName → List Piece
+  kids_in names = map (piece_in piece) (filter (λ own. is_directory_at (top_layer stack) (child_path piece.dir own)) names)
+
+  pub kids-more : is_directory_at (top_layer stack) (child_path piece.dir name) ≡ true
+      → map (piece_in piece) (filter (λ own. is_directory_at (top_layer stack) (child_path piece.dir own)) (old ++ name ∷ []))
+      ≡ map (piece_in piece) (filter (λ own. is_directory_at (top_layer stack) (child_path piece.dir own)) old) ++ piece_in piece name ∷ []
+  kids-more holds =
+      ap (map (piece_in piece)) (filter-append (λ own. is_directory_at (top_layer stack) (child_path piece.dir own)) old (name ∷ []))
+      ∙ (map-append (piece_in piece) (filter (λ own. is_directory_at (top_layer stack) (child_path piece.dir own)) old) (filter (λ own. is_directory_at (top_layer stack) (child_path piece.dir own)) (name ∷ []))
+      ∙ ap (λ b. kids_in old ++ map (piece_in piece) (cond b (name ∷ []) [])) holds)
+
+  pub kids-same : is_directory_at (top_layer stack) (child_path piece.dir name) ≡ false
+      → map (piece_in piece) (filter (λ own. is_directory_at (top_layer stack) (child_path piece.dir own)) (old ++ name ∷ []))
+      ≡ map (piece_in piece) (filter (λ own. is_directory_at (top_layer stack) (child_path piece.dir own)) old)
+  kids-same file =
+      ap (map (piece_in piece)) (filter-append (λ own. is_directory_at (top_layer stack) (child_path piece.dir own)) old (name ∷ []))
+      ∙ (map-append (piece_in piece) (filter (λ own. is_directory_at (top_layer stack) (child_path piece.dir own)) old) (filter (λ own. is_directory_at (top_layer stack) (child_path piece.dir own)) (name ∷ []))
+      ∙ (ap (λ b. kids_in old ++ map (piece_in piece) (cond b (name ∷ []) [])) file ∙ append-nil (kids_in old)))
 
 -- ---- whether an entry is idle
 
-module _ (stack : StackView) (directory : PathNames) (name : PathName) (inode : Inode) (here : entry_at (top_layer stack) (child_path directory name) ≡ Some inode)
-    (plain : Bool) (told : plain ≡ may_be_idle (mark_of inode)) where
+-- what may be idle is no whiteout
+not-whiteout : (inode : Inode) → may_be_idle (mark_of inode) ≡ true → is_whiteout inode ≡ false
+not-whiteout inode plain = by (is_whiteout inode) refl
+  where
+    by : (b : Bool) → is_whiteout inode ≡ b → b ≡ false
+    by false e = refl
+    by true e =
+        let marked : mark_of inode ≡ Whiteout =
+        ap (λ b. cond b Whiteout (cond (is_directory inode && has_opaque inode) DirOpaque (cond (is_directory inode) (directory_mark (redirect_reading inode)) (cond (is_regular inode && has_metacopy inode) (metacopy_mark (redirect_reading inode)) Leaf)))) e in
+        let bad : false ≡ true = sym (ap may_be_idle marked) ∙ plain in cc
+
+full-mark : (mark : Mark) → may_be_idle mark ≡ true → is_metacopy mark ≡ false → (is_meta (Some mark) || is_malformed (Some mark)) ≡ false
+full-mark Whiteout plain full = let bad : false ≡ true = plain in cc
+full-mark DirOpaque plain full = let bad : false ≡ true = plain in cc
+full-mark (DirMoved redirect) plain full = let bad : false ≡ true = plain in cc
+full-mark DirBad plain full = let bad : false ≡ true = plain in cc
+full-mark DirPlain plain full = refl
+full-mark (Meta redirect) plain full = let bad : true ≡ false = full in cc
+full-mark MetaBad plain full = let bad : true ≡ false = full in cc
+full-mark Leaf plain full = refl
+
+-- what may be idle and is no metacopy file has its contents itself
+own-contents : (inode : Inode) → may_be_idle (mark_of inode) ≡ true → is_metacopy (mark_of inode) ≡ false → (is_regular inode && has_metacopy inode) ≡ false
+own-contents inode plain full = by (is_regular inode && has_metacopy inode) refl
+  where
+    by : (b : Bool) → (is_regular inode && has_metacopy inode) ≡ b → b ≡ false
+    by false e = refl
+    by true e = let bad : false ≡ true = sym (full-mark (mark_of inode) plain full) ∙ bare-mark inode (not-whiteout inode plain) e in cc
+
+module _ (stack : StackView) (each : All IsLayer stack.layers) (some : 0 < length stack.layers)
+    (directory : PathNames) (name : PathName) (inode : Inode) (here : entry_at (top_layer stack) (child_path directory name) ≡ Some inode) where
   abbrev step : Step
   step = walk (top_layer stack) directory
 
+  is_layer : IsLayer (top_layer stack)
+  is_layer = top-layer stack some each
+
   tests : is_idle_at stack (child_path directory name)
-      ≡ (plain && not step.closed && look_eq (look (lower_layers stack) (child_path step.next name)) (look (over (top_layer stack) (lower_layers stack)) (child_path directory name)))
+      ≡ (may_be_idle (mark_of inode) && not (walk (top_layer stack) directory).closed && look_eq (look (lower_layers stack) (child_path (walk (top_layer stack) directory).next name)) (look stack (child_path directory name)))
   tests =
       ap (λ (found : Option Inode). elim found as (λ _. Bool) [ Some i ↦ is_idle (top_layer stack) (lower_layers stack) (child_path directory name, i) | None ↦ false ]) here
-      ∙ ((λ j. not (length-child directory name j) && may_be_idle (mark_of inode) && not (walk (top_layer stack) (parent_path-child directory name j)).closed
-      && look_eq (look (lower_layers stack) (natural_path-child (top_layer stack) directory name j)) (look (over (top_layer stack) (lower_layers stack)) (child_path directory name)))
-      ∙ ap (λ b. b && not step.closed && look_eq (look (lower_layers stack) (child_path step.next name)) (look (over (top_layer stack) (lower_layers stack)) (child_path directory name))) (sym told))
+      ∙ (λ j. not (length-child directory name j) && may_be_idle (mark_of inode) && not (walk (top_layer stack) (parent_path-child directory name j)).closed
+      && look_eq (look (lower_layers stack) (natural_path-child (top_layer stack) directory name j)) (look (top-over stack some j) (child_path directory name)))
 
-  pub compared : (below shown : Look) → below ≡ look (lower_layers stack) (child_path step.next name) → shown ≡ look stack (child_path directory name) → 0 < length stack.layers
-      → step.closed ≡ false → plain ≡ true → look_eq below shown ≡ is_idle_at stack (child_path directory name)
-  compared below shown is_below is_shown some opened unmarked =
+  pub marked-busy : may_be_idle (mark_of inode) ≡ false → is_idle_at stack (child_path directory name) ≡ false
+  marked-busy marked = tests ∙ ap (λ b. b && not step.closed && look_eq (look (lower_layers stack) (child_path step.next name)) (look stack (child_path directory name))) marked
+
+  -- where its directory is open, it is idle where the looks are the same
+  pub compared : (below shown : Look) → below ≡ look (lower_layers stack) (child_path (walk (top_layer stack) directory).next name) → shown ≡ look stack (child_path directory name)
+      → (walk (top_layer stack) directory).closed ≡ false → may_be_idle (mark_of inode) ≡ true → look_eq below shown ≡ is_idle_at stack (child_path directory name)
+  compared below shown is_below is_shown opened plain =
       (λ j. look_eq (is_below j) (is_shown j))
-      ∙ ((λ j. sym unmarked j && not (sym opened j) && look_eq (look (lower_layers stack) (child_path step.next name)) (look (sym (top-over stack some) j) (child_path directory name)))
-      ∙ sym tests)
+      ∙ sym (tests ∙ (λ j. plain j && not (opened j) && look_eq (look (lower_layers stack) (child_path step.next name)) (look stack (child_path directory name))))
+
+  -- ---- what is shown at it, where it is no whiteout
+
+  found-first : is_whiteout inode ≡ false → (walk (top_layer stack) (child_path directory name)).found ≡ Some inode
+  found-first thing = by (is_directory inode) refl
+    where
+      by : (b : Bool) → is_directory inode ≡ b → (walk (top_layer stack) (child_path directory name)).found ≡ Some inode
+      by true e = ap (λ (s : Step). s.found) (walk-child_directory (top_layer stack) directory name is_layer inode here e)
+      by false e =
+          ap (λ (s : Step). s.found) (walk-child_end (top_layer stack) directory name is_layer (Some inode) (entry-parent (top_layer stack) directory name inode is_layer here) here e [])
+          ∙ file-is_found inode step.next step.closed name thing
+
+  -- what is found below it
+  abbrev rest : List Inode
+  rest = cond (walk (top_layer stack) (child_path directory name)).closed [] (things_found (lower_layers stack).layers (walk (top_layer stack) (child_path directory name)).next)
+
+  shown-first : is_whiteout inode ≡ false → look stack (child_path directory name) ≡ shown_of stack.data_only (inode ∷ rest)
+  shown-first thing =
+      ap (λ (s : StackView). look s (child_path directory name)) (sym (top-over stack some))
+      ∙ (ap (shown_of stack.data_only) (things_found-step (top_layer stack) (lower_layers stack).layers (child_path directory name))
+      ∙ ap (λ (found : Option Inode). shown_of stack.data_only (cons_option found rest)) (found-first thing))
+
+  pub shown-plain : may_be_idle (mark_of inode) ≡ true → is_metacopy (mark_of inode) ≡ false → look stack (child_path directory name) ≡ Shown (visible inode)
+  shown-plain plain full = shown-first (not-whiteout inode plain) ∙ shown_of-full stack.data_only inode rest (own-contents inode plain full)
+
+  -- where nothing is shown below its directory, it shows something itself
+  pub hidden-busy : ((walk (top_layer stack) directory).closed || not (shows_directory (lower_layers stack) (walk (top_layer stack) directory).next)) ≡ true → is_idle_at stack (child_path directory name) ≡ false
+  hidden-busy hidden = by (may_be_idle (mark_of inode)) refl (walk (top_layer stack) directory).closed refl
+    where
+      differ : (shown : Look) → is_nothing shown ≡ false → look_eq Nothing shown ≡ false
+      differ Nothing e = let bad : true ≡ false = e in cc
+      differ (Shown other) e = refl
+      differ (Broken other) e = refl
+
+      something : is_whiteout inode ≡ false → is_nothing (look stack (child_path directory name)) ≡ false
+      something thing =
+          ap is_nothing (shown-first thing)
+          ∙ not_true (is_nothing (shown_of stack.data_only (inode ∷ rest))) (shown-any stack.data_only (inode ∷ rest))
+
+      by : (plain : Bool) → may_be_idle (mark_of inode) ≡ plain → (closed : Bool) → (walk (top_layer stack) directory).closed ≡ closed → is_idle_at stack (child_path directory name) ≡ false
+      by false marked closed e = marked-busy marked
+      by true plain true e = tests ∙ (λ j. plain j && not (e j) && look_eq (look (lower_layers stack) (child_path step.next name)) (look stack (child_path directory name)))
+      by true plain false e =
+          let none : shows_directory (lower_layers stack) step.next ≡ false =
+          not_true (shows_directory (lower_layers stack) step.next) (ap (λ b. b || not (shows_directory (lower_layers stack) step.next)) (sym e) ∙ hidden) in
+          let nothing : look (lower_layers stack) (child_path step.next name) ≡ Nothing = nothing-under (lower_layers stack) (lower-layers stack some each) step.next name [] none in
+          sym (compared Nothing (look stack (child_path directory name)) (sym nothing) refl e plain)
+          ∙ differ (look stack (child_path directory name)) (something (not-whiteout inode plain))
 
 -- ---- what visits tell
 

@@ -1,34 +1,38 @@
 -- What a visit of vacuum knows of its directory.
-use Rattle.std.specs.Prelude.{◌≡◌, true, false, Option, Some, None, MatchOption, ⊤}
-use Rattle.ovl_names.specs.Names.{PathName}
-use Rattle.ovl_names.specs.Paths.{PathNames, child_path}
-use Rattle.ovl_lookup.specs.declared.looks.Look.{Look}
-use Rattle.ovl_lookup.specs.declared.looks.Look.TheVariants.{Nothing}
+use Rattle.std.specs.Prelude.{◌≡◌, ◌<◌, ◌||◌, Bool, true, false, not, Option, MatchOption, ⊤, length}
+use Rattle.ovl_names.specs.Paths.{PathNames}
+use Rattle.ovl_inode.specs.declared.marks.Mark.{Mark}
+use Rattle.ovl_inode.specs.declared.marks.Mark.TheVariants.{Meta, MetaBad}
+use Rattle.ovl_manifest.specs.Layers.{is_directory_at}
+use Rattle.ovl_manifest.specs.Sheets.{path_at}
 use Rattle.ovl_lookup.specs.declared.views.DirView.{DirView}
 use Rattle.ovl_lookup.specs.Walk.{walk}
-use Rattle.ovl_lookup.specs.Stacks.{StackView, from_layer}
-use Rattle.ovl_lookup.specs.Merged.{look}
-use Rattle.ovl_lookup.specs.DirViews.{IsViewOver}
-use Rattle.ovl_lookup.specs.TopDirectories.{IsSought}
-use Rattle.ovl_lookup.specs.Words.{top_layer}
-use Rattle.ovl_vacuum.specs.declared.directories.Below.{Below}
+use Rattle.ovl_lookup.specs.Stacks.{StackView}
+use Rattle.ovl_lookup.specs.Merged.{shows_directory}
+use Rattle.ovl_lookup.specs.DirViews.{IsViewOf}
+use Rattle.ovl_lookup.specs.Words.{top_layer, lower_layers}
 use Rattle.ovl_vacuum.specs.declared.directories.Directory.{Directory}
 
--- the view of the layers below the topmost one where the walk of a directory goes on; none where that is closed
-abbrev pub IsBelow : StackView → PathNames → Option Below → Type 0
-IsBelow stack path found =
-    let step = walk (top_layer stack) path in
-    MatchOption found (step.closed ≡ true) (λ below. (step.closed ≡ false) × IsSought stack 1 step.next below.view)
+-- the view of the layers below the topmost one at a path; none where they are hidden or show no directory there
+abbrev pub IsBelow : StackView → PathNames → Bool → Option DirView → Type 0
+IsBelow stack next closed found =
+    MatchOption found ((closed || not (shows_directory (lower_layers stack) next)) ≡ true) (λ view. (closed ≡ false) × IsViewOf stack 1 next view)
 
--- what was sought below a directory of the topmost layer is what its stack has there
-abbrev pub IsSoughtBelow : Directory → Type 0
-IsSoughtBelow directory = IsBelow directory.top.stack directory.top.path directory.below
+-- a directory of the topmost layer: its row, and what lies below where its walk goes on
+pub record IsVisited (stack : StackView) (path : PathNames) (directory : Directory) : Type 0 where
+  pub over : directory.stack.now ≡ stack
+  pub stands : directory.path.now ≡ path
+  pub inside : directory.row < length (top_layer stack)
+  pub here : path_at (top_layer stack) directory.row ≡ path
+  pub holds : is_directory_at (top_layer stack) path ≡ true
+  pub below : IsBelow stack (walk (top_layer stack) path).next (walk (top_layer stack) path).closed directory.below
 
--- a view, if there is one, was made over the stack
-abbrev pub IsOver : StackView → Option DirView → Type 0
-IsOver stack found = MatchOption found ⊤ (λ view. IsViewOver stack view)
+-- the view of a directory in the merged tree, if there is one
+abbrev pub IsWhole : StackView → PathNames → Option DirView → Type 0
+IsWhole stack path found = MatchOption found ⊤ (IsViewOf stack 0 path)
 
--- what is shown at a name in the directory of a view; nothing where there is none
-abbrev pub look_by : StackView → PathName → Option DirView → Look
-look_by stack name None = Nothing
-look_by stack name (Some view) = look (from_layer view.from stack) (child_path view.path name)
+-- a metacopy file's, whatever its redirect says
+abbrev pub is_metacopy : Mark → Bool
+is_metacopy (Meta redirect) = true
+is_metacopy MetaBad = true
+is_metacopy _ = false

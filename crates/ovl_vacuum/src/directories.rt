@@ -1,63 +1,38 @@
-ghost use Rattle.std.specs.Prelude.{◌≡◌, [], IfOk, MatchOption, map, filter};
+ghost use Rattle.std.specs.Prelude.{◌≡◌, ◌<◌, [], length, map, IfOk, MatchOption};
+ghost use Rattle.std.specs.List.{All};
 ghost use Rattle.ovl_names.specs.Paths.{child_path};
-ghost use Rattle.ovl_manifest.specs.Layers.{is_directory_at as directory_test, names_below};
-ghost use Rattle.ovl_vacuum.specs.Vacuum.{may_be_idle as idle_mark};
+ghost use Rattle.ovl_manifest.specs.Layers.{names_below};
+ghost use Rattle.ovl_manifest.specs.Sheets.{path_at};
+ghost use Rattle.ovl_inode.specs.Inodes.{visible as visible_inode};
+ghost use Rattle.ovl_lookup.specs.declared.looks.Look.TheVariants.{Shown};
+ghost use Rattle.ovl_lookup.specs.Equal.{look_eq};
+ghost use Rattle.ovl_lookup.specs.Merged.{look as the_look};
+ghost use Rattle.ovl_lookup.specs.Passes.{IsOwnDirectory};
 ghost use Rattle.ovl_lookup.specs.Words.{top_layer};
-ghost use Rattle.ovl_vacuum.specs.Directories.{is_idle_at, idle_name, directory_piece, piece_in};
-ghost use Rattle.ovl_vacuum.specs.Visits.{IsBelow, IsSoughtBelow, IsOver, look_by};
+ghost use Rattle.ovl_vacuum.specs.Vacuum.{may_be_idle as idle_mark};
+ghost use Rattle.ovl_vacuum.specs.Directories.{is_idle_at, idle_name, directory_piece, vacuum_kids};
+ghost use Rattle.ovl_vacuum.specs.Visits.{IsVisited, IsBelow, IsWhole, is_metacopy as metacopy_mark};
 
-use crate::places::step_of;
+use crate::places::{path_in, top_sheet};
 use ovl_board::Piece;
-use ovl_inode::{Mark, is_directory};
-use ovl_lookup::{DirView, Look, Stack, TopDirectory};
+use ovl_inode::{Inode, Mark, is_directory, visible};
+use ovl_lookup::{DirView, Look, OwnDirectory, Stack, Trail};
 use ovl_names::{Name, Path};
 use std::alloc::{AllocError, Global};
 
-// A directory of the topmost layer, and the layers below it there, sought once for all that is in it.
+// A directory of the topmost layer, sought once for all that is in it.
 #[derive(Drop)]
 pub(crate) struct Directory<'a> {
-    top: TopDirectory<'a>,
-    // What lies below it; `None` where that is hidden.
-    below: Option<Below>,
-}
-
-// What the layers below the topmost one have where the walk of a directory goes on.
-#[derive(Drop)]
-pub(crate) struct Below {
-    // Its view there; `None` where no directory is shown.
-    view: Option<DirView>,
-}
-
-impl Below {
-    // What lies below a directory, and `None` where that is hidden.
-    fn of(alloc: Global, stack: &Stack, path: &Path) -> Result<Option<Below>, AllocError>
-        ensures { IfOk result (IsBelow stack.now path.now) }
-    {
-        // A stack has a topmost layer.
-        let _layers = stack.ordinary();
-        let step = step_of(alloc, stack, path)?;
-        if step.closed {
-            return Ok(None);
-        }
-        let view = DirView::of(alloc, stack, 1, &step.next)?;
-        Ok(Some(Below { view }))
-    }
-
-    // What is shown at a name there.
-    fn look(&self, alloc: Global, stack: &Stack, name: &Name) -> Result<Look, AllocError>
-        requires { IsOver stack.now self.now.view }
-        ensures { IfOk result (λ look. look ≡ look_by stack.now name.now self.now.view) }
-    {
-        let _layers = stack.ordinary();
-        match &self.view {
-            Some(view) => view.look(alloc, stack, name),
-            None => Ok(Look::Nothing),
-        }
-    }
+    stack: &'a Stack,
+    path: &'a Path,
+    // The number of its row.
+    row: u32,
+    // The view of the layers below where its walk goes on; `None` where that is closed, or they show no directory there.
+    below: Option<DirView>,
 }
 
 impl<'a> Directory<'a> {
-    // What the topmost layer has at a path as a directory, and `None` where it has nothing.
+    // The directory that the topmost layer has at a path, and `None` where it has none.
     pub(crate) fn of(
         alloc: Global,
         stack: &'a Stack,
@@ -65,92 +40,156 @@ impl<'a> Directory<'a> {
     ) -> Result<Option<Directory<'a>>, AllocError>
         ensures { IfOk result (λ found. MatchOption found
             (names_below (top_layer stack.now) path.now ≡ [])
-            (λ directory. (directory.top ≡ record { stack = stack.now; path = path.now }) × IsSoughtBelow directory)) }
+            (IsVisited stack.now path.now)) }
     {
-        let Some(top) = TopDirectory::of(alloc, stack, path)? else {
+        let Some(OwnDirectory { row, next, closed }) = own_directory(alloc, stack, path)? else {
             return Ok(None);
         };
-        let below = Below::of(alloc, stack, path)?;
-        Ok(Some(Directory { top, below }))
+        let below = view_below(alloc, stack, &next, closed)?;
+        Ok(Some(Directory {
+            stack,
+            path,
+            row,
+            below,
+        }))
     }
 
-    // The names in it.
-    pub(crate) fn names(&self, alloc: Global) -> Result<Vec<Name>, AllocError>
-        ensures { IfOk result (λ names. names.items ≡ names_below (top_layer self.now.top.stack) self.now.top.path) }
+    // The pieces of the directories in it.
+    pub(crate) fn kids(&self, alloc: Global, space: u16) -> Result<Vec<Piece>, AllocError>
+        requires { IsVisited self.now.stack.now self.now.path.now self.now }
+        ensures { IfOk result (λ kids. kids.items ≡ vacuum_kids self.now.stack.now (directory_piece space self.now.path.now)) }
     {
-        self.top.names(alloc)
-    }
-
-    // The pieces of those of these names in it that are directories themselves.
-    pub(crate) fn kids(
-        &self,
-        alloc: Global,
-        space: u16,
-        names: &[Name],
-    ) -> Result<Vec<Piece>, AllocError>
-        ensures { IfOk result (λ kids. kids.items
-            ≡ map (piece_in (directory_piece space self.now.top.path))
-            (filter (λ name. directory_test (top_layer self.now.top.stack) (child_path self.now.top.path name)) names.now)) }
-    {
+        let sheet = top_sheet(self.stack);
+        let rows = sheet.kids(self.row);
         let mut kids = Vec::new(alloc);
-        for name in names {
-            if self.has_directory(name) {
-                kids.push(Piece {
-                    space,
-                    dir: self.top.path().child(alloc, name)?,
-                })?;
+        for row in rows {
+            if is_directory(sheet.inode(*row)) {
+                let dir = path_in(alloc, sheet, *row, self.path)?;
+                kids.push(Piece { space, dir })?;
             }
         }
         Ok(kids)
     }
 
-    // Whether the topmost layer has a directory at a name in it.
-    fn has_directory(&self, name: &Name) -> bool
-        ensures { result ≡ directory_test (top_layer self.now.top.stack) (child_path self.now.top.path name.now) }
+    // The names in it, each with whether its entry is idle.
+    pub(crate) fn idle_names(&self, alloc: Global) -> Result<Vec<(Name, bool)>, AllocError>
+        requires { IsVisited self.now.stack.now self.now.path.now self.now }
+        ensures { IfOk result (λ names. names.items
+            ≡ map (idle_name self.now.stack.now self.now.path.now) (names_below (top_layer self.now.stack.now) self.now.path.now)) }
     {
-        match self.top.entry(name) {
-            Some(entry) => is_directory(entry.inode),
-            None => false,
+        let sheet = top_sheet(self.stack);
+        let rows = sheet.kids(self.row);
+        let whole = self.whole(alloc, rows)?;
+        let mut names = Vec::with_capacity(alloc, rows.len())?;
+        for row in rows {
+            if let Some(name) = sheet.name(*row) {
+                let idle = self.is_idle(alloc, &whole, *row, name)?;
+                names.push((name.copy(alloc)?, idle))?;
+            }
         }
+        Ok(names)
     }
 
-    // Each of these names in it with whether its entry is idle.
-    pub(crate) fn idle_names(
+    // Its view in the merged tree, where one of these rows is that of a metacopy file.
+    fn whole(&self, alloc: Global, rows: &[u32]) -> Result<Option<DirView>, AllocError>
+        requires { All (λ row. row < length (top_layer self.now.stack.now)) rows.now }
+        ensures { IfOk result (IsWhole self.now.stack.now self.now.path.now) }
+    {
+        let sheet = top_sheet(self.stack);
+        for row in rows {
+            if is_metacopy(sheet.mark(*row)) {
+                return DirView::of(alloc, self.stack, 0, self.path);
+            }
+        }
+        Ok(None)
+    }
+
+    // Whether the entry of a row in it, which has this name, is idle.
+    fn is_idle(
         &self,
         alloc: Global,
-        names: Vec<Name>,
-    ) -> Result<Vec<(Name, bool)>, AllocError>
-        requires { IsSoughtBelow self.now }
-        ensures { IfOk result (λ found. found.items ≡ map (idle_name self.now.top.stack self.now.top.path) names.items) }
+        whole: &Option<DirView>,
+        row: u32,
+        name: &Name,
+    ) -> Result<bool, AllocError>
+        requires visited { IsVisited self.now.stack.now self.now.path.now self.now }
+        requires whole { IsWhole self.now.stack.now self.now.path.now whole.now }
+        requires inside { row < length (top_layer self.now.stack.now) }
+        requires stands { path_at (top_layer self.now.stack.now) row ≡ child_path self.now.path.now name.now }
+        ensures { IfOk result (λ idle. idle ≡ is_idle_at self.now.stack.now (child_path self.now.path.now name.now)) }
     {
-        let mut found = Vec::with_capacity(alloc, names.len())?;
-        for name in names {
-            let idle = self.is_idle(alloc, &name)?;
-            found.push((name, idle))?;
+        let sheet = top_sheet(self.stack);
+        let Some(below) = &self.below else {
+            return Ok(false);
+        };
+        let mark = sheet.mark(row);
+        if !may_be_idle(mark) {
+            return Ok(false);
         }
-        Ok(found)
+        if !is_metacopy(mark) {
+            let look = below.look(alloc, self.stack, name)?;
+            return is_visible(alloc, &look, sheet.inode(row));
+        }
+        let shown = self.look(alloc, whole, name)?;
+        let lower = below.look(alloc, self.stack, name)?;
+        Ok(lower == shown)
     }
 
-    // Whether the entry of a name in it is idle.
-    fn is_idle(&self, alloc: Global, name: &Name) -> Result<bool, AllocError>
-        requires { IsSoughtBelow self.now }
-        ensures { IfOk result (λ idle. idle ≡ is_idle_at self.now.top.stack (child_path self.now.top.path name.now)) }
+    // What the stack shows at a name in it.
+    fn look(&self, alloc: Global, whole: &Option<DirView>, name: &Name) -> Result<Look, AllocError>
+        requires { IsWhole self.now.stack.now self.now.path.now whole.now }
+        ensures { IfOk result (λ look. look ≡ the_look self.now.stack.now (child_path self.now.path.now name.now)) }
     {
-        // Each layer of a stack is one.
-        let stack = self.top.stack();
-        let _layers = stack.ordinary();
-        let Some(lower) = &self.below else {
-            return Ok(false);
-        };
-        let Some(entry) = self.top.entry(name) else {
-            return Ok(false);
-        };
-        if !may_be_idle(entry.mark) {
-            return Ok(false);
+        match whole {
+            Some(view) => view.look(alloc, self.stack, name),
+            None => {
+                let path = self.path.child(alloc, name)?;
+                self.stack.look(alloc, 0, &path)
+            }
         }
-        let below = lower.look(alloc, stack, name)?;
-        let shown = self.top.look(alloc, name)?;
-        Ok(below == shown)
+    }
+}
+
+// The directory that the topmost layer has at a path, with how its walk goes on, and `None` where it has none.
+fn own_directory<'a>(
+    alloc: Global,
+    stack: &'a Stack,
+    path: &Path,
+) -> Result<Option<OwnDirectory<Trail<'a>>>, AllocError>
+    ensures { IfOk result (λ found. MatchOption found
+        (names_below (top_layer stack.now) path.now ≡ [])
+        (IsOwnDirectory (top_layer stack.now) path.now)) }
+{
+    // A stack has a topmost layer.
+    let _top = top_sheet(stack);
+    stack.own_trail(alloc, 0, path)
+}
+
+// The view of the layers below the topmost one at a path, unless they are hidden there.
+fn view_below(
+    alloc: Global,
+    stack: &Stack,
+    next: &Trail<'_>,
+    closed: bool,
+) -> Result<Option<DirView>, AllocError>
+    ensures { IfOk result (IsBelow stack.now next.now closed) }
+{
+    // A stack has a topmost layer.
+    let _top = top_sheet(stack);
+    if closed {
+        return Ok(None);
+    }
+    let next = next.path(alloc)?;
+    DirView::of(alloc, stack, 1, &next)
+}
+
+// Whether this is what is shown of an inode that isn't a metacopy file.
+fn is_visible(alloc: Global, look: &Look, inode: &Inode) -> Result<bool, AllocError>
+    ensures { IfOk result (λ same. same ≡ look_eq look.now (Shown (visible_inode inode.now))) }
+{
+    match look {
+        Look::Shown(shown) => Ok(*shown == visible(alloc, inode)?),
+        Look::Nothing | Look::Broken(_) => Ok(false),
     }
 }
 
@@ -162,4 +201,11 @@ fn may_be_idle(mark: &Mark) -> bool
         Mark::Whiteout | Mark::DirOpaque | Mark::DirMoved(_) | Mark::DirBad => false,
         Mark::DirPlain | Mark::Meta(_) | Mark::MetaBad | Mark::Leaf => true,
     }
+}
+
+// Whether this is the mark of a metacopy file, whatever its redirect says.
+fn is_metacopy(mark: &Mark) -> bool
+    ensures { result ≡ metacopy_mark mark.now }
+{
+    matches!(mark, Mark::Meta(_) | Mark::MetaBad)
 }

@@ -1,18 +1,17 @@
-ghost use Rattle.std.specs.Prelude.{◌≡◌, ◌<◌, ◌≤◌, ◌++◌, IfOk, length, map, drop, reverse};
-ghost use Rattle.std.specs.List.{All};
-ghost use Rattle.ovl_manifest.specs.Layers.{IsLayer};
+ghost use Rattle.std.specs.Prelude.{◌≡◌, ◌<◌, [], Ok, IfOk, length};
 ghost use Rattle.ovl_board.specs.Parcels.{parcel_views};
-ghost use Rattle.ovl_vacuum.specs.Vacuum.{vacuumed_layer, removed_paths};
 ghost use Rattle.ovl_lookup.specs.Words.{top_layer, lower_layers};
+ghost use Rattle.ovl_manifest.specs.Builders.{pair_after};
 ghost use Rattle.ovl_vacuum.specs.Directories.{names_seen, IsVacuumWalk};
-ghost use Rattle.ovl_vacuum.specs.Passes.{idle_path, begins_under as begins_test, left_after_pass, gone_after_pass, begins_at, IsDirectoryView, WalksUnder, entries_at};
+ghost use Rattle.ovl_vacuum.specs.Passes.{idle_flags, gone_flags, names_told, TellsBelow};
+ghost use Rattle.ovl_vacuum.specs.Vacuum.{vacuumed_layer, removed_paths};
 
-use crate::places::inode_at;
+use crate::places::{directory_of, path_in, path_of, top_sheet};
 use crate::works::VacuumWork;
 use ovl_board::Parcel;
-use ovl_inode::Inode;
+use ovl_inode::{Inode, is_directory};
 use ovl_lookup::Stack;
-use ovl_manifest::{Layer, from_entries};
+use ovl_manifest::{Layer, LayerBuilder};
 use ovl_names::{Name, Path};
 use std::alloc::{AllocError, Global};
 
@@ -36,136 +35,138 @@ pub fn finish_vacuum(
     ensures layer { IfOk result (λ done. done.layer ≡ vacuumed_layer (top_layer work.now) (lower_layers work.now)) }
     ensures removed { IfOk result (λ done. done.removed.items ≡ removed_paths (top_layer work.now) (lower_layers work.now)) }
 {
-    // Each layer of a stack is one.
-    let _layers = work.stack.ordinary();
-    let paths = idle_paths(alloc, work, &parcels)?;
-    let Passed { left, gone } = pass(alloc, paths)?;
-    let layer = layer_of(alloc, work.stack, left)?;
+    let stack = work.stack;
+    let idle = idle_rows(alloc, stack, &parcels)?;
+    let gone = gone_rows(stack, idle);
     Ok(VacuumDone {
-        layer,
-        removed: gone,
+        layer: layer_left(alloc, stack, &gone)?,
+        removed: paths_gone(alloc, stack, &gone)?,
     })
 }
 
-// All paths of the topmost layer in their order, each with whether its entry is idle.
-fn idle_paths(
+// Whether the entry of each row of the topmost layer is idle.
+fn idle_rows(
     alloc: Global,
-    work: &VacuumWork<'_>,
+    stack: &Stack,
     parcels: &[Parcel<Vec<(Name, bool)>>],
-) -> Result<Vec<(Path, bool)>, AllocError>
-    requires { IsVacuumWalk work.now (parcel_views names_seen parcels.now) }
-    ensures { IfOk result (λ paths. paths.items ≡ map (λ entry. idle_path work.now entry.0) (top_layer work.now)) }
+) -> Result<Vec<bool>, AllocError>
+    requires { IsVacuumWalk stack.now (parcel_views names_seen parcels.now) }
+    ensures { IfOk result (λ idle. idle.items ≡ idle_flags stack.now) }
 {
-    let _layers = work.stack.ordinary();
-    let mut paths = Vec::new(alloc);
-    paths.push((Path::root(alloc), false))?;
-    push_under(alloc, work, parcels, 0, &mut paths)?;
-    Ok(paths)
-}
-
-// Adds the paths under the directory of the parcel at `place`, and gives the place of the first parcel after those of
-// this directory and of what lies under it.
-fn push_under(
-    alloc: Global,
-    work: &VacuumWork<'_>,
-    parcels: &[Parcel<Vec<(Name, bool)>>],
-    place: usize,
-    paths: &mut Vec<(Path, bool)>,
-) -> Result<usize, AllocError>
-    requires layer { IsLayer (top_layer work.now) }
-    requires inside { place < length parcels.now }
-    requires directories { All (IsDirectoryView work.now) (parcel_views names_seen parcels.now) }
-    ensures after { IfOk result (λ next. (place < next) × (next ≤ length parcels.now)) }
-    ensures paths { IfOk result (λ next. WalksUnder work.now (drop place (parcel_views names_seen parcels.now)) (drop next (parcel_views names_seen parcels.now)) paths.old.items paths.new.items) }
-{
-    let parcel = &parcels[place];
-    let mut next = place + 1;
-    for (name, idle) in &parcel.out {
-        let path = parcel.piece.dir.child(alloc, name)?;
-        let is_directory = is_next(parcels, next, &path);
-        paths.push((path, *idle))?;
-        if is_directory {
-            next = push_under(alloc, work, parcels, next, paths)?;
+    let sheet = top_sheet(stack);
+    let mut idle = vec![in alloc; false; sheet.len() as usize]?;
+    // The parcels are those of the directories, in the order of their rows.
+    let mut place = 0;
+    for number in 0..sheet.len() {
+        if is_directory(sheet.inode(number)) {
+            tell_below(stack, number, &parcels[place].out, &mut idle);
+            place += 1;
         }
     }
-    Ok(next)
+    Ok(idle)
 }
 
-// Whether the parcel at `next` is that of this directory.
-fn is_next(parcels: &[Parcel<Vec<(Name, bool)>>], next: usize, path: &Path) -> bool
-    ensures { result ≡ begins_at path.now (drop next (parcel_views names_seen parcels.now)) }
+// Tells of the rows directly below a directory's whether their entries are idle, by what the directory put out.
+fn tell_below(stack: &Stack, directory: u32, names: &[(Name, bool)], idle: &mut Vec<bool>)
+    requires inside { directory < length (top_layer stack.now) }
+    requires names { names.now ≡ names_told stack.now directory }
+    requires count { length idle.old.items ≡ length (top_layer stack.now) }
+    ensures { TellsBelow stack.now directory idle.old.items idle.new.items }
 {
-    if next >= parcels.len() {
-        return false;
+    let kids = top_sheet(stack).kids(directory);
+    for place in 0..kids.len() {
+        idle[kids[place] as usize] = names[place].1;
     }
-    parcels[next].piece.dir == *path
 }
 
-// What a pass over paths left, and what went.
-#[derive(Drop)]
-struct Passed {
-    left: Vec<Path>,
-    gone: Vec<Path>,
-}
-
-// From the last path to the first: an idle one goes where nothing under it is left.
-fn pass(alloc: Global, paths: Vec<(Path, bool)>) -> Result<Passed, AllocError>
-    ensures left { IfOk result (λ passed. passed.left.items ≡ left_after_pass paths.items) }
-    ensures gone { IfOk result (λ passed. passed.gone.items ≡ gone_after_pass paths.items) }
+// Whether all at and under each row are idle. From the last row to the first, one that stays keeps its directory.
+fn gone_rows(stack: &Stack, idle: Vec<bool>) -> Vec<bool>
+    requires { idle.items ≡ idle_flags stack.now }
+    ensures { result.items ≡ gone_flags stack.now }
 {
-    let mut paths = paths;
-    let mut left = Vec::new(alloc);
-    let mut gone = Vec::new(alloc);
-    while let Some((path, idle)) = paths.pop() {
-        if idle && !ends_under(&path, &left) {
-            gone.push(path)?;
-        } else {
-            left.push(path)?;
+    let sheet = top_sheet(stack);
+    let mut gone = idle;
+    let mut number = sheet.len();
+    while number > 1 {
+        number -= 1;
+        if !gone[number as usize] {
+            let directory = directory_of(sheet, number);
+            gone[directory as usize] = false;
         }
     }
-    left.reverse();
-    gone.reverse();
-    Ok(Passed { left, gone })
+    gone
 }
 
-// Whether the last of these paths is at or under this one.
-fn ends_under(path: &Path, paths: &[Path]) -> bool
-    ensures { result ≡ begins_test path.now (reverse paths.now) }
-{
-    match paths.split_last() {
-        Some((last, _)) => last.names().starts_with(&path.names()),
-        None => false,
-    }
-}
-
-// The layer of those entries of the topmost layer that are left.
-fn layer_of(alloc: Global, stack: &Stack, left: Vec<Path>) -> Result<Layer, AllocError>
-    requires { left.items ≡ map (λ entry. entry.0) (vacuumed_layer (top_layer stack.now) (lower_layers stack.now)) }
+// The layer of the rows that stay.
+fn layer_left(alloc: Global, stack: &Stack, gone: &[bool]) -> Result<Layer, AllocError>
+    requires { gone.now ≡ gone_flags stack.now }
     ensures { IfOk result (λ layer. layer ≡ vacuumed_layer (top_layer stack.now) (lower_layers stack.now)) }
 {
-    // Without what goes, the topmost layer is one, so that nothing but memory can stand in the way.
-    let _layers = stack.ordinary();
-    let entries = entries_of(alloc, stack, left)?;
-    match from_entries(alloc, entries) {
-        Ok(layer) => Ok(layer),
+    let sheet = top_sheet(stack);
+    let root = sheet.inode(0).copy(alloc)?;
+    let mut builder = begun(alloc, root)?;
+    // The path of a row's directory is kept for the next row.
+    let mut directory = 0;
+    let mut above = Path::root(alloc);
+    for number in 1..sheet.len() {
+        if !gone[number as usize] {
+            let own = directory_of(sheet, number);
+            if own != directory {
+                above = path_of(alloc, sheet, own)?;
+                directory = own;
+            }
+            let path = path_in(alloc, sheet, number, &above)?;
+            let inode = sheet.inode(number).copy(alloc)?;
+            builder = with_entry(alloc, builder, path, inode)?;
+        }
+    }
+    builder.finish()
+}
+
+// The layer of a root alone. What vacuum leaves is a layer, so that nothing but memory can stand in the way.
+fn begun(alloc: Global, root: Inode) -> Result<LayerBuilder, AllocError>
+    ensures { IfOk result (λ builder. pair_after [] ([], root) ≡ Ok builder) }
+{
+    match LayerBuilder::new(alloc, root) {
+        Ok(builder) => Ok(builder),
         Err(_) => Err(AllocError),
     }
 }
 
-// The entries that the topmost layer has at these paths.
-fn entries_of(
+// The layer with one more entry.
+fn with_entry(
     alloc: Global,
-    stack: &Stack,
-    paths: Vec<Path>,
-) -> Result<Vec<(Path, Inode)>, AllocError>
-    ensures { IfOk result (λ entries. entries.items ≡ entries_at (top_layer stack.now) paths.items) }
+    builder: LayerBuilder,
+    path: Path,
+    inode: Inode,
+) -> Result<LayerBuilder, AllocError>
+    ensures { IfOk result (λ more. pair_after builder (path, inode) ≡ Ok more) }
 {
-    let mut entries = Vec::with_capacity(alloc, paths.len())?;
-    for path in paths {
-        if let Some(inode) = inode_at(stack, &path) {
-            let inode = inode.copy(alloc)?;
-            entries.push((path, inode))?;
+    match builder.with_entry(alloc, path, inode) {
+        Ok(more) => Ok(more),
+        Err(_) => Err(AllocError),
+    }
+}
+
+// The paths of the rows that go.
+fn paths_gone(alloc: Global, stack: &Stack, gone: &[bool]) -> Result<Vec<Path>, AllocError>
+    requires { gone.now ≡ gone_flags stack.now }
+    ensures { IfOk result (λ paths. paths.items ≡ removed_paths (top_layer stack.now) (lower_layers stack.now)) }
+{
+    let sheet = top_sheet(stack);
+    let mut paths = Vec::new(alloc);
+    // The path of a row's directory is kept for the next row.
+    let mut directory = 0;
+    let mut above = Path::root(alloc);
+    for number in 0..sheet.len() {
+        if gone[number as usize] {
+            let own = directory_of(sheet, number);
+            if own != directory {
+                above = path_of(alloc, sheet, own)?;
+                directory = own;
+            }
+            paths.push(path_in(alloc, sheet, number, &above)?)?;
         }
     }
-    Ok(entries)
+    Ok(paths)
 }

@@ -1,27 +1,61 @@
-ghost use Rattle.std.specs.Prelude.{◌≡◌, IfOk};
-ghost use Rattle.std.specs.Option.{option_map};
-ghost use Rattle.ovl_manifest.specs.Layers.{entry_at};
-ghost use Rattle.ovl_lookup.specs.Walk.{walk as the_walk};
+ghost use Rattle.std.specs.Prelude.{◌≡◌, ◌<◌, length, IfOk};
+ghost use Rattle.std.specs.List.{All};
+ghost use Rattle.ovl_manifest.specs.Layers.{IsLayer};
+ghost use Rattle.ovl_manifest.specs.Sheets.{path_at};
+ghost use Rattle.ovl_names.specs.Paths.{parent_path};
 ghost use Rattle.ovl_lookup.specs.Words.{top_layer};
 
-use ovl_inode::Inode;
-use ovl_lookup::{Stack, Step, walk};
+use ovl_lookup::Stack;
+use ovl_manifest::Sheet;
 use ovl_names::Path;
 use std::alloc::{AllocError, Global};
 
-// The inode that the topmost layer has at a path.
-pub(crate) fn inode_at<'a>(stack: &'a Stack, path: &Path) -> Option<&'a Inode>
-    ensures { option_map (λ inode. inode.now) result ≡ entry_at (top_layer stack.now) path.now }
+// The sheet of the topmost layer.
+pub(crate) fn top_sheet(stack: &Stack) -> &Sheet
+    ensures value { result.now ≡ top_layer stack.now }
+    ensures some { 0 < length stack.now.layers }
+    ensures each { All IsLayer stack.now.layers }
 {
     // A stack has a topmost layer.
     let _layers = stack.ordinary();
-    stack.sheet(0).at(path)
+    stack.sheet(0)
 }
 
-// The walk of a path in the topmost layer.
-pub(crate) fn step_of(alloc: Global, stack: &Stack, path: &Path) -> Result<Step, AllocError>
-    ensures { IfOk result (λ step. step ≡ the_walk (top_layer stack.now) path.now) }
+// The number of the row of the directory that holds the entry of a row; the root's is its own.
+pub(crate) fn directory_of(sheet: &Sheet, number: u32) -> u32
+    requires { number < length sheet.now }
+    ensures inside { result < length sheet.now }
+    ensures path { path_at sheet.now result ≡ parent_path (path_at sheet.now number) }
 {
-    let _layers = stack.ordinary();
-    walk(alloc, stack.sheet(0), path)
+    sheet.row(number).unwrap().parent
+}
+
+// The path of the entry of a row, by that of its directory.
+pub(crate) fn path_in(
+    alloc: Global,
+    sheet: &Sheet,
+    number: u32,
+    directory: &Path,
+) -> Result<Path, AllocError>
+    requires inside { number < length sheet.now }
+    requires directory { directory.now ≡ parent_path (path_at sheet.now number) }
+    ensures { IfOk result (λ path. path ≡ path_at sheet.now number) }
+{
+    match sheet.name(number) {
+        Some(name) => directory.child(alloc, name),
+        None => Ok(Path::root(alloc)),
+    }
+}
+
+// The path of the entry of a row.
+pub(crate) fn path_of(alloc: Global, sheet: &Sheet, number: u32) -> Result<Path, AllocError>
+    requires { number < length sheet.now }
+    ensures { IfOk result (λ path. path ≡ path_at sheet.now number) }
+{
+    let Some(name) = sheet.name(number) else {
+        return Ok(Path::root(alloc));
+    };
+    let mut path = path_of(alloc, sheet, directory_of(sheet, number))?;
+    path.push(name)?;
+    Ok(path)
 }

@@ -63,9 +63,8 @@ impl<'a> Work for VacuumWork<'a> {
         let Some(directory) = Directory::of(alloc, self.stack, &piece.dir)? else {
             return Ok((Vec::new(alloc), Vec::new(alloc)));
         };
-        let names = directory.names(alloc)?;
-        let kids = directory.kids(alloc, piece.space, &names)?;
-        let idle_names = directory.idle_names(alloc, names)?;
+        let kids = directory.kids(alloc, piece.space)?;
+        let idle_names = directory.idle_names(alloc)?;
         Ok((kids, idle_names))
     }
 

@@ -1,26 +1,74 @@
-use Rattle.std.proofs.Common.{◌∙◌, ℕ, ◌<◌, Some, All, length, ap, subst}
-use Rattle.ovl_names.specs.Paths.{PathNames}
-use Rattle.ovl_manifest.specs.Layers.{IsLayer}
+use Rattle.std.proofs.Common.{◌≡◌, ◌∙◌, Bool, Option, Some, IfOk, true, false, refl, sym, ap, subst}
+use Rattle.std.specs.Prelude.{unwrap_or}
+use Rattle.ovl_lookup.specs.Equal.{look_eq}
+use Rattle.ovl_names.specs.Names.{PathName}
+use Rattle.ovl_names.specs.Paths.{PathNames, child_path}
+use Rattle.ovl_inode.specs.declared.inodes.Inode.{Inode}
+use Rattle.ovl_inode.specs.Inodes.{visible}
+use Rattle.ovl_inode.specs.Marks.{mark_of}
+use Rattle.ovl_manifest.specs.Layers.{Entries}
+use Rattle.ovl_lookup.specs.declared.looks.Look.TheVariants.{Shown}
 use Rattle.ovl_lookup.specs.Walk.{walk}
-use Rattle.ovl_lookup.specs.Stacks.{StackView}
-use Rattle.ovl_lookup.specs.Words.{top_layer}
+use Rattle.ovl_lookup.specs.Merged.{look}
+use Rattle.ovl_lookup.specs.Stacks.{StackView, from_layer}
+use Rattle.ovl_lookup.specs.Words.{top_layer, lower_layers}
+use Rattle.ovl_lookup.proofs.LawsOfLooks.{top-layer}
+use Rattle.ovl_lookup.proofs.LawsOfWalks.{entry-of_row}
 use Rattle.ovl_vacuum.specs.Vacuum.{may_be_idle}
-use Rattle.ovl_vacuum.specs.Visits.{IsBelow, look_by}
-use Rattle.ovl_vacuum.proofs.VisitLemmas.{sought-look, compared}
+use Rattle.ovl_vacuum.specs.Visits.{IsBelow, is_metacopy}
+use Rattle.ovl_vacuum.proofs.VisitLemmas.{row-inode, row-mark, hidden-busy, compared, shown-plain}
 use Rattle.ovl_vacuum.proofs.directories.Directory.is_idle.Goals as goal
+
+pub returns-in_default : goal.returns-in_default
+returns-in_default c =
+    let stack : StackView = c.args.self.now.stack.now in
+    let path : PathNames = c.args.self.now.path.now in
+    let name : PathName = c.args.name.now in
+    let top : Entries = top_layer stack in
+    let each = c.top_sheet-sheet.ensures.each in
+    let some = c.top_sheet-sheet.ensures.some in
+    let found = entry-of_row top c.args.row (top-layer stack some each) c.requires.inside in
+    let hidden = subst (IsBelow stack (walk top path).next (walk top path).closed) c.in_default.is c.requires.visited.below in
+    sym (hidden-busy stack each some path name found.0 (row-inode top (top-layer stack some each) c.args.row c.requires.inside (child_path path name) c.requires.stands top refl found.0 found.1) hidden)
+
+pub returns-then-not-is_metacopy : goal.returns-then-not-is_metacopy
+returns-then-not-is_metacopy c =
+    let stack : StackView = c.args.self.now.stack.now in
+    let path : PathNames = c.args.self.now.path.now in
+    let name : PathName = c.args.name.now in
+    let top : Entries = top_layer stack in
+    let each = c.top_sheet-sheet.ensures.each in
+    let some = c.top_sheet-sheet.ensures.some in
+    let sheet : Entries = c.top_sheet-sheet.result.now in
+    let same = c.top_sheet-sheet.ensures.value in
+    let is = top-layer stack some each in
+    let inode : Inode = c.inode.result.now in
+    let here = row-inode top is c.args.row c.requires.inside (child_path path name) c.requires.stands sheet same inode c.inode.ensures in
+    let row = row-mark top is c.args.row c.requires.inside (child_path path name) c.requires.stands sheet same c.mark-mark.result.now c.mark-mark.ensures in
+    let plain : may_be_idle (mark_of row.0) ≡ true = ap may_be_idle (sym row.2) ∙ (sym c.may_be_idle.ensures ∙ c.if-not-may_be_idle.false) in
+    let full : is_metacopy (mark_of row.0) ≡ false = ap is_metacopy (sym row.2) ∙ (sym c.is_metacopy.ensures ∙ c.if-not-is_metacopy.true) in
+    let below = subst (IsBelow stack (walk top path).next (walk top path).closed) c.in-Some.is c.requires.visited.below in
+    let one : Some inode ≡ Some row.0 = sym here ∙ row.1 in
+    let looked : c.in_ok-look.look ≡ look (lower_layers stack) (child_path (walk top path).next name) =
+    c.in_ok-look.ensures ∙ (λ j. look (from_layer (below.1.starts j) stack) (child_path (below.1.stands j) name)) in
+    let shown = shown-plain stack each some path name row.0 row.1 plain full in
+    let told = compared stack each some path name row.0 row.1 c.in_ok-look.look (Shown (visible row.0)) looked (sym shown) below.0 plain in
+    let inodes : inode ≡ row.0 = ap (λ (o : Option Inode). unwrap_or o inode) one in
+    subst (λ (b : Bool). IfOk c.is_visible.result (λ idle. idle ≡ b)) (ap (λ (i : Inode). look_eq c.in_ok-look.look (Shown (visible i))) inodes ∙ told) c.is_visible.ensures
 
 pub returns : goal.returns
 returns c =
-    let stack : StackView = c.args.self.now.top.stack in
-    let path : PathNames = c.args.self.now.top.path in
-    let name = c.args.name.now in
-    let inode = c.in-Some-entry.entry.inode.now in
-    let same = c.stack-stack.ensures in
-    let each = subst (λ (s : StackView). All IsLayer s.layers) same c.ordinary-layers.ensures.each in
-    let below : IsBelow stack path (Some c.in-Some.lower) = subst (IsBelow stack path) c.in-Some.is c.requires in
-    c.eq.ensures
-    ∙ compared stack path name inode c.in-Some-entry.ensures.0 c.may_be_idle.result (c.may_be_idle.ensures ∙ ap may_be_idle c.in-Some-entry.ensures.1) c.in_ok-below.below c.in_ok-shown.shown
-    (c.in_ok-below.ensures ∙ (ap (λ (s : StackView). look_by s name c.in-Some.lower.view) same ∙ sought-look stack 1 (walk (top_layer stack) path).next each name c.in-Some.lower.view below.1))
-    c.in_ok-shown.ensures
-    (subst (λ (s : StackView). 0 < length s.layers) same (subst (λ (n : ℕ). 0 < n) c.ordinary-layers.ensures.value c.ordinary-layers.ensures.some))
-    below.0 c.if-not-may_be_idle.false
+    let stack : StackView = c.args.self.now.stack.now in
+    let path : PathNames = c.args.self.now.path.now in
+    let name : PathName = c.args.name.now in
+    let top : Entries = top_layer stack in
+    let each = c.top_sheet-sheet.ensures.each in
+    let some = c.top_sheet-sheet.ensures.some in
+    let sheet : Entries = c.top_sheet-sheet.result.now in
+    let same = c.top_sheet-sheet.ensures.value in
+    let row = row-mark top (top-layer stack some each) c.args.row c.requires.inside (child_path path name) c.requires.stands sheet same c.mark-mark.result.now c.mark-mark.ensures in
+    let plain : may_be_idle (mark_of row.0) ≡ true = ap may_be_idle (sym row.2) ∙ (sym c.may_be_idle.ensures ∙ c.if-not-may_be_idle.false) in
+    let below = subst (IsBelow stack (walk top path).next (walk top path).closed) c.in-Some.is c.requires.visited.below in
+    let looked : c.in_ok-lower.lower ≡ look (lower_layers stack) (child_path (walk top path).next name) =
+    c.in_ok-lower.ensures ∙ (λ j. look (from_layer (below.1.starts j) stack) (child_path (below.1.stands j) name)) in
+    c.eq.ensures ∙ compared stack each some path name row.0 row.1 c.in_ok-lower.lower c.in_ok-shown.shown looked c.in_ok-shown.ensures below.0 plain

@@ -1,0 +1,56 @@
+use Rattle.std.proofs.Common.{◌≡◌, ◌∙◌, ◌<◌, ℕ, Some, length, sym, ap, subst, arith}
+use Rattle.std.proofs.lemmas.Result.{IfOk-weaker}
+use Rattle.ovl_inode.specs.declared.inodes.Inode.{Inode}
+use Rattle.ovl_manifest.specs.Layers.{Entries, entry_at}
+use Rattle.ovl_manifest.specs.Sheets.{path_at}
+use Rattle.ovl_lookup.specs.Stacks.{StackView}
+use Rattle.ovl_lookup.specs.Words.{top_layer}
+use Rattle.ovl_lookup.proofs.LawsOfLooks.{top-layer}
+use Rattle.ovl_vacuum.proofs.RowLemmas.{left-first, left-taken, left-passed, left-all, root-first}
+use Rattle.ovl_vacuum.proofs.finish.layer_left.Goals as goal
+use Rattle.ovl_vacuum.proofs.finish.layer_left.Goals.{then-not-gone-number+in_ok-path+in_ok-inode+in_ok-builder-2, then-own-directory+in_ok-above, else-own-directory, else-not-gone-number}
+
+pub loop-number-init : goal.loop-number-init
+loop-number-init c =
+    let stack : StackView = c.args.stack.now in
+    let is = top-layer stack c.top_sheet-sheet.ensures.some c.top_sheet-sheet.ensures.each in
+    let at : entry_at (top_layer stack) (path_at (top_layer stack) 0) ≡ Some c.in_ok-root.root =
+    subst (λ (l : Entries). entry_at l (path_at l 0) ≡ Some c.inode.result.now) c.top_sheet-sheet.ensures.value c.inode.ensures ∙ ap (λ (i : Inode). Some i) (sym c.in_ok-root.ensures) in
+    record {
+      left = left-first stack is c.args.gone.now c.in_ok-builder.builder c.in_ok-root.root c.requires at c.in_ok-builder.ensures;
+      above = c.root-above.ensures ∙ sym (root-first (top_layer stack) is);
+    }
+
+pub loop-number-preserved : goal.loop-number-preserved
+loop-number-preserved c =
+    let stack : StackView = c.args.stack.now in
+    let is = top-layer stack c.top_sheet-sheet.ensures.some c.top_sheet-sheet.ensures.each in
+    let same = c.top_sheet-sheet.ensures.value in
+    let number : ℕ = c.loop-number.number in
+    let inside : number < length (top_layer stack) = omega (arith, c.loop-number-test.true, c.len-number-end.ensures.value, ap length same) in
+    elim c.if-not-gone-number.branch [
+      | then-not-gone-number+in_ok-path+in_ok-inode+in_ok-builder-2 w ↦
+          let kept : w.if-own-directory.above ≡ path_at (top_layer stack) w.if-own-directory.directory =
+          elim w.if-own-directory.branch [
+            | then-own-directory+in_ok-above v ↦ v.above-is ∙ (v.in_ok-above.ensures ∙ ((λ j. path_at (same j) w.directory_of-own.result) ∙ ap (path_at (top_layer stack)) (sym v.directory-is)))
+            | else-own-directory v ↦ v.above-is ∙ (c.loop-number.invariant.above ∙ ap (path_at (top_layer stack)) (sym v.directory-is))
+          ] in
+          let at : entry_at (top_layer stack) (path_at (top_layer stack) number) ≡ Some w.in_ok-inode.inode =
+          subst (λ (l : Entries). entry_at l (path_at l number) ≡ Some w.inode-then-not-gone-number.result.now) same w.inode-then-not-gone-number.ensures ∙ ap (λ (i : Inode). Some i) (sym w.in_ok-inode.ensures) in
+          record {
+            left = w.builder-is
+                ∙ left-taken stack is number inside c.args.gone.now c.loop-number.builder w.in_ok-builder-2.builder w.in_ok-path.path w.in_ok-inode.inode c.requires w.if-not-gone-number.true c.loop-number.invariant.left
+                (w.in_ok-path.ensures ∙ (λ j. path_at (same j) number)) at w.in_ok-builder-2.ensures;
+            above = w.above-is ∙ (kept ∙ ap (path_at (top_layer stack)) (sym w.directory-is));
+          }
+      | else-not-gone-number w ↦ record {
+        left = w.builder-is ∙ left-passed stack is number inside c.args.gone.now c.loop-number.builder c.requires w.if-not-gone-number.false c.loop-number.invariant.left;
+        above = w.above-is ∙ (c.loop-number.invariant.above ∙ ap (path_at (top_layer stack)) (sym w.directory-is));
+      }
+    ]
+
+pub returns : goal.returns
+returns c =
+    IfOk-weaker c.finish.result _ _
+    (λ layer e. left-all c.args.stack.now c.loop-number.number layer (omega (arith, c.loop-number-test.false, c.len-number-end.ensures.value, ap length c.top_sheet-sheet.ensures.value)) (e ∙ c.loop-number.invariant.left))
+    c.finish.ensures
