@@ -79,7 +79,7 @@ impl LayerBuilder {
             (λ fault. IsFaultOf (pair_after self (child_path directory.now name, inode)) fault) }
     {
         let LayerBuilder { draft, count } = self;
-        if count as usize == ENTRY_LIMIT {
+        if count as usize >= ENTRY_LIMIT {
             return Err(LayerFault::Count);
         }
         let draft = add_child(alloc, draft, count, directory, name, inode)?;

@@ -14,7 +14,7 @@ pub returns-in_err-draft : goal.returns-in_err-draft
 returns-in_err-draft c =
     let before : Entries = draft_entries c.self.inside.draft in
     let pair : Entry = (child_path c.args.directory.now c.args.name, c.args.inode) in
-    let few : length before < entry_limit = omega (arith, c.self.invariant.1, c.self.invariant.2, c.if-count-eq-ENTRY_LIMIT.false) in
+    let few : length before < entry_limit = omega (arith, c.self.invariant.1, c.self.invariant.2, c.if-count-ge-ENTRY_LIMIT.false) in
     let out = err_from_is_err_and c.from_residual.result c.from_residual.ensures.1 in
     let told = out.1 ∙ ap Err out.2 in
     rw told (subst (λ (r : Result Entries LayerFault). IsFaultOf r c.in_err-draft.field-0.0) (sym (pair-room before pair few) ∙ ap (λ (es : Entries). pair_after es pair) c.self.view_is) c.in_err-draft.ensures)
@@ -25,5 +25,5 @@ invariant_of-result c =
     let longer = one_more before (stated_pair (child_path c.args.directory.now c.args.name, c.args.inode)) (draft_entries c.in_ok-draft.draft) c.in_ok-draft.ensures.0 in (
       c.in_ok-draft.ensures.1,
       omega (arith, longer, c.self.invariant.1),
-      omega (arith, c.self.invariant.2, c.if-count-eq-ENTRY_LIMIT.false),
+      omega (arith, c.self.invariant.2, c.if-count-ge-ENTRY_LIMIT.false),
     )
