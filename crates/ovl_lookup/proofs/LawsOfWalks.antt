@@ -391,7 +391,7 @@ module _ (layer : Entries) (path : PathNames) (name : PathName) (is : IsLayer la
 pub own-mark : (inode : Inode) (mark : Mark) → Some (mark_of inode) ≡ Some mark → mark ≡ mark_of inode
 own-mark inode mark same = sym (ap (λ o. unwrap_or o mark) same)
 
-module _ (layer : Entries) (path : PathNames) (name : PathName) (is : IsLayer layer) (own : OwnDirectory PathNames) (stands : IsOwnDirectory layer path own) where
+module _ (layer : Entries) (path : PathNames) (name : PathName) (is : IsLayer layer) (own : OwnDirectory) (stands : IsOwnDirectory layer path own) where
   -- nothing is there
   pub own-missing : entries_under (child_path path name) layer ≡ [] → nothing_found (child_path own.next name) own.closed ≡ walk layer (child_path path name)
   own-missing none =
@@ -410,26 +410,6 @@ module _ (layer : Entries) (path : PathNames) (name : PathName) (is : IsLayer la
   own-entered inode here directory =
       (λ j. record { found = Some inode; next = entered_path (mark_of inode) (stands.next j) name; closed = entered_closed (mark_of inode) (stands.closed j) })
       ∙ sym (walk-child_directory layer path name is inode here directory)
-
-  -- a directory there, by its row
-  pub own-child : (row : ℕ) → row < length layer → path_at layer row ≡ child_path path name → is_directory_at layer (child_path path name) ≡ true
-      → (mark : Mark) → option_map mark_of (entry_at layer (child_path path name)) ≡ Some mark
-      → IsOwnDirectory layer (child_path path name) (record { row = row; next = entered_path mark own.next name; closed = entered_closed mark own.closed })
-  own-child row inside here directory mark marked =
-      let parent = walk-whole layer path stands.directory in
-      let child = walk-whole layer (child_path path name) directory in
-      let at = mark_at-child layer path name mark marked in
-      record {
-        inside = inside;
-        here = here;
-        directory = directory;
-        next =
-            ap (λ (p : PathNames). entered_path mark p name) (stands.next ∙ ap (λ (s : Step). s.next) parent)
-            ∙ (sym (turn-entered layer path name mark at) ∙ sym (ap (λ (s : Step). s.next) child));
-        closed =
-            ap (entered_closed mark) (stands.closed ∙ ap (λ (s : Step). s.closed) parent)
-            ∙ (sym (is_shut-entered layer path name mark at) ∙ sym (ap (λ (s : Step). s.closed) child));
-      }
 
 -- ---- beyond a directory
 

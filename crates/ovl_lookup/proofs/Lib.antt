@@ -20,7 +20,6 @@ pub mod TopLemmas
 pub mod DirViewLemmas
 pub mod ViewSteps
 pub mod ViewLookLemmas
-mod TopDirectoryLemmas
 mod Rows
 mod TrailLemmas
 mod TrailNameLemmas

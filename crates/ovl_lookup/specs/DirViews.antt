@@ -1,5 +1,5 @@
 -- Views of directories over a stack, as the program keeps them.
-use Rattle.std.specs.Prelude.{◌≡◌, ℕ, ◌<◌, ◌≤◌, ◌++◌, Bool, true, false, Option, Some, None, List, [], drop, length, map, slice_get, IsSomeAnd}
+use Rattle.std.specs.Prelude.{◌≡◌, ℕ, ◌<◌, ◌≤◌, ◌++◌, Bool, true, false, Option, Some, None, List, [], drop, length, map, slice_get, IsSomeAnd, MatchOption}
 use Rattle.std.specs.List.{All}
 use Rattle.ovl_names.specs.Names.{PathName}
 use Rattle.ovl_names.specs.Paths.{PathNames, child_path}
@@ -84,3 +84,8 @@ name_on (DirMoved (Beside own)) name = Some own
 name_on (Meta None) name = Some name
 name_on (Meta (Some (Beside own))) name = Some own
 name_on _ name = None
+
+-- the view of a directory of the layers from one on, and none where they show no directory there
+abbrev pub IsSought : StackView → ℕ → PathNames → Option DirView → Type 0
+IsSought stack from path found =
+    MatchOption found (shows_directory (from_layer from stack) path ≡ false) (λ view. IsViewOf stack from path view)

@@ -9,7 +9,6 @@ pub mod Words
 pub mod Views
 pub mod ViewPasses
 pub mod DirViews
-pub mod TopDirectories
 pub mod Laws
 pub mod Equal
 pub mod EqualLaws

@@ -36,7 +36,7 @@ pub record IsDescent (layer : Entries) (path : PathNames) (descent : Descent) : 
   pub stops : IfSome (slice_get path descent.depth) (λ name. is_directory_at layer (child_path (take descent.depth path) name) ≡ false)
 
 -- a directory of a layer at a path, and how its walk goes on
-pub record IsOwnDirectory (layer : Entries) (path : PathNames) (own : OwnDirectory PathNames) : Type 0 where
+pub record IsOwnDirectory (layer : Entries) (path : PathNames) (own : OwnDirectory) : Type 0 where
   pub inside : own.row < length layer
   pub here : path_at layer own.row ≡ path
   pub directory : is_directory_at layer path ≡ true

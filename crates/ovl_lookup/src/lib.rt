@@ -4,10 +4,8 @@
 pub mod laws;
 mod lists;
 mod looks;
-mod own_directories;
 mod stacks;
 mod steps;
-mod top_directories;
 mod tops;
 mod trail_ends;
 mod trail_names;
@@ -18,6 +16,5 @@ mod views;
 pub use looks::Look;
 pub use stacks::{LAYER_LIMIT, Stack, StackFault};
 pub use steps::{Found, OwnDirectory, Step, walk};
-pub use top_directories::TopDirectory;
 pub use trails::Trail;
 pub use views::DirView;

@@ -198,7 +198,7 @@ impl Stack {
         alloc: Global,
         i: usize,
         path: &Path,
-    ) -> Result<Option<OwnDirectory<Trail<'a>>>, AllocError>
+    ) -> Result<Option<OwnDirectory<'a>>, AllocError>
         requires { i < length (all_layers self.now) }
         ensures { IfSome (slice_get (all_layers self.now) i) (λ layer. IfOk result (λ found. MatchOption found
             (is_directory_at layer path.now ≡ false)

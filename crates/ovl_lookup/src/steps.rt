@@ -116,7 +116,7 @@ pub(crate) fn follow<'a>(
 }
 
 // What a layer has in the row of a number.
-pub(crate) fn found_in(sheet: &Sheet, number: u32) -> Found<'_>
+fn found_in(sheet: &Sheet, number: u32) -> Found<'_>
     requires { number < length sheet.now }
     ensures value { entry_at sheet.now (path_at sheet.now number) ≡ Some result.inode.now }
     ensures marked { result.mark.now ≡ the_mark result.inode.now }
@@ -172,13 +172,13 @@ pub(crate) fn descend<'a>(
     })
 }
 
-/// A directory of one layer, and how its walk goes on, at a path of its own or a [`Trail`].
+/// A directory of one layer, and how its walk goes on.
 #[derive(Debug, Drop)]
-pub struct OwnDirectory<N> {
+pub struct OwnDirectory<'a> {
     /// The number of its row in the layer's sheet.
     pub row: u32,
     /// The path by which the layer below knows it.
-    pub next: N,
+    pub next: Trail<'a>,
     /// Whether the layers below are hidden there.
     pub closed: bool,
 }
@@ -188,7 +188,7 @@ pub(crate) fn trail_in<'a>(
     alloc: Global,
     sheet: &'a Sheet,
     path: &Path,
-) -> Result<Option<OwnDirectory<Trail<'a>>>, AllocError>
+) -> Result<Option<OwnDirectory<'a>>, AllocError>
     ensures { IfOk result (λ found. MatchOption found
         (is_directory_at sheet.now path.now ≡ false)
         (IsOwnDirectory sheet.now path.now)) }
@@ -256,7 +256,7 @@ pub(crate) struct DirectoryBelow<'a> {
 }
 
 // The directory `name` in the directory of a row, and `None` where there is none.
-pub(crate) fn directory_below<'a>(
+fn directory_below<'a>(
     sheet: &'a Sheet,
     row: u32,
     name: &str,
@@ -286,13 +286,13 @@ pub(crate) fn directory_below<'a>(
 // Where a walk has come to in a directory: the path by which the layer below knows it, and whether the layers below are
 // hidden there.
 #[derive(Drop)]
-pub(crate) struct Entered<'a> {
-    pub(crate) next: Trail<'a>,
-    pub(crate) closed: bool,
+struct Entered<'a> {
+    next: Trail<'a>,
+    closed: bool,
 }
 
 // How the next path and its flag go on in a directory of this mark.
-pub(crate) fn enter<'a>(
+fn enter<'a>(
     alloc: Global,
     mark: &'a Mark,
     name: &'a Name,
@@ -325,7 +325,7 @@ pub(crate) fn enter<'a>(
 }
 
 // The walk's end at `name`, which is no directory and the last of its path.
-pub(crate) fn beyond<'a>(
+fn beyond<'a>(
     alloc: Global,
     found: Found<'a>,
     next: Trail<'a>,

@@ -135,7 +135,7 @@ module _ (layer : Entries) (path : PathNames) (name : PathName) (next : Option P
 
   pub pass-nothing : IsLayer layer → (directory : ℕ) → IsInside layer path directory next → entries_under (child_path (path_at layer directory) name) layer ≡ [] → IsPassing layer (child_path path name) next passing
   pass-nothing layered directory is nothing =
-      let own : OwnDirectory PathNames = record { row = directory; next = (walk layer path).next; closed = (walk layer path).closed } in
+      let own : OwnDirectory = record { row = directory; next = (walk layer path).next; closed = (walk layer path).closed } in
       let stands : IsOwnDirectory layer path own = record { inside = is.inside; here = is.here; directory = is.directory; next = refl; closed = refl } in
       let step = own-missing layer path name layered own stands (ap (λ (p : PathNames). entries_under (child_path p name) layer) (sym is.here) ∙ nothing) in
       ended (sym (ap (λ (s : Step). s.found) step))
@@ -155,7 +155,7 @@ pass-thing layer layered path name directory next is row inside there passing th
     shut : Bool
     shut = (walk layer path).closed
 
-    own : OwnDirectory PathNames
+    own : OwnDirectory
     own = record { row = directory; next = turned; closed = shut }
 
     stands : IsOwnDirectory layer path own

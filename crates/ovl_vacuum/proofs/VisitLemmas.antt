@@ -69,7 +69,7 @@ no_names layer is directory file (name ∷ names) e =
 pub file-names : (layer : Entries) → IsLayer layer → (directory : PathNames) → is_directory_at layer directory ≡ false → names_below layer directory ≡ []
 file-names layer is directory file = no_names layer is directory file (names_below layer directory) refl
 
-pub own-found : (layer : Entries) → IsLayer layer → (path : PathNames) (found : Option (OwnDirectory PathNames)) → MatchOption found (is_directory_at layer path ≡ false) (IsOwnDirectory layer path)
+pub own-found : (layer : Entries) → IsLayer layer → (path : PathNames) (found : Option OwnDirectory) → MatchOption found (is_directory_at layer path ≡ false) (IsOwnDirectory layer path)
     → MatchOption found (names_below layer path ≡ []) (IsOwnDirectory layer path)
 own-found layer is path None file = file-names layer is path file
 own-found layer is path (Some own) stands = stands

@@ -155,7 +155,7 @@ fn own_directory<'a>(
     alloc: Global,
     stack: &'a Stack,
     path: &Path,
-) -> Result<Option<OwnDirectory<Trail<'a>>>, AllocError>
+) -> Result<Option<OwnDirectory<'a>>, AllocError>
     ensures { IfOk result (λ found. MatchOption found
         (names_below (top_layer stack.now) path.now ≡ [])
         (IsOwnDirectory (top_layer stack.now) path.now)) }

@@ -1,7 +1,7 @@
 use Rattle.std.proofs.Common.{◌≡◌, [], false, sym, subst}
 use Rattle.ovl_names.specs.Paths.{PathNames}
 use Rattle.ovl_lookup.specs.Merged.{shows_directory}
-use Rattle.ovl_lookup.specs.TopDirectories.{IsSought}
+use Rattle.ovl_lookup.specs.DirViews.{IsSought}
 use Rattle.ovl_lookup.proofs.LawsOfLooks.{nothing-under}
 use Rattle.ovl_deref.proofs.directories.look_in.Goals as goal
 

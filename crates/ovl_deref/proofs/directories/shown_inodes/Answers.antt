@@ -5,10 +5,9 @@ use Rattle.ovl_names.specs.Paths.{PathNames}
 use Rattle.ovl_lookup.specs.declared.looks.Look.{Look}
 use Rattle.ovl_lookup.specs.declared.views.DirView.{DirView}
 use Rattle.ovl_lookup.specs.Stacks.{StackView, from_layer}
-use Rattle.ovl_lookup.specs.DirViews.{IsViewOf}
+use Rattle.ovl_lookup.specs.DirViews.{IsViewOf, IsSought}
 use Rattle.ovl_lookup.specs.ViewPasses.{AreLooks}
 use Rattle.ovl_deref.specs.Directories.{inodes_in}
-use Rattle.ovl_lookup.specs.TopDirectories.{IsSought}
 use Rattle.ovl_deref.specs.Visits.{shown_inode}
 use Rattle.ovl_deref.proofs.VisitLemmas.{shown-listed, none-shown}
 use Rattle.ovl_deref.proofs.directories.shown_inodes.Goals as goal
