@@ -256,11 +256,7 @@ pub(crate) struct DirectoryBelow<'a> {
 }
 
 // The directory `name` in the directory of a row, and `None` where there is none.
-fn directory_below<'a>(
-    sheet: &'a Sheet,
-    row: u32,
-    name: &str,
-) -> Option<DirectoryBelow<'a>>
+fn directory_below<'a>(sheet: &'a Sheet, row: u32, name: &str) -> Option<DirectoryBelow<'a>>
     requires { row < length sheet.now }
     ensures { MatchOption result
         (is_directory_at sheet.now (child_path (path_at sheet.now row) name.now) ≡ false)

@@ -23,11 +23,7 @@ pub(crate) struct SheetDraft {
 
 impl SheetDraft {
     /// The layer of a root alone, with room for so many entries.
-    pub(crate) fn start(
-        alloc: Global,
-        inode: Inode,
-        room: usize,
-    ) -> Result<SheetDraft, AllocError>
+    pub(crate) fn start(alloc: Global, inode: Inode, room: usize) -> Result<SheetDraft, AllocError>
         requires directory { IsTrue (is_directory inode) }
         requires sound { IsTrue (is_sound_inode inode) }
         requires unescaped { has_escaped_name inode.attrs ≡ false }
