@@ -25,9 +25,9 @@ use simdutf8::compat::from_utf8;
 use std::alloc::Global;
 use std::borrow::CowStr;
 
-// The bytes that an entry of most layers has in its manifest: room is made for so many entries at once, and for more as
-// they come.
-const ENTRY_TEXT: usize = 192;
+// Fewer bytes than most entries have in a manifest, so that a list with room for one in so many bytes of the text seldom
+// grows. Room that no entry takes is never touched.
+const ENTRY_TEXT: usize = 96;
 
 /// The sheet of the layer whose manifest these bytes are, byte for byte as [`write_layer`](crate::write_layer) writes
 /// it, or wrote it in the first version; the newline at its end may be missing. Gives none of manifests that are
