@@ -1,5 +1,6 @@
-ghost use Rattle.std.specs.Prelude.{◌≡◌, ◌+◌, ◌++◌, IfOk, OnOk, length, string_bytes};
+ghost use Rattle.std.specs.Prelude.{◌≡◌, ◌+◌, ◌++◌, IfOk, OnOk, codes, length, string_bytes};
 ghost use Rattle.std.specs.List.{flat_map};
+ghost use Rattle.ovl_names.specs.Escapes.{escaped};
 ghost use Rattle.ovl_names.specs.Paths.{PathNames, child_path};
 ghost use Rattle.ovl_inode.specs.Marks.{mark_of as mark_of_inode};
 ghost use Rattle.ovl_manifest.specs.LayerTrees.{entries_from, placed};
@@ -7,7 +8,7 @@ ghost use Rattle.ovl_engine.specs.LayerReports.{mark_word as the_mark_word, redi
 ghost use Rattle.ovl_engine.specs.Reports.{shown_names};
 ghost use Rattle.ovl_manifest.specs.Layers.{IsLayer};
 
-use crate::listings::{one_more, text_of};
+use crate::listings::{one_more, push_place, text_of};
 use crate::reports::{push_count, push_path, push_word};
 use ovl_inode::{Inode, Mark, Redirect, mark_of};
 use ovl_manifest::{Layer, Node};
@@ -38,9 +39,14 @@ fn push_under(
     ensures { OnOk result ((dir : PathNames) → above.now ≡ shown_names dir → string_bytes report.new ≡ string_bytes report.old
         ++ flat_map entry_line (placed (child_path dir node.now.name) (entries_from node.now.inode node.now.below))) }
 {
-    let path = text_of(alloc, above, node.name().as_str())?;
-    push_entry(alloc, report, path.as_str(), node.inode())?;
-    for child in node.children() {
+    let name = node.name().as_str();
+    push_entry(alloc, report, above, name, node.inode())?;
+    let children = node.children();
+    if children.is_empty() {
+        return Ok(());
+    }
+    let path = text_of(alloc, above, name)?;
+    for child in children {
         push_under(alloc, report, path.as_str(), child)?;
     }
     Ok(())
@@ -68,18 +74,20 @@ fn count_under(node: &Node, entries: &mut u64) -> Result<(), AllocError>
     Ok(())
 }
 
-// Appends the line of an entry below the root, by the text of its path.
+// Appends the line of an entry below the root, of whose path `above` is the text up to its name.
 fn push_entry(
     alloc: Global,
     report: &mut String,
-    path: &str,
+    above: &str,
+    name: &str,
     inode: &Inode,
 ) -> Result<(), AllocError>
-    ensures { OnOk result (string_bytes report.new ≡ string_bytes report.old ++ marked_line (mark_of_inode inode.now) path.now) }
+    ensures { OnOk result (string_bytes report.new ≡ string_bytes report.old
+        ++ marked_line (mark_of_inode inode.now) (above.now ++ (codes "/" ++ escaped name.now))) }
 {
     let mark = mark_of(alloc, inode)?;
     push_word(report, mark_word(&mark))?;
-    report.push_str(path)?;
+    push_place(alloc, report, above, name)?;
     push_redirect_of(alloc, report, &mark)?;
     report.push_str("\n")
 }

@@ -274,7 +274,12 @@ fn push_entry(
 }
 
 // Appends the text of a path, of which `above` is the text up to its last name.
-fn push_place(alloc: Global, report: &mut String, above: &str, name: &str) -> Result<(), AllocError>
+pub(crate) fn push_place(
+    alloc: Global,
+    report: &mut String,
+    above: &str,
+    name: &str,
+) -> Result<(), AllocError>
     ensures { OnOk result (string_bytes report.new ≡ string_bytes report.old ++ (above.now ++ (codes "/" ++ escaped_text name.now))) }
 {
     report.push_str(above)?;

@@ -89,6 +89,16 @@ impl LayerBuilder {
         })
     }
 
+    /// The same layer, with room for so many entries directly below the last one, so that their list needn't grow as they
+    /// come. Fails only when out of memory.
+    pub fn with_room(self, entries: usize) -> Result<LayerBuilder, AllocError>
+        ensures { IfOk result (λ builder. builder ≡ self) }
+    {
+        let LayerBuilder { mut draft, count } = self;
+        draft.make_room(entries)?;
+        Ok(LayerBuilder { draft, count })
+    }
+
     /// The finished layer; fails only when out of memory.
     pub fn finish(self) -> Result<Layer, AllocError>
         ensures { IfOk result (λ layer. layer ≡ self) }

@@ -147,6 +147,18 @@ impl Draft {
         Ok(draft)
     }
 
+    /// Makes room for so many entries directly below the last one.
+    pub(crate) fn make_room(&mut self, entries: usize) -> Result<(), AllocError>
+        requires { IsDraft self.old }
+        ensures entries { IfOk result (λ _. draft_entries self.new ≡ draft_entries self.old) }
+        ensures draft { IfOk result (λ _. IsDraft self.new) }
+    {
+        let Some(node) = self.spine.pop() else {
+            return self.children.reserve_exact(entries);
+        };
+        self.spine.push(node.with_room(entries)?)
+    }
+
     /// The finished layer.
     pub(crate) fn finish(self) -> Result<Layer, AllocError>
         requires { IsDraft self }
@@ -199,6 +211,15 @@ impl Draft {
 }
 
 impl Node {
+    // The same node, with room for so many children more.
+    fn with_room(self, children: usize) -> Result<Node, AllocError>
+        ensures { IfOk result (λ node. node ≡ self) }
+    {
+        let mut node = self;
+        node.children.reserve_exact(children)?;
+        Ok(node)
+    }
+
     // The node with one more child, which comes after all others.
     fn with_child(self, child: Node) -> Result<Node, AllocError>
         requires { ascends entry_cmp (self.below ++ under child.name (entries_from child.inode child.below)) ≡ true }

@@ -88,10 +88,10 @@ fn with_under(
     ensures limit { result ≡ Err LimitOut → StopsUnder (parcel_views inodes_seen (into_iter_items rest.old)) builder }
     ensures none { into_iter_items rest.old ≡ [] → result ≡ Ok builder }
 {
-    let mut builder = builder;
     let Some(Parcel { piece, out, .. }) = rest.next() else {
         return Ok(builder);
     };
+    let mut builder = builder.with_room(out.len())?;
     for (name, inode) in out {
         let is_above = is_directory(&inode);
         builder = with_child(alloc, builder, &piece.dir, name, inode)?;
