@@ -1,5 +1,5 @@
 -- Rows of which one more comes at the end, and the numbers of those on the way to it.
-use Rattle.std.proofs.Common.{◌≡◌, ℕ, zero, suc, ◌+◌, ◌<◌, ◌≤◌, length, map, take, true, false, Option, Some, None, List, [], ◌∷◌, ◌++◌, refl, sym, ap, ◌∙◌, subst, arith, get_or, inl, inr, ◌⊎◌, length-append, length-take-le, add-one}
+use Rattle.std.proofs.Common.{◌≡◌, ℕ, zero, suc, ◌+◌, ◌-◌, ◌<◌, ◌≤◌, length, map, take, true, false, Option, Some, None, List, [], ◌∷◌, ◌++◌, refl, sym, ap, ◌∙◌, subst, arith, get_or, inl, inr, ◌⊎◌, length-append, length-take-le, add-one}
 use Rattle.std.specs.Prelude.{nat_lt, is_some, slice_get, IsSomeAnd}
 use Rattle.std.specs.List.{list_all}
 use Rattle.std.specs.Ordering.{is_lt}
@@ -56,6 +56,12 @@ take-child [] depth (suc d) name shallow within = absurd (omega (arith, shallow,
 take-child (own ∷ last) zero (suc d) name shallow within = absurd (omega (arith, shallow))
 take-child (own ∷ last) (suc depth) (suc d) name shallow within =
     ap (λ (path : PathNames). own ∷ path) (take-child last depth d name (omega (arith, shallow)) (omega (arith, within)))
+
+-- the path of the last of some entries
+pub path-end : (entries front : Entries) (entry : Entry) → entries ≡ front ++ entry ∷ [] → path_at entries (length entries - 1) ≡ entry.0
+path-end entries front entry ends =
+    let last : length entries - 1 ≡ length front = omega (arith, ap length ends, length-append front (entry ∷ [])) in
+    ap (path_at entries) last ∙ (ap (λ (es : Entries). path_at es (length front)) ends ∙ ap path_of (slice_get-seam front entry []))
 
 -- ---- rows, and one more
 

@@ -1,7 +1,7 @@
 -- A layer while its entries come in path order: the rows of its sheet so far, and those on the way to the last entry.
-use Rattle.std.specs.Prelude.{◌≡◌, ◌<◌, ◌≤◌, ℕ, suc, true, false, List, [], ◌∷◌, ◌++◌, length, take, slice_get, IsSomeAnd}
+use Rattle.std.specs.Prelude.{◌≡◌, ◌<◌, ◌≤◌, ◌-◌, ℕ, suc, true, false, List, [], ◌∷◌, ◌++◌, length, take, slice_get, IsSomeAnd}
 use Rattle.std.specs.Ordering.{is_lt}
-use Rattle.ovl_names.specs.Names.{PathName}
+use Rattle.ovl_names.specs.Names.{PathName, is_name}
 use Rattle.ovl_names.specs.Paths.{PathNames, path_cmp, child_path}
 use Rattle.ovl_inode.specs.Attributes.{has_escaped_name}
 use Rattle.ovl_inode.specs.Sound.{is_sound_inode}
@@ -15,6 +15,10 @@ use Rattle.ovl_manifest.specs.declared.sheet_drafts.SheetDraft.{SheetDraft}
 abbrev pub drafted : SheetDraft → Entries
 drafted draft = entries_of_rows draft.rows.items
 
+-- the path of the last of them
+abbrev pub last_path : SheetDraft → PathNames
+last_path draft = path_at (drafted draft) (length (drafted draft) - 1)
+
 -- these rows make a layer that ends at the path `last`, and these are the numbers of those on the way there
 pub record AreDrafted (rows : List SheetRow) (way : List ℕ) (last : PathNames) : Type 0 where
   pub made : AreRows rows
@@ -24,14 +28,15 @@ pub record AreDrafted (rows : List SheetRow) (way : List ℕ) (last : PathNames)
   pub ends : (front : Entries) × (inode : Inode) × (entries_of_rows rows ≡ front ++ (last, inode) ∷ [])
 
 abbrev pub IsSheetDraft : SheetDraft → Type 0
-IsSheetDraft draft = AreDrafted draft.rows.items draft.way.items draft.last
+IsSheetDraft draft = AreDrafted draft.rows.items draft.way.items (last_path draft)
 
 -- the entry `name` can stand after those of the draft, in the directory of the first `depth` names of the last path
 pub record CanEnter (draft : SheetDraft) (depth : ℕ) (name : PathName) (inode : Inode) : Type 0 where
-  pub within : depth ≤ length draft.last
-  pub after : is_lt (path_cmp draft.last (child_path (take depth draft.last) name)) ≡ true
-  pub directory : is_directory_at (drafted draft) (take depth draft.last) ≡ true
+  pub within : depth ≤ length (last_path draft)
+  pub after : is_lt (path_cmp (last_path draft) (child_path (take depth (last_path draft)) name)) ≡ true
+  pub directory : is_directory_at (drafted draft) (take depth (last_path draft)) ≡ true
+  pub named : is_name name ≡ true
   pub sound : is_sound_inode inode ≡ true
   pub unescaped : has_escaped_name inode.attrs ≡ false
-  pub limited : is_within_limits (child_path (take depth draft.last) name) ≡ true
+  pub limited : is_within_limits (child_path (take depth (last_path draft)) name) ≡ true
   pub room : length (drafted draft) < entry_limit

@@ -10,7 +10,7 @@ ghost use Rattle.ovl_manifest.specs.Manifest.{read_layer as layer_stated};
 ghost use Rattle.ovl_manifest.specs.Text.{entry_items, layer_value};
 ghost use Rattle.ovl_manifest.specs.Versions.{depth_of, is_stated_by};
 ghost use Rattle.ovl_manifest.specs.TextPaths.{slashed};
-ghost use Rattle.ovl_manifest.specs.SheetDrafts.{drafted, IsSheetDraft};
+ghost use Rattle.ovl_manifest.specs.SheetDrafts.{drafted, last_path, IsSheetDraft};
 
 use crate::compact_entries::read_entry;
 use crate::compact_texts::Rest;
@@ -113,7 +113,7 @@ fn start(alloc: Global, text: &str, inode: Inode, room: usize) -> Option<SheetDr
     ensures root { IfSome result (λ _. text.now ≡ path_text []) }
     ensures draft { IfSome result (λ draft. IsSheetDraft draft) }
     ensures entries { IfSome result (λ draft. drafted draft ≡ ([], inode) ∷ []) }
-    ensures last { IfSome result (λ draft. draft.last ≡ []) }
+    ensures last { IfSome result (λ draft. last_path draft ≡ []) }
 {
     if text != "/" || has_escaped_name(&inode.attrs) || !is_directory(&inode) {
         return None;
@@ -137,15 +137,15 @@ fn add_beside(
 ) -> Option<()>
     requires draft { IsSheetDraft draft.old }
     requires room { length (drafted draft.old) < entry_limit }
-    requires last { slashed draft.old.last ≡ last.now }
+    requires last { slashed (last_path draft.old) ≡ last.now }
     requires sound { is_sound_inode inode ≡ true }
     ensures draft { IfSome result (λ _. IsSheetDraft draft.new) }
-    ensures depth { IfSome result (λ _. length draft.new.last ≤ depth_of version) }
-    ensures last { IfSome result (λ _. slashed draft.new.last ≡ text.now) }
-    ensures path { IfSome result (λ _. path_text draft.new.last ≡ text.now) }
-    ensures entries { IfSome result (λ _. drafted draft.new ≡ drafted draft.old ++ (draft.new.last, inode) ∷ []) }
+    ensures depth { IfSome result (λ _. length (last_path draft.new) ≤ depth_of version) }
+    ensures last { IfSome result (λ _. slashed (last_path draft.new) ≡ text.now) }
+    ensures path { IfSome result (λ _. path_text (last_path draft.new) ≡ text.now) }
+    ensures entries { IfSome result (λ _. drafted draft.new ≡ drafted draft.old ++ (last_path draft.new, inode) ∷ []) }
 {
-    let (depth, name) = place_beside(last, draft.last().len(), text)?;
+    let (depth, name) = place_beside(last, draft.last_depth(), text)?;
     if depth >= version.depth() || text.len() > TEXT_LIMIT {
         return None;
     }

@@ -5,11 +5,11 @@ ghost use Rattle.ovl_inode.specs.Attributes.{has_escaped_name};
 ghost use Rattle.ovl_inode.specs.Marks.{is_directory};
 ghost use Rattle.ovl_inode.specs.Sound.{is_sound_inode};
 ghost use Rattle.ovl_manifest.specs.Layers.{is_directory_at};
-ghost use Rattle.ovl_manifest.specs.SheetDrafts.{drafted, IsSheetDraft, CanEnter};
+ghost use Rattle.ovl_manifest.specs.SheetDrafts.{drafted, last_path, IsSheetDraft, CanEnter};
 
 use crate::sheets::{Sheet, SheetRow};
 use ovl_inode::{Inode, is_directory};
-use ovl_names::{Name, Path};
+use ovl_names::Name;
 use std::alloc::{AllocError, Global};
 
 /// A layer while its entries come in path order: the rows of its sheet so far, and the numbers of those on the way to
@@ -18,7 +18,6 @@ use std::alloc::{AllocError, Global};
 pub(crate) struct SheetDraft {
     rows: Vec<SheetRow>,
     way: Vec<u32>,
-    last: Path,
 }
 
 impl SheetDraft {
@@ -29,7 +28,7 @@ impl SheetDraft {
         requires unescaped { has_escaped_name inode.attrs ≡ false }
         ensures entries { IfOk result (λ draft. drafted draft ≡ ([], inode) ∷ []) }
         ensures draft { IfOk result (λ draft. IsSheetDraft draft) }
-        ensures last { IfOk result (λ draft. draft.last ≡ []) }
+        ensures last { IfOk result (λ draft. last_path draft ≡ []) }
     {
         let mut rows = Vec::with_capacity(alloc, room)?;
         rows.push(SheetRow {
@@ -40,27 +39,24 @@ impl SheetDraft {
         })?;
         let mut way = Vec::new(alloc);
         way.push(0)?;
-        Ok(SheetDraft {
-            rows,
-            way,
-            last: Path::root(alloc),
-        })
+        Ok(SheetDraft { rows, way })
     }
 
-    /// The last path.
-    pub(crate) fn last(&self) -> &Path
-        ensures { result.now ≡ self.now.last }
+    /// The number of names of the last path.
+    pub(crate) fn last_depth(&self) -> usize
+        requires { IsSheetDraft self.now }
+        ensures { result ≡ length (last_path self.now) }
     {
-        &self.last
+        self.way.len() - 1
     }
 
     /// Whether the entry `name` of the directory of the first `depth` names of the last path comes after all entries.
     pub(crate) fn comes_before_child(&self, depth: usize, name: &Name) -> bool
         requires draft { IsSheetDraft self.now }
-        requires depth { depth ≤ length self.now.last }
-        ensures { result ≡ is_lt (path_cmp self.now.last (child_path (take depth self.now.last) name.now)) }
+        requires depth { depth ≤ length (last_path self.now) }
+        ensures { result ≡ is_lt (path_cmp (last_path self.now) (child_path (take depth (last_path self.now)) name.now)) }
     {
-        if depth == self.last.len() {
+        if depth == self.last_depth() {
             return true;
         }
         let number = self.way[depth + 1];
@@ -73,8 +69,8 @@ impl SheetDraft {
     /// Whether the path of the first `depth` names of the last path is a directory's.
     pub(crate) fn is_directory_above(&self, depth: usize) -> bool
         requires draft { IsSheetDraft self.now }
-        requires depth { depth ≤ length self.now.last }
-        ensures { result ≡ is_directory_at (drafted self.now) (take depth self.now.last) }
+        requires depth { depth ≤ length (last_path self.now) }
+        ensures { result ≡ is_directory_at (drafted self.now) (take depth (last_path self.now)) }
     {
         let number = self.way[depth];
         is_directory(&self.rows[number as usize].inode)
@@ -92,12 +88,11 @@ impl SheetDraft {
         requires draft { IsSheetDraft self.old }
         requires entry { CanEnter self.old depth name inode }
         ensures entries { IfOk result (λ _. drafted self.new
-            ≡ drafted self.old ++ (child_path (take depth self.old.last) name, inode) ∷ []) }
+            ≡ drafted self.old ++ (child_path (take depth (last_path self.old)) name, inode) ∷ []) }
         ensures draft { IfOk result (λ _. IsSheetDraft self.new) }
-        ensures last { IfOk result (λ _. self.new.last ≡ child_path (take depth self.old.last) name) }
+        ensures last { IfOk result (λ _. last_path self.new ≡ child_path (take depth (last_path self.old)) name) }
     {
         let number = self.rows.len() as u32;
-        self.last.go_to(depth, &name)?;
         self.rows.push(SheetRow {
             name: Some(name),
             inode,

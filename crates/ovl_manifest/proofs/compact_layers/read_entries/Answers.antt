@@ -5,7 +5,7 @@ use Rattle.std.proofs.lemmas.List.Folds.{list_all-append}
 use Rattle.serde_json.specs.Written.{items_text}
 use Rattle.ovl_manifest.specs.Layers.{Entry, Entries}
 use Rattle.ovl_manifest.specs.Text.{entry_items}
-use Rattle.ovl_manifest.specs.SheetDrafts.{drafted}
+use Rattle.ovl_manifest.specs.SheetDrafts.{drafted, last_path}
 use Rattle.ovl_manifest.specs.Versions.{depth_of, is_stated_by}
 use Rattle.ovl_manifest.specs.Compact.{entries_text}
 use Rattle.ovl_manifest.proofs.CompactLemmas.{some-taken, none-taken, entries-onto, items-entries}
@@ -16,7 +16,7 @@ entries-preserved c =
     let before : Entries = drafted c.entries.draft in
     let rest : List ℕ = c.read_entry-in-entries.new.rest in
     let added = c.in_ok-add_beside.ensures in
-    let entry : Entry = (c.add_beside.new.draft.last, c.in_ok-path.inode) in
+    let entry : Entry = (last_path c.add_beside.new.draft, c.in_ok-path.inode) in
     let comma = some-taken _ c.take.result c.take.ensures (sym c.is_some.ensures ∙ c.entries-test.true) in
     let own = c.in_ok-path.ensures.text entry.0 (added.path ∙ c.as_str-in-entries-2.ensures.value) in
     record {

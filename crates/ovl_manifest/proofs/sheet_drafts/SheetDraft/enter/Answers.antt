@@ -1,12 +1,11 @@
-use Rattle.std.proofs.Common.{◌≡◌, ◌∙◌, ◌++◌, ◌∷◌, ◌+◌, [], ℕ, List, Some, true, refl, sym, ap, subst, arith, length, take}
+use Rattle.std.proofs.Common.{◌≡◌, ◌∙◌, ◌++◌, ◌∷◌, ◌+◌, [], ℕ, List, Some, refl, sym, ap, subst, arith, length, take}
 use Rattle.std.specs.Prelude.{slice_get}
 use Rattle.std.proofs.lemmas.Option.{slice_get_read}
-use Rattle.ovl_names.specs.Names.{is_name}
 use Rattle.ovl_names.specs.Paths.{PathNames, child_path}
 use Rattle.ovl_manifest.specs.declared.sheets.SheetRow.{SheetRow}
 use Rattle.ovl_manifest.specs.Sheets.{entries_of_rows}
-use Rattle.ovl_manifest.specs.SheetDrafts.{AreDrafted}
-use Rattle.ovl_manifest.proofs.SheetDraftLemmas.{rows-count, entered, entered-draft}
+use Rattle.ovl_manifest.specs.SheetDrafts.{drafted, last_path, AreDrafted}
+use Rattle.ovl_manifest.proofs.SheetDraftLemmas.{path-end, rows-count, entered, entered-draft}
 use Rattle.ovl_manifest.proofs.sheet_drafts.SheetDraft.enter.Goals as goal
 
 pub overflow_cast-number : goal.overflow_cast-number
@@ -33,14 +32,18 @@ returns-clause-entries c =
     ap entries_of_rows (pushed c)
     ∙ entered _ _ _ c.requires.draft c.args.depth c.index.result.now c.requires.entry.within (listed c) c.args.name c.args.inode (c.len-number.result + 1)
 
+pub returns-clause-last : goal.returns-clause-last
+returns-clause-last c =
+    let old = c.args.self.now in
+    path-end (entries_of_rows c.push.new.self.items) (drafted old) (child_path (take c.args.depth (last_path old)) c.args.name, c.args.inode) (returns-clause-entries c)
+
 pub returns-clause-draft : goal.returns-clause-draft
 returns-clause-draft c =
     let old = c.args.self.now in
     let can = c.requires.entry in
-    let path : PathNames = child_path (take c.args.depth old.last) c.args.name in
+    let path : PathNames = child_path (take c.args.depth (last_path old)) c.args.name in
     let onto : List ℕ = take (c.args.depth + 1) old.way.items ++ length old.rows.items ∷ [] in
-    let named : is_name c.args.name ≡ true = subst (λ (own : List ℕ). is_name own ≡ true) c.name.view_is c.name.invariant in
-    subst (λ (last : PathNames). AreDrafted c.push.new.self.items c.push-2.new.self.items last) (sym c.in_ok-go_to.ensures)
+    subst (λ (last : PathNames). AreDrafted c.push.new.self.items c.push-2.new.self.items last) (sym (returns-clause-last c))
     (subst (λ (way : List ℕ). AreDrafted c.push.new.self.items way path) (sym (onward c))
     (subst (λ (rows : List SheetRow). AreDrafted rows onto path) (sym (pushed c))
-    (entered-draft old.rows.items old.way.items old.last c.requires.draft c.args.depth c.index.result.now can.within (listed c) c.args.name c.args.inode (c.len-number.result + 1) can.after can.directory named can.sound can.unescaped can.limited can.room)))
+    (entered-draft old.rows.items old.way.items (last_path old) c.requires.draft c.args.depth c.index.result.now can.within (listed c) c.args.name c.args.inode (c.len-number.result + 1) can.after can.directory can.named can.sound can.unescaped can.limited can.room)))
