@@ -22,14 +22,14 @@ use Rattle.ovl_lookup.specs.declared.steps.Arrival.TheVariants.{Directory}
 use Rattle.ovl_lookup.specs.declared.views.DirPlace.{DirPlace}
 use Rattle.ovl_lookup.specs.declared.views.PlaceEntry.{PlaceEntry}
 use Rattle.ovl_lookup.specs.Walk.{walk, walk_beyond, turn, is_shut, mark_at}
-use Rattle.ovl_lookup.specs.Passes.{IsDescent, IsArrival}
+use Rattle.ovl_lookup.specs.Passes.{IsDescent, IsNumberAt, IsArrival}
 use Rattle.ovl_lookup.specs.Stacks.{StackView}
 use Rattle.ovl_lookup.specs.Views.{Reached, reached, is_reached, entry_in, entered, below_entry, reached_below}
 use Rattle.ovl_lookup.specs.DirViews.{path_on, name_on, IsEntryIn, place_below, place_in, places_in, IsPlaceOver}
 use Rattle.ovl_lookup.proofs.ViewSteps.{arrives-directory, below-directory}
 use Rattle.ovl_lookup.proofs.WalkFacts.{cut, drop-head, stopped, walk-ends}
 use Rattle.ovl_lookup.proofs.ViewLemmas.{NothingAt, FileAt, past}
-use Rattle.ovl_lookup.proofs.LawsOfWalks.{Beyond, is_shut-entered, mark_at-child, no-directory-below, turn-entered, walk-whole}
+use Rattle.ovl_lookup.proofs.LawsOfWalks.{Beyond, entry-of_row, is_shut-entered, mark_at-child, no-directory-below, turn-entered, walk-whole}
 
 same_some : {X : Type 0} (one other : X) → Some one ≡ Some other → one ≡ other
 same_some one other e = ap (λ o. unwrap_or o one) e
@@ -86,6 +86,17 @@ module _ (layer : Entries) (path : PathNames) (descent : Descent) (name : PathNa
           never : ((walk layer path).found ≡ Some file.inode) ⊎ (((walk layer path).found ≡ None) × ((walk layer path).closed ≡ true)) → ⊥
           never (inl found) = let bad : None ≡ Some file.inode = ap (λ (s : Step). s.found) (walked None here) ∙ found in cc
           never (inr shut) = let bad : false ≡ true = sym closed ∙ shut.1 in cc
+
+  -- where something stands at the name, or the layers below are hidden, the walk leads no further
+  pub stops-there : (number : Option ℕ) → IsNumberAt layer (child_path above name) number → (is_some number || descent.closed) ≡ true → (is_some (entry_at layer path) || (walk layer path).closed) ≡ true
+  stops-there None nothing shut = ends-there None nothing shut
+  stops-there (Some number) here shut =
+      let found = entry-of_row layer number is.layered here.0 in
+      ends-there (Some found.0) (sym (ap (entry_at layer) here.1) ∙ found.1) refl
+
+  pub passes-there : (number : Option ℕ) → IsNumberAt layer (child_path above name) number → (is_some number || descent.closed) ≡ false → (entry_at layer path ≡ None) × ((walk layer path).closed ≡ false) × (descent.next ++ drop descent.depth path ≡ (walk layer path).next)
+  passes-there None nothing open_ = goes-past nothing open_
+  passes-there (Some number) here open_ = cc
 
 -- a walk that ends before the path does comes to no directory
 pub short-descent : (layer : Entries) (path : PathNames) (descent : Descent) → IsDescent layer path descent → descent.depth < length path → is_directory_at layer path ≡ false

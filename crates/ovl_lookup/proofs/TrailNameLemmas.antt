@@ -1,9 +1,7 @@
 -- The names of a trail that are left.
-use Rattle.std.proofs.Common.{◌≡◌, ℕ, zero, suc, Option, Some, None, Bor, ◌+◌, ◌<◌, ◌^◌, ◌∙◌, ◌++◌, List, [], ◌∷◌, true, IsTrue, IfSome, length, drop, slice_get, append_assoc, refl, sym, ap, arith}
-use Rattle.std.specs.Option.{option_map}
+use Rattle.std.proofs.Common.{◌≡◌, ℕ, zero, suc, Option, Some, None, Bor, ◌+◌, ◌∙◌, ◌++◌, List, [], ◌∷◌, true, length, drop, slice_get, append_assoc, refl, sym, ap, arith}
 use Rattle.std.specs.Iterator.{YieldsFirstRef}
 use Rattle.std.proofs.lemmas.List.{append-nil}
-use Rattle.std.proofs.lemmas.Option.{slice_get_within}
 use Rattle.ovl_names.specs.Names.{PathName, is_name}
 use Rattle.ovl_names.specs.Paths.{PathNames, has_names}
 use Rattle.ovl_names.proofs.Ascending.{both}
@@ -47,10 +45,3 @@ named-at [] n name is named = cc
 named-at (own ∷ names) zero name is named = let same : own ≡ name = cc in ap is_name (sym same) ∙ (both {a = is_name own} {b = has_names names} named).0
 named-at (own ∷ names) (suc n) name is named = named-at names n name is (both {a = is_name own} {b = has_names names} named).1
 
-pub few-at : (names : PathNames) (n : ℕ) (r : Option (Bor PathName)) → option_map (λ name. name.now) r ≡ slice_get names n → length names < 2 ^ 64 → IfSome r (λ _. n + 1 < 2 ^ 64)
-few-at names n None is few = tt
-few-at names n (Some name) is few = let inside = slice_get_within names n name.now (sym is) in omega arith
-
-pub name-at : (names : PathNames) (n : ℕ) (r : Option (Bor PathName)) → option_map (λ name. name.now) r ≡ slice_get names n → has_names names ≡ true → IfSome r (λ name. IsTrue (is_name name.now))
-name-at names n None is named = tt
-name-at names n (Some name) is named = named-at names n name.now (sym is) named

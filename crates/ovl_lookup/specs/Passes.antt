@@ -1,9 +1,9 @@
 -- What the passes over names and layers keep.
-use Rattle.std.specs.Prelude.{◌≡◌, ℕ, zero, suc, ◌<◌, ◌≤◌, Bool, true, false, ◌||◌, Option, Some, None, List, [], ◌∷◌, ◌++◌, if◌then◌else◌, is_some, unwrap_or, length, take, drop, filter, map, slice_get, IfSome}
+use Rattle.std.specs.Prelude.{◌≡◌, IsTrue, ℕ, zero, suc, ◌<◌, ◌≤◌, Bool, true, false, ◌||◌, Option, Some, None, List, [], ◌∷◌, ◌++◌, if◌then◌else◌, is_some, unwrap_or, length, take, drop, filter, map, slice_get, IfSome}
 use Rattle.std.specs.Option.{option_map}
 use Rattle.std.specs.List.{flat_map}
 use Rattle.std.specs.BTreeSet.{insert_key}
-use Rattle.ovl_names.specs.Names.{PathName, name_cmp}
+use Rattle.ovl_names.specs.Names.{PathName, name_cmp, is_name}
 use Rattle.ovl_names.specs.Paths.{PathNames, child_path}
 use Rattle.ovl_inode.specs.declared.inodes.Inode.{Inode}
 use Rattle.ovl_inode.specs.declared.marks.Mark.{Mark}
@@ -11,6 +11,9 @@ use Rattle.ovl_inode.specs.Marks.{mark_of, is_metacopy, is_data}
 use Rattle.ovl_manifest.specs.Layers.{Entries, IsLayer, entry_at, is_directory_at, names_below}
 use Rattle.ovl_manifest.specs.Sheets.{path_at}
 use Rattle.ovl_lookup.specs.declared.steps.Descent.{Descent}
+use Rattle.ovl_lookup.specs.declared.steps.Stop.{Stop}
+use Rattle.ovl_lookup.specs.declared.steps.Below.{Below}
+use Rattle.ovl_lookup.specs.declared.steps.Below.TheVariants.{Directory as DirectoryBelow, Other}
 use Rattle.ovl_lookup.specs.declared.steps.OwnDirectory.{OwnDirectory}
 use Rattle.ovl_lookup.specs.declared.steps.Step.{Step}
 use Rattle.ovl_lookup.specs.declared.steps.TrailStep.{TrailStep}
@@ -24,6 +27,26 @@ use Rattle.ovl_lookup.specs.declared.looks.Look.TheVariants.{Shown, Broken}
 use Rattle.ovl_inode.specs.Inodes.{visible}
 use Rattle.ovl_lookup.specs.Merged.{look, shows, without_blob, place_of_data, data_at_place}
 
+-- the number of what a layer has at a path, if it has anything
+abbrev pub IsNumberAt : Entries → PathNames → Option ℕ → Type 0
+IsNumberAt layer path None = entry_at layer path ≡ None
+IsNumberAt layer path (Some number) = (number < length layer) × (path_at layer number ≡ path)
+
+-- what a layer has at a name in a directory: another directory, or something else, if anything
+abbrev pub IsBelow : Entries → PathNames → PathName → Below → Type 0
+IsBelow layer dir name (DirectoryBelow number own) =
+    (number < length layer) × (path_at layer number ≡ child_path dir name)
+    × (is_directory_at layer (child_path dir name) ≡ true) × (own.now ≡ name)
+IsBelow layer dir name (Other number) =
+    (is_directory_at layer (child_path dir name) ≡ false) × IsNumberAt layer (child_path dir name) number
+
+-- where a path that leads through so many directories of a layer stops, if it goes further
+abbrev pub IsStop : Entries → PathNames → ℕ → Option Stop → Type 0
+IsStop layer path depth None = length path ≤ depth
+IsStop layer path depth (Some stop) =
+    (Some stop.name.now ≡ slice_get path depth) × IsTrue (is_name stop.name.now)
+    × IsNumberAt layer (child_path (take depth path) stop.name.now) stop.number
+
 -- how far a path goes through directories of a layer: the row of the last of them, and how the layers below know it
 pub record IsDescent (layer : Entries) (path : PathNames) (descent : Descent) : Type 0 where
   pub layered : IsLayer layer
@@ -34,6 +57,7 @@ pub record IsDescent (layer : Entries) (path : PathNames) (descent : Descent) : 
   pub turned : descent.next ≡ turn layer (take descent.depth path)
   pub shut : descent.closed ≡ is_shut layer (take descent.depth path)
   pub stops : IfSome (slice_get path descent.depth) (λ name. is_directory_at layer (child_path (take descent.depth path) name) ≡ false)
+  pub stop : IsStop layer path descent.depth descent.stop
 
 -- a directory of a layer at a path, and how its walk goes on
 pub record IsOwnDirectory (layer : Entries) (path : PathNames) (own : OwnDirectory) : Type 0 where

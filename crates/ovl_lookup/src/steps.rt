@@ -4,7 +4,7 @@ ghost use Rattle.ovl_names.specs.Paths.{child_path};
 ghost use Rattle.ovl_inode.specs.Marks.{mark_of as the_mark};
 ghost use Rattle.ovl_manifest.specs.Layers.{entry_at, is_directory_at};
 ghost use Rattle.ovl_manifest.specs.Sheets.{path_at};
-ghost use Rattle.ovl_lookup.specs.Passes.{IsDescent, IsArrival, IsOwnDirectory, IsMarked, step_of, entered_path, entered_closed};
+ghost use Rattle.ovl_lookup.specs.Passes.{IsDescent, IsBelow, IsArrival, IsOwnDirectory, IsMarked, step_of, entered_path, entered_closed};
 ghost use Rattle.ovl_lookup.specs.Walk.{walk as the_walk, walk_beyond, walk_to_file};
 
 use crate::trails::Trail;
@@ -90,29 +90,30 @@ pub(crate) fn follow<'a>(
         depth,
         next,
         closed,
+        stop,
     } = descend(alloc, sheet, trail)?;
-    let Some(name) = trail.name(depth) else {
+    let Some(stop) = stop else {
         return Ok(TrailStep {
             found: Some(found_in(sheet, row)),
             next,
             closed,
         });
     };
-    let Some(number) = sheet.child(row, name) else {
+    let Some(number) = stop.number else {
         return Ok(TrailStep {
             found: None,
             next: trail.onward(next, depth)?,
             closed,
         });
     };
-    if depth + 1 < trail.len() {
+    if trail.len() > depth + 1 {
         return Ok(TrailStep {
             found: None,
             next: trail.onward(next, depth)?,
             closed: true,
         });
     }
-    beyond(alloc, found_in(sheet, number), next, closed, name)
+    beyond(alloc, found_in(sheet, number), next, closed, stop.name)
 }
 
 // What a layer has in the row of a number.
@@ -128,21 +129,29 @@ fn found_in(sheet: &Sheet, number: u32) -> Found<'_>
 }
 
 // How far a path goes through directories of a layer: the row of the last of them, how many names lead to it, the path
-// by which the layer below knows it, and whether the layers below are hidden there.
+// by which the layer below knows it, whether the layers below are hidden there, and where it stops, if it goes further.
 #[derive(Drop)]
-pub(crate) struct Descent<'a> {
+pub(crate) struct Descent<'a, 't> {
     pub(crate) row: u32,
     pub(crate) depth: usize,
     pub(crate) next: Trail<'a>,
     pub(crate) closed: bool,
+    pub(crate) stop: Option<Stop<'t>>,
+}
+
+// The name of a path that is no directory of a layer, and the number of what the layer has there, if it has anything.
+#[derive(Drop)]
+pub(crate) struct Stop<'t> {
+    pub(crate) name: &'t str,
+    pub(crate) number: Option<u32>,
 }
 
 // How far a path goes through directories. Each name that it goes on by is the layer's own.
-pub(crate) fn descend<'a>(
+pub(crate) fn descend<'a, 't>(
     alloc: Global,
     sheet: &'a Sheet,
-    trail: &Trail<'_>,
-) -> Result<Descent<'a>, AllocError>
+    trail: &Trail<'t>,
+) -> Result<Descent<'a, 't>, AllocError>
     ensures { IfOk result (λ descent. IsDescent sheet.now trail.now descent) }
 {
     let mut row = sheet.root_number();
@@ -150,25 +159,31 @@ pub(crate) fn descend<'a>(
     let mut closed = false;
     let mut depth = 0;
     for name in trail.names() {
-        let Some(below) = directory_below(sheet, row, name) else {
-            return Ok(Descent {
-                row,
-                depth,
-                next,
-                closed,
-            });
-        };
-        let entered = enter(alloc, sheet.mark(below.row), below.name, closed, next)?;
-        next = entered.next;
-        closed = entered.closed;
-        row = below.row;
-        depth += 1;
+        match thing_below(sheet, row, name) {
+            Below::Directory { number, own } => {
+                let entered = enter(alloc, sheet.mark(number), own, closed, next)?;
+                next = entered.next;
+                closed = entered.closed;
+                row = number;
+                depth += 1;
+            }
+            Below::Other(number) => {
+                return Ok(Descent {
+                    row,
+                    depth,
+                    next,
+                    closed,
+                    stop: Some(Stop { name, number }),
+                });
+            }
+        }
     }
     Ok(Descent {
         row,
         depth,
         next,
         closed,
+        stop: None,
     })
 }
 
@@ -199,6 +214,7 @@ pub(crate) fn trail_in<'a>(
         depth,
         next,
         closed,
+        ..
     } = descend(alloc, sheet, &trail)?;
     if depth < trail.len() {
         return Ok(None);
@@ -234,49 +250,42 @@ pub(crate) fn arrive<'a>(
         depth,
         next,
         closed,
+        stop,
     } = descend(alloc, sheet, trail)?;
-    let Some(name) = trail.name(depth) else {
+    let Some(stop) = stop else {
         return Ok(Arrival::Directory { row, next, closed });
     };
-    if let Some(_file) = sheet.child(row, name) {
-        return Ok(Arrival::End);
-    }
-    if closed {
+    if stop.number.is_some() || closed {
         return Ok(Arrival::End);
     }
     let next = trail.onward(next, depth)?;
     Ok(Arrival::Past { next })
 }
 
-// A directory in another one of a layer: its row, and its name there.
+// What a layer has at a name in a directory: a directory, with the number of its row and its name, or the number of
+// something else, if there is anything.
 #[derive(Drop)]
-pub(crate) struct DirectoryBelow<'a> {
-    pub(crate) row: u32,
-    pub(crate) name: &'a Name,
+pub(crate) enum Below<'a> {
+    Directory { number: u32, own: &'a Name },
+    Other(Option<u32>),
 }
 
-// The directory `name` in the directory of a row, and `None` where there is none.
-fn directory_below<'a>(sheet: &'a Sheet, row: u32, name: &str) -> Option<DirectoryBelow<'a>>
+// What stands at `name` in the directory of a row.
+fn thing_below<'a>(sheet: &'a Sheet, row: u32, name: &str) -> Below<'a>
     requires { row < length sheet.now }
-    ensures { MatchOption result
-        (is_directory_at sheet.now (child_path (path_at sheet.now row) name.now) ≡ false)
-        (λ below. (below.row < length sheet.now) × (path_at sheet.now below.row ≡ child_path (path_at sheet.now row) name.now)
-        × (is_directory_at sheet.now (path_at sheet.now below.row) ≡ true) × (below.name.now ≡ name.now)) }
+    ensures { IsBelow sheet.now (path_at sheet.now row) name.now result }
 {
-    let Some(child) = sheet.child(row, name) else {
-        return None;
+    let Some(number) = sheet.child(row, name) else {
+        return Below::Other(None);
     };
-    if !is_directory(sheet.inode(child)) {
-        return None;
+    if !is_directory(sheet.inode(number)) {
+        return Below::Other(Some(number));
     }
-    // The root alone has no name.
-    let Some(own) = sheet.name(child) else {
-        return None;
-    };
-    Some(DirectoryBelow {
-        row: child,
-        name: own,
-    })
+    match sheet.name(number) {
+        Some(own) => Below::Directory { number, own },
+        // The root alone has no name.
+        None => Below::Other(Some(number)),
+    }
 }
 
 // Where a walk has come to in a directory: the path by which the layer below knows it, and whether the layers below are

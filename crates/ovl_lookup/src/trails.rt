@@ -1,9 +1,8 @@
-ghost use Rattle.std.specs.Prelude.{◌≡◌, ◌+◌, ◌<◌, ◌^◌, ◌++◌, [], Some, length, drop, reverse, slice_get, IsTrue, IfOk, IfSome};
+ghost use Rattle.std.specs.Prelude.{◌≡◌, ◌<◌, ◌^◌, ◌++◌, [], Some, length, drop, reverse, IsTrue, IfOk};
 ghost use Rattle.std.specs.Cmp.{partial_equiv_from_equiv, po};
 ghost use Rattle.std.specs.Cmp.Lexicographic.{nat_list_cmp_total, nat_list_eq_equiv, texts_ties, lists_total, lists_equiv, lists_ties};
 ghost use Rattle.std.proofs.Common.{refl};
 ghost use Rattle.std.proofs.lemmas.Cmp.{on_total, on_equiv};
-ghost use Rattle.std.specs.Option.{option_map};
 ghost use Rattle.ovl_names.specs.Names.{name_cmp, is_name};
 ghost use Rattle.ovl_names.specs.Paths.{child_path, has_names};
 ghost use Rattle.ovl_lookup.specs.Trails.{trail_cmp, trail_eq};
@@ -91,15 +90,6 @@ impl<'a> Trail<'a> {
         // Its number fits a `usize`.
         let _count = self.len;
         TrailNames::of(&self.parts)
-    }
-
-    // The name of a number, and `None` past the last.
-    pub(crate) fn name(&self, number: usize) -> Option<&'a str>
-        ensures value { option_map (λ name. name.now) result ≡ slice_get self.now number }
-        ensures inside { IfSome result (λ _. number + 1 < 2 ^ 64) }
-        ensures name { IfSome result (λ name. IsTrue (is_name name.now)) }
-    {
-        self.names().nth(number)
     }
 
     // The trail that goes on at `next` in place of so many names.

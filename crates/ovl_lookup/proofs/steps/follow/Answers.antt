@@ -5,15 +5,13 @@ use Rattle.ovl_names.specs.Names.{PathName}
 use Rattle.ovl_names.specs.Paths.{PathNames, child_path}
 use Rattle.ovl_inode.specs.declared.inodes.Inode.{Inode}
 use Rattle.ovl_manifest.specs.Layers.{Entries, entry_at}
-use Rattle.ovl_manifest.specs.Sheets.{path_at}
-use Rattle.ovl_manifest.proofs.NodeLemmas.{entry_at-under}
 use Rattle.ovl_lookup.specs.declared.steps.Descent.{Descent}
 use Rattle.ovl_lookup.specs.declared.steps.Step.{Step}
-use Rattle.ovl_lookup.specs.Passes.{step_of}
+use Rattle.ovl_lookup.specs.Passes.{IsNumberAt, IsStop, step_of}
 use Rattle.ovl_lookup.specs.Walk.{walk_beyond, nothing_found}
 use Rattle.ovl_lookup.proofs.WalkFacts.{walk-ends, walk-misses, walk-ends_whole, stopped, drop-head}
 use Rattle.ovl_lookup.proofs.LawsOfWalks.{entry-of_row}
-use Rattle.ovl_lookup.proofs.TrailLemmas.{name-read, name-past}
+use Rattle.ovl_lookup.proofs.TrailLemmas.{name-read}
 use Rattle.ovl_lookup.proofs.steps.follow.Goals as goal
 
 -- nothing is found below a file
@@ -29,35 +27,35 @@ returns-in_default-clause-value c =
     let is = c.in_ok-row.ensures in
     let here : Some c.found_in.result.inode.now ≡ entry_at layer (take descent.depth path) = sym c.found_in.ensures.value ∙ ap (entry_at layer) is.here in
     walk-ends_whole layer path descent.depth (Some c.found_in.result.inode.now) descent.next descent.closed
-    (name-past path descent.depth c.in_default.ensures.value) is.directory here is.turned is.shut
+    (subst (IsStop layer path descent.depth) c.in_default.is is.stop) is.directory here is.turned is.shut
 
-pub returns-in_default-child-clause-value : goal.returns-in_default-child-clause-value
-returns-in_default-child-clause-value c =
+pub returns-in_default-number-clause-value : goal.returns-in_default-number-clause-value
+returns-in_default-number-clause-value c =
     let layer : Entries = c.args.sheet.now in
     let path : PathNames = c.args.trail.now in
     let descent : Descent = c.in_ok-row.field-0 in
-    let name : PathName = c.in-Some.name.now in
+    let name : PathName = c.in-Some.stop.name.now in
     let is = c.in_ok-row.ensures in
-    let at = name-read path descent.depth name c.in-Some.ensures.value in
-    let here : entry_at layer (child_path (take descent.depth path) name) ≡ None =
-    ap (λ (p : PathNames). entry_at layer (child_path p name)) (sym is.here)
-    ∙ (entry_at-under (child_path (path_at layer descent.row) name) layer ∙ ap (λ (entries : Entries). entry_at entries []) c.in_default-child.ensures) in
+    let stop = subst (IsStop layer path descent.depth) c.in-Some.is is.stop in
+    let at = name-read path descent.depth name stop.0 in
+    let here : entry_at layer (child_path (take descent.depth path) name) ≡ None = subst (IsNumberAt layer (child_path (take descent.depth path) name)) c.in_default-number.is stop.2 in
     ap (λ (next : PathNames). nothing_found next descent.closed) c.in_ok-onward.ensures
     ∙ walk-misses layer path descent.depth name at.0 at.1 is.layered is.directory (stopped layer path descent name is at.0 at.1)
     descent.next descent.closed here is.turned is.shut
 
-pub returns-then-depth-len-clause-value : goal.returns-then-depth-len-clause-value
-returns-then-depth-len-clause-value c =
+pub returns-then-len-depth-clause-value : goal.returns-then-len-depth-clause-value
+returns-then-len-depth-clause-value c =
     let layer : Entries = c.args.sheet.now in
     let path : PathNames = c.args.trail.now in
     let descent : Descent = c.in_ok-row.field-0 in
-    let name : PathName = c.in-Some.name.now in
+    let name : PathName = c.in-Some.stop.name.now in
     let is = c.in_ok-row.ensures in
-    let at = name-read path descent.depth name c.in-Some.ensures.value in
-    let path_is = c.in-Some-child.ensures.1 ∙ ap (λ (p : PathNames). child_path p name) is.here in
-    let found = entry-of_row layer c.in-Some-child.number is.layered c.in-Some-child.ensures.0 in
-    let here : Some found.0 ≡ entry_at layer (child_path (take descent.depth path) name) = sym (sym (ap (entry_at layer) path_is) ∙ found.1) in
-    let more : descent.depth + 1 < length path = grind (arith, nat_tests, c.if-depth-len.true, c.len.ensures) in
+    let stop = subst (IsStop layer path descent.depth) c.in-Some.is is.stop in
+    let at = name-read path descent.depth name stop.0 in
+    let number = subst (IsNumberAt layer (child_path (take descent.depth path) name)) c.in-Some-number.is stop.2 in
+    let found = entry-of_row layer c.in-Some-number.number is.layered number.0 in
+    let here : Some found.0 ≡ entry_at layer (child_path (take descent.depth path) name) = sym (sym (ap (entry_at layer) number.1) ∙ found.1) in
+    let more : descent.depth + 1 < length path = grind (arith, nat_tests, c.if-len-depth.true, c.len.ensures) in
     let some : 0 < length (drop (descent.depth + 1) path) = omega (arith, more, length-drop (descent.depth + 1) path) in
     ap (λ (next : PathNames). nothing_found next true) (c.in_ok-onward-2.ensures ∙ ap (λ (r : PathNames). descent.next ++ r) (drop-head path descent.depth name at.0 at.1))
     ∙ (below-file found.0 descent.next descent.closed name (drop (descent.depth + 1) path) some
@@ -69,13 +67,14 @@ returns-clause-value c =
     let layer : Entries = c.args.sheet.now in
     let path : PathNames = c.args.trail.now in
     let descent : Descent = c.in_ok-row.field-0 in
-    let name : PathName = c.in-Some.name.now in
+    let name : PathName = c.in-Some.stop.name.now in
     let inode : Inode = c.found_in-2.result.inode.now in
     let is = c.in_ok-row.ensures in
-    let at = name-read path descent.depth name c.in-Some.ensures.value in
-    let path_is = c.in-Some-child.ensures.1 ∙ ap (λ (p : PathNames). child_path p name) is.here in
-    let here : Some inode ≡ entry_at layer (child_path (take descent.depth path) name) = sym c.found_in-2.ensures.value ∙ ap (entry_at layer) path_is in
-    let last : length path ≤ descent.depth + 1 = grind (arith, nat_tests, c.if-depth-len.false, c.len.ensures) in
+    let stop = subst (IsStop layer path descent.depth) c.in-Some.is is.stop in
+    let at = name-read path descent.depth name stop.0 in
+    let number = subst (IsNumberAt layer (child_path (take descent.depth path) name)) c.in-Some-number.is stop.2 in
+    let here : Some inode ≡ entry_at layer (child_path (take descent.depth path) name) = sym c.found_in-2.ensures.value ∙ ap (entry_at layer) number.1 in
+    let last : length path ≤ descent.depth + 1 = grind (arith, nat_tests, c.if-len-depth.false, c.len.ensures) in
     subst (λ (s : Step). IfOk c.beyond.result (λ step. step_of step ≡ s))
     (ap (walk_beyond (Some inode) descent.next descent.closed name) (sym (drop_all (descent.depth + 1) path last))
     ∙ walk-ends layer path descent.depth name at.0 at.1 is.layered is.directory (stopped layer path descent name is at.0 at.1)
