@@ -156,7 +156,8 @@ impl Draft {
         let Some(node) = self.spine.pop() else {
             return self.children.reserve_exact(entries);
         };
-        self.spine.push(node.with_room(entries)?)
+        self.spine.push(node.with_room(entries)?)?;
+        Ok(())
     }
 
     /// The finished layer.
