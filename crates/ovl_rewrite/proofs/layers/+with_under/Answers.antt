@@ -1,18 +1,19 @@
-use Rattle.std.proofs.Common.{◌≡◌, ◌≤◌, [], ◌∷◌, length, List, ◌++◌, Err, sym, ap, refl, arith, ◌∙◌, append_assoc, length-append}
+use Rattle.std.proofs.Common.{◌≡◌, ◌≤◌, [], ◌∷◌, length, List, ◌++◌, Err, sym, ap, subst, refl, arith, ◌∙◌, append_assoc, length-append}
 use Rattle.std.proofs.lemmas.Result.{err_from_is_err_and}
 use Rattle.std.specs.Vec.Iter.{into_iter_items}
 use Rattle.ovl_board.specs.Parcels.{parcel_view, parcel_views}
 use Rattle.ovl_rewrite.specs.Directories.{NamedInode, inodes_seen}
 use Rattle.ovl_rewrite.specs.Passes.{View}
-use Rattle.ovl_rewrite.proofs.UnderLemmas.{walk-starts, walk-ends}
+use Rattle.ovl_rewrite.proofs.UnderLemmas.{WalksAmong, walk-starts, walk-ends}
 use Rattle.ovl_rewrite.proofs.NextLemmas.{next-file, next-directory, stops-next, stops-below}
 use Rattle.ovl_rewrite.proofs.layers.+with_under.Goals as goal
 
 pub loop-name-init : goal.loop-name-init
 loop-name-init t c = (
   omega (arith, ap length c.in-Some.ensures.items),
-  walk-starts (parcel_views inodes_seen (into_iter_items c.args.rest.now)) (parcel_view inodes_seen c.in-Some.field-0) (parcel_views inodes_seen (into_iter_items c.next.new.self))
-      (ap (parcel_views inodes_seen) c.in-Some.ensures.items) c.args.builder,
+  subst (WalksAmong (parcel_views inodes_seen (into_iter_items c.args.rest.now)) (parcel_views inodes_seen (into_iter_items c.next.new.self)) 0 c.args.builder) (sym c.in_ok-builder.ensures)
+      (walk-starts (parcel_views inodes_seen (into_iter_items c.args.rest.now)) (parcel_view inodes_seen c.in-Some.field-0) (parcel_views inodes_seen (into_iter_items c.next.new.self))
+      (ap (parcel_views inodes_seen) c.in-Some.ensures.items) c.args.builder),
   refl,
 )
 
@@ -25,8 +26,8 @@ loop-name-preserved t c =
       c.loop-name.invariant.0,
       next-file (parcel_views inodes_seen (into_iter_items c.args.rest.now)) (parcel_view inodes_seen c.in-Some.field-0) (parcel_views inodes_seen (into_iter_items c.next.new.self))
           (ap (parcel_views inodes_seen) c.in-Some.ensures.items) (parcel_views inodes_seen (into_iter_items c.loop-name.rest)) done left entry
-          (sym c.into_iter-name-iterator.ensures.into_iter_gives.0 ∙ given) c.args.builder c.loop-name.builder c.loop-name.invariant.1 c.in_ok-builder.builder
-          c.in_ok-builder.ensures.entries (sym c.if-is_above.ensures),
+          (sym c.into_iter-name-iterator.ensures.into_iter_gives.0 ∙ given) c.args.builder c.loop-name.builder c.loop-name.invariant.1 c.in_ok-builder-2.builder
+          c.in_ok-builder-2.ensures.entries (sym c.if-is_above.ensures),
       given ∙ sym (append_assoc done (entry ∷ []) left),
     )
 
@@ -36,27 +37,14 @@ loop-name-preserved-then-is_above t c =
     let done : List NamedInode = c.loop-name.yielded in
     let left : List NamedInode = into_iter_items c.next-in-loop-name.new.self in
     let given = c.loop-name.invariant.2 ∙ ap (λ (es : List NamedInode). done ++ es) c.in-Some-2.ensures.steps.0 in (
-      omega (arith, c.loop-name.invariant.0, c.in_ok-builder-2.ensures.fewer),
+      omega (arith, c.loop-name.invariant.0, c.in_ok-builder-3.ensures.fewer),
       next-directory (parcel_views inodes_seen (into_iter_items c.args.rest.now)) (parcel_view inodes_seen c.in-Some.field-0) (parcel_views inodes_seen (into_iter_items c.next.new.self))
           (ap (parcel_views inodes_seen) c.in-Some.ensures.items) (parcel_views inodes_seen (into_iter_items c.loop-name.rest)) done left entry
-          (sym c.into_iter-name-iterator.ensures.into_iter_gives.0 ∙ given) c.args.builder c.loop-name.builder c.loop-name.invariant.1 c.in_ok-builder.builder
-          c.in_ok-builder.ensures.entries (sym c.if-is_above.ensures)
-          (parcel_views inodes_seen (into_iter_items c.with_under.new.rest)) c.in_ok-builder-2.builder c.in_ok-builder-2.ensures.entries,
+          (sym c.into_iter-name-iterator.ensures.into_iter_gives.0 ∙ given) c.args.builder c.loop-name.builder c.loop-name.invariant.1 c.in_ok-builder-2.builder
+          c.in_ok-builder-2.ensures.entries (sym c.if-is_above.ensures)
+          (parcel_views inodes_seen (into_iter_items c.with_under.new.rest)) c.in_ok-builder-3.builder c.in_ok-builder-3.ensures.entries,
       given ∙ sym (append_assoc done (entry ∷ []) left),
     )
-
-pub returns-in_err-builder-clause-limit : goal.returns-in_err-builder-clause-limit
-returns-in_err-builder-clause-limit t c is =
-    let out = err_from_is_err_and c.from_residual.result c.from_residual.ensures.1 in
-    let told = sym (out.1 ∙ ap Err out.2) ∙ is in
-    let entry : NamedInode = (c.in-Some-2.name, c.in-Some-2.inode) in
-    let done : List NamedInode = c.loop-name.yielded in
-    let left : List NamedInode = into_iter_items c.next-in-loop-name.new.self in
-    let given = c.loop-name.invariant.2 ∙ ap (λ (es : List NamedInode). done ++ es) c.in-Some-2.ensures.steps.0 in
-    stops-next (parcel_views inodes_seen (into_iter_items c.args.rest.now)) (parcel_view inodes_seen c.in-Some.field-0) (parcel_views inodes_seen (into_iter_items c.next.new.self))
-    (ap (parcel_views inodes_seen) c.in-Some.ensures.items) (parcel_views inodes_seen (into_iter_items c.loop-name.rest)) done left entry
-    (sym c.into_iter-name-iterator.ensures.into_iter_gives.0 ∙ given) c.args.builder c.loop-name.builder c.loop-name.invariant.1
-    (c.in_err-builder.ensures.limit told)
 
 pub returns-in_err-builder-2-clause-limit : goal.returns-in_err-builder-2-clause-limit
 returns-in_err-builder-2-clause-limit t c is =
@@ -66,11 +54,24 @@ returns-in_err-builder-2-clause-limit t c is =
     let done : List NamedInode = c.loop-name.yielded in
     let left : List NamedInode = into_iter_items c.next-in-loop-name.new.self in
     let given = c.loop-name.invariant.2 ∙ ap (λ (es : List NamedInode). done ++ es) c.in-Some-2.ensures.steps.0 in
+    stops-next (parcel_views inodes_seen (into_iter_items c.args.rest.now)) (parcel_view inodes_seen c.in-Some.field-0) (parcel_views inodes_seen (into_iter_items c.next.new.self))
+    (ap (parcel_views inodes_seen) c.in-Some.ensures.items) (parcel_views inodes_seen (into_iter_items c.loop-name.rest)) done left entry
+    (sym c.into_iter-name-iterator.ensures.into_iter_gives.0 ∙ given) c.args.builder c.loop-name.builder c.loop-name.invariant.1
+    (c.in_err-builder-2.ensures.limit told)
+
+pub returns-in_err-builder-3-clause-limit : goal.returns-in_err-builder-3-clause-limit
+returns-in_err-builder-3-clause-limit t c is =
+    let out = err_from_is_err_and c.from_residual-in_err-builder-3.result c.from_residual-in_err-builder-3.ensures.1 in
+    let told = sym (out.1 ∙ ap Err out.2) ∙ is in
+    let entry : NamedInode = (c.in-Some-2.name, c.in-Some-2.inode) in
+    let done : List NamedInode = c.loop-name.yielded in
+    let left : List NamedInode = into_iter_items c.next-in-loop-name.new.self in
+    let given = c.loop-name.invariant.2 ∙ ap (λ (es : List NamedInode). done ++ es) c.in-Some-2.ensures.steps.0 in
     stops-below (parcel_views inodes_seen (into_iter_items c.args.rest.now)) (parcel_view inodes_seen c.in-Some.field-0) (parcel_views inodes_seen (into_iter_items c.next.new.self))
     (ap (parcel_views inodes_seen) c.in-Some.ensures.items) (parcel_views inodes_seen (into_iter_items c.loop-name.rest)) done left entry
     (sym c.into_iter-name-iterator.ensures.into_iter_gives.0 ∙ given) c.args.builder c.loop-name.builder c.loop-name.invariant.1
-    c.in_ok-builder.builder c.in_ok-builder.ensures.entries (sym c.if-is_above.ensures)
-    (c.in_err-builder-2.ensures.limit told)
+    c.in_ok-builder-2.builder c.in_ok-builder-2.ensures.entries (sym c.if-is_above.ensures)
+    (c.in_err-builder-3.ensures.limit told)
 
 pub returns-clause-entries : goal.returns-clause-entries
 returns-clause-entries t c =
