@@ -1,9 +1,12 @@
--- Where the walks of names that neither layer has in a directory go on, no other name has an entry there.
-use Rattle.std.proofs.Common.{◌≡◌, ℕ, Bool, true, false, cond, Option, Some, None, is_some, List, [], ◌++◌, refl, sym, ap, ◌∙◌, subst}
-use Rattle.std.specs.Prelude.{◌||◌, ◌&&◌, not, is_none}
-use Rattle.std.specs.Option.{option_map}
-use Rattle.std.specs.List.{filter_map, list_any}
+-- The names in a directory that may have an entry: where the walks of names that neither layer has there go on, no other
+-- has one.
+use Rattle.std.proofs.Common.{◌≡◌, ℕ, ◌+◌, ◌<◌, length, get_or, take, Bool, true, false, cond, Option, Some, None, is_some, List, [], ◌∷◌, ◌++◌, refl, sym, ap, ◌∙◌, subst}
+use Rattle.std.specs.Prelude.{◌||◌, ◌&&◌, not, is_none, IfSome}
+use Rattle.std.specs.Option.{option_map, option_and_then, option_or}
+use Rattle.std.specs.List.{All, AllByRecursion, cons_option, filter_map, list_any}
+use Rattle.std.proofs.lemmas.List.{map-append, take_more}
 use Rattle.std.proofs.lemmas.List.Folds.{list_any-append}
+use Rattle.std.proofs.lemmas.List.Elements.{All-from_recursion, filter_map-append}
 use Rattle.ovl_names.specs.Names.{PathName, name_eq, name_cmp}
 use Rattle.ovl_names.specs.Paths.{PathNames, child_path, parent_path}
 use Rattle.ovl_names.specs.Order.{ascends}
@@ -13,17 +16,25 @@ use Rattle.ovl_lookup.specs.declared.steps.Step.{Step}
 use Rattle.ovl_lookup.specs.Stacks.{StackView}
 use Rattle.ovl_lookup.specs.Walk.{walk, nothing_found}
 use Rattle.ovl_lookup.specs.Passes.{own_names_along, put_names}
-use Rattle.ovl_lookup.proofs.LawsOfWalks.{walk-child_end, names_below-has, passes-over}
-use Rattle.ovl_lookup.proofs.LawsOfKids.{ascends-put, any-put, kids-ascend}
+use Rattle.ovl_lookup.proofs.LawsOfWalks.{walk-child_end, passes-over}
+use Rattle.ovl_lookup.proofs.LawsOfKids.{ascends-put, any-put, kids-ascend, kid-names-ascend}
 use Rattle.ovl_rewrite.specs.Directories.{NamedInode}
 use Rattle.ovl_merge.specs.declared.stands.Stand.{Stand}
+use Rattle.ovl_merge.specs.declared.candidates.Candidate.{Candidate}
+use Rattle.ovl_merge.specs.declared.candidates.Side.{Side}
+use Rattle.ovl_merge.specs.declared.candidates.Side.TheVariants.{Upper, Lower}
+use Rattle.ovl_merge.specs.declared.directories.Directory.{Directory}
 use Rattle.ovl_merge.specs.Places.{Merge, two_layers, lower_path, first_hit, shows_own_directory, shows_at, natural, base}
 use Rattle.ovl_merge.specs.MergeDown.{merged_entry, merged_entry_of, new_whiteout}
 use Rattle.ovl_merge.specs.Directories.{named_inode, base_names, entries_in}
-use Rattle.ovl_merge.specs.Stands.{StandsAt, onward_on, step_onward}
+use Rattle.ovl_merge.specs.Stands.{IsStand, StandsAt, IsRowAt, onward_on, step_onward}
 use Rattle.ovl_merge.specs.Reckoned.{IsBelow, onward_at}
+use Rattle.ovl_merge.specs.Candidates.{Rowed, AreCandidates, AreMerged, AreRowsOf, IsCandidate, candidate_told, candidates_told, hidden_names, names_of, row_at, row_on, unrowed}
 use Rattle.ovl_merge.proofs.Firsts.{first_hit-steps, first_step}
-use Rattle.ovl_merge.proofs.NameLists.{put-unentered}
+use Rattle.ovl_merge.proofs.NameLists.{put-none, put-unentered}
+use Rattle.ovl_merge.proofs.RowLists.{at, each-own, names-unrowed, or-nothing, rows-unrowed}
+use Rattle.ovl_merge.proofs.StandLemmas.{unnamed}
+use Rattle.ovl_merge.proofs.VisitLemmas.{own-names}
 
 -- ---- in one layer
 
@@ -45,13 +56,6 @@ module _ (layer : Entries) (is : IsLayer layer) (path : PathNames) (name : PathN
       goes : (closed : Bool) → onward_on (walk layer (child_path path name)).next closed ≡ Some (child_path place name) → closed ≡ false
       goes true e = let bad : None ≡ Some (child_path place name) = e in cc
       goes false e = refl
-
-unnamed : (layer : Entries) (path : PathNames) (name : PathName) → list_any (name_eq name) (names_below layer path) ≡ false → entry_at layer (child_path path name) ≡ None
-unnamed layer path name other = by (entry_at layer (child_path path name)) refl
-  where
-    by : (found : Option Inode) → entry_at layer (child_path path name) ≡ found → entry_at layer (child_path path name) ≡ None
-    by None e = e
-    by (Some inode) e = let bad : false ≡ true = sym other ∙ names_below-has layer path name inode e in cc
 
 -- ---- in both
 
@@ -132,7 +136,104 @@ module _ (m : Merge) (upper : IsLayer m.upper) (lower : IsLayer m.lower) (dir : 
       by None there onwards = let bad : false ≡ true = onwards in cc
       by (Some rest) there onwards = own-entries row place here goes below.row rest there
 
--- the names in a base are in order
-pub base-ascends : (rest : StackView) (place : Option PathNames) → ascends name_cmp (base_names rest place) ≡ true
-base-ascends rest None = refl
-base-ascends rest (Some place) = kids-ascend rest place
+-- ---- the names that are hidden
+
+module _ (m : Merge) (directory : Directory) where
+  pub hidden-entries : IsLayer m.upper → IsLayer m.lower → IsStand m.upper directory.path directory.upper → directory.upper.next ≡ step_onward (walk m.upper directory.path) → IsBelow m.lower directory.upper.next directory.lower
+      → filter_map (named_inode m directory.path) (put_names (put_names [] (own_names_along (two_layers m).layers directory.path)) (hidden_names m directory)) ≡ entries_in m directory.path
+  hidden-entries upper lower here goes below = by (is_some (onward_at directory.lower)) refl
+    where
+      by : (b : Bool) → is_some (onward_at directory.lower) ≡ b
+          → filter_map (named_inode m directory.path) (put_names (put_names [] (own_names_along (two_layers m).layers directory.path)) (cond b [] (base_names m.rest (base m directory.path)))) ≡ entries_in m directory.path
+      by true e = open-entries m upper lower directory.path directory.upper.row directory.upper.next here goes directory.lower below e
+      by false e = refl
+
+  pub hidden-ascend : ascends name_cmp (hidden_names m directory) ≡ true
+  hidden-ascend = by (is_some (onward_at directory.lower))
+    where
+      based : (place : Option PathNames) → ascends name_cmp (base_names m.rest place) ≡ true
+      based None = refl
+      based (Some place) = kids-ascend m.rest place
+
+      by : (b : Bool) → ascends name_cmp (cond b [] (base_names m.rest (base m directory.path))) ≡ true
+      by true = refl
+      by false = based (base m directory.path)
+
+  -- ---- names with their rows
+
+  -- those of the upper layer alone
+  pub upper-candidates : IsLayer m.upper → directory.upper.next ≡ step_onward (walk m.upper directory.path) → directory.upper.next ≡ None → (names : Rowed) → AreRowsOf Upper m.upper directory.path names
+      → AreCandidates m directory (put_names [] (own_names_along (two_layers m).layers directory.path)) names
+  upper-candidates upper goes none names are = record {
+    all = are.below ∙ (sym (put-none (names_below m.upper directory.path) (kid-names-ascend m.upper directory.path upper.in_order)) ∙ own-names m directory.path None (sym none ∙ goes));
+    rows = λ name. record {
+      upper = are.own name;
+      lower = subst (λ (o : Option PathNames). IfSome o (λ below. IsRowAt m.lower (child_path below name) (row_at Lower name names))) (sym none) tt;
+    };
+  }
+
+  -- and of the lower one
+  pub both-candidates : IsLayer m.upper → directory.upper.next ≡ step_onward (walk m.upper directory.path) → (place : PathNames) → directory.upper.next ≡ Some place → (one other both : Rowed) → AreRowsOf Upper m.upper directory.path one → AreRowsOf Lower m.lower place other → AreMerged one other both
+      → AreCandidates m directory (put_names [] (own_names_along (two_layers m).layers directory.path)) both
+  both-candidates upper goes place on one other both above beneath are = record {
+    all =
+        are.names
+        ∙ ((λ j. put_names (above.below j) (beneath.below j))
+        ∙ (ap (λ (own : List PathName). put_names own (names_below m.lower place)) (sym (put-none (names_below m.upper directory.path) (kid-names-ascend m.upper directory.path upper.in_order)))
+        ∙ own-names m directory.path (Some place) (sym on ∙ goes)));
+    rows = λ name. record {
+      upper = subst (IsRowAt m.upper (child_path directory.path name)) (sym (are.rows Upper name ∙ or-nothing (row_at Upper name one) (row_at Upper name other) (beneath.other name))) (above.own name);
+      lower =
+          subst (λ (o : Option PathNames). IfSome o (λ below. IsRowAt m.lower (child_path below name) (row_at Lower name both))) (sym on)
+          (subst (IsRowAt m.lower (child_path place name)) (sym (are.rows Lower name ∙ ap (λ (o : Option ℕ). option_or o (row_at Lower name other)) (above.other name))) (beneath.own name));
+    };
+  }
+
+  -- with those that are hidden
+  pub hidden-candidates : (names hidden : List PathName) (own both : Rowed) → AreCandidates m directory names own → AreMerged own (unrowed hidden) both → AreCandidates m directory (put_names names hidden) both
+  hidden-candidates names hidden own both is are = record {
+    all = are.names ∙ (λ j. put_names (is.all j) (names-unrowed hidden j));
+    rows = λ name. record {
+      upper = subst (IsRowAt m.upper (child_path directory.path name)) (sym (kept Upper name)) (is.rows name).upper;
+      lower = subst (λ (row : Option ℕ). IfSome directory.upper.next (λ below. IsRowAt m.lower (child_path below name) row)) (sym (kept Lower name)) (is.rows name).lower;
+    };
+  }
+    where
+      kept : (side : Side) (name : PathName) → row_at side name both ≡ row_at side name own
+      kept side name = are.rows side name ∙ or-nothing (row_at side name own) (row_at side name (unrowed hidden)) (rows-unrowed side name hidden)
+
+  -- each by itself
+  pub each-candidate : (items : List Candidate) (names : List PathName) → ascends name_cmp names ≡ true → AreCandidates m directory names (candidates_told items) → All (IsCandidate m directory) items
+  each-candidate items names up is = All-from_recursion (IsCandidate m directory) items (by items (each-own (candidates_told items) (ap (ascends name_cmp) is.all ∙ up)))
+    where
+      by : (left : List Candidate) → AllByRecursion (λ own. at own.0 (candidates_told items) ≡ Some own.1) (candidates_told left) → AllByRecursion (IsCandidate m directory) left
+      by [] all = tt
+      by (candidate ∷ left) all =
+          let above : row_at Upper candidate.name.now (candidates_told items) ≡ candidate.upper = ap (option_and_then (row_on Upper)) all.0 in
+          let beneath : row_at Lower candidate.name.now (candidates_told items) ≡ candidate.lower = ap (option_and_then (row_on Lower)) all.0 in
+          let rows = is.rows candidate.name.now in
+          let one : IsCandidate m directory candidate = record {
+            upper = subst (IsRowAt m.upper (child_path directory.path candidate.name.now)) above rows.upper;
+            lower = subst (λ (row : Option ℕ). IfSome directory.upper.next (λ below. IsRowAt m.lower (child_path below candidate.name.now) row)) beneath rows.lower;
+          } in
+          (one, by left all.1)
+
+-- ---- one after another
+
+pub candidate-at : (m : Merge) (directory : Directory) (lent items : List Candidate) → lent ≡ items → All (IsCandidate m directory) items → (j : ℕ) (candidate : Candidate) → j < length lent → candidate ≡ get_or lent j candidate → IsCandidate m directory candidate
+candidate-at m directory lent items same all j candidate inside here =
+    subst (IsCandidate m directory) (sym here) (subst (λ (candidates : List Candidate). All (IsCandidate m directory) candidates) (sym same) all j candidate inside)
+
+-- the entries by one more name
+pub listed-more : (m : Merge) (dir : PathNames) (items : List Candidate) (j : ℕ) (candidate : Candidate) → j < length items → candidate ≡ get_or items j candidate → (listed : List NamedInode) (found : Option Inode)
+    → listed ≡ filter_map (named_inode m dir) (names_of (candidates_told (take j items))) → found ≡ merged_entry m (child_path dir candidate.name.now)
+    → listed ++ cons_option (option_map (λ inode. (candidate.name.now, inode)) found) [] ≡ filter_map (named_inode m dir) (names_of (candidates_told (take (j + 1) items)))
+listed-more m dir items j candidate inside here listed found so_far is =
+    (λ k. so_far k ++ cons_option (option_map (λ inode. (candidate.name.now, inode)) (is k)) [])
+    ∙ sym (ap (filter_map (named_inode m dir)) more ∙ filter_map-append (named_inode m dir) (names_of (candidates_told (take j items))) (candidate.name.now ∷ []))
+  where
+    more : names_of (candidates_told (take (j + 1) items)) ≡ names_of (candidates_told (take j items)) ++ candidate.name.now ∷ []
+    more =
+        ap (λ (candidates : List Candidate). names_of (candidates_told candidates)) (take_more items j candidate inside ∙ ap (λ (c : Candidate). take j items ++ c ∷ []) (sym here))
+        ∙ (ap names_of (map-append candidate_told (take j items) (candidate ∷ []))
+        ∙ map-append (λ name. name.0) (candidates_told (take j items)) (candidate_told candidate ∷ []))

@@ -1,22 +1,29 @@
 -- The new inodes of the entries of a directory, by what is kept of that.
-use Rattle.std.proofs.Common.{◌≡◌, Bool, true, cond, Option, Some, None, [], refl, sym, ap, ◌∙◌}
+use Rattle.std.proofs.Common.{◌≡◌, Bool, true, cond, Option, Some, None, [], ◌∷◌, length, arith, refl, sym, ap, ◌∙◌}
 use Rattle.std.specs.Prelude.{◌&&◌, not, is_none, codes}
 use Rattle.std.specs.Cmp.Lexicographic.{pointwise_decides, bytes_decides}
 use Rattle.ovl_names.specs.Names.{PathName}
 use Rattle.ovl_names.specs.Paths.{PathNames, child_path, path_eq}
 use Rattle.ovl_inode.specs.declared.inodes.Inode.{Inode}
-use Rattle.ovl_inode.specs.Attributes.{metacopy_name, opaque_name}
+use Rattle.ovl_inode.specs.Attributes.{Attributes, metacopy_name, opaque_name, visible_attributes}
 use Rattle.ovl_inode.specs.Marks.{is_directory}
 use Rattle.ovl_inode.specs.Inodes.{visible}
 use Rattle.ovl_lookup.specs.Stacks.{StackView}
 use Rattle.ovl_lookup.proofs.LawsOfPaths.{length-child}
 use Rattle.ovl_merge.specs.declared.bases.Base.{Base}
-use Rattle.ovl_merge.specs.declared.bases.Base.TheVariants.{Reached, Apart, Hidden}
+use Rattle.ovl_merge.specs.declared.bases.Base.TheVariants.{Reached, Apart}
 use Rattle.ovl_merge.specs.Places.{Merge, merge_of, first_hit, passes, shows_own_directory, reach, base, child_of, gets_opaque, shows_directory_at}
 use Rattle.ovl_merge.specs.MergeDown.{with_value, redirected_from, merged_directory, merged_metacopy}
 use Rattle.ovl_merge.specs.Reckoned.{IsBase, name_directly_in, reached_in}
 use Rattle.ovl_merge.proofs.Core.{last_name-child, natural-child}
 use Rattle.ovl_merge.proofs.VisitLemmas.{directory-told, metacopy-told}
+
+-- ---- what is shown of one without attributes
+
+pub visible-bare : (inode : Inode) (attrs : Attributes) → attrs ≡ inode.attrs → length attrs ≡ 0 → inode ≡ visible inode
+visible-bare inode [] same none =
+    ap (λ (attrs : Attributes). record inode { attrs = attrs }) (sym same) ∙ ap (λ (attrs : Attributes). record inode { attrs = visible_attributes attrs }) same
+visible-bare inode (attr ∷ attrs) same none = absurd (omega (arith, none))
 
 -- ---- one that goes on
 
@@ -59,5 +66,4 @@ directly-child dir name =
 
 pub base-reached : (stack : StackView) (dir : PathNames) (own : Base) → IsBase stack dir own → reached_in own ≡ reach (merge_of stack) dir
 base-reached stack dir (Reached view) is = sym is.0
-base-reached stack dir (Apart place) is = sym is.0
-base-reached stack dir Hidden is = sym is.0
+base-reached stack dir Apart is = sym is.0

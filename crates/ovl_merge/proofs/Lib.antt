@@ -11,8 +11,10 @@ pub mod MergedEntries
 pub mod LayerLemmas
 pub mod DirectoryLemmas
 pub mod NameLists
+pub mod RowLists
 pub mod VisitLemmas
 pub mod StandLemmas
+pub mod RowLemmas
 pub mod ShownLemmas
 pub mod BaseLemmas
 pub mod PassageLemmas

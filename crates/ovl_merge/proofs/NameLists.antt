@@ -1,7 +1,6 @@
 -- Ascending lists of names: two of them as one, and names among them that have no entry.
-use Rattle.std.proofs.Common.{◌≡◌, Bool, true, false, Option, Some, None, List, [], ◌∷◌, ◌++◌, length, drop, refl, sym, ap, ◌∙◌, subst, arith}
-use Rattle.std.specs.Prelude.{◌||◌, ◌&&◌, MatchOption}
-use Rattle.std.specs.Option.{option_to_list}
+use Rattle.std.proofs.Common.{◌≡◌, Bool, true, false, Option, Some, None, List, [], ◌∷◌, refl, sym, ap, ◌∙◌}
+use Rattle.std.specs.Prelude.{◌||◌, ◌&&◌}
 use Rattle.std.specs.List.{cons_option, filter_map, list_any, list_all}
 use Rattle.std.specs.BTreeSet.{insert_key}
 use Rattle.std.specs.Ordering.{is_lt, ordering_reverse, match_ordering}
@@ -15,7 +14,6 @@ use Rattle.ovl_inode.proofs.AttributeLemmas.{name_cmp-Equal}
 use Rattle.ovl_lookup.specs.Passes.{put_names}
 use Rattle.ovl_lookup.proofs.LawsOfKids.{ascends-insert, any-insert, same-names}
 use Rattle.ovl_rewrite.specs.Directories.{NamedInode}
-use Rattle.ovl_merge.specs.Candidates.{first_order, IsFirstTaken}
 
 -- ---- two lists as one
 
@@ -64,57 +62,6 @@ module _ (y : PathName) (ys : List PathName) (up : ascends name_cmp (y ∷ ys) �
 pub put-none : (names : List PathName) → ascends name_cmp names ≡ true → put_names [] names ≡ names
 put-none [] up = refl
 put-none (name ∷ names) up = put-alone name names up ∙ ap (λ (rest : List PathName). name ∷ rest) (put-none names (later-ascend name names up))
-
--- ---- the first name of two lists is taken
-
--- what is taken is the first of its list
-first-taken : (x : PathName) (xs rest : List PathName) (taken : Option PathName) → x ∷ xs ≡ option_to_list taken ++ rest → rest ≡ xs → taken ≡ Some x
-first-taken x xs rest None items is = let lengths = ap (λ (l : List PathName). length l) (items ∙ is) in absurd (omega (arith, lengths))
-first-taken x xs rest (Some y) items is = let same : x ≡ y = cc in ap (λ (name : PathName). Some name) (sym same)
-
-none-taken : (rest : List PathName) (taken : Option PathName) → [] ≡ option_to_list taken ++ rest → taken ≡ None
-none-taken rest None items = refl
-none-taken rest (Some y) items = let bad : [] ≡ y ∷ rest = items in cc
-
-module _ (one other : List PathName) (up : ascends name_cmp one ≡ true) (also : ascends name_cmp other ≡ true) where
-  abbrev pub IsNext : Option PathName → List PathName → List PathName → Type 0
-  IsNext taken rest more = MatchOption taken ((one ≡ []) × (other ≡ [])) (λ name. IsFirstTaken one other name rest more)
-
-pub one-taken : (one other : List PathName) (up : ascends name_cmp one ≡ true) (also : ascends name_cmp other ≡ true) → Less ≡ first_order one other
-    → (taken : Option PathName) (rest : List PathName) → one ≡ option_to_list taken ++ rest → rest ≡ drop 1 one → IsNext one other up also taken rest other
-one-taken [] other up also order taken rest items is = let bad : Less ≡ Greater = order in cc
-one-taken (x ∷ xs) [] up also order taken rest items is =
-    subst (λ (t : Option PathName). IsNext (x ∷ xs) [] up also t rest []) (sym (first-taken x xs rest taken items is))
-    (subst (λ (r : List PathName). IsFirstTaken (x ∷ xs) [] x r []) (sym is)
-    (record { first = refl; fewer = omega arith; one_ascends = later-ascend x xs up; other_ascends = refl }))
-one-taken (x ∷ xs) (y ∷ ys) up also order taken rest items is =
-    subst (λ (t : Option PathName). IsNext (x ∷ xs) (y ∷ ys) up also t rest (y ∷ ys)) (sym (first-taken x xs rest taken items is))
-    (subst (λ (r : List PathName). IsFirstTaken (x ∷ xs) (y ∷ ys) x r (y ∷ ys)) (sym is)
-    (record { first = put-first y ys also x xs (sym order); fewer = omega arith; one_ascends = later-ascend x xs up; other_ascends = also }))
-
-pub other-taken : (one other : List PathName) (up : ascends name_cmp one ≡ true) (also : ascends name_cmp other ≡ true) → Greater ≡ first_order one other
-    → (taken : Option PathName) (more : List PathName) → other ≡ option_to_list taken ++ more → more ≡ drop 1 other → IsNext one other up also taken one more
-other-taken [] [] up also order taken more items is =
-    subst (λ (t : Option PathName). IsNext [] [] up also t [] more) (sym (none-taken more taken items)) (refl, refl)
-other-taken [] (y ∷ ys) up also order taken more items is =
-    subst (λ (t : Option PathName). IsNext [] (y ∷ ys) up also t [] more) (sym (first-taken y ys more taken items is))
-    (subst (λ (m : List PathName). IsFirstTaken [] (y ∷ ys) y [] m) (sym is)
-    (record { first = put-alone y ys also; fewer = omega arith; one_ascends = refl; other_ascends = later-ascend y ys also }))
-other-taken (x ∷ xs) [] up also order taken more items is = let bad : Greater ≡ Less = order in cc
-other-taken (x ∷ xs) (y ∷ ys) up also order taken more items is =
-    subst (λ (t : Option PathName). IsNext (x ∷ xs) (y ∷ ys) up also t (x ∷ xs) more) (sym (first-taken y ys more taken items is))
-    (subst (λ (m : List PathName). IsFirstTaken (x ∷ xs) (y ∷ ys) y (x ∷ xs) m) (sym is)
-    (record { first = put-second y ys also x xs (sym order); fewer = omega arith; one_ascends = up; other_ascends = later-ascend y ys also }))
-
-pub both-taken : (one other : List PathName) (up : ascends name_cmp one ≡ true) (also : ascends name_cmp other ≡ true) → Equal ≡ first_order one other
-    → (taken : Option PathName) (rest more : List PathName) → one ≡ option_to_list taken ++ rest → rest ≡ drop 1 one → more ≡ drop 1 other → IsNext one other up also taken rest more
-both-taken [] other up also order taken rest more items is are = let bad : Equal ≡ Greater = order in cc
-both-taken (x ∷ xs) [] up also order taken rest more items is are = let bad : Equal ≡ Less = order in cc
-both-taken (x ∷ xs) (y ∷ ys) up also order taken rest more items is are =
-    subst (λ (t : Option PathName). IsNext (x ∷ xs) (y ∷ ys) up also t rest more) (sym (first-taken x xs rest taken items is))
-    (subst (λ (r : List PathName). IsFirstTaken (x ∷ xs) (y ∷ ys) x r more) (sym is)
-    (subst (λ (m : List PathName). IsFirstTaken (x ∷ xs) (y ∷ ys) x xs m) (sym are)
-    (record { first = put-same y ys also x xs (sym order); fewer = omega arith; one_ascends = later-ascend x xs up; other_ascends = later-ascend y ys also })))
 
 -- ---- a name among ascending ones
 

@@ -1,5 +1,5 @@
 -- What the walks of a name in a directory tell of it.
-use Rattle.std.proofs.Common.{◌≡◌, Bool, true, false, cond, Option, Some, None, [], is_some, refl, sym, ap, ◌∙◌, subst}
+use Rattle.std.proofs.Common.{◌≡◌, ℕ, ◌<◌, length, Bool, true, false, cond, Option, Some, None, [], is_some, refl, sym, ap, ◌∙◌, subst}
 use Rattle.std.specs.Prelude.{◌&&◌, not, is_none, IfSome}
 use Rattle.std.specs.Option.{option_and_then, option_or}
 use Rattle.std.specs.List.{All}
@@ -26,12 +26,13 @@ use Rattle.ovl_merge.specs.declared.passages.Passed.{Passed}
 use Rattle.ovl_merge.specs.declared.passages.Place.{Place}
 use Rattle.ovl_merge.specs.Places.{Merge, merge_of, lower_path, rest_path, first_hit, is_open, is_nothing_or, is_shown_regular, shows_own_directory, shows_at, goes_on, goes_on_at, reach, reach_of, natural, base, child_of}
 use Rattle.ovl_merge.specs.MergeDown.{merged_entry, merged_entry_of, new_whiteout}
-use Rattle.ovl_merge.specs.Stands.{IsStand, IsPassing, onward_on, onward_to, step_onward, name_on}
-use Rattle.ovl_merge.specs.Passages.{IsPassage, IsPassed, IsMarked, IsPlaced, IsOwn, first_in, told_in, rest_from}
+use Rattle.ovl_merge.specs.Stands.{IsStand, IsRowAt, IsPassing, onward_on, onward_to, step_onward, name_on}
+use Rattle.ovl_merge.specs.Passages.{IsPassage, IsPassed, IsMarked, IsPlaced, first_in, told_in, rest_from}
 use Rattle.ovl_merge.specs.Reckoned.{IsBase, IsBelow, reach_from}
 use Rattle.ovl_merge.proofs.Firsts.{first_step, first_hit-steps}
 use Rattle.ovl_merge.proofs.Core.{base-reach}
 use Rattle.ovl_merge.proofs.BaseLemmas.{unreached-look}
+use Rattle.ovl_merge.proofs.StandLemmas.{row-inside}
 
 module _ (m : Merge) (path : PathNames) (above : Option PathNames) (passage : Passage) (is : IsPassage m path above passage) where
   abbrev up : Step
@@ -135,17 +136,23 @@ passed-nothing layer above passed found rest = record {
   marked = subst IsMarked (sym found) tt;
   rest = ap (rest_from above) rest;
   placed = subst (IsPlaced above) (sym rest) refl;
-  own = subst (λ (o : Option Place). IfSome o IsOwn) (sym rest) tt;
 }
 
-pub passed-beside : (layer : Entries) (onward : Option PathNames) (lower : Stand) → IsBelow layer onward (Some lower) → (name : PathName) (passing : Passing)
-    → ((path : PathNames) → IsStand layer path lower → IsPassing layer (child_path path name) lower.next passing)
-    → (rest : Option Place) → rest_from lower.next rest ≡ onward_to lower.next passing.onward → IsPlaced lower.next rest → IfSome rest IsOwn
+pub passed-beside : (layer : Entries) (onward : Option PathNames) (lower : Stand) → IsBelow layer onward (Some lower) → (own : PathName) (row : Option ℕ) → IfSome onward (λ path. IsRowAt layer (child_path path own) row) → (name : PathName) (passing : Passing)
+    → (sheet : Entries) → layer ≡ sheet → ((path : PathNames) → IsStand sheet path lower → IsRowAt sheet (child_path path own) row → IsPassing sheet (child_path path name) lower.next passing)
+    → (rest : Option Place) → rest_from lower.next rest ≡ onward_to lower.next passing.onward → IsPlaced lower.next rest
     → IsPassed layer (name_on onward name) lower.next (record { found = passing.found; rest = rest })
-passed-beside layer None lower below name passing passes rest told placed own = absurd below
-passed-beside layer (Some path) lower below name passing passes rest told placed own =
-    let p = passes path below in
-    record { found = p.found; marked = p.marked; rest = told ∙ p.onward; placed = placed; own = own }
+passed-beside layer None lower below own row known name passing sheet same passes rest told placed = absurd below
+passed-beside layer (Some path) lower below own row known name passing sheet same passes rest told placed =
+    let p : IsPassing layer (child_path path name) lower.next passing =
+    subst (λ (s : Entries). IsPassing s (child_path path name) lower.next passing) (sym same)
+    (passes path (subst (λ (s : Entries). IsStand s path lower) same below) (subst (λ (s : Entries). IsRowAt s (child_path path own) row) same known)) in
+    record { found = p.found; marked = p.marked; rest = told ∙ p.onward; placed = placed }
+
+-- the row that the lower layer has by a candidate is one of it
+pub below-inside : (layer : Entries) (onward : Option PathNames) (lower : Stand) → IsBelow layer onward (Some lower) → (own : PathName) (row : Option ℕ) → IfSome onward (λ path. IsRowAt layer (child_path path own) row) → IfSome row (λ number. number < length layer)
+below-inside layer None lower below own row known = absurd below
+below-inside layer (Some path) lower below own row known = row-inside layer (child_path path own) row known
 
 -- what a walk finds is the entry
 pub found-entry : (layer : Entries) → IsLayer layer → (path : PathNames) (found : Option Inode) → found ≡ (walk layer path).found → IfSome found (λ inode. entry_at layer path ≡ Some inode)

@@ -148,7 +148,7 @@ directory-passes (Some inode) e = e
 root-walk : (layer : Entries) → IsLayer layer → walk layer [] ≡ record { found = entry_at layer []; next = []; closed = false }
 root-walk layer is = walk-whole layer [] is.rooted
 
-pub root-reached : (m : Merge) → IsLayer m.upper → IsLayer m.lower → reach m [] ≡ cond (shows_directory m.rest []) (Some []) None
+root-reached : (m : Merge) → IsLayer m.upper → IsLayer m.lower → reach m [] ≡ cond (shows_directory m.rest []) (Some []) None
 root-reached m upper lower =
     let d = root-shown m upper in
     directory-reach m [] (ap (passes is_directory) d.hit ∙ d.directory)

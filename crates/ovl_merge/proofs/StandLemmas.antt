@@ -2,16 +2,18 @@
 use Rattle.std.proofs.Common.{◌≡◌, ℕ, ◌<◌, Bool, true, false, cond, Option, Some, None, [], ◌∷◌, ◌++◌, length, refl, sym, ap, ◌∙◌, subst, append_assoc}
 use Rattle.std.specs.Prelude.{◌&&◌, is_some, is_none, slice_get, unwrap_or, IfSome, MatchOption}
 use Rattle.std.specs.Option.{option_map}
-use Rattle.ovl_names.specs.Names.{PathName}
+use Rattle.std.specs.List.{list_any}
+use Rattle.ovl_names.specs.Names.{PathName, name_eq}
 use Rattle.ovl_names.specs.Paths.{PathNames, child_path}
 use Rattle.ovl_inode.specs.declared.inodes.Inode.{Inode}
 use Rattle.ovl_inode.specs.declared.marks.Mark.{Mark}
 use Rattle.ovl_inode.specs.declared.marks.Mark.TheVariants.{Whiteout, DirOpaque, DirMoved, DirBad, DirPlain, Meta, MetaBad, Leaf}
 use Rattle.ovl_inode.specs.declared.marks.Redirect.TheVariants.{To, Beside as ByName}
 use Rattle.ovl_inode.specs.Marks.{mark_of, is_directory, is_regular, is_whiteout, has_opaque, has_metacopy, redirect_reading, directory_mark, metacopy_mark}
-use Rattle.ovl_manifest.specs.Layers.{Entries, IsLayer, entry_at, is_directory_at}
+use Rattle.ovl_manifest.specs.Layers.{Entries, IsLayer, entry_at, is_directory_at, names_below}
 use Rattle.ovl_manifest.specs.LayerTrees.{entries_under}
 use Rattle.ovl_manifest.specs.Sheets.{path_at}
+use Rattle.ovl_manifest.proofs.NodeLemmas.{entry_at-under}
 use Rattle.ovl_lookup.specs.declared.steps.Found.{Found}
 use Rattle.ovl_lookup.specs.declared.steps.OwnDirectory.{OwnDirectory}
 use Rattle.ovl_lookup.specs.declared.steps.Step.{Step}
@@ -19,11 +21,11 @@ use Rattle.ovl_lookup.specs.Stacks.{StackView}
 use Rattle.ovl_lookup.specs.Walk.{walk, walk_beyond, walk_to_file, nothing_found}
 use Rattle.ovl_lookup.specs.Passes.{IsOwnDirectory, entered_path, entered_closed}
 use Rattle.ovl_lookup.proofs.LawsOfInodes.{is_directory_mark, mark-directory, directory-marked, directory-no_whiteout}
-use Rattle.ovl_lookup.proofs.LawsOfWalks.{directory_found, walk-whole, walk-child_end, file-is_found, file-found, found-file, whiteout-closes, own-missing, own-file, own-entered}
+use Rattle.ovl_lookup.proofs.LawsOfWalks.{directory_found, walk-whole, walk-child_end, file-is_found, file-found, found-file, whiteout-closes, own-file, own-entered, names_below-has, entry-parent, entry-of_row}
 use Rattle.ovl_merge.specs.declared.stands.Stand.{Stand}
 use Rattle.ovl_merge.specs.declared.stands.Passing.{Passing}
 use Rattle.ovl_merge.specs.Places.{merge_of, passes}
-use Rattle.ovl_merge.specs.Stands.{IsInside, IsPast, StandsAt, IsStand, IsOver, IsThing, IsPassing, onward_on, step_onward, past_onward, name_on, onward_by, onward_to}
+use Rattle.ovl_merge.specs.Stands.{IsInside, IsPast, StandsAt, IsStand, IsOver, IsRowAt, IsThing, IsPassing, onward_on, step_onward, past_onward, name_on, onward_by, onward_to}
 use Rattle.ovl_merge.specs.Reckoned.{IsBelow}
 use Rattle.ovl_merge.proofs.VisitLemmas.{lower-layer}
 
@@ -48,6 +50,11 @@ pub below-over : (layer : Entries) (onward : Option PathNames) (stand : Stand) �
 below-over layer None stand below = absurd below
 below-over layer (Some path) stand below = over-stand layer path stand below
 
+-- where that of the lower layer stands, if it goes on there
+pub below-place : (layer : Entries) (onward : Option PathNames) (stand : Stand) → IsBelow layer onward (Some stand) → (place : PathNames) × (onward ≡ Some place) × IsStand layer place stand
+below-place layer None stand below = absurd below
+below-place layer (Some place) stand below = (place, refl, below)
+
 passes-same : (found : Option Inode) → directory_found found ≡ passes is_directory found
 passes-same None = refl
 passes-same (Some inode) = refl
@@ -60,7 +67,7 @@ stand-found layer path (Some row) next is = inside-found layer path is.directory
 stand-found layer path None next is = is.no_directory
 
 -- what is no directory for its walk is none
-no-directory : (layer : Entries) (path : PathNames) → passes is_directory (walk layer path).found ≡ false → is_directory_at layer path ≡ false
+pub no-directory : (layer : Entries) (path : PathNames) → passes is_directory (walk layer path).found ≡ false → is_directory_at layer path ≡ false
 no-directory layer path none = by (is_directory_at layer path) refl
   where
     by : (b : Bool) → is_directory_at layer path ≡ b → is_directory_at layer path ≡ false
@@ -116,6 +123,13 @@ abbrev IsRow : Entries → PathNames → Option ℕ → Type 0
 IsRow layer path row =
     MatchOption row (passes is_directory (walk layer path).found ≡ false) (λ r. (r < length layer) × (path_at layer r ≡ path) × (is_directory_at layer path ≡ true))
 
+-- in what is no directory there is no row
+no-row : (layer : Entries) → IsLayer layer → (path : PathNames) (name : PathName) (next : Option PathNames) → IsPast layer path next → (row : ℕ) → row < length layer → path_at layer row ≡ child_path path name → ⊥
+no-row layer layered path name next is row inside there =
+    let entry = entry-of_row layer row layered inside in
+    let holds : is_directory_at layer path ≡ true = entry-parent layer path name entry.0 layered (ap (entry_at layer) (sym there) ∙ entry.1) in
+    let bad : false ≡ true = sym (no-directory layer path is.no_directory) ∙ holds in cc
+
 -- at a name that the layer doesn't have
 module _ (layer : Entries) (path : PathNames) (name : PathName) (next : Option PathNames) (passing : Passing) (found : passing.found ≡ None) (row : passing.row ≡ None) (onward : (n : Option PathNames) → onward_to n passing.onward ≡ name_on n name) where
   ended : (walk layer (child_path path name)).found ≡ None → name_on next name ≡ step_onward (walk layer (child_path path name)) → IsPassing layer (child_path path name) next passing
@@ -126,25 +140,27 @@ module _ (layer : Entries) (path : PathNames) (name : PathName) (next : Option P
     onward = onward next ∙ on;
   }
 
-  pub pass-past : IsPast layer path next → IsPassing layer (child_path path name) next passing
+  pass-past : IsPast layer path next → IsPassing layer (child_path path name) next passing
   pass-past is = ended (is.nothing name []) (sym (is.below name []))
 
   name-onward : (n : PathNames) (closed : Bool) → name_on (onward_on n closed) name ≡ onward_on (child_path n name) closed
   name-onward n true = refl
   name-onward n false = refl
 
-  pub pass-nothing : IsLayer layer → (directory : ℕ) → IsInside layer path directory next → entries_under (child_path (path_at layer directory) name) layer ≡ [] → IsPassing layer (child_path path name) next passing
+  pass-nothing : IsLayer layer → (directory : ℕ) → IsInside layer path directory next → entry_at layer (child_path path name) ≡ None → IsPassing layer (child_path path name) next passing
   pass-nothing layered directory is nothing =
-      let own : OwnDirectory = record { row = directory; next = (walk layer path).next; closed = (walk layer path).closed } in
-      let stands : IsOwnDirectory layer path own = record { inside = is.inside; here = is.here; directory = is.directory; next = refl; closed = refl } in
-      let step = own-missing layer path name layered own stands (ap (λ (p : PathNames). entries_under (child_path p name) layer) (sym is.here) ∙ nothing) in
-      ended (sym (ap (λ (s : Step). s.found) step))
-      (ap (λ (o : Option PathNames). name_on o name) is.onward ∙ (name-onward (walk layer path).next (walk layer path).closed ∙ ap step_onward step))
+      let step : walk layer (child_path path name) ≡ nothing_found (child_path (walk layer path).next name) (walk layer path).closed = walk-child_end layer path name layered None is.directory nothing refl [] in
+      ended (ap (λ (s : Step). s.found) step)
+      (ap (λ (o : Option PathNames). name_on o name) is.onward ∙ (name-onward (walk layer path).next (walk layer path).closed ∙ sym (ap step_onward step)))
+
+  pub pass-none : IsLayer layer → (directory : Option ℕ) → StandsAt layer path directory next → entry_at layer (child_path path name) ≡ None → IsPassing layer (child_path path name) next passing
+  pass-none layered None is nothing = pass-past is
+  pass-none layered (Some directory) is nothing = pass-nothing layered directory is nothing
 
 -- at a thing in its row
-pub pass-thing : (layer : Entries) → IsLayer layer → (path : PathNames) (name : PathName) (directory : ℕ) (next : Option PathNames) → IsInside layer path directory next
-    → (row : ℕ) → row < length layer → path_at layer row ≡ child_path (path_at layer directory) name → (passing : Passing) → IsThing layer row name passing → IsPassing layer (child_path path name) next passing
-pass-thing layer layered path name directory next is row inside there passing thing = by (is_directory inode) refl
+pass-thing : (layer : Entries) → IsLayer layer → (path : PathNames) (name : PathName) (directory : ℕ) (next : Option PathNames) → IsInside layer path directory next
+    → (row : ℕ) → row < length layer → path_at layer row ≡ child_path path name → (passing : Passing) → IsThing layer row name passing → IsPassing layer (child_path path name) next passing
+pass-thing layer layered path name directory next is row inside place passing thing = by (is_directory inode) refl
   where
     inode : Inode
     inode = thing.inode
@@ -160,9 +176,6 @@ pass-thing layer layered path name directory next is row inside there passing th
 
     stands : IsOwnDirectory layer path own
     stands = record { inside = is.inside; here = is.here; directory = is.directory; next = refl; closed = refl }
-
-    place : path_at layer row ≡ child_path path name
-    place = there ∙ ap (λ (p : PathNames). child_path p name) is.here
 
     here : entry_at layer (child_path path name) ≡ Some inode
     here = ap (entry_at layer) (sym place) ∙ thing.here
@@ -203,6 +216,48 @@ pass-thing layer layered path name directory next is row inside there passing th
             (ap (λ (b : Bool). cond b None (Some inode)) w ∙ sym (found-file inode (mark_of inode) turned shut name))
             (ap (passes is_directory) (found-file inode (mark_of inode) turned shut name) ∙ d)
             (file-onward turned name inode (mark_of inode) (mark-directory inode w ∙ d) shut)
+
+pub pass-row : (layer : Entries) → IsLayer layer → (path : PathNames) (name : PathName) (directory : Option ℕ) (next : Option PathNames) → StandsAt layer path directory next
+    → (row : ℕ) → row < length layer → path_at layer row ≡ child_path path name → (passing : Passing) → IsThing layer row name passing → IsPassing layer (child_path path name) next passing
+pass-row layer layered path name None next is row inside there passing thing = absurd (no-row layer layered path name next is row inside there)
+pass-row layer layered path name (Some directory) next is row inside there passing thing = pass-thing layer layered path name directory next is row inside there passing thing
+
+-- ---- the rows in a directory
+
+-- the row of an entry is one of the layer
+pub row-inside : (layer : Entries) (path : PathNames) (row : Option ℕ) → IsRowAt layer path row → IfSome row (λ number. number < length layer)
+row-inside layer path None is = tt
+row-inside layer path (Some number) is = is.0
+
+-- what the layer doesn't have among the names there has none
+pub unnamed : (layer : Entries) (path : PathNames) (name : PathName) → list_any (name_eq name) (names_below layer path) ≡ false → entry_at layer (child_path path name) ≡ None
+unnamed layer path name other = by (entry_at layer (child_path path name)) refl
+  where
+    by : (found : Option Inode) → entry_at layer (child_path path name) ≡ found → entry_at layer (child_path path name) ≡ None
+    by None e = e
+    by (Some inode) e = let bad : false ≡ true = sym other ∙ names_below-has layer path name inode e in cc
+
+-- past what the layer has
+module _ (layer : Entries) (layered : IsLayer layer) (path : PathNames) (next : Option PathNames) (is : IsPast layer path next) where
+  pub past-entry : (name : PathName) → entry_at layer (child_path path name) ≡ None
+  past-entry name = by (entry_at layer (child_path path name)) refl
+    where
+      by : (found : Option Inode) → entry_at layer (child_path path name) ≡ found → entry_at layer (child_path path name) ≡ None
+      by None e = e
+      by (Some inode) e = let bad : false ≡ true = sym (no-directory layer path is.no_directory) ∙ entry-parent layer path name inode layered e in cc
+
+-- the row that is sought in a directory
+pub sought-inside : (layer : Entries) (path : PathNames) (row : Option ℕ) → MatchOption row (entries_under path layer ≡ []) (λ child. (child < length layer) × (path_at layer child ≡ path)) → IfSome row (λ number. number < length layer)
+sought-inside layer path None nothing = tt
+sought-inside layer path (Some child) there = there.0
+
+pub sought-row : (layer : Entries) (path : PathNames) (directory : ℕ) (next : Option PathNames) → IsInside layer path directory next → (name : PathName) (row : Option ℕ)
+    → MatchOption row (entries_under (child_path (path_at layer directory) name) layer ≡ []) (λ child. (child < length layer) × (path_at layer child ≡ child_path (path_at layer directory) name))
+    → IsRowAt layer (child_path path name) row
+sought-row layer path directory next is name None nothing =
+    entry_at-under (child_path path name) layer
+    ∙ ap (λ (entries : Entries). entry_at entries []) (ap (λ (p : PathNames). entries_under (child_path p name) layer) (sym is.here) ∙ nothing)
+sought-row layer path directory next is name (Some child) there = (there.0, there.1 ∙ ap (λ (p : PathNames). child_path p name) is.here)
 
 -- ---- a stand with one more name
 

@@ -34,14 +34,7 @@ use Rattle.ovl_merge.proofs.FinishLemmas.{merge-whole}
 
 -- ---- the stack
 
--- its two topmost layers
-pub upper-layer : (stack : StackView) → 1 < length stack.layers → (P : Entries → Type 0) → IfSome (slice_get stack.layers 0) P → P (top_layer stack)
-upper-layer stack several P = by stack.layers several
-  where
-    by : (layers : List Entries) → 1 < length layers → IfSome (slice_get layers 0) P → P (unwrap_or (slice_get layers 0) [])
-    by [] none h = absurd (omega (arith, none))
-    by (upper ∷ layers) several h = h
-
+-- its second layer
 pub lower-layer : (stack : StackView) → 1 < length stack.layers → (P : Entries → Type 0) → IfSome (slice_get stack.layers 1) P → P (top_layer (lower_layers stack))
 lower-layer stack several P = by stack.layers several
   where
@@ -203,39 +196,12 @@ module _ (m : Merge) (upper : IsLayer m.upper) (lower : IsLayer m.lower) where
       by None e = e
       by (Some inode) e = let bad : false ≡ true = sym none ∙ (entry-stands m upper lower path name inode e).0 in cc
 
-  unshown-child : (path : PathNames) (name : PathName) → shows_own_directory m path ≡ false → shows_own_directory m (child_path path name) ≡ false
-  unshown-child path name none = by (first_hit m (child_path path name)) refl
-    where
-      by : (found : Option Inode) → first_hit m (child_path path name) ≡ found → shows_own_directory m (child_path path name) ≡ false
-      by None e = ap (passes is_directory) e
-      by (Some inode) e =
-          let bad : None ≡ Some (merged_inode m (child_path path name) inode) = sym (nothing-in path name none) ∙ ap (merged_entry_of m (child_path path name)) e in cc
-
-  pub unshown-under : (path rest : PathNames) → shows_own_directory m path ≡ false → shows_own_directory m (path ++ rest) ≡ false
-  unshown-under path [] none = ap (shows_own_directory m) (append-nil path) ∙ none
-  unshown-under path (name ∷ rest) none =
-      ap (shows_own_directory m) (sym (append_assoc path (name ∷ []) rest)) ∙ unshown-under (child_path path name) rest (unshown-child path name none)
-
-  -- nor under one of the paths above
-  pub unshown-from : (above : PathNames) (name : PathName) (rest : PathNames) → shows_own_directory m (child_path above name) ≡ false → shows_own_directory m (above ++ name ∷ rest) ≡ false
-  unshown-from above name rest none =
-      ap (shows_own_directory m) (sym (append_assoc above (name ∷ []) rest)) ∙ unshown-under (child_path above name) rest none
-
   pub no-entries : (path : PathNames) → shows_own_directory m path ≡ false → entries_in m path ≡ []
   no-entries path none = by (candidate_names m path)
     where
       by : (names : List PathName) → filter_map (named_inode m path) names ≡ []
       by [] = refl
       by (name ∷ names) = ap (λ (found : Option Inode). cons_option (option_map (λ inode. (name, inode)) found) (filter_map (named_inode m path) names)) (nothing-in path name none) ∙ by names
-
--- ---- the entries of a directory, one after another
-
-pub listed-more : (m : Merge) (dir : PathNames) (names : List PathName) (name : PathName) (items : List NamedInode) (found : Option Inode)
-    → items ≡ filter_map (named_inode m dir) names → found ≡ merged_entry m (child_path dir name)
-    → items ++ cons_option (option_map (λ inode. (name, inode)) found) [] ≡ filter_map (named_inode m dir) (names ++ name ∷ [])
-listed-more m dir names name items found are is =
-    (λ j. are j ++ cons_option (option_map (λ inode. (name, inode)) (is j)) [])
-    ∙ sym (filter_map-append (named_inode m dir) names (name ∷ []))
 
 pub not-some : {X : Type 0} → (found : Option X) → ((x : X) → found ≡ Some x → ⊥) → found ≡ None
 not-some None never = refl

@@ -1,7 +1,6 @@
 -- How the walks of the names in a directory end in the two layers, as the program reckons it.
-use Rattle.std.specs.Prelude.{◌≡◌, true, Option, Some, is_some, IfSome, ⊤}
+use Rattle.std.specs.Prelude.{◌≡◌, Option, Some, is_some, IfSome}
 use Rattle.std.specs.Option.{option_map, option_and_then, option_or}
-use Rattle.ovl_names.specs.Names.{is_name}
 use Rattle.ovl_names.specs.Paths.{PathNames}
 use Rattle.ovl_inode.specs.declared.inodes.Inode.{Inode}
 use Rattle.ovl_inode.specs.Marks.{mark_of}
@@ -22,11 +21,6 @@ place_from above (At path) = Some path
 
 abbrev pub rest_from : Option PathNames → Option Place → Option PathNames
 rest_from above place = option_and_then (place_from above) place
-
--- a place by a name has one
-abbrev pub IsOwn : Place → Type 0
-IsOwn (Beside name) = is_name name.now ≡ true
-IsOwn (At path) = ⊤
 
 -- where there is a place it is one
 abbrev pub IsPlaced : Option PathNames → Option Place → Type 0
@@ -52,7 +46,6 @@ pub record IsPassed (layer : Entries) (path above : Option PathNames) (passed : 
   pub marked : IsMarked passed.found
   pub rest : rest_from above passed.rest ≡ onward_by layer path
   pub placed : IsPlaced above passed.rest
-  pub own : IfSome passed.rest IsOwn
 
 -- the walks of a path: that in the upper layer, and where it goes on that in the lower one
 pub record IsPassage (m : Merge) (path : PathNames) (above : Option PathNames) (passage : Passage) : Type 0 where

@@ -1,7 +1,7 @@
 -- Where the walks of a directory and of the names in it stand and end in a layer, as the program reckons it.
-use Rattle.std.specs.Prelude.{◌≡◌, ℕ, ◌<◌, Bool, true, false, Option, Some, None, ◌∷◌, ◌++◌, if◌then◌else◌, length, is_some, IfSome, MatchOption, ⊤}
+use Rattle.std.specs.Prelude.{◌≡◌, ℕ, ◌<◌, Bool, true, false, Option, Some, None, ◌∷◌, ◌++◌, if◌then◌else◌, length, is_some, IfSome, MatchOption}
 use Rattle.std.specs.Option.{option_map}
-use Rattle.ovl_names.specs.Names.{PathName, is_name}
+use Rattle.ovl_names.specs.Names.{PathName}
 use Rattle.ovl_names.specs.Paths.{PathNames, child_path}
 use Rattle.ovl_inode.specs.declared.inodes.Inode.{Inode}
 use Rattle.ovl_inode.specs.declared.marks.Mark.{Mark}
@@ -37,12 +37,6 @@ abbrev pub onward_to : Option PathNames → Onward → Option PathNames
 onward_to next (Beside name) = name_on next name.now
 onward_to next (At path) = Some path.now
 onward_to next Nowhere = None
-
--- a name by which it goes on is one
-abbrev pub IsNamed : Onward → Type 0
-IsNamed (Beside name) = is_name name.now ≡ true
-IsNamed (At path) = ⊤
-IsNamed Nowhere = ⊤
 
 -- at a thing of this mark and name
 abbrev pub onward_by : Mark → Option PathNames → PathName → Option PathNames
@@ -94,9 +88,13 @@ pub record IsOnWay (layer : Entries) (whole left : PathNames) (stand : Stand) : 
 
 -- by a name that is kept the layer below goes on in the directory as which it knows the one above
 abbrev pub IsBesideAfter : Option PathNames → Entered → Type 0
-IsBesideAfter before entered = IfSome entered.beside (λ name. (is_name name.now ≡ true) × (entered.stand.next ≡ name_on before name.now))
+IsBesideAfter before entered = IfSome entered.beside (λ name. entered.stand.next ≡ name_on before name.now)
 
 -- ---- how the walk of a name in it ends
+
+-- the number of the row of an entry, if there is one
+abbrev pub IsRowAt : Entries → PathNames → Option ℕ → Type 0
+IsRowAt layer path row = MatchOption row (entry_at layer path ≡ None) (λ number. (number < length layer) × (path_at layer number ≡ path))
 
 -- what a layer has in a row, and where a walk goes on there by this name
 pub record IsThing (layer : Entries) (row : ℕ) (name : PathName) (passing : Passing) : Type 0 where
@@ -106,7 +104,6 @@ pub record IsThing (layer : Entries) (row : ℕ) (name : PathName) (passing : Pa
   pub marked : IfSome passing.found (λ found. found.mark.now ≡ mark_of found.inode.now)
   pub directory : passing.row ≡ (if is_directory inode then Some row else None)
   pub onward : (next : Option PathNames) → onward_to next passing.onward ≡ onward_by (mark_of inode) next name
-  pub named : IsNamed passing.onward
 
 -- the walk of a path, by where the layer below knows the directory above
 pub record IsPassing (layer : Entries) (path : PathNames) (next : Option PathNames) (passing : Passing) : Type 0 where

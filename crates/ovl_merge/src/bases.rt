@@ -1,14 +1,13 @@
-ghost use Rattle.std.specs.Prelude.{◌≡◌, ◌<◌, [], true, length, IfOk, IsTrue};
-ghost use Rattle.ovl_names.specs.Names.{is_name};
-ghost use Rattle.ovl_names.specs.Paths.{child_path};
+ghost use Rattle.std.specs.Prelude.{◌≡◌, ◌<◌, true, length, IfOk};
 ghost use Rattle.ovl_lookup.specs.Words.{look_on};
 ghost use Rattle.ovl_merge.specs.Places.{merge_of, shows_own_directory, shows_at as shows_test, reach, base as the_base, child_of};
 ghost use Rattle.ovl_merge.specs.Directories.{base_names};
-ghost use Rattle.ovl_merge.specs.Reckoned.{IsBase, IsUnreached, IsLowerNear, IsReached, onward_at, reach_from};
+ghost use Rattle.ovl_merge.specs.Reckoned.{IsBase, onward_at, reach_from};
 
-use crate::directories::Lower;
+use crate::directories::onward_of;
+use crate::stands::Stand;
 use ovl_lookup::{DirView, Look, Stack};
-use ovl_names::{Name, Names, Path};
+use ovl_names::{Name, Path};
 use std::alloc::{AllocError, Global};
 
 // Where the names in a directory lie in the rest, which is what lies below the two layers.
@@ -16,106 +15,31 @@ use std::alloc::{AllocError, Global};
 pub(crate) enum Base {
     // In the directory of the rest in which it goes on.
     Reached(DirView),
-    // At its natural place, where the rest shows no directory.
-    Apart(Path),
-    // Nowhere, since it hides a directory at its natural place, or lies in one that does.
-    Hidden,
+    // Where the rest shows no directory.
+    Apart,
 }
 
 impl Base {
-    // That of the root.
-    pub(crate) fn root(alloc: Global, stack: &Stack) -> Result<Base, AllocError>
-        requires { 1 < length stack.now.layers }
-        ensures { IfOk result (IsBase stack.now []) }
-    {
-        // Each layer of a stack is one.
-        let _layers = stack.ordinary();
-        match DirView::of(alloc, stack, 2, &Path::root(alloc))? {
-            Some(view) => Ok(Base::Reached(view)),
-            None => Ok(Base::Apart(Path::root(alloc))),
-        }
-    }
-
-    // That of the directory `name` in this one, by how it goes on in the lower layer.
-    pub(crate) fn below(
-        self,
+    // That of a directory that the two layers show, by where its walk in the lower one stands.
+    pub(crate) fn of(
         alloc: Global,
         stack: &Stack,
         _dir: &Path,
-        lower: &Lower<'_>,
-        name: &str,
+        lower: &Option<Stand>,
     ) -> Result<Base, AllocError>
         requires several { 1 < length stack.now.layers }
-        requires base { IsBase stack.now _dir.now self }
-        requires near { IsLowerNear (merge_of stack.now) _dir.now lower.now }
-        requires shown { shows_own_directory (merge_of stack.now) (child_path _dir.now name.now) ≡ true }
-        requires reach { reach (merge_of stack.now) (child_path _dir.now name.now) ≡ reach_from (merge_of stack.now).rest (onward_at lower.now.stand) }
-        requires name { IsTrue (is_name name.now) }
-        ensures { IfOk result (IsBase stack.now (child_path _dir.now name.now)) }
+        requires shown { shows_own_directory (merge_of stack.now) _dir.now ≡ true }
+        requires reach { reach (merge_of stack.now) _dir.now ≡ reach_from (merge_of stack.now).rest (onward_at lower.now) }
+        ensures { IfOk result (IsBase stack.now _dir.now) }
     {
         // Each layer of a stack is one.
         let _layers = stack.ordinary();
-        match self.reached(alloc, stack, _dir, lower)? {
+        let Some(next) = onward_of(lower) else {
+            return Ok(Base::Apart);
+        };
+        match DirView::of(alloc, stack, 2, next)? {
             Some(view) => Ok(Base::Reached(view)),
-            None => self.unreached(alloc, stack, _dir, name),
-        }
-    }
-
-    // The directory of the rest in which it goes on.
-    fn reached(
-        &self,
-        alloc: Global,
-        stack: &Stack,
-        _dir: &Path,
-        lower: &Lower<'_>,
-    ) -> Result<Option<DirView>, AllocError>
-        requires several { 1 < length stack.now.layers }
-        requires base { IsBase stack.now _dir.now self.now }
-        requires near { IsLowerNear (merge_of stack.now) _dir.now lower.now }
-        ensures { IfOk result (IsReached stack.now (reach_from (merge_of stack.now).rest (onward_at lower.now.stand))) }
-    {
-        // Each layer of a stack is one.
-        let _layers = stack.ordinary();
-        let Some(next) = lower.onward() else {
-            return Ok(None);
-        };
-        let Some(name) = lower.beside else {
-            return DirView::of(alloc, stack, 2, next);
-        };
-        match self {
-            Base::Reached(view) => view.child(alloc, stack, &Name::copy_of(alloc, name)?),
-            Base::Apart(_) | Base::Hidden => Ok(None),
-        }
-    }
-
-    // Where it doesn't go on: its natural place, unless it hides a directory there.
-    fn unreached(
-        self,
-        alloc: Global,
-        stack: &Stack,
-        _dir: &Path,
-        name: &str,
-    ) -> Result<Base, AllocError>
-        requires several { 1 < length stack.now.layers }
-        requires base { IsBase stack.now _dir.now self }
-        requires name { IsTrue (is_name name.now) }
-        ensures { IfOk result (IsUnreached (merge_of stack.now).rest (child_of (the_base (merge_of stack.now) _dir.now) name.now)) }
-    {
-        let shown = self.look(alloc, stack, _dir, name)?;
-        if shown.is_shown_directory() {
-            return Ok(Base::Hidden);
-        }
-        match self {
-            Base::Reached(view) => {
-                let name = Name::copy_of(alloc, name)?;
-                Ok(Base::Apart(view.path().child(alloc, &name)?))
-            }
-            Base::Apart(place) => {
-                let mut place = place;
-                place.extend(&Names::one(name))?;
-                Ok(Base::Apart(place))
-            }
-            Base::Hidden => Ok(Base::Hidden),
+            None => Ok(Base::Apart),
         }
     }
 
@@ -125,18 +49,17 @@ impl Base {
         alloc: Global,
         stack: &Stack,
         _dir: &Path,
-        name: &str,
+        name: &Name,
     ) -> Result<Look, AllocError>
         requires several { 1 < length stack.now.layers }
         requires base { IsBase stack.now _dir.now self.now }
-        requires name { IsTrue (is_name name.now) }
         ensures { IfOk result (λ look. look ≡ look_on (merge_of stack.now).rest (child_of (the_base (merge_of stack.now) _dir.now) name.now)) }
     {
         // Each layer of a stack is one.
         let _layers = stack.ordinary();
         match self {
-            Base::Reached(view) => view.look(alloc, stack, &Name::copy_of(alloc, name)?),
-            Base::Apart(_) | Base::Hidden => Ok(Look::Nothing),
+            Base::Reached(view) => view.look(alloc, stack, name),
+            Base::Apart => Ok(Look::Nothing),
         }
     }
 
@@ -150,7 +73,7 @@ impl Base {
         let _layers = stack.ordinary();
         match self {
             Base::Reached(view) => view.shows(stack, name),
-            Base::Apart(_) | Base::Hidden => false,
+            Base::Apart => false,
         }
     }
 
@@ -169,7 +92,7 @@ impl Base {
         let _layers = stack.ordinary();
         match self {
             Base::Reached(view) => view.names(alloc, stack),
-            Base::Apart(_) | Base::Hidden => Ok(Vec::new(alloc)),
+            Base::Apart => Ok(Vec::new(alloc)),
         }
     }
 }

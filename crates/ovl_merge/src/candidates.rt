@@ -1,99 +1,232 @@
-ghost use Rattle.std.specs.Prelude.{◌≡◌, ◌<◌, [], true, length, IfOk, MatchOption};
-ghost use Rattle.std.specs.List.{filter_map};
+ghost use Rattle.std.specs.Prelude.{◌≡◌, ◌<◌, [], true, length, IfOk};
 ghost use Rattle.ovl_names.specs.Names.{name_cmp};
+ghost use Rattle.ovl_names.specs.Paths.{PathNames};
 ghost use Rattle.ovl_names.specs.Order.{ascends};
+ghost use Rattle.ovl_manifest.specs.Sheets.{path_at};
 ghost use Rattle.ovl_lookup.specs.Passes.{own_names_along, put_names};
 ghost use Rattle.ovl_merge.specs.Places.{merge_of, two_layers};
-ghost use Rattle.ovl_merge.specs.Directories.{entries_in, named_inode};
+ghost use Rattle.ovl_merge.specs.Stands.{IsOver, IsStand};
 ghost use Rattle.ovl_merge.specs.Reckoned.{IsVisited};
-ghost use Rattle.ovl_merge.specs.Candidates.{first_order, IsFirstTaken};
+ghost use Rattle.ovl_merge.specs.Candidates.{AreCandidates, AreMerged, AreRowsOf, HaveEntries, candidate_told, candidates_told, hidden_names as the_hidden, joined as joined_rows, names_of, unrowed, rows_on};
 
 use crate::directories::Directory;
+use crate::stands::Stand;
 use ovl_lookup::Stack;
+use ovl_manifest::Sheet;
 use ovl_names::Name;
 use std::alloc::{AllocError, Global};
 use std::cmp::Ordering;
-use std::collections::VecDeque;
 
-// Names in a directory, in order, with all that have an entry: those of the two layers, and those of its base where the
-// two may hide these.
-pub(crate) fn candidates(
+// A name in a directory, with the numbers of the rows that the two layers have by it there.
+#[derive(Clone, Copy)]
+pub(crate) struct Candidate<'a> {
+    pub(crate) name: &'a Name,
+    pub(crate) upper: Option<u32>,
+    pub(crate) lower: Option<u32>,
+}
+
+// One of the two layers.
+#[derive(Clone, Copy)]
+pub(crate) enum Side {
+    Upper,
+    Lower,
+}
+
+impl<'a> Candidate<'a> {
+    // A name that one layer has in this row.
+    fn in_row(name: &'a Name, row: u32, side: Side) -> Candidate<'a>
+        ensures { candidate_told result ≡ (name.now, rows_on side row) }
+    {
+        match side {
+            Side::Upper => Candidate {
+                name,
+                upper: Some(row),
+                lower: None,
+            },
+            Side::Lower => Candidate {
+                name,
+                upper: None,
+                lower: Some(row),
+            },
+        }
+    }
+
+    // The name with the rows of both.
+    fn joined(&self, other: &Candidate<'a>) -> Candidate<'a>
+        ensures { candidate_told result ≡ (self.now.name.now, joined_rows (candidate_told self.now).1 (candidate_told other.now).1) }
+    {
+        Candidate {
+            name: self.name,
+            upper: self.upper.or(other.upper),
+            lower: self.lower.or(other.lower),
+        }
+    }
+}
+
+// The names of its base where the two layers may hide what is shown there.
+pub(crate) fn hidden_names(
     alloc: Global,
     stack: &Stack,
     directory: &Directory,
 ) -> Result<Vec<Name>, AllocError>
     requires several { 1 < length stack.now.layers }
     requires visited { IsVisited stack.now directory.now.path directory.now }
-    ensures { IfOk result (λ names. filter_map (named_inode (merge_of stack.now) directory.now.path) names.items
-        ≡ entries_in (merge_of stack.now) directory.now.path) }
+    ensures { IfOk result (λ names. names.items ≡ the_hidden (merge_of stack.now) directory.now) }
+{
+    if directory.is_open() {
+        return Ok(Vec::new(alloc));
+    }
+    directory.base.names(alloc, stack, &directory.path)
+}
+
+// Names in a directory, in order, with all that have an entry: those of the two layers, and those of its base where the
+// two may hide these.
+pub(crate) fn candidates_in<'a>(
+    alloc: Global,
+    stack: &'a Stack,
+    directory: &Directory,
+    hidden: &'a [Name],
+) -> Result<Vec<Candidate<'a>>, AllocError>
+    requires several { 1 < length stack.now.layers }
+    requires visited { IsVisited stack.now directory.now.path directory.now }
+    requires hidden { hidden.now ≡ the_hidden (merge_of stack.now) directory.now }
+    ensures { IfOk result (λ candidates. HaveEntries (merge_of stack.now) directory.now candidates.items) }
 {
     // Each layer of a stack is one.
     let _layers = stack.ordinary();
-    let names = own_names(alloc, stack, directory)?;
-    if directory.is_open() {
-        return Ok(names);
-    }
-    let shown = directory.base.names(alloc, stack, &directory.path)?;
-    merged(alloc, names, shown)
+    let own = own_candidates(alloc, stack, directory)?;
+    let hidden = without_rows(alloc, hidden)?;
+    merged(alloc, own, hidden)
 }
 
 // The names that the two layers have in a directory.
-fn own_names(alloc: Global, stack: &Stack, directory: &Directory) -> Result<Vec<Name>, AllocError>
+fn own_candidates<'a>(
+    alloc: Global,
+    stack: &'a Stack,
+    directory: &Directory,
+) -> Result<Vec<Candidate<'a>>, AllocError>
     requires several { 1 < length stack.now.layers }
     requires visited { IsVisited stack.now directory.now.path directory.now }
-    ensures { IfOk result (λ names. names.items
-        ≡ put_names [] (own_names_along (two_layers (merge_of stack.now)).layers directory.now.path)) }
+    ensures { IfOk result (λ own. AreCandidates (merge_of stack.now) directory.now
+        (put_names [] (own_names_along (two_layers (merge_of stack.now)).layers directory.now.path)) (candidates_told own.items)) }
 {
     // Each layer of a stack is one.
     let _layers = stack.ordinary();
-    let upper = stack.own_names(alloc, 0, &directory.path)?;
-    let Some(below) = directory.upper.onward() else {
+    let upper = rows_of(alloc, stack.sheet(0), &directory.upper, Side::Upper)?;
+    let Some(below) = &directory.lower else {
         return Ok(upper);
     };
-    let lower = stack.own_names(alloc, 1, below)?;
+    let lower = rows_of(alloc, stack.sheet(1), below, Side::Lower)?;
     merged(alloc, upper, lower)
 }
 
-// Both lists as one, in the order of names in which each of them is; of a name that both have, one stays.
-fn merged(alloc: Global, one: Vec<Name>, other: Vec<Name>) -> Result<Vec<Name>, AllocError>
-    requires one { ascends name_cmp one.items ≡ true }
-    requires other { ascends name_cmp other.items ≡ true }
-    ensures { IfOk result (λ names. names.items ≡ put_names one.items other.items) }
+// The names that one layer has in a directory, by where its walk stands there.
+fn rows_of<'a>(
+    alloc: Global,
+    sheet: &'a Sheet,
+    directory: &Stand,
+    side: Side,
+) -> Result<Vec<Candidate<'a>>, AllocError>
+    requires { IsOver sheet.now directory.now }
+    ensures { IfOk result (λ rows. (path : PathNames) → IsStand sheet.now path directory.now
+        → AreRowsOf side sheet.now path (candidates_told rows.items)) }
 {
-    let mut names = Vec::with_capacity(alloc, one.len().saturating_add(other.len()))?;
-    let mut one = VecDeque::from(one);
-    let mut other = VecDeque::from(other);
-    while let Some(name) = next_of(&mut one, &mut other) {
-        names.push(name)?;
+    // Each sheet is a layer.
+    let _root = sheet.root_number();
+    match directory.row {
+        Some(row) => rows_in(alloc, sheet, row, side),
+        None => Ok(Vec::new(alloc)),
     }
-    Ok(names)
 }
 
-// Takes the first name of both lists, from each that has it.
-fn next_of(one: &mut VecDeque<Name>, other: &mut VecDeque<Name>) -> Option<Name>
-    requires one { ascends name_cmp one.old.items ≡ true }
-    requires other { ascends name_cmp other.old.items ≡ true }
-    ensures { MatchOption result
-        ((one.old.items ≡ []) × (other.old.items ≡ []))
-        (λ name. IsFirstTaken one.old.items other.old.items name one.new.items other.new.items) }
+// The same in the directory of a row, in the order of the rows in it.
+fn rows_in<'a>(
+    alloc: Global,
+    sheet: &'a Sheet,
+    directory: u32,
+    side: Side,
+) -> Result<Vec<Candidate<'a>>, AllocError>
+    requires { directory < length sheet.now }
+    ensures { IfOk result (λ rows. AreRowsOf side sheet.now (path_at sheet.now directory) (candidates_told rows.items)) }
 {
-    match first_in(one, other) {
-        Ordering::Less => one.pop_front(),
-        Ordering::Equal => {
-            let _same = other.pop_front();
-            one.pop_front()
+    // Each sheet is a layer.
+    let _root = sheet.root_number();
+    let kids = sheet.kids(directory);
+    let mut rows = Vec::with_capacity(alloc, kids.len())?;
+    for kid in kids {
+        if let Some(name) = sheet.name(*kid) {
+            rows.push(Candidate::in_row(name, *kid, side))?;
         }
-        Ordering::Greater => other.pop_front(),
     }
+    Ok(rows)
 }
 
-// How the first name of one list stands to that of the other; a list without one comes last.
-fn first_in(one: &VecDeque<Name>, other: &VecDeque<Name>) -> Ordering
-    ensures { result ≡ first_order one.now.items other.now.items }
+// Names of which no row is known.
+fn without_rows<'a>(alloc: Global, names: &'a [Name]) -> Result<Vec<Candidate<'a>>, AllocError>
+    ensures { IfOk result (λ candidates. candidates_told candidates.items ≡ unrowed names.now) }
 {
-    match (one.front(), other.front()) {
-        (Some(first), Some(second)) => first.cmp(second),
-        (Some(_), None) => Ordering::Less,
-        (None, _) => Ordering::Greater,
+    let mut candidates = Vec::with_capacity(alloc, names.len())?;
+    for name in names {
+        candidates.push(Candidate {
+            name,
+            upper: None,
+            lower: None,
+        })?;
     }
+    Ok(candidates)
+}
+
+// Both lists as one, in the order of names, in which each of them is; a name that both have comes once, with the rows of
+// both.
+fn merged<'a>(
+    alloc: Global,
+    upper: Vec<Candidate<'a>>,
+    lower: Vec<Candidate<'a>>,
+) -> Result<Vec<Candidate<'a>>, AllocError>
+    requires upper { ascends name_cmp (names_of (candidates_told upper.items)) ≡ true }
+    requires lower { ascends name_cmp (names_of (candidates_told lower.items)) ≡ true }
+    ensures { IfOk result (λ both. AreMerged (candidates_told upper.entry.items) (candidates_told lower.entry.items) (candidates_told both.items)) }
+{
+    if upper.is_empty() {
+        return Ok(lower);
+    }
+    if lower.is_empty() {
+        return Ok(upper);
+    }
+    interleaved(alloc, &upper, &lower)
+}
+
+// The same, name by name.
+fn interleaved<'a>(
+    alloc: Global,
+    upper: &[Candidate<'a>],
+    lower: &[Candidate<'a>],
+) -> Result<Vec<Candidate<'a>>, AllocError>
+    requires upper { ascends name_cmp (names_of (candidates_told upper.now)) ≡ true }
+    requires lower { ascends name_cmp (names_of (candidates_told lower.now)) ≡ true }
+    ensures { IfOk result (λ both. AreMerged (candidates_told upper.now) (candidates_told lower.now) (candidates_told both.items)) }
+{
+    let mut both = Vec::with_capacity(alloc, upper.len().saturating_add(lower.len()))?;
+    let (mut i, mut j) = (0, 0);
+    while i < upper.len() && j < lower.len() {
+        let (one, other) = (&upper[i], &lower[j]);
+        match one.name.cmp(other.name) {
+            Ordering::Less => {
+                both.push(*one)?;
+                i += 1;
+            }
+            Ordering::Equal => {
+                both.push(one.joined(other))?;
+                i += 1;
+                j += 1;
+            }
+            Ordering::Greater => {
+                both.push(*other)?;
+                j += 1;
+            }
+        }
+    }
+    both.extend_from_slice(&upper[i..])?;
+    both.extend_from_slice(&lower[j..])?;
+    Ok(both)
 }

@@ -1,16 +1,18 @@
-ghost use Rattle.std.specs.Prelude.{◌≡◌, ◌<◌, Option, Some, None, true, IfOk, IfSome, IsTrue, string_bytes, length};
+ghost use Rattle.std.specs.Prelude.{◌≡◌, ◌<◌, Option, Some, None, true, IfOk, IfSome, string_bytes, length};
 ghost use Rattle.std.specs.Option.{option_map};
-ghost use Rattle.ovl_names.specs.Names.{is_name};
 ghost use Rattle.ovl_names.specs.Paths.{PathNames, child_path, path_text as text_of_path};
+ghost use Rattle.ovl_inode.specs.Inodes.{visible as the_visible};
 ghost use Rattle.ovl_inode.specs.Marks.{mark_of as the_mark, is_directory as directory_test};
 ghost use Rattle.ovl_lookup.specs.Merged.{look as the_look};
 ghost use Rattle.ovl_lookup.specs.DirViews.{IsViewOf};
 ghost use Rattle.ovl_merge.specs.Places.{merge_of, reach as the_reach};
 ghost use Rattle.ovl_merge.specs.MergeDown.{with_value as the_valued, redirected_from, with_contents as the_filled, new_whiteout as the_whiteout, merged_directory as the_directory, merged_metacopy as the_metacopy, kept_place as the_kept, has_data_alone as data_alone_test, merged_inode as the_inode, merged_entry};
 ghost use Rattle.ovl_merge.specs.Reckoned.{IsVisited, name_directly_in, onward_at, reached_in};
-ghost use Rattle.ovl_merge.specs.Passages.{IsPassage, IsOwn, first_in, place_from};
+ghost use Rattle.ovl_merge.specs.Candidates.{IsCandidate};
+ghost use Rattle.ovl_merge.specs.Passages.{IsPassage, first_in, place_from};
 
 use crate::bases::Base;
+use crate::candidates::Candidate;
 use crate::directories::Directory;
 use crate::passages::{Passage, Place, is_meta};
 use ovl_inode::{Attrs, Inode, Kind, is_directory, overlay, visible};
@@ -24,15 +26,17 @@ pub(crate) fn inode_in(
     stack: &Stack,
     whole: &mut Option<DirView>,
     above: &Directory,
-    name: &Name,
+    candidate: &Candidate<'_>,
 ) -> Result<Option<Inode>, AllocError>
     requires several { 1 < length stack.now.layers }
     requires whole { IfSome whole.old (IsViewOf stack.now 0 above.now.path) }
     requires above { IsVisited stack.now above.now.path above.now }
-    ensures inode { IfOk result (λ found. found ≡ merged_entry (merge_of stack.now) (child_path above.now.path name.now)) }
+    requires candidate { IsCandidate (merge_of stack.now) above.now candidate.now }
+    ensures inode { IfOk result (λ found. found ≡ merged_entry (merge_of stack.now) (child_path above.now.path candidate.now.name.now)) }
     ensures whole { IfSome whole.new (IsViewOf stack.now 0 above.now.path) }
 {
-    let passage = Passage::of(alloc, stack, above, name.as_str())?;
+    let name = candidate.name;
+    let passage = Passage::of(alloc, stack, above, candidate)?;
     match passage.first() {
         Some(found) => {
             let inode = merged_inode(alloc, stack, whole, above, name, &passage, found)?;
@@ -105,7 +109,17 @@ fn merged_inode(
     if is_meta(found.mark) {
         return merged_metacopy(alloc, stack, whole, above, name, passage, found);
     }
-    visible(alloc, found.inode)
+    shown_inode(alloc, found.inode)
+}
+
+// The inode as the merged tree shows it: one without attributes as it is.
+fn shown_inode(alloc: Global, inode: &Inode) -> Result<Inode, AllocError>
+    ensures { IfOk result (λ shown. shown ≡ the_visible inode.now) }
+{
+    if inode.attrs.pairs().is_empty() {
+        return inode.copy(alloc);
+    }
+    visible(alloc, inode)
 }
 
 // The new inode of a directory: it goes on at its reach, or hides what the rest has. overlayfs.rst: "renaming
@@ -127,11 +141,11 @@ fn merged_directory(
     ensures { IfOk result (λ new. new ≡ the_directory (merge_of stack.now) (child_path above.now.path name.now) found.now.inode.now
         (the_reach (merge_of stack.now) (child_path above.now.path name.now))) }
 {
-    let shown = visible(alloc, found.inode)?;
+    let shown = shown_inode(alloc, found.inode)?;
     if let Some(place) = passage.reach(alloc, stack, above, name, found)? {
         return redirected(alloc, stack, above, name, shown, place);
     }
-    let hidden = above.base.look(alloc, stack, &above.path, name.as_str())?;
+    let hidden = above.base.look(alloc, stack, &above.path, name)?;
     if hidden.is_shown_directory() {
         return with_value(shown, overlay::OPAQUE, b"y");
     }
@@ -246,7 +260,7 @@ fn redirected(
     // Each layer of a stack is one.
     let _layers = stack.ordinary();
     match place {
-        Place::Beside(own) => renamed(inode, name, own),
+        Place::Beside(own) => renamed(inode, name, own.as_str()),
         Place::At(path) => match name_in(&above.base, path) {
             Some(own) => renamed(inode, name, own),
             None => {

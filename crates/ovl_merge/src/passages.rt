@@ -1,17 +1,18 @@
-ghost use Rattle.std.specs.Prelude.{◌≡◌, ◌≢◌, ◌<◌, Option, None, Some, length, IfOk, IfSome, IsTrue};
+ghost use Rattle.std.specs.Prelude.{◌≡◌, ◌≢◌, ◌<◌, Option, None, Some, length, IfOk, IfSome};
 ghost use Rattle.std.specs.Option.{option_map, option_and_then};
-ghost use Rattle.ovl_names.specs.Names.{is_name};
 ghost use Rattle.ovl_names.specs.Paths.{PathNames, child_path};
 ghost use Rattle.ovl_inode.specs.Marks.{mark_of as the_mark, is_directory as directory_test, is_metacopy as metacopy_test, is_metacopy_mark};
 ghost use Rattle.ovl_manifest.specs.Layers.{entry_at};
 ghost use Rattle.ovl_lookup.specs.Merged.{look as the_look};
 ghost use Rattle.ovl_merge.specs.Places.{merge_of, is_nothing_or, is_shown_regular as regular_look, reach as the_reach, goes_on_at};
 ghost use Rattle.ovl_merge.specs.Reckoned.{IsVisited, onward_at};
-ghost use Rattle.ovl_merge.specs.Stands.{IsNamed, name_on, onward_on, onward_to};
-ghost use Rattle.ovl_merge.specs.Passages.{IsPassage, IsPassed, IsMarked, IsPlaced, IsOwn, first_in, told_in, place_from, rest_from};
+ghost use Rattle.ovl_merge.specs.Stands.{IsOver, IsStand, IsPassing, IsRowAt, name_on, onward_on, onward_to};
+ghost use Rattle.ovl_merge.specs.Candidates.{IsCandidate};
+ghost use Rattle.ovl_merge.specs.Passages.{IsPassage, IsPassed, IsMarked, IsPlaced, first_in, told_in, place_from, rest_from};
 
+use crate::candidates::Candidate;
 use crate::directories::Directory;
-use crate::stands::{Onward, Passing, Stand};
+use crate::stands::{Onward, Passing, Stand, passing_at};
 use ovl_inode::{Inode, Kind, Mark, is_directory};
 use ovl_lookup::{Found, Look, Stack, Step, walk};
 use ovl_manifest::Sheet;
@@ -39,7 +40,7 @@ pub(crate) struct Passed<'a> {
 #[derive(Drop)]
 pub(crate) enum Place<'a> {
     // By this name in the directory as which the rest knows the one above.
-    Beside(&'a str),
+    Beside(&'a Name),
     // By its path from the root.
     At(Path),
 }
@@ -50,15 +51,16 @@ impl<'a> Passage<'a> {
         alloc: Global,
         stack: &'a Stack,
         above: &Directory,
-        name: &'a str,
+        candidate: &Candidate<'a>,
     ) -> Result<Passage<'a>, AllocError>
         requires several { 1 < length stack.now.layers }
         requires above { IsVisited stack.now above.now.path above.now }
-        requires name { IsTrue (is_name name.now) }
-        ensures { IfOk result (IsPassage (merge_of stack.now) (child_path above.now.path name.now) (onward_at above.now.lower)) }
+        requires candidate { IsCandidate (merge_of stack.now) above.now candidate.now }
+        ensures { IfOk result (IsPassage (merge_of stack.now) (child_path above.now.path candidate.now.name.now) (onward_at above.now.lower)) }
     {
-        let Passing { found, onward, .. } = above.upper.pass(stack.sheet(0), name);
-        let lower = Passed::of(alloc, stack, above, onward)?;
+        let name = candidate.name;
+        let Passing { found, onward, .. } = passing_at(stack.sheet(0), name, candidate.upper);
+        let lower = Passed::of(alloc, stack, above, candidate, onward)?;
         Ok(Passage {
             upper: found,
             lower,
@@ -93,7 +95,6 @@ impl<'a> Passage<'a> {
         requires marked { found.now.mark.now ≡ the_mark found.now.inode.now }
         ensures reach { IfOk result (λ reach. option_and_then (λ place. place_from (onward_at above.now.lower) place.now) reach
             ≡ the_reach (merge_of stack.now) (child_path above.now.path _name.now)) }
-        ensures own { IfOk result (λ reach. IfSome reach (λ place. IsOwn place.now)) }
         ensures goes { IfOk result (λ reach. IfSome reach (λ _. the_reach (merge_of stack.now) (child_path above.now.path _name.now) ≢ None)) }
     {
         let Some(place) = &self.lower.rest else {
@@ -112,15 +113,16 @@ impl<'a> Passed<'a> {
         alloc: Global,
         stack: &'a Stack,
         above: &Directory,
+        candidate: &Candidate<'a>,
         onward: Onward<'a>,
     ) -> Result<Passed<'a>, AllocError>
         requires several { 1 < length stack.now.layers }
         requires above { IsVisited stack.now above.now.path above.now }
-        requires named { IsNamed onward }
+        requires candidate { IsCandidate (merge_of stack.now) above.now candidate.now }
         ensures { IfOk result (IsPassed (merge_of stack.now).lower (onward_to above.now.upper.next onward.entry) (onward_at above.now.lower)) }
     {
         match onward {
-            Onward::Beside(own) => Passed::beside(alloc, stack, above, own),
+            Onward::Beside(own) => Passed::beside(alloc, stack, above, candidate, own),
             Onward::At(origin) => Passed::at(alloc, stack.sheet(1), origin),
             Onward::Nowhere => Ok(Passed::nothing()),
         }
@@ -131,17 +133,18 @@ impl<'a> Passed<'a> {
         alloc: Global,
         stack: &'a Stack,
         above: &Directory,
-        name: &'a str,
+        candidate: &Candidate<'a>,
+        name: &'a Name,
     ) -> Result<Passed<'a>, AllocError>
         requires several { 1 < length stack.now.layers }
         requires above { IsVisited stack.now above.now.path above.now }
-        requires name { IsTrue (is_name name.now) }
+        requires candidate { IsCandidate (merge_of stack.now) above.now candidate.now }
         ensures { IfOk result (IsPassed (merge_of stack.now).lower (name_on above.now.upper.next name.now) (onward_at above.now.lower)) }
     {
         let Some(lower) = &above.lower else {
             return Ok(Passed::nothing());
         };
-        let Passing { found, onward, .. } = lower.pass(stack.sheet(1), name);
+        let Passing { found, onward, .. } = passing_in(lower, stack.sheet(1), candidate, name);
         let rest = place_of(alloc, lower, onward)?;
         Ok(Passed { found, rest })
     }
@@ -174,6 +177,25 @@ impl<'a> Passed<'a> {
     }
 }
 
+// How the walk of a name in the directory in the lower layer ends: the row of the candidate's own name is known.
+fn passing_in<'a>(
+    lower: &Stand,
+    sheet: &'a Sheet,
+    candidate: &Candidate<'a>,
+    name: &'a Name,
+) -> Passing<'a>
+    requires over { IsOver sheet.now lower.now }
+    requires inside { IfSome candidate.now.lower (λ row. row < length sheet.now) }
+    ensures { (path : PathNames) → IsStand sheet.now path lower.now → IsRowAt sheet.now (child_path path candidate.now.name.now) candidate.now.lower
+        → IsPassing sheet.now (child_path path name.now) lower.now.next result }
+{
+    if *name == *candidate.name {
+        passing_at(sheet, name, candidate.lower)
+    } else {
+        lower.pass(sheet, name)
+    }
+}
+
 // What the layer has at a path where a walk has found this.
 fn found_at<'a>(sheet: &'a Sheet, path: &Path, found: &Option<Inode>) -> Option<Found<'a>>
     requires { IfSome found.now (λ inode. entry_at sheet.now path.now ≡ Some inode) }
@@ -196,7 +218,6 @@ fn found_at<'a>(sheet: &'a Sheet, path: &Path, found: &Option<Inode>) -> Option<
 fn rest_at<'a>(next: Path, closed: bool) -> Option<Place<'a>>
     ensures rest { (above : Option PathNames) → rest_from above result ≡ onward_on next closed }
     ensures placed { (above : Option PathNames) → IsPlaced above result }
-    ensures own { IfSome result IsOwn }
 {
     if closed {
         return None;
@@ -210,10 +231,8 @@ fn place_of<'a>(
     stand: &Stand,
     onward: Onward<'a>,
 ) -> Result<Option<Place<'a>>, AllocError>
-    requires { IsNamed onward }
     ensures rest { IfOk result (λ place. rest_from stand.now.next place ≡ onward_to stand.now.next onward.entry) }
     ensures placed { IfOk result (IsPlaced stand.now.next) }
-    ensures own { IfOk result (λ place. IfSome place IsOwn) }
 {
     match onward {
         Onward::Beside(name) => match stand.onward() {
@@ -230,7 +249,6 @@ impl<'a> Place<'a> {
     fn look(&self, alloc: Global, stack: &Stack, above: &Directory) -> Result<Look, AllocError>
         requires several { 1 < length stack.now.layers }
         requires above { IsVisited stack.now above.now.path above.now }
-        requires own { IsOwn self.now }
         ensures { IfOk result (λ look. (path : PathNames) → place_from (onward_at above.now.lower) self.now ≡ Some path
             → look ≡ the_look (merge_of stack.now).rest path) }
     {
@@ -256,7 +274,6 @@ fn goes_on(
     requires above { IsVisited stack.now above.now.path above.now }
     requires marked { found.now.mark.now ≡ the_mark found.now.inode.now }
     requires passed { IfSome passed.now (λ found. found.mark.now ≡ the_mark found.inode.now) }
-    requires own { IsOwn place.now }
     ensures { IfOk result (λ answer. (path : PathNames) → place_from (onward_at above.now.lower) place.now ≡ Some path
         → answer ≡ goes_on_at (merge_of stack.now) found.now.inode.now (told_in passed.now) path) }
 {

@@ -1,20 +1,19 @@
-ghost use Rattle.std.specs.Prelude.{◌≡◌, ◌<◌, ◌&&◌, [], Option, None, Some, length, is_some, is_none, IfOk, IsTrue};
+ghost use Rattle.std.specs.Prelude.{◌≡◌, ℕ, ◌<◌, ◌&&◌, [], Option, None, Some, length, is_some, is_none, IfOk, IfSome};
 ghost use Rattle.std.specs.Option.{option_map};
-ghost use Rattle.ovl_names.specs.Names.{is_name};
 ghost use Rattle.ovl_names.specs.Paths.{PathNames, child_path};
-ghost use Rattle.ovl_merge.specs.Stands.{IsOver, IsStand, IsThing, IsPassing, IsBesideAfter, IsNamed, name_on, onward_to, onward_by};
+ghost use Rattle.ovl_merge.specs.Stands.{IsOver, IsStand, StandsAt, IsRowAt, IsThing, IsPassing, IsBesideAfter, name_on, onward_to, onward_by};
 
 use ovl_inode::{Mark, Redirect, is_directory};
 use ovl_lookup::Found;
 use ovl_manifest::Sheet;
-use ovl_names::{Names, Path};
+use ovl_names::{Name, Path};
 use std::alloc::{AllocError, Global};
 
 // Where the walk of a directory's path stands in a layer.
 #[derive(Drop)]
 pub(crate) struct Stand {
     // The number of its row, if the layer has the directory; else nothing is found at any name in it.
-    row: Option<u32>,
+    pub(crate) row: Option<u32>,
     // The path by which the layer below knows the directory, unless it is hidden there.
     next: Option<Path>,
 }
@@ -24,7 +23,7 @@ pub(crate) struct Stand {
 pub(crate) struct Entered<'a> {
     pub(crate) stand: Stand,
     // The name by which the layer below goes on in the directory as which it knows the one above, if it does.
-    pub(crate) beside: Option<&'a str>,
+    pub(crate) beside: Option<&'a Name>,
 }
 
 // How the walk of a name in a directory ends in a layer, with nothing copied.
@@ -40,7 +39,7 @@ pub(crate) struct Passing<'a> {
 #[derive(Drop)]
 pub(crate) enum Onward<'a> {
     // By this name in the directory as which that layer knows the one above.
-    Beside(&'a str),
+    Beside(&'a Name),
     // At this path from the root.
     At(&'a Path),
     // No further.
@@ -65,7 +64,8 @@ impl Stand {
     {
         let mut stand = Stand::root(alloc, sheet);
         for name in path.names() {
-            let entered = stand.enter(alloc, sheet, name)?;
+            let name = Name::copy_of(alloc, name)?;
+            let entered = stand.enter(alloc, sheet, &name)?;
             stand = entered.stand;
         }
         Ok(stand)
@@ -76,10 +76,9 @@ impl Stand {
         self,
         alloc: Global,
         sheet: &'a Sheet,
-        name: &'a str,
+        name: &'a Name,
     ) -> Result<Entered<'a>, AllocError>
-        requires over { IsOver sheet.now self }
-        requires name { IsTrue (is_name name.now) }
+        requires { IsOver sheet.now self }
         ensures stand { IfOk result (λ entered. (path : PathNames) → IsStand sheet.now path self
             → IsStand sheet.now (child_path path name.now) entered.stand) }
         ensures beside { IfOk result (IsBesideAfter self.next) }
@@ -134,21 +133,40 @@ impl Stand {
     }
 
     // How the walk of a name in it ends.
-    pub(crate) fn pass<'a>(&self, sheet: &'a Sheet, name: &'a str) -> Passing<'a>
-        requires over { IsOver sheet.now self.now }
-        requires name { IsTrue (is_name name.now) }
-        ensures passes { (path : PathNames) → IsStand sheet.now path self.now → IsPassing sheet.now (child_path path name.now) self.now.next result }
-        ensures named { IsNamed result.onward }
+    pub(crate) fn pass<'a>(&self, sheet: &'a Sheet, name: &'a Name) -> Passing<'a>
+        requires { IsOver sheet.now self.now }
+        ensures { (path : PathNames) → IsStand sheet.now path self.now → IsPassing sheet.now (child_path path name.now) self.now.next result }
+    {
+        passing_at(sheet, name, self.row_of(sheet, name))
+    }
+
+    // The number of the row that the layer has by a name in it, if it has one.
+    fn row_of(&self, sheet: &Sheet, name: &Name) -> Option<u32>
+        requires { IsOver sheet.now self.now }
+        ensures inside { IfSome result (λ row. row < length sheet.now) }
+        ensures row { (path : PathNames) → IsStand sheet.now path self.now → IsRowAt sheet.now (child_path path name.now) result }
     {
         // Each sheet is a layer.
         let _root = sheet.root_number();
-        let Some(directory) = self.row else {
-            return nothing_at(name);
-        };
-        match sheet.child(directory, name) {
-            Some(row) => thing_at(sheet, row, name),
-            None => nothing_at(name),
+        match self.row {
+            Some(directory) => sheet.child(directory, name.as_str()),
+            None => None,
         }
+    }
+}
+
+// How the walk of a name in a directory ends, by the number of the row that the layer has by it there, if it has one.
+pub(crate) fn passing_at<'a>(sheet: &'a Sheet, name: &'a Name, row: Option<u32>) -> Passing<'a>
+    requires { IfSome row (λ row. row < length sheet.now) }
+    ensures { (path : PathNames) → IsRowAt sheet.now (child_path path name.now) row
+        → (directory : Option ℕ) (next : Option PathNames) → StandsAt sheet.now path directory next
+        → IsPassing sheet.now (child_path path name.now) next result }
+{
+    // Each sheet is a layer.
+    let _root = sheet.root_number();
+    match row {
+        Some(row) => thing_at(sheet, row, name),
+        None => nothing_at(name),
     }
 }
 
@@ -162,25 +180,22 @@ impl Passing<'_> {
 }
 
 // The path of the entry `name` in a directory, if there is one.
-fn child_of(dir: Option<Path>, name: &str) -> Result<Option<Path>, AllocError>
-    requires { IsTrue (is_name name.now) }
+fn child_of(dir: Option<Path>, name: &Name) -> Result<Option<Path>, AllocError>
     ensures { IfOk result (λ path. path ≡ name_on dir name.now) }
 {
     let Some(path) = dir else {
         return Ok(None);
     };
     let mut path = path;
-    path.extend(&Names::one(name))?;
+    path.push(name)?;
     Ok(Some(path))
 }
 
 // The walk's end at a name that the layer doesn't have.
-fn nothing_at(name: &str) -> Passing<'_>
-    requires { IsTrue (is_name name.now) }
+fn nothing_at(name: &Name) -> Passing<'_>
     ensures found { result.found ≡ None }
     ensures row { result.row ≡ None }
     ensures onward { (next : Option PathNames) → onward_to next result.onward ≡ name_on next name.now }
-    ensures named { IsNamed result.onward }
 {
     Passing {
         found: None,
@@ -190,9 +205,8 @@ fn nothing_at(name: &str) -> Passing<'_>
 }
 
 // The walk's end at what it has by this name in the row of a number.
-fn thing_at<'a>(sheet: &'a Sheet, row: u32, name: &'a str) -> Passing<'a>
-    requires row { row < length sheet.now }
-    requires name { IsTrue (is_name name.now) }
+fn thing_at<'a>(sheet: &'a Sheet, row: u32, name: &'a Name) -> Passing<'a>
+    requires { row < length sheet.now }
     ensures { IsThing sheet.now row name.now result }
 {
     let (inode, mark) = (sheet.inode(row), sheet.mark(row));
@@ -221,17 +235,15 @@ fn thing_at<'a>(sheet: &'a Sheet, row: u32, name: &'a str) -> Passing<'a>
 
 // Where a walk goes on at a thing of this mark and name. overlayfs.rst: "whiteouts and opaque directories", "renaming
 // directories", "Metadata only copy up".
-fn onward_at<'a>(mark: &'a Mark, name: &'a str) -> Onward<'a>
-    requires { IsTrue (is_name name.now) }
-    ensures onward { (next : Option PathNames) → onward_to next result ≡ onward_by mark.now next name.now }
-    ensures named { IsNamed result }
+fn onward_at<'a>(mark: &'a Mark, name: &'a Name) -> Onward<'a>
+    ensures { (next : Option PathNames) → onward_to next result ≡ onward_by mark.now next name.now }
 {
     match mark {
         Mark::DirMoved(Redirect::To(origin)) | Mark::Meta(Some(Redirect::To(origin))) => {
             Onward::At(origin)
         }
         Mark::DirMoved(Redirect::Beside(own)) | Mark::Meta(Some(Redirect::Beside(own))) => {
-            Onward::Beside(own.as_str())
+            Onward::Beside(own)
         }
         Mark::DirPlain | Mark::Meta(None) => Onward::Beside(name),
         Mark::Whiteout | Mark::DirOpaque | Mark::DirBad | Mark::MetaBad | Mark::Leaf => {

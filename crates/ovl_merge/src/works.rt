@@ -7,7 +7,7 @@ ghost use Rattle.ovl_merge.specs.Directories.{entries_in, merge_kids, merge_out}
 ghost use Rattle.ovl_merge.specs.Reckoned.{IsVisited};
 
 use crate::MergeFault;
-use crate::candidates::candidates;
+use crate::candidates::{candidates_in, hidden_names};
 use crate::directories::Directory;
 use crate::entries::inode_in;
 use ovl_board::{Piece, Work};
@@ -112,12 +112,13 @@ fn inodes_in(
     requires visited { IsVisited stack.now directory.now.path directory.now }
     ensures { IfOk result (λ inodes. inodes.items ≡ entries_in (merge_of stack.now) directory.now.path) }
 {
-    let names = candidates(alloc, stack, directory)?;
+    let hidden = hidden_names(alloc, stack, directory)?;
+    let candidates = candidates_in(alloc, stack, directory, &hidden)?;
     let mut whole = None;
-    let mut inodes = Vec::with_capacity(alloc, names.len())?;
-    for name in names {
-        if let Some(inode) = inode_in(alloc, stack, &mut whole, directory, &name)? {
-            inodes.push((name, inode))?;
+    let mut inodes = Vec::with_capacity(alloc, candidates.len())?;
+    for candidate in &candidates {
+        if let Some(inode) = inode_in(alloc, stack, &mut whole, directory, candidate)? {
+            inodes.push((candidate.name.copy(alloc)?, inode))?;
         }
     }
     Ok(inodes)

@@ -7,8 +7,8 @@ use Rattle.ovl_merge.specs.Reckoned.{IsBelow}
 use Rattle.ovl_merge.proofs.StandLemmas.{lower-sheet}
 use Rattle.ovl_merge.proofs.directories.lower_at.Goals as goal
 
-pub returns-in_ok-at-in-Some-clause-stand : goal.returns-in_ok-at-in-Some-clause-stand
-returns-in_ok-at-in-Some-clause-stand c =
+pub returns-in_ok-at-in-Some : goal.returns-in_ok-at-in-Some
+returns-in_ok-at-in-Some c =
     let stack = c.args.stack.now in
     subst (λ (o : Option PathNames). IsBelow (merge_of stack).lower o (Some c.in_ok-at-in-Some.field-0)) c.in-Some.ensures
     (subst (λ (layer : Entries). IsStand layer c.in-Some.path.now c.in_ok-at-in-Some.field-0) (sym (lower-sheet stack c.requires c.sheet.result.now c.sheet.ensures)) c.in_ok-at-in-Some.ensures)

@@ -1,11 +1,9 @@
-use Rattle.std.proofs.Common.{◌∙◌, Some, sym, ap, subst}
-use Rattle.ovl_names.specs.Names.{PathName}
+use Rattle.std.proofs.Common.{◌∙◌, Some, sym, ap}
 use Rattle.ovl_names.specs.Paths.{PathNames, child_path}
 use Rattle.ovl_inode.specs.declared.inodes.Inode.{Inode}
 use Rattle.ovl_merge.specs.Places.{merge_of}
 use Rattle.ovl_merge.specs.MergeDown.{merged_entry_of}
 use Rattle.ovl_merge.specs.Reckoned.{onward_at}
-use Rattle.ovl_merge.specs.Passages.{IsPassage}
 use Rattle.ovl_merge.proofs.PassageLemmas.{passage-first}
 use Rattle.ovl_merge.proofs.entries.inode_in.Goals as goal
 
@@ -19,11 +17,9 @@ pub returns-in-Some-clause-inode : goal.returns-in-Some-clause-inode
 returns-in-Some-clause-inode c =
     let m = merge_of c.args.stack.now in
     let above = c.args.above.now in
-    let path : PathNames = child_path above.path c.args.name.now in
-    let passage = c.in_ok-passage.passage in
-    let is = subst (λ (n : PathName). IsPassage m (child_path above.path n) (onward_at above.lower) passage) c.as_str.ensures.value c.in_ok-passage.ensures in
+    let path : PathNames = child_path above.path c.args.candidate.now.name.now in
     ap (λ (i : Inode). Some i) c.in_ok-inode-in-Some.ensures.inode
-    ∙ ap (merged_entry_of m path) (c.in-Some.ensures.first ∙ passage-first m path (onward_at above.lower) passage is)
+    ∙ ap (merged_entry_of m path) (c.in-Some.ensures.first ∙ passage-first m path (onward_at above.lower) c.in_ok-passage.passage c.in_ok-passage.ensures)
 
 pub unfound-requires-clause-none : goal.unfound-requires-clause-none
 unfound-requires-clause-none c = sym c.in-None.ensures.first

@@ -2,9 +2,7 @@ use Rattle.std.proofs.Common.{◌≡◌, ◌∙◌, true, false, Option, Some, N
 use Rattle.std.specs.Prelude.{IfOk}
 use Rattle.std.proofs.lemmas.Result.{IfOk-weaker}
 use Rattle.ovl_inode.specs.declared.inodes.Inode.{Inode}
-use Rattle.ovl_names.specs.Names.{PathName}
 use Rattle.ovl_names.specs.Paths.{PathNames, child_path}
-use Rattle.ovl_lookup.specs.Words.{look_on}
 use Rattle.ovl_lookup.specs.Merged.{is_shown_directory}
 use Rattle.ovl_merge.specs.Places.{merge_of, first_hit, reach, base, child_of, gets_opaque}
 use Rattle.ovl_merge.specs.Reckoned.{onward_at}
@@ -36,8 +34,7 @@ returns-then-is_shown_directory c =
     let none : reach m path ≡ None = sym (rw (not-some c.in_ok-place.field-0 c.in_default.not-Some) at c.in_ok-place.ensures.reach) in
     let hit : first_hit m path ≡ Some inode = sym (c.requires.first ∙ passage-first m path (onward_at above.lower) c.args.passage.now c.requires.passage) in
     let natural : Option PathNames = child_of (base m dir) name in
-    let look = c.in_ok-hidden.ensures ∙ ap (λ (n : PathName). look_on m.rest (child_of (base m dir) n)) c.as_str.ensures.value in
-    let hides : gets_opaque m path ≡ true = opaque-told m dir name inode hit c.requires.directory none ∙ (sym (shown-on m.rest natural) ∙ (ap is_shown_directory (sym look) ∙ (sym c.is_shown_directory.ensures ∙ c.if-is_shown_directory.true))) in
+    let hides : gets_opaque m path ≡ true = opaque-told m dir name inode hit c.requires.directory none ∙ (sym (shown-on m.rest natural) ∙ (ap is_shown_directory (sym c.in_ok-hidden.ensures) ∙ (sym c.is_shown_directory.ensures ∙ c.if-is_shown_directory.true))) in
     subst (λ (i : Inode). IfOk c.with_value.result (λ new. new ≡ i)) (directory-apart m path inode c.in_ok-shown.shown seen none true hides) c.with_value.ensures
 
 pub returns : goal.returns
@@ -53,6 +50,5 @@ returns c =
     let none : reach m path ≡ None = sym (rw (not-some c.in_ok-place.field-0 c.in_default.not-Some) at c.in_ok-place.ensures.reach) in
     let hit : first_hit m path ≡ Some inode = sym (c.requires.first ∙ passage-first m path (onward_at above.lower) c.args.passage.now c.requires.passage) in
     let natural : Option PathNames = child_of (base m dir) name in
-    let look = c.in_ok-hidden.ensures ∙ ap (λ (n : PathName). look_on m.rest (child_of (base m dir) n)) c.as_str.ensures.value in
-    let hides : gets_opaque m path ≡ false = opaque-told m dir name inode hit c.requires.directory none ∙ (sym (shown-on m.rest natural) ∙ (ap is_shown_directory (sym look) ∙ (sym c.is_shown_directory.ensures ∙ c.if-is_shown_directory.false))) in
+    let hides : gets_opaque m path ≡ false = opaque-told m dir name inode hit c.requires.directory none ∙ (sym (shown-on m.rest natural) ∙ (ap is_shown_directory (sym c.in_ok-hidden.ensures) ∙ (sym c.is_shown_directory.ensures ∙ c.if-is_shown_directory.false))) in
     directory-apart m path inode c.in_ok-shown.shown seen none false hides

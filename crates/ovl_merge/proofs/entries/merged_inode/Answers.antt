@@ -25,4 +25,4 @@ returns-clause-inode c =
     let m = merge_of c.args.stack.now in
     let path : PathNames = child_path c.args.above.now.path c.args.name.now in
     let none : is_metacopy c.args.found.now.inode.now ≡ false = sym (c.if-is_meta.ensures ∙ ap is_metacopy_mark c.requires.marked) in
-    subst (λ (i : Inode). IfOk c.visible.result (λ new. new ≡ i)) (sym (merged-other m path c.args.found.now.inode.now (sym c.if-is_directory.ensures) none)) c.visible.ensures
+    subst (λ (i : Inode). IfOk c.shown_inode.result (λ new. new ≡ i)) (sym (merged-other m path c.args.found.now.inode.now (sym c.if-is_directory.ensures) none)) c.shown_inode.ensures

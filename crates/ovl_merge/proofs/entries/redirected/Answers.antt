@@ -1,5 +1,6 @@
 use Rattle.std.proofs.Common.{◌≡◌, ◌∙◌, Some, refl, sym, ap}
 use Rattle.std.proofs.lemmas.Result.{IfOk-weaker}
+use Rattle.ovl_names.specs.Names.{PathName}
 use Rattle.ovl_names.specs.Paths.{child_path, path_text}
 use Rattle.ovl_inode.specs.Attributes.{redirect_name}
 use Rattle.ovl_merge.specs.Places.{merge_of, reach}
@@ -23,7 +24,7 @@ returns-in-Beside c =
     IfOk-weaker c.renamed.result _ _ (λ new h. λ path goes.
     (let found = reach-above stack each above.path (onward_at above.lower) (visited-reach stack above.path above c.requires.above) (child_path above.path c.args.name.now) path goes c.in-Beside.own.now
     (sym (ap (place_from (onward_at above.lower)) c.in-Beside.is) ∙ (c.requires.place ∙ goes)) in
-    h (reach m above.path) path (directly-child found.0 c.in-Beside.own.now ∙ (λ j. name_directly_in (sym found.1 j) (sym found.2 j))))) c.renamed.ensures
+    h (reach m above.path) path (ap (λ (n : PathName). Some n) c.as_str.ensures.value ∙ (directly-child found.0 c.in-Beside.own.now ∙ (λ j. name_directly_in (sym found.1 j) (sym found.2 j)))))) c.renamed.ensures
 
 pub returns-in-Some : goal.returns-in-Some
 returns-in-Some c =

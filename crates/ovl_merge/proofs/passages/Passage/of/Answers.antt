@@ -1,28 +1,32 @@
-use Rattle.std.proofs.Common.{Option, sym, subst}
+use Rattle.std.proofs.Common.{◌<◌, Option, length, sym, subst}
+use Rattle.std.specs.Prelude.{IfSome}
 use Rattle.ovl_names.specs.Paths.{PathNames, child_path}
 use Rattle.ovl_manifest.specs.Layers.{Entries}
 use Rattle.ovl_merge.specs.Places.{merge_of}
-use Rattle.ovl_merge.specs.Stands.{IsStand, IsPassing}
+use Rattle.ovl_merge.specs.Stands.{IsRowAt, IsStand, IsPassing}
 use Rattle.ovl_merge.specs.Reckoned.{onward_at}
 use Rattle.ovl_merge.specs.Passages.{IsPassed}
-use Rattle.ovl_merge.proofs.StandLemmas.{upper-sheet, over-stand}
+use Rattle.ovl_merge.proofs.StandLemmas.{upper-sheet, row-inside}
 use Rattle.ovl_merge.proofs.passages.Passage.of.Goals as goal
 
-pub pass-requires-clause-over : goal.pass-requires-clause-over
-pass-requires-clause-over c =
+pub passing_at-requires : goal.passing_at-requires
+passing_at-requires c =
     let above = c.args.above.now in
-    over-stand c.sheet.result.now above.path above.upper
-    (subst (λ (layer : Entries). IsStand layer above.path above.upper) (upper-sheet c.args.stack.now c.sheet.result.now c.sheet.ensures) c.requires.above.upper)
+    let candidate = c.args.candidate.now in
+    subst (λ (layer : Entries). IfSome candidate.upper (λ row. row < length layer)) (upper-sheet c.args.stack.now c.sheet.result.now c.sheet.ensures)
+    (row-inside (merge_of c.args.stack.now).upper (child_path above.path candidate.name.now) candidate.upper c.requires.candidate.upper)
 
 pub returns : goal.returns
 returns c =
     let stack = c.args.stack.now in
     let m = merge_of stack in
     let above = c.args.above.now in
-    let path : PathNames = child_path above.path c.args.name.now in
+    let candidate = c.args.candidate.now in
+    let path : PathNames = child_path above.path candidate.name.now in
     let sheet = upper-sheet stack c.sheet.result.now c.sheet.ensures in
-    let passing : IsPassing m.upper path above.upper.next c.pass.result = subst (λ (layer : Entries). IsPassing layer path above.upper.next c.pass.result) (sym sheet)
-    (c.pass.ensures.passes above.path (subst (λ (layer : Entries). IsStand layer above.path above.upper) sheet c.requires.above.upper)) in
+    let passing : IsPassing m.upper path above.upper.next c.passing_at.result = subst (λ (layer : Entries). IsPassing layer path above.upper.next c.passing_at.result) (sym sheet)
+    (c.passing_at.ensures above.path (subst (λ (layer : Entries). IsRowAt layer path candidate.upper) sheet c.requires.candidate.upper)
+    above.upper.row above.upper.next (subst (λ (layer : Entries). IsStand layer above.path above.upper) sheet c.requires.above.upper)) in
     record {
       upper = passing.found;
       marked = passing.marked;

@@ -2,9 +2,8 @@ use Rattle.std.proofs.Common.{◌∙◌, true, false, sym, ap, subst}
 use Rattle.ovl_names.specs.Paths.{child_path}
 use Rattle.ovl_merge.specs.Places.{merge_of, reach}
 use Rattle.ovl_merge.specs.Reckoned.{onward_at}
-use Rattle.ovl_merge.specs.Passages.{IsOwn, IsPlaced, place_from, rest_from}
+use Rattle.ovl_merge.specs.Passages.{IsPlaced, place_from, rest_from}
 use Rattle.ovl_merge.proofs.VisitLemmas.{not-some}
-use Rattle.ovl_merge.proofs.BaseLemmas.{at-some}
 use Rattle.ovl_merge.proofs.PassageLemmas.{reach-shut, reach-told, placed-some}
 use Rattle.ovl_merge.proofs.passages.Passage.reach.Goals as goal
 
@@ -14,9 +13,6 @@ returns-in_default-clause-reach c =
     let above = c.args.above.now in
     let passage = c.args.self.now in
     sym (reach-shut m (child_path above.path c.args._name.now) (onward_at above.lower) passage c.requires.passage (ap (rest_from (onward_at above.lower)) (not-some passage.lower.rest c.in_default.not-Some)))
-
-pub goes_on-requires-clause-own : goal.goes_on-requires-clause-own
-goes_on-requires-clause-own c = at-some c.args.self.now.lower.rest IsOwn c.in-Some.place c.in-Some.is c.requires.passage.lower.own
 
 pub returns-then-branch : goal.returns-then-branch
 returns-then-branch c =
@@ -28,7 +24,6 @@ returns-then-branch c =
           reach-told m (child_path above.path c.args._name.now) (onward_at above.lower) passage c.requires.passage c.args.found.now.inode.now c.requires.first
           (place_from (onward_at above.lower) c.in-Some.place) (ap (rest_from (onward_at above.lower)) c.in-Some.is) true
           (λ own e. sym c.if-branch.true ∙ c.in_ok-goes_on.ensures own e);
-      own = at-some c.args.self.now.lower.rest IsOwn c.in-Some.place c.in-Some.is c.requires.passage.lower.own;
       goes = λ none.
           placed-some (place_from (onward_at above.lower) c.in-Some.place) (reach m (child_path above.path c.args._name.now))
           (subst (IsPlaced (onward_at above.lower)) c.in-Some.is c.requires.passage.lower.placed)

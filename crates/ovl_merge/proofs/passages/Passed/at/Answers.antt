@@ -14,5 +14,4 @@ returns c above = record {
   marked = c.found_at-found.ensures.marked;
   rest = c.rest_at-rest.ensures.rest above ∙ ap step_onward c.in_ok-found.ensures;
   placed = c.rest_at-rest.ensures.placed above;
-  own = c.rest_at-rest.ensures.own;
 }

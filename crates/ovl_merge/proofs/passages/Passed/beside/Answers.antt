@@ -1,15 +1,16 @@
-use Rattle.std.proofs.Common.{◌≡◌, Option, None, sym, subst}
-use Rattle.ovl_names.specs.Paths.{PathNames, child_path}
+use Rattle.std.proofs.Common.{◌≡◌, ◌<◌, Option, None, length, sym, subst}
+use Rattle.std.specs.Prelude.{IfSome}
+use Rattle.ovl_names.specs.Paths.{PathNames}
 use Rattle.ovl_manifest.specs.Layers.{Entries}
 use Rattle.ovl_merge.specs.declared.stands.Stand.{Stand}
 use Rattle.ovl_merge.specs.declared.passages.Passed.{Passed}
 use Rattle.ovl_merge.specs.Places.{merge_of}
-use Rattle.ovl_merge.specs.Stands.{IsStand, IsPassing, IsOver, name_on}
+use Rattle.ovl_merge.specs.Stands.{IsOver, name_on}
 use Rattle.ovl_merge.specs.Reckoned.{IsBelow, onward_at}
 use Rattle.ovl_merge.specs.Passages.{IsPassed}
 use Rattle.ovl_merge.proofs.StandLemmas.{lower-sheet, below-over}
 use Rattle.ovl_merge.proofs.VisitLemmas.{not-some}
-use Rattle.ovl_merge.proofs.PassageLemmas.{passed-nothing, passed-beside}
+use Rattle.ovl_merge.proofs.PassageLemmas.{below-inside, passed-nothing, passed-beside}
 use Rattle.ovl_merge.proofs.passages.Passed.beside.Goals as goal
 
 pub returns-in_default : goal.returns-in_default
@@ -21,24 +22,34 @@ returns-in_default c =
     subst (λ (o : Option PathNames). IsPassed m.lower (name_on o c.args.name.now) (onward_at above.lower) c.nothing.result) (sym none)
     (passed-nothing m.lower (onward_at above.lower) c.nothing.result c.nothing.ensures.found c.nothing.ensures.rest)
 
-pub pass-requires-clause-over : goal.pass-requires-clause-over
-pass-requires-clause-over c =
+pub passing_in-requires-clause-over : goal.passing_in-requires-clause-over
+passing_in-requires-clause-over c =
     let stack = c.args.stack.now in
     let m = merge_of stack in
     let above = c.args.above.now in
     subst (λ (layer : Entries). IsOver layer c.in-Some.lower) (lower-sheet stack c.requires.several c.sheet.result.now c.sheet.ensures)
     (below-over m.lower above.upper.next c.in-Some.lower (subst (IsBelow m.lower above.upper.next) c.in-Some.is c.requires.above.lower))
 
+pub passing_in-requires-clause-inside : goal.passing_in-requires-clause-inside
+passing_in-requires-clause-inside c =
+    let stack = c.args.stack.now in
+    let m = merge_of stack in
+    let above = c.args.above.now in
+    let candidate = c.args.candidate.now in
+    subst (λ (layer : Entries). IfSome candidate.lower (λ row. row < length layer)) (lower-sheet stack c.requires.several c.sheet.result.now c.sheet.ensures)
+    (below-inside m.lower above.upper.next c.in-Some.lower (subst (IsBelow m.lower above.upper.next) c.in-Some.is c.requires.above.lower) candidate.name.now candidate.lower c.requires.candidate.lower)
+
 pub returns : goal.returns
 returns c =
     let stack = c.args.stack.now in
     let m = merge_of stack in
     let above = c.args.above.now in
+    let candidate = c.args.candidate.now in
     let sheet = lower-sheet stack c.requires.several c.sheet.result.now c.sheet.ensures in
     let lower : Stand = c.in-Some.lower in
     let name = c.args.name.now in
-    let passed : Passed = record { found = c.pass.result.found; rest = c.in_ok-rest.rest } in
+    let passed : Passed = record { found = c.passing_in.result.found; rest = c.in_ok-rest.rest } in
     subst (λ (o : Option Stand). IsPassed m.lower (name_on above.upper.next name) (onward_at o) passed) (sym c.in-Some.is)
-    (passed-beside m.lower above.upper.next lower (subst (IsBelow m.lower above.upper.next) c.in-Some.is c.requires.above.lower) name c.pass.result
-    (λ path stands. subst (λ (layer : Entries). IsPassing layer (child_path path name) lower.next c.pass.result) (sym sheet) (c.pass.ensures.passes path (subst (λ (layer : Entries). IsStand layer path lower) sheet stands)))
-    c.in_ok-rest.rest c.in_ok-rest.ensures.rest c.in_ok-rest.ensures.placed c.in_ok-rest.ensures.own)
+    (passed-beside m.lower above.upper.next lower (subst (IsBelow m.lower above.upper.next) c.in-Some.is c.requires.above.lower) candidate.name.now candidate.lower c.requires.candidate.lower name c.passing_in.result
+    c.sheet.result.now sheet c.passing_in.ensures
+    c.in_ok-rest.rest c.in_ok-rest.ensures.rest c.in_ok-rest.ensures.placed)

@@ -14,8 +14,8 @@ loop-name-init c =
       names = ap has_names same ∙ c.names-name-items.ensures.names;
     }
 
-pub enter-requires-clause-over : goal.enter-requires-clause-over
-enter-requires-clause-over c = over-stand c.args.sheet.now c.loop-name.invariant.way.above c.loop-name.stand c.loop-name.invariant.way.stands
+pub enter-requires : goal.enter-requires
+enter-requires c = over-stand c.args.sheet.now c.loop-name.invariant.way.above c.loop-name.stand c.loop-name.invariant.way.stands
 
 pub loop-name-preserved : goal.loop-name-preserved
 loop-name-preserved c =
@@ -27,7 +27,7 @@ loop-name-preserved c =
       way = record {
         above = child_path above name;
         there = append_assoc above (name ∷ []) rest ∙ whole;
-        stands = c.in_ok-entered.ensures.stand above c.loop-name.invariant.way.stands;
+        stands = subst (λ (n : PathName). IsStand c.args.sheet.now (child_path above n) c.in_ok-entered.entered.stand) c.in_ok-name.ensures (c.in_ok-entered.ensures.stand above c.loop-name.invariant.way.stands);
       };
       names = (both {a = is_name name} {b = has_names rest} (sym (ap has_names c.in-Some.ensures.steps) ∙ c.loop-name.invariant.names)).1;
     }
