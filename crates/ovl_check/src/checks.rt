@@ -19,8 +19,8 @@ use crate::facts::{CODES, Facts};
 use crate::findings::{Code, Finding};
 use crate::gathering::{facts_of_child, facts_of_directory};
 use crate::marks::is_moved;
-use crate::sources::{HeldBlobs, ToldContents};
-use crate::starts::{starts_of_blobs, starts_of_contents};
+use crate::named::ByName;
+use crate::sources::HeldBlobs;
 use crate::subjects::{CheckOut, CheckWork, ToldBlobs};
 use ovl_board::{Piece, Work};
 use ovl_inode::{Digest, Mark, is_directory};
@@ -40,9 +40,8 @@ impl<'a> CheckWork<'a> {
         CheckWork {
             stack,
             told: ToldBlobs::Held(HeldBlobs {
-                blobs,
+                blobs: ByName::of(blobs),
                 wrong,
-                starts: starts_of_blobs(blobs),
             }),
         }
     }
@@ -54,10 +53,7 @@ impl<'a> CheckWork<'a> {
     {
         CheckWork {
             stack,
-            told: ToldBlobs::Told(ToldContents {
-                contents,
-                starts: starts_of_contents(contents),
-            }),
+            told: ToldBlobs::Told(ByName::of(contents)),
         }
     }
 }
