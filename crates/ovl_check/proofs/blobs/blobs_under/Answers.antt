@@ -1,5 +1,5 @@
-use Rattle.std.proofs.Common.{◌∙◌, arith, sym, subst}
-use Rattle.std.specs.Prelude.{slice_index}
+use Rattle.std.proofs.Common.{◌∙◌, arith, sym}
+use Rattle.ovl_check.specs.declared.blobs.Blob.{Blob}
 use Rattle.ovl_check.proofs.BlobLemmas.{views-ascend}
 use Rattle.ovl_check.proofs.BlobRanges.{none-under, range-under}
 use Rattle.ovl_check.proofs.NamedLemmas.{part-bounds}
@@ -10,6 +10,14 @@ start_in-start-requires c = sym (views-ascend c.args.blobs.now) ∙ c.requires.i
 
 pub start_in-end-requires : goal.start_in-end-requires
 start_in-end-requires c = sym (views-ascend c.args.blobs.now) ∙ c.requires.in_order
+
+pub slice_bounds-result-count : goal.slice_bounds-result-count
+slice_bounds-result-count c = (part-bounds (λ (blob : Blob). blob.name) c.args.blobs.now c.from-first.result c.start_in-start.result c.start_in-end.result c.start_in-start.ensures c.start_in-end.ensures).0
+
+pub slice_bounds-result-start : goal.slice_bounds-result-start
+slice_bounds-result-start c =
+    let bounds = part-bounds (λ (blob : Blob). blob.name) c.args.blobs.now c.from-first.result c.start_in-start.result c.start_in-end.result c.start_in-start.ensures c.start_in-end.ensures in
+    omega (arith, bounds.0, bounds.1)
 
 pub returns-then-is_err : goal.returns-then-is_err
 returns-then-is_err c =

@@ -1,4 +1,4 @@
-use Rattle.std.proofs.Common.{◌≡◌, ◌-◌, ◌∙◌, true, false, Bool, sym, ap, refl, arith, get_or}
+use Rattle.std.proofs.Common.{◌≡◌, ◌-◌, ◌∙◌, true, false, Bool, sym, ap, refl, arith}
 use Rattle.std.specs.Ordering.{is_lt}
 use Rattle.std.proofs.lemmas.List.{get_or_read}
 use Rattle.ovl_check.specs.Blobs.{digest_cmp}
@@ -19,5 +19,6 @@ returns-then-not-is_lt g c = by (names_ascend g.T.Named.name_of c.args.elements.
         let elements = c.args.elements.now in
         let other = c.index-elements-i-in-loop-i.result in
         let first = get_or_read elements _ _ (omega arith) c.index-elements-i.is other in
-        let less = ap (λ p. digest_cmp (name p) (name (get_or elements c.loop-i.i other))) (sym c.index-elements-i.is ∙ first) ∙ in_order-pairs name elements e (c.loop-i.i - 1) c.loop-i.i other (omega arith) (omega arith) in
-        let no : true ≡ false = sym (ap is_lt less) ∙ sym (ap is_lt c.cmp.ensures) ∙ sym c.if-not-is_lt.ensures in cc
+        let compared = c.cmp.ensures ∙ (λ j. digest_cmp (c.name.ensures j) (c.name-in-loop-i.ensures j)) in
+        let less = (λ j. digest_cmp (name (first j)) (name (c.index-elements-i-in-loop-i.is j))) ∙ in_order-pairs name elements e (c.loop-i.i - 1) c.loop-i.i other (omega arith) (omega arith) in
+        let no : true ≡ false = sym (ap is_lt less) ∙ sym (ap is_lt compared) ∙ sym c.if-not-is_lt.ensures in cc
