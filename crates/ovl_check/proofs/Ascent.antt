@@ -1,11 +1,12 @@
 -- Strictly ascending lists, and their members.
-use Rattle.std.proofs.Common.{◌≡◌, inl, inr, Bool, true, false, cond, List, [], ◌∷◌, refl, sym, ap, ◌∙◌, subst}
+use Rattle.std.proofs.Common.{◌≡◌, inl, inr, Bool, true, false, cond, List, [], ◌∷◌, map, refl, sym, ap, ◌∙◌, subst}
 use Rattle.std.specs.Prelude.{◌&&◌, filter}
 use Rattle.std.specs.List.{list_all, AllByRecursion}
 use Rattle.std.specs.List.Sorted.{IsStrictlySortedBy}
 use Rattle.std.specs.Ordering.{is_lt}
 use Rattle.std.specs.Cmp.{IsTotalOrder}
 use Rattle.std.proofs.lemmas.Cmp.{tied_itself}
+use Rattle.std.proofs.lemmas.List.Folds.{list_all-map}
 use Rattle.std.specs.declared.cmp.Ordering.{Ordering}
 use Rattle.std.specs.declared.cmp.Ordering.TheVariants.{Less, Equal}
 use Rattle.ovl_names.specs.Order.{ascends}
@@ -48,6 +49,11 @@ pub ascends-Rises : {X : Type 0} (cmp : X → X → Ordering) (xs : List X) → 
 ascends-Rises cmp [] up = refl
 ascends-Rises cmp (x ∷ xs) up =
     (λ j. list_all-from_Every (λ later. is_lt (cmp x later)) xs (λ y h. ap is_lt (up.0 y h)) j && ascends-Rises cmp xs up.1 j)
+
+-- a list through a map ascends where its elements do by what they are mapped to
+pub ascends-map : {X Y : Type 0} (cmp : Y → Y → Ordering) (f : X → Y) (xs : List X) → ascends cmp (map f xs) ≡ ascends (λ a b. cmp (f a) (f b)) xs
+ascends-map cmp f [] = refl
+ascends-map cmp f (x ∷ xs) = (λ j. list_all-map (λ later. is_lt (cmp (f x) later)) f xs j && ascends-map cmp f xs j)
 
 pub Rises-sorted : {X : Type 0} (cmp : X → X → Ordering) (xs : List X) → IsStrictlySortedBy cmp xs → Rises (λ a b. cmp a b ≡ Less) xs
 unfolding IsStrictlySortedBy

@@ -1,11 +1,11 @@
 -- The work of digesting blobs.
 use Rattle.std.proofs.Common.{◌≡◌, ℕ, ◌≤◌, ◌+◌, ◌<◌, inl, inr, Bool, true, false, cond, List, [], ◌∷◌, ◌++◌, map, length, get_or, take, refl, sym, ap, ◌∙◌, subst, arith}
-use Rattle.std.specs.Prelude.{◌==◌, ◌&&◌, ◌||◌, filter, AllPairs, All}
+use Rattle.std.specs.Prelude.{◌==◌, ◌&&◌, ◌||◌, filter, All}
 use Rattle.std.specs.List.{flat_map}
 use Rattle.std.specs.declared.cmp.Ordering.TheVariants.{Less, Equal}
 use Rattle.std.specs.Cmp.Lexicographic.{nat_list_cmp_total, bytes_decides}
 use Rattle.std.specs.Ordering.{ordering_then}
-use Rattle.std.specs.List.{AllAdjacentBelow, list_any}
+use Rattle.std.specs.List.{list_any}
 use Rattle.std.specs.BTreeSet.{insert_key}
 use Rattle.std.proofs.lemmas.List.{take_more, map-append}
 use Rattle.std.proofs.lemmas.Bool.{eqb-true}
@@ -17,15 +17,16 @@ use Rattle.ovl_lookup.specs.Passes.{put_names}
 use Rattle.ovl_lookup.proofs.LawsOfKids.{ascends-put, put_names-append, any-put}
 use Rattle.ovl_board.specs.declared.pieces.Piece.{Piece}
 use Rattle.ovl_board.specs.Pieces.{IsBefore, IsOneBelow, AreLawfulKids, HasLawfulKids}
-use Rattle.ovl_names.proofs.Ascending.{both}
+use Rattle.ovl_names.proofs.Ascending.{both, ascends-filter}
 use Rattle.ovl_board.proofs.LawsOfPieces.{piece_eq}
-use Rattle.ovl_board.proofs.LawsOfMembers.{In, Rises, All-Every, AllPairs-Rises, In-map, In-map-cases, In-flat_map, In-flat_map-cases, Contains-In, Rises-from_adjacent, In-filter-cases, Rises-filter}
+use Rattle.ovl_board.proofs.LawsOfMembers.{In, Rises, All-Every, AllPairs-Rises, In-map, In-map-cases, In-flat_map, In-flat_map-cases, Contains-In, In-filter-cases}
 use Rattle.ovl_board.specs.Walks.{Reached, start, next, ToKid}
 use Rattle.ovl_board.specs.Parcels.{ParcelView, IsPlain, own_view}
 use Rattle.ovl_check.specs.declared.blobs.Blob.{Blob}
 use Rattle.ovl_check.proofs.Plain.{own-view, has-view}
 use Rattle.ovl_check.specs.Blobs.{BlobView, blob_space, blob_root, digits_piece, digits_of_names, digest_cmp, blob_cmp, are_in_order, blob_view, blob_views, is_wrong, wrong_names, wrong_names_under, blob_kids, blob_out, out_at, first_digits}
-use Rattle.ovl_check.proofs.Ascent.{Rises-ascends, ascends-Rises, In-filter, ordered_same}
+use Rattle.ovl_check.specs.Named.{names_ascend}
+use Rattle.ovl_check.proofs.Ascent.{Rises-ascends, ascends-map, In-filter, ordered_same}
 
 digits-ascend : (blobs : List BlobView) → ascends name_cmp (digits_of_names blobs) ≡ true
 digits-ascend blobs = ascends-put [] (map (λ blob. first_digits blob.name) blobs) refl
@@ -86,28 +87,9 @@ digits-more blobs i blob inside is =
     ∙ (ap (put_names []) (map-append (λ (view : BlobView). first_digits view.name) (blob_views (take i blobs)) (blob_view blob ∷ []))
     ∙ put_names-append [] (map (λ (view : BlobView). first_digits view.name) (blob_views (take i blobs))) (first_digits blob.name ∷ [])))
 
-abbrev pub NameBefore : Blob → Blob → Type 0
-NameBefore a b = digest_cmp a.name b.name ≡ Less
-
-views-rise : (blobs : List Blob) → Rises NameBefore blobs → Rises (λ a b. blob_cmp a b ≡ Less) (blob_views blobs)
-views-rise [] up = tt
-views-rise (blob ∷ blobs) up = (
-  (λ v h. let b = In-map-cases blob_view v blobs h in subst (λ (x : BlobView). blob_cmp (blob_view blob) x ≡ Less) (sym b.1.1) (up.0 b.0 b.1.0)),
-  views-rise blobs up.1,
-)
-
-pub blobs-rise : (blobs : List Blob) → Rises (λ a b. blob_cmp a b ≡ Less) (blob_views blobs) → Rises NameBefore blobs
-blobs-rise [] up = tt
-blobs-rise (blob ∷ blobs) up = (
-  (λ b h. up.0 (blob_view b) (In-map blob_view b blobs h)),
-  blobs-rise blobs up.1,
-)
-
-pub in_order : (blobs : List Blob) → AllAdjacentBelow NameBefore blobs (length blobs) → are_in_order (blob_views blobs) ≡ true
-in_order blobs adjacent = ascends-Rises blob_cmp (blob_views blobs) (views-rise blobs (Rises-from_adjacent NameBefore (λ x y z. nat_list_cmp_total.trans x.name y.name z.name) blobs adjacent))
-
-pub in_order-pairs : (blobs : List Blob) → are_in_order (blob_views blobs) ≡ true → AllPairs NameBefore blobs
-in_order-pairs blobs up = AllPairs-Rises NameBefore blobs (blobs-rise blobs (Rises-ascends blob_cmp (blob_views blobs) up))
+-- blobs ascend as their views do
+pub views-ascend : (blobs : List Blob) → are_in_order (blob_views blobs) ≡ names_ascend (λ (blob : Blob). blob.name) blobs
+views-ascend blobs = ascends-map blob_cmp blob_view blobs
 
 -- ---- the names with wrong bytes, over the plain walk
 
@@ -161,15 +143,8 @@ module _ (blobs : List BlobView) where
         ),
       )
 
-  pub names-rise : are_in_order blobs ≡ true → Rises (λ a b. digest_cmp a b ≡ Less) (wrong_names blobs)
-  names-rise up = mapped (filter is_wrong blobs) (Rises-filter (λ a b. blob_cmp a b ≡ Less) is_wrong blobs (Rises-ascends blob_cmp blobs up))
-    where
-      mapped : (bs : List BlobView) → Rises (λ a b. blob_cmp a b ≡ Less) bs → Rises (λ a b. digest_cmp a b ≡ Less) (map (λ (b : BlobView). b.name) bs)
-      mapped [] up = tt
-      mapped (b ∷ bs) up = (
-        (λ n h. let o = In-map-cases (λ (b : BlobView). b.name) n bs h in subst (λ m. digest_cmp b.name m ≡ Less) (sym o.1.1) (up.0 o.0 o.1.0)),
-        mapped bs up.1,
-      )
+  pub wrong-names-ascend : are_in_order blobs ≡ true → ascends digest_cmp (wrong_names blobs) ≡ true
+  wrong-names-ascend up = ascends-map digest_cmp (λ (b : BlobView). b.name) (filter is_wrong blobs) ∙ ascends-filter blob_cmp is_wrong blobs up
 
   module _ (views : List (ParcelView (List (List ℕ)))) (plain : IsPlain (blob_kids blobs) (blob_out blobs) blob_root views) where
     wrong-from_seen : (name : List ℕ) → In name (flat_map (λ (v : ParcelView (List (List ℕ))). v.seen) views) → In name (wrong_names blobs)
@@ -189,5 +164,5 @@ module _ (blobs : List BlobView) where
         → ((name : List ℕ) → In name (flat_map (λ (v : ParcelView (List (List ℕ))). v.seen) views) → In name names)
         → names ≡ wrong_names blobs
     names-are names up rises f g =
-        ordered_same nat_list_cmp_total names (wrong_names blobs) rises (names-rise up)
+        ordered_same nat_list_cmp_total names (wrong_names blobs) rises (Rises-ascends digest_cmp (wrong_names blobs) (wrong-names-ascend up))
         (λ n h. wrong-from_seen n (f n h)) (λ n h. g n (seen-from_wrong n h))

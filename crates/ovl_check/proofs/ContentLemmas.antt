@@ -16,6 +16,7 @@ use Rattle.ovl_check.specs.Conditions.{find_blob, has_blob, holds}
 use Rattle.ovl_check.specs.Findings.{finding, any_code, findings_at, findings_in, data_findings_from, findings_from}
 use Rattle.ovl_check.specs.Contents.{content_of, contents_of, find_content, has_content, holds_of_contents, findings_of_contents_at, findings_of_contents_in, data_findings_of_contents_from, findings_of_contents_from, TellsOfNamed, TellsOfLayers}
 use Rattle.ovl_check.specs.Laws.{FindingsNeedContents, FindingsNeedNamed}
+use Rattle.ovl_check.proofs.ListFacts.{find-map}
 
 -- ---- lists
 
@@ -36,13 +37,7 @@ not-not true = refl
 not-not false = refl
 
 pub find-content : (name : List ℕ) (blobs : List BlobView) → find_content (contents_of blobs) name ≡ option_map content_of (find_blob blobs name)
-find-content name [] = refl
-find-content name (blob ∷ blobs) = by (bytes_eq blob.name name) (find-content name blobs)
-  where
-    by : (b : Bool) → find_content (contents_of blobs) name ≡ option_map content_of (find_blob blobs name)
-        → cond b (Some (content_of blob)) (find_content (contents_of blobs) name) ≡ option_map content_of (cond b (Some blob) (find_blob blobs name))
-    by true later = refl
-    by false later = later
+find-content name blobs = find-map content_of (λ (content : Content). bytes_eq content.name name) blobs
 
 none-told : (found : Option BlobView) → is_none found ≡ is_none (option_map content_of found)
 none-told None = refl

@@ -1,5 +1,5 @@
 -- The facts of a directory and of what it holds, by what is gathered of it.
-use Rattle.std.proofs.Common.{◌≡◌, ◌⊎◌, inl, inr, Bool, true, false, cond, Option, Some, None, [], ◌∷◌, ◌++◌, length, drop, refl, sym, ap, ◌∙◌}
+use Rattle.std.proofs.Common.{◌≡◌, ℕ, ◌⊎◌, inl, inr, Bool, true, false, cond, Option, Some, None, List, [], ◌∷◌, ◌++◌, length, drop, refl, sym, ap, ◌∙◌}
 use Rattle.std.specs.Prelude.{◌||◌, ◌↔◌, IsTrue, not, codes}
 use Rattle.std.specs.Option.{option_map}
 use Rattle.std.proofs.Math.Seq.{drop-append_seam}
@@ -7,6 +7,8 @@ use Rattle.std.proofs.lemmas.Bool.{false_from_ne_true}
 use Rattle.ovl_names.specs.Names.{PathName}
 use Rattle.ovl_names.specs.Paths.{PathNames, child_path, parent_path, is_root}
 use Rattle.ovl_inode.specs.declared.inodes.Inode.{Inode}
+use Rattle.ovl_inode.specs.declared.inodes.Kind.{Kind}
+use Rattle.ovl_inode.specs.declared.inodes.Kind.TheVariants.{Dir, File}
 use Rattle.ovl_inode.specs.declared.marks.Mark.{Mark}
 use Rattle.ovl_inode.specs.declared.marks.Mark.TheVariants.{Whiteout as WhiteoutMark, DirMoved, DirPlain, Meta}
 use Rattle.ovl_inode.specs.declared.marks.Redirect.{Redirect}
@@ -24,10 +26,14 @@ use Rattle.ovl_lookup.proofs.LawsOfWalks.{walk-whole, walk-stop}
 use Rattle.ovl_lookup.proofs.LawsOfPaths.{parent_path-child}
 use Rattle.ovl_lookup.proofs.LawsOfInodes.{metacopy-file, bare_file}
 use Rattle.ovl_lookup.proofs.LawsOfFound.{data_of-metacopy}
+use Rattle.ovl_check.specs.declared.contents.Content.{Content}
 use Rattle.ovl_check.specs.declared.directories.Directory.{Directory}
 use Rattle.ovl_check.specs.declared.facts.KindFacts.TheVariants.{WhiteoutInOpaque, Whiteout, Moved, Metacopy, Other}
+use Rattle.ovl_check.specs.declared.facts.NamedBlob.{NamedBlob}
+use Rattle.ovl_check.specs.declared.facts.NamedBlob.TheVariants.{Unnamed}
 use Rattle.ovl_check.specs.Conditions.{is_opaque, is_in_opaque, is_in_marked}
-use Rattle.ovl_check.specs.Facts.{IsGathered, old_place, data_size, data_size_on, whiteout_in, whiteout_at, kind_at, is_whiteout_mark}
+use Rattle.ovl_check.specs.Contents.{find_content}
+use Rattle.ovl_check.specs.Facts.{IsGathered, old_place, data_size, data_size_on, whiteout_in, whiteout_at, kind_at, blob_found, blob_named, is_whiteout_mark}
 use Rattle.ovl_check.proofs.MarkLemmas.{is_directory_mark, directory-stays, whiteout-marked, directory-marked}
 
 -- the mark of what lies in a directory is that of its inode
@@ -100,6 +106,15 @@ module _ (layer : Entries) (directory : Directory) (is : IsGathered layer direct
       by WhiteoutMark e d = let bad : false ≡ true = d in cc
       by (Meta redirect) e d = let bad : false ≡ true = d in cc
       by _ e d = refl
+
+  -- it names no blob
+  pub directory-unnamed : (contents : List Content) → Unnamed ≡ blob_named contents inode
+  directory-unnamed contents = by inode.kind is.kind
+    where
+      by : (kind : Kind) → elim kind as (λ _. Bool) [ Dir ↦ true | _ ↦ false ] ≡ true
+          → Unnamed ≡ (elim (elim kind as (λ _. Option (List ℕ)) [ File size blob ↦ blob | _ ↦ None ]) as (λ _. NamedBlob) [ Some own ↦ blob_found (find_content contents own) | None ↦ Unnamed ])
+      by Dir e = refl
+      by _ e = let bad : false ≡ true = e in cc
 
 -- ---- what it holds
 

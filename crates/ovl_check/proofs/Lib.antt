@@ -3,7 +3,7 @@ mod Plain
 mod Moves
 mod BlobLemmas
 mod BlobRanges
-mod StartLemmas
+mod NamedLemmas
 mod DataLemmas
 mod FindLemmas
 mod LayerFacts
@@ -20,7 +20,6 @@ mod FinishLemmas
 mod OrderLemmas
 mod SoundLemmas
 mod ContentLemmas
-mod ContentOrder
 mod StatedLemmas
 pub mod WalkLists
 mod Digests

@@ -61,12 +61,17 @@ module _ (all findings : Findings) (lists rest : List (Vec Finding Global)) (las
       subst (λ (l : Findings). IsPermutation all (new ++ l)) (append-nil (all_left rest))
       (moved-some new [] (same refl (append-nil new ∙ added) (IsPermutation-append_right findings last.items turned is)))
 
--- one more directory is opened
-pub opened : (before all findings : Findings) (lists more : List (Vec Finding Global)) (found : Findings) (last : Vec Finding Global) → IsPermutation (before ++ all) (findings ++ all_left lists) → IsPermutation found last.items → more ≡ lists ++ last ∷ []
-    → IsPermutation (before ++ (all ++ found)) (findings ++ all_left more)
-opened before all findings lists more found last is turned parts =
-    let split = left-last lists more last parts in
-    same (sym (append_assoc before all found)) (ap (λ (l : Findings). findings ++ l) split ∙ sym (append_assoc findings (all_left lists) last.items))
-    (IsPermutation-trans ((before ++ all) ++ found) ((findings ++ all_left lists) ++ found) ((findings ++ all_left lists) ++ last.items)
-    (IsPermutation-append_left found (before ++ all) (findings ++ all_left lists) is)
-    (IsPermutation-append_right (findings ++ all_left lists) found last.items turned))
+-- what is found in one more directory is opened ...
+pub opened : (findings : Findings) (lists more : List (Vec Finding Global)) (found : Findings) (last : Vec Finding Global) → IsPermutation found last.items → more ≡ lists ++ last ∷ [] → IsPermutation ((findings ++ all_left lists) ++ found) (findings ++ all_left more)
+opened findings lists more found last turned parts =
+    same refl (ap (λ (l : Findings). findings ++ l) (left-last lists more last parts) ∙ sym (append_assoc findings (all_left lists) last.items))
+    (IsPermutation-append_right (findings ++ all_left lists) found last.items turned)
+
+-- ... or added
+pub added : (findings left found new : Findings) → new ≡ findings ++ found → IsPermutation ((findings ++ left) ++ found) (new ++ left)
+added findings left found new is = same (append_assoc findings left found) (ap (λ (l : Findings). l ++ left) is) (swapped findings left found)
+
+pub one-more : (before all middle found new : Findings) → IsPermutation (before ++ all) middle → IsPermutation (middle ++ found) new → IsPermutation (before ++ (all ++ found)) new
+one-more before all middle found new is moved =
+    same (sym (append_assoc before all found)) refl
+    (IsPermutation-trans ((before ++ all) ++ found) (middle ++ found) new (IsPermutation-append_left found (before ++ all) middle is) moved)

@@ -1,5 +1,5 @@
--- Entries of which nothing can be told.
-use Rattle.std.proofs.Common.{◌≡◌, ◌∙◌, ℕ, Bool, true, false, cond, List, [], ◌∷◌, ◌++◌, map, length, refl, sym, ap, append-nil, arith, eqb-true}
+-- Entries of which little can be told.
+use Rattle.std.proofs.Common.{◌≡◌, ◌∙◌, ℕ, Bool, true, false, cond, List, [], ◌∷◌, length, refl, ap, arith, eqb-true}
 use Rattle.std.specs.Prelude.{◌&&◌, ◌==◌, not, codes, filter, Some}
 use Rattle.std.proofs.Math.Bool.{and-false}
 use Rattle.ovl_inode.specs.declared.inodes.Inode.{Inode}
@@ -16,8 +16,8 @@ use Rattle.ovl_check.specs.declared.facts.KindFacts.TheVariants.{Other}
 use Rattle.ovl_check.specs.declared.facts.NamedBlob.{NamedBlob}
 use Rattle.ovl_check.specs.declared.facts.NamedBlob.TheVariants.{Unnamed, Missing, Found}
 use Rattle.ovl_check.specs.declared.facts.Facts.{Facts}
-use Rattle.ovl_check.specs.Codes.{all_codes}
-use Rattle.ovl_check.specs.Facts.{tells, is_lost, is_of_wrong_kind, is_open, lacks_data, has_data_of_other_size, is_missing, is_of_other_length, is_wrong, is_orphan, is_in_opaque, is_unmarked, mark_says_nothing, is_quiet_mark, is_other, is_right, is_silent}
+use Rattle.ovl_check.specs.Codes.{all_codes, blob_codes, is_blob_fault}
+use Rattle.ovl_check.specs.Facts.{tells, is_lost, is_of_wrong_kind, is_open, lacks_data, has_data_of_other_size, is_missing, is_of_other_length, is_wrong, is_orphan, is_in_opaque, is_unmarked, mark_says_nothing, is_quiet_mark, is_other, is_right, is_bare}
 
 both : {a b : Bool} → (a && b) ≡ true → (a ≡ true) × (b ≡ true)
 both {a = true} e = (refl, e)
@@ -55,15 +55,24 @@ right-bytes Unnamed size e = refl
 right-bytes Missing size e = refl
 right-bytes (Found long wrong) size e = is-false wrong (both {a = long == size} {b = not wrong} e).1
 
+-- a test that only those pass that pass another
+filter-only : {X : Type 0} (test own : X → Bool) (xs : List X) → ((x : X) → own x ≡ false → test x ≡ false) → filter test xs ≡ filter test (filter own xs)
+filter-only test own [] none = refl
+filter-only {X} test own (x ∷ xs) none = by (own x) refl (filter-only test own xs none)
+  where
+    by : (b : Bool) → own x ≡ b → filter test xs ≡ filter test (filter own xs) → cond (test x) (x ∷ filter test xs) (filter test xs) ≡ filter test (cond b (x ∷ filter own xs) (filter own xs))
+    by true e later = ap (λ rest. cond (test x) (x ∷ rest) rest) later
+    by false e later = ap (λ b. cond b (x ∷ filter test xs) (filter test xs)) (none x e) ∙ later
+
 nothing-ignored : (root : Bool) (inode : Inode) (mark : Mark) → inode.attrs ≡ [] → mark_says_nothing root inode mark ≡ false
 nothing-ignored root inode mark bare = rw bare refl
 
-module _ (facts : Facts) (silent : is_silent facts ≡ true) where
+module _ (facts : Facts) (bare : is_bare facts ≡ true) where
   abbrev inode : Inode
   inode = facts.inode.now
 
-  abbrev bare : Bool
-  bare = length inode.attrs == 0
+  abbrev without : Bool
+  without = length inode.attrs == 0
 
   abbrev quiet : Bool
   quiet = is_quiet_mark facts.mark.now
@@ -71,50 +80,52 @@ module _ (facts : Facts) (silent : is_silent facts ≡ true) where
   abbrev plain : Bool
   plain = is_other facts.kind
 
-  abbrev right : Bool
-  right = is_right facts.blob (size_of inode)
+  three : (((without && quiet) && plain) ≡ true) × (not facts.holds_origin ≡ true)
+  three = both {a = (without && quiet) && plain} {b = not facts.holds_origin} bare
 
-  four : ((((bare && quiet) && plain) && right) ≡ true) × (not facts.holds_origin ≡ true)
-  four = both {a = ((bare && quiet) && plain) && right} {b = not facts.holds_origin} silent
+  two : ((without && quiet) ≡ true) × (plain ≡ true)
+  two = both {a = without && quiet} {b = plain} three.0
 
-  three : (((bare && quiet) && plain) ≡ true) × (right ≡ true)
-  three = both {a = (bare && quiet) && plain} {b = right} four.0
-
-  two : ((bare && quiet) ≡ true) × (plain ≡ true)
-  two = both {a = bare && quiet} {b = plain} three.0
-
-  one : (bare ≡ true) × (quiet ≡ true)
-  one = both {a = bare} {b = quiet} two.0
+  one : (without ≡ true) × (quiet ≡ true)
+  one = both {a = without} {b = quiet} two.0
 
   kind : facts.kind ≡ Other
   kind = other-kind facts.kind two.1
 
-  nothing-told : (code : Code) → tells facts code ≡ false
-  nothing-told RedirectForm = quiet-mark facts.mark.now one.1
-  nothing-told RedirectLost = ap is_lost kind
-  nothing-told RedirectKind = ap is_of_wrong_kind kind
-  nothing-told RedirectDouble = refl
-  nothing-told RedirectOpen = ap is_open kind
-  nothing-told DataMissing = ap lacks_data kind
-  nothing-told DataSize = ap (λ k. has_data_of_other_size k (size_of inode)) kind
-  nothing-told BlobMissing = right-there facts.blob (size_of inode) three.1
-  nothing-told BlobSize = right-length facts.blob (size_of inode) three.1
-  nothing-told BlobDigest = right-bytes facts.blob (size_of inode) three.1
-  nothing-told OrphanWhiteout = ap is_orphan kind
-  nothing-told WhiteoutInOpaque = ap is_in_opaque kind
-  nothing-told WhiteoutUnmarked = ap (λ k. is_unmarked k inode) kind ∙ and-false (is_regular inode)
-  nothing-told ImpureMissing =
-      ap (λ b. (is_directory inode && not (attribute_is inode impure_name (codes "y"))) && b) (is-false facts.holds_origin four.1)
+  other-untold : (code : Code) → is_blob_fault code ≡ false → tells facts code ≡ false
+  other-untold RedirectForm e = quiet-mark facts.mark.now one.1
+  other-untold RedirectLost e = ap is_lost kind
+  other-untold RedirectKind e = ap is_of_wrong_kind kind
+  other-untold RedirectDouble e = refl
+  other-untold RedirectOpen e = ap is_open kind
+  other-untold DataMissing e = ap lacks_data kind
+  other-untold DataSize e = ap (λ k. has_data_of_other_size k (size_of inode)) kind
+  other-untold BlobMissing e = let bad : true ≡ false = e in cc
+  other-untold BlobSize e = let bad : true ≡ false = e in cc
+  other-untold BlobDigest e = let bad : true ≡ false = e in cc
+  other-untold OrphanWhiteout e = ap is_orphan kind
+  other-untold WhiteoutInOpaque e = ap is_in_opaque kind
+  other-untold WhiteoutUnmarked e = ap (λ k. is_unmarked k inode) kind ∙ and-false (is_regular inode)
+  other-untold ImpureMissing e =
+      ap (λ b. (is_directory inode && not (attribute_is inode impure_name (codes "y"))) && b) (is-false facts.holds_origin three.1)
       ∙ and-false (is_directory inode && not (attribute_is inode impure_name (codes "y")))
-  nothing-told MarkIgnored = nothing-ignored facts.is_root inode facts.mark.now (empty inode.attrs one.0)
+  other-untold MarkIgnored e = nothing-ignored facts.is_root inode facts.mark.now (empty inode.attrs one.0)
 
-filter-none : {X : Type 0} (test : X → Bool) (xs : List X) → ((x : X) → test x ≡ false) → filter test xs ≡ []
-filter-none test [] none = refl
-filter-none test (x ∷ xs) none = ap (λ b. cond b (x ∷ filter test xs) (filter test xs)) (none x) ∙ filter-none test xs none
+  module _ (sought : Code → Bool) where
+    abbrev Told : Code → Bool
+    Told code = sought code && tells facts code
 
--- a silent entry adds nothing
-pub nothing-added : {Y : Type 0} (f : Code → Y) (sought : Code → Bool) (facts : Facts) (found : List Y) → is_silent facts ≡ true
-    → found ≡ found ++ map f (filter (λ code. sought code && tells facts code) all_codes)
-nothing-added f sought facts found silent =
-    sym (ap (λ codes. found ++ map f codes) (filter-none (λ code. sought code && tells facts code) all_codes (λ code. ap (λ b. sought code && b) (nothing-told facts silent code) ∙ and-false (sought code)))
-    ∙ append-nil found)
+    untold : (code : Code) → tells facts code ≡ false → (sought code && tells facts code) ≡ false
+    untold code e = ap (λ b. sought code && b) e ∙ and-false (sought code)
+
+    -- the codes on blobs are all that can be told
+    pub blob_codes-enough : filter (λ code. sought code && tells facts code) all_codes ≡ filter (λ code. sought code && tells facts code) blob_codes
+    blob_codes-enough = filter-only Told is_blob_fault all_codes (λ code e. untold code (other-untold code e))
+
+    -- nor are they where the blob is right
+    pub nothing-told : is_right facts.blob (size_of inode) ≡ true → filter (λ code. sought code && tells facts code) all_codes ≡ []
+    nothing-told right =
+        blob_codes-enough
+        ∙ (ap (λ b. cond b (BlobMissing ∷ filter Told (BlobSize ∷ BlobDigest ∷ [])) (filter Told (BlobSize ∷ BlobDigest ∷ []))) (untold BlobMissing (right-there facts.blob (size_of inode) right))
+        ∙ (ap (λ b. cond b (BlobSize ∷ filter Told (BlobDigest ∷ [])) (filter Told (BlobDigest ∷ []))) (untold BlobSize (right-length facts.blob (size_of inode) right))
+        ∙ ap (λ b. cond b (BlobDigest ∷ []) []) (untold BlobDigest (right-bytes facts.blob (size_of inode) right))))

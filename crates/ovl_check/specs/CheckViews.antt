@@ -10,8 +10,8 @@ use Rattle.ovl_check.specs.Checks.{CheckView}
 
 -- the contents of blobs that are held, or that are told
 abbrev pub told_contents : ToldBlobs → List Content
-told_contents (Held held) = contents_of (blob_views held.blobs.now)
-told_contents (Told told) = told.contents.now
+told_contents (Held held) = contents_of (blob_views held.blobs.elements.now)
+told_contents (Told told) = told.elements.now
 
 abbrev pub check_view : CheckWork → CheckView
 check_view work = record { stack = work.stack.now; contents = told_contents work.told }

@@ -10,6 +10,10 @@ all_codes =
     ∷ BlobMissing ∷ BlobSize ∷ BlobDigest
     ∷ OrphanWhiteout ∷ WhiteoutInOpaque ∷ WhiteoutUnmarked ∷ ImpureMissing ∷ MarkIgnored ∷ []
 
+-- those on blobs
+abbrev pub blob_codes : List Code
+blob_codes = BlobMissing ∷ BlobSize ∷ BlobDigest ∷ []
+
 -- a fault of a layer speaks of a redirect, or of a metacopy file's data
 abbrev pub is_layer_fault : Code → Bool
 is_layer_fault RedirectForm = true

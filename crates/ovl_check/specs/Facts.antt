@@ -254,7 +254,7 @@ tells facts WhiteoutUnmarked = is_unmarked facts.kind facts.inode.now
 tells facts ImpureMissing = impure_is_missing facts.inode.now facts.holds_origin
 tells facts MarkIgnored = mark_says_nothing facts.is_root facts.inode.now facts.mark.now
 
--- ---- an entry of which nothing can be told
+-- ---- an entry of which little can be told
 
 -- a mark that entries without attributes have
 abbrev pub is_quiet_mark : Mark → Bool
@@ -272,8 +272,7 @@ is_right Unnamed size = true
 is_right Missing size = false
 is_right (Found long wrong) size = long == size && not wrong
 
--- it has no attributes, and its blob is right
-abbrev pub is_silent : Facts → Bool
-is_silent facts =
-    length facts.inode.now.attrs == 0 && is_quiet_mark facts.mark.now && is_other facts.kind
-    && is_right facts.blob (size_of facts.inode.now) && not facts.holds_origin
+-- it has no attributes, and its kind and what it holds ask nothing
+abbrev pub is_bare : Facts → Bool
+is_bare facts =
+    length facts.inode.now.attrs == 0 && is_quiet_mark facts.mark.now && is_other facts.kind && not facts.holds_origin

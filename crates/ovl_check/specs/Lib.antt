@@ -2,7 +2,7 @@ pub mod Blobs
 pub mod Codes
 pub mod Conditions
 pub mod Contents
-pub mod Starts
+pub mod Named
 pub mod Stated
 pub mod Told
 pub mod Findings

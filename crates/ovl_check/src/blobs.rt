@@ -1,10 +1,11 @@
-ghost use Rattle.std.specs.Prelude.{◌≡◌, IfOk, true, map, slice_index};
+ghost use Rattle.std.specs.Prelude.{◌≡◌, IfOk, true, map};
 ghost use Rattle.std.specs.List.{flat_map};
 ghost use Rattle.ovl_names.specs.Names.{name_eq};
 ghost use Rattle.ovl_board.specs.declared.pieces.Piece.{Piece};
 ghost use Rattle.ovl_board.specs.Parcels.{IsPlain, parcel_views};
 ghost use Rattle.ovl_check.specs.Blobs.{blob_view, blob_views, first_digits as the_digits, is_wrong as wrong_test, are_in_order, AreNamedByDigests, wrong_names, wrong_names_under as the_names_under, digits_of_names as the_digits_of_names, digits_piece, blob_kids, blob_out, blob_root};
 
+use crate::named::{in_order, start_in};
 use ovl_board::{Parcel, Piece, Work};
 use ovl_inode::Digest;
 use ovl_names::{Name, Path};
@@ -29,12 +30,7 @@ pub struct Blob {
 pub fn blobs_in_order(blobs: &[Blob]) -> bool
     ensures { result ≡ are_in_order (blob_views blobs.now) }
 {
-    for i in 1..blobs.len() {
-        if !blobs[i - 1].name.cmp(&blobs[i].name).is_lt() {
-            return false;
-        }
-    }
-    true
+    in_order(blobs)
 }
 
 /// The digests of blobs as work, in the space [`BLOB_SPACE`]. The root has a kid for each two hexadecimal digits with
@@ -210,17 +206,10 @@ fn blobs_under<'a>(blobs: &'a [Blob], digits: &str) -> &'a [Blob]
     if hex::decode_to_slice(digits, &mut byte).is_err() {
         return &blobs[..0];
     }
-    let first = byte[0];
-    let start = blobs.partition_point(|blob| first_byte(blob) < first);
-    let later = &blobs[start..];
-    let end = later.partition_point(|blob| first_byte(blob) <= first);
-    &later[..end]
-}
-
-fn first_byte(blob: &Blob) -> u8
-    ensures { result ≡ slice_index blob.now.name 0 }
-{
-    blob.name.as_bytes()[0]
+    let first = usize::from(byte[0]);
+    let start = start_in(blobs, first);
+    let end = start_in(blobs, first + 1);
+    &blobs[start..end]
 }
 
 fn first_digits(name: &Digest) -> [u8; 2]

@@ -15,12 +15,12 @@ ghost use Rattle.ovl_check.specs.Facts.{IsGathered, IsBelow, IsBelowOf, IsMarked
 use crate::blobs::Blob;
 use crate::contents::Content;
 use crate::directories::{Child, Directory, directory_at, kids_of};
-use crate::facts::{CODES, Facts};
+use crate::facts::{BLOB_CODES, CODES, Facts};
 use crate::findings::{Code, Finding};
 use crate::gathering::{facts_of_child, facts_of_directory};
 use crate::marks::is_moved;
-use crate::sources::{HeldBlobs, ToldContents};
-use crate::starts::{starts_of_blobs, starts_of_contents};
+use crate::named::ByName;
+use crate::sources::HeldBlobs;
 use crate::subjects::{CheckOut, CheckWork, ToldBlobs};
 use ovl_board::{Piece, Work};
 use ovl_inode::{Digest, Mark, is_directory};
@@ -40,9 +40,8 @@ impl<'a> CheckWork<'a> {
         CheckWork {
             stack,
             told: ToldBlobs::Held(HeldBlobs {
-                blobs,
+                blobs: ByName::of(blobs),
                 wrong,
-                starts: starts_of_blobs(blobs),
             }),
         }
     }
@@ -54,10 +53,7 @@ impl<'a> CheckWork<'a> {
     {
         CheckWork {
             stack,
-            told: ToldBlobs::Told(ToldContents {
-                contents,
-                starts: starts_of_contents(contents),
-            }),
+            told: ToldBlobs::Told(ByName::of(contents)),
         }
     }
 }
@@ -203,7 +199,7 @@ fn push_directory(
 {
     let facts = facts_of_directory(alloc, work, usize::from(layer), directory)?;
     let place = EntryPlace::At(directory.path);
-    push_codes(alloc, work.stack, layer, place, &facts, findings)
+    push_codes(alloc, work.stack, layer, place, facts, findings)
 }
 
 // Adds what is found at those entries of a directory that are none themselves.
@@ -248,7 +244,7 @@ fn push_file(
     }
     let facts = facts_of_child(alloc, work, usize::from(layer), directory, child)?;
     let place = EntryPlace::In(directory.path, child.name);
-    push_codes(alloc, work.stack, layer, place, &facts, findings)
+    push_codes(alloc, work.stack, layer, place, facts, findings)
 }
 
 // Adds a finding of each code that the facts of an entry tell.
@@ -257,16 +253,34 @@ fn push_codes(
     stack: &Stack,
     layer: u16,
     place: EntryPlace<'_>,
-    facts: &Facts<'_>,
+    facts: Facts<'_>,
     findings: &mut Vec<Finding>,
 ) -> Result<(), AllocError>
-    ensures { OnOk result (findings.new.items ≡ findings.old.items ++ map (finding layer (entry_path place.entry)) (filter (λ code. sought_in stack.now layer code && tells facts.now code) all_codes)) }
+    ensures { OnOk result (findings.new.items ≡ findings.old.items ++ map (finding layer (entry_path place.entry)) (filter (λ code. sought_in stack.now layer code && tells facts.entry code) all_codes)) }
 {
-    if facts.is_silent() {
+    if !facts.is_bare() {
+        return push_told(alloc, stack, layer, place, facts, &CODES, findings);
+    }
+    if facts.has_right_blob() {
         return Ok(());
     }
-    for code in &CODES {
-        let told = is_told(stack, layer, facts, *code);
+    push_told(alloc, stack, layer, place, facts, &BLOB_CODES, findings)
+}
+
+// Adds a finding of each of these codes that the facts of an entry tell.
+fn push_told(
+    alloc: Global,
+    stack: &Stack,
+    layer: u16,
+    place: EntryPlace<'_>,
+    facts: Facts<'_>,
+    codes: &[Code],
+    findings: &mut Vec<Finding>,
+) -> Result<(), AllocError>
+    ensures { OnOk result (findings.new.items ≡ findings.old.items ++ map (finding layer (entry_path place.entry)) (filter (λ code. sought_in stack.now layer code && tells facts.entry code) codes.now)) }
+{
+    for code in codes {
+        let told = is_told(stack, layer, &facts, *code);
         push_if(alloc, layer, place, *code, told, findings)?;
     }
     Ok(())

@@ -1,5 +1,6 @@
 ghost use Rattle.std.specs.Prelude.{◌≡◌};
-ghost use Rattle.ovl_check.specs.Facts.{tells as the_tells, is_lost as lost_test, is_of_wrong_kind as wrong_kind_test, is_open as open_test, lacks_data as no_data_test, has_data_of_other_size as data_size_test, is_missing as missing_test, is_of_other_length as length_test, is_wrong as wrong_test, is_orphan as orphan_test, is_in_opaque as in_opaque_test, is_unmarked as unmarked_test, impure_is_missing as the_impure, is_right as right_test, is_other as other_test, is_silent as silent_test};
+ghost use Rattle.ovl_check.specs.Facts.{tells as the_tells, is_lost as lost_test, is_of_wrong_kind as wrong_kind_test, is_open as open_test, lacks_data as no_data_test, has_data_of_other_size as data_size_test, is_missing as missing_test, is_of_other_length as length_test, is_wrong as wrong_test, is_orphan as orphan_test, is_in_opaque as in_opaque_test, is_unmarked as unmarked_test, impure_is_missing as the_impure, is_right as right_test, is_other as other_test, is_bare as bare_test};
+ghost use Rattle.ovl_inode.specs.Kinds.{size_of};
 
 use crate::findings::Code;
 use crate::marks::{attribute_is, is_malformed, is_quiet, mark_is_ignored};
@@ -23,6 +24,9 @@ pub(crate) const CODES: [Code; 15] = [
     Code::ImpureMissing,
     Code::MarkIgnored,
 ];
+
+/// Those on blobs.
+pub(crate) const BLOB_CODES: [Code; 3] = [Code::BlobMissing, Code::BlobSize, Code::BlobDigest];
 
 // What the layers below show at a place.
 #[derive(Clone, Copy, Debug)]
@@ -81,15 +85,21 @@ pub(crate) struct Facts<'a> {
 }
 
 impl<'a> Facts<'a> {
-    // Whether it is clear that no code is told: of an entry without attributes whose blob, if it names one, is right.
-    pub(crate) fn is_silent(&self) -> bool
-        ensures { result ≡ silent_test self.now }
+    // Whether no code can be told but those on blobs: of an entry without attributes of which its kind asks nothing.
+    pub(crate) fn is_bare(&self) -> bool
+        ensures { result ≡ bare_test self.now }
     {
         self.inode.attrs.pairs().is_empty()
             && is_quiet(self.mark)
             && is_other(&self.kind)
-            && is_right(&self.blob, file_size(self.inode))
             && !self.holds_origin
+    }
+
+    // Whether no code on blobs is told.
+    pub(crate) fn has_right_blob(&self) -> bool
+        ensures { result ≡ right_test self.now.blob (size_of self.now.inode.now) }
+    {
+        is_right(&self.blob, file_size(self.inode))
     }
 
     // Whether the condition of a code other than redirect-double holds.

@@ -61,16 +61,32 @@ fn push_outputs(
 {
     let mut open = Vec::new(alloc);
     for parcel in parcels {
-        let Parcel { piece, out, .. } = parcel;
+        let Parcel { piece, kids, out } = parcel;
         push_before(&mut open, &piece.dir, findings)?;
-        let mut found = out.findings;
-        found.reverse();
-        open.push(found)?;
+        push_found(out.findings, kids.is_empty(), &mut open, findings)?;
     }
     while let Some(mut left) = open.pop() {
         left.reverse();
         findings.append(&mut left)?;
     }
+    Ok(())
+}
+
+// Adds what is found in a directory without kids at once, and opens another one.
+fn push_found(
+    mut found: Vec<Finding>,
+    is_last: bool,
+    opened: &mut Vec<Vec<Finding>>,
+    findings: &mut Vec<Finding>,
+) -> Result<(), AllocError>
+    ensures { OnOk result (IsPermutation ((findings.old.items ++ all_left opened.old.items) ++ found.items) (findings.new.items ++ all_left opened.new.items)) }
+{
+    if is_last {
+        findings.append(&mut found)?;
+        return Ok(());
+    }
+    found.reverse();
+    opened.push(found)?;
     Ok(())
 }
 

@@ -13,7 +13,7 @@ ghost use Rattle.ovl_check.specs.Facts.{IsGathered, IsBelow, IsMarked, AreFacts,
 
 use crate::below::{data_size_in, show_in};
 use crate::directories::{Child, Directory, hold_origin};
-use crate::facts::{Facts, KindFacts, OldPlace, ThingShown};
+use crate::facts::{Facts, KindFacts, NamedBlob, OldPlace, ThingShown};
 use crate::places::{data_size_below, is_plain_at, look_below, step_of};
 use crate::subjects::CheckWork;
 use ovl_inode::{Inode, Mark, Redirect};
@@ -47,7 +47,7 @@ pub(crate) fn facts_of_directory<'a>(
         inode: directory.inode,
         mark: directory.mark,
         kind,
-        blob: work.told.named(directory.inode),
+        blob: NamedBlob::Unnamed,
         holds_origin: hold_origin(&directory.children),
     })
 }

@@ -2,10 +2,11 @@ ghost use Rattle.std.specs.Prelude.{◌≡◌};
 ghost use Rattle.ovl_check.specs.CheckViews.{told_contents};
 ghost use Rattle.ovl_check.specs.Facts.{blob_named as the_blob_named};
 
-use crate::contents::{blob_named, content_named};
+use crate::contents::{Content, blob_named, content_named};
 use crate::facts::NamedBlob;
 use crate::findings::Finding;
-use crate::sources::{HeldBlobs, ToldContents};
+use crate::named::ByName;
+use crate::sources::HeldBlobs;
 use ovl_inode::Inode;
 use ovl_lookup::{Stack, Trail};
 
@@ -33,7 +34,7 @@ pub struct CheckWork<'a> {
 #[derive(Drop)]
 pub(crate) enum ToldBlobs<'a> {
     Held(HeldBlobs<'a>),
-    Told(ToldContents<'a>),
+    Told(ByName<'a, Content>),
 }
 
 impl ToldBlobs<'_> {
@@ -42,8 +43,8 @@ impl ToldBlobs<'_> {
         ensures { result ≡ the_blob_named (told_contents self.now) inode.now }
     {
         match self {
-            ToldBlobs::Held(held) => blob_named(held.blobs, &held.starts, held.wrong, inode),
-            ToldBlobs::Told(told) => content_named(told.contents, &told.starts, inode),
+            ToldBlobs::Held(held) => blob_named(held, inode),
+            ToldBlobs::Told(told) => content_named(told, inode),
         }
     }
 }

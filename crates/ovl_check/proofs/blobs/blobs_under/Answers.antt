@@ -1,12 +1,23 @@
-use Rattle.std.proofs.Common.{◌≡◌, ◌-◌, ◌∙◌, rules, true, false, length, take, drop, sym, ap, subst, length-drop}
-use Rattle.std.specs.Prelude.{slice_index, nat_lt, nat_le}
-use Rattle.std.specs.List.Sorted.{IsPartitionedBy, IsPartitionPoint}
-use Rattle.std.proofs.Math.Seq.{take-length}
-use Rattle.std.proofs.lemmas.Fn.{always_returns_same}
-use Rattle.std.proofs.lemmas.List.Sorted.{IsPartitionedBy-ltb, IsPartitionedBy-leb}
-use Rattle.ovl_check.specs.Blobs.{blob_views, wrong_names_under}
-use Rattle.ovl_check.proofs.BlobRanges.{first_of, firsts-rise, firsts-rise_later, none-under, range-under}
+use Rattle.std.proofs.Common.{◌∙◌, arith, sym}
+use Rattle.ovl_check.specs.declared.blobs.Blob.{Blob}
+use Rattle.ovl_check.proofs.BlobLemmas.{views-ascend}
+use Rattle.ovl_check.proofs.BlobRanges.{none-under, range-under}
+use Rattle.ovl_check.proofs.NamedLemmas.{part-bounds}
 use Rattle.ovl_check.proofs.blobs.blobs_under.Goals as goal
+
+pub start_in-start-requires : goal.start_in-start-requires
+start_in-start-requires c = sym (views-ascend c.args.blobs.now) ∙ c.requires.in_order
+
+pub start_in-end-requires : goal.start_in-end-requires
+start_in-end-requires c = sym (views-ascend c.args.blobs.now) ∙ c.requires.in_order
+
+pub slice_bounds-result-count : goal.slice_bounds-result-count
+slice_bounds-result-count c = (part-bounds (λ (blob : Blob). blob.name) c.args.blobs.now c.from-first.result c.start_in-start.result c.start_in-end.result c.start_in-start.ensures c.start_in-end.ensures).0
+
+pub slice_bounds-result-start : goal.slice_bounds-result-start
+slice_bounds-result-start c =
+    let bounds = part-bounds (λ (blob : Blob). blob.name) c.args.blobs.now c.from-first.result c.start_in-start.result c.start_in-end.result c.start_in-start.ensures c.start_in-end.ensures in
+    omega (arith, bounds.0, bounds.1)
 
 pub returns-then-is_err : goal.returns-then-is_err
 returns-then-is_err c =
@@ -15,15 +26,5 @@ returns-then-is_err c =
 
 pub returns : goal.returns
 returns c =
-    let blobs = c.args.blobs.now in
-    let byte = slice_index c.decode_to_slice.new.out 0 in
-    let start = c.partition_point-start.result in
-    let end = c.partition_point-end.result in
-    let whole : take (length blobs - start) (drop start blobs) ≡ drop start blobs = ap (λ n. take n (drop start blobs)) (sym (length-drop start blobs)) ∙ take-length (drop start blobs) in
-    let below = c.partition_point-start.ensures.partitioned (λ blob. nat_lt (first_of blob) byte) (always_returns_same _ _ _ (λ a r f' k. let m = k.met in search rules)) (IsPartitionedBy-ltb first_of blobs byte (firsts-rise blobs c.requires.in_order)) in
-    let upto = c.partition_point-end.ensures.partitioned (λ blob. nat_le (first_of blob) byte) (always_returns_same _ _ _ (λ a r f' k. let m = k.met in search rules))
-    (subst (IsPartitionedBy (λ blob. nat_le (first_of blob) byte)) (sym whole) (IsPartitionedBy-leb first_of (drop start blobs) byte (firsts-rise_later blobs start c.requires.in_order))) in
-    subst (λ later. wrong_names_under c.args.digits.now (blob_views (take end later)) ≡ wrong_names_under c.args.digits.now (blob_views blobs)) (sym whole)
-    (range-under c.args.digits.now blobs c.requires.digests c.decode_to_slice.result c.decode_to_slice.new.out
-    c.decode_to_slice.ensures.value (sym c.is_err.ensures.value ∙ c.if-is_err.false) start end below
-    (subst (λ later. IsPartitionPoint (λ blob. nat_le (first_of blob) byte ≡ true) (λ blob. nat_le (first_of blob) byte ≡ false) later end) whole upto))
+    range-under c.args.digits.now c.args.blobs.now c.requires.digests c.decode_to_slice.result c.decode_to_slice.new.out c.decode_to_slice.ensures.value
+    (sym c.is_err.ensures.value ∙ c.if-is_err.false) c.from-first.result c.start_in-start.result c.start_in-end.result c.from-first.ensures c.start_in-start.ensures c.start_in-end.ensures

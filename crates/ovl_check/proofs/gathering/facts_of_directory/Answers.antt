@@ -4,8 +4,9 @@ use Rattle.ovl_inode.specs.Attributes.{origin_name}
 use Rattle.ovl_inode.specs.Marks.{has_attribute}
 use Rattle.ovl_check.specs.declared.facts.KindFacts.TheVariants.{Moved}
 use Rattle.ovl_check.specs.Checks.{layer_at, layers_below}
+use Rattle.ovl_check.specs.CheckViews.{check_view}
 use Rattle.ovl_check.proofs.HeldLemmas.{origin-children}
-use Rattle.ovl_check.proofs.GatherLemmas.{root-told, directory-whiteout, directory-moved, directory-other}
+use Rattle.ovl_check.proofs.GatherLemmas.{root-told, directory-whiteout, directory-moved, directory-other, directory-unnamed}
 use Rattle.ovl_check.proofs.gathering.facts_of_directory.Goals as goal
 use Rattle.ovl_check.proofs.gathering.facts_of_directory.Goals.{in-DirMoved+in_ok-old_place-in-DirMoved, in_default}
 
@@ -25,7 +26,7 @@ returns c =
           | in-DirMoved+in_ok-old_place-in-DirMoved w ↦ w.kind-is ∙ (ap (λ place. Moved place) w.in_ok-old_place-in-DirMoved.ensures ∙ directory-moved layer directory gathered (layers_below stack c.args.i) w.in-DirMoved.field-0 w.in-DirMoved.is)
           | in_default w ↦ w.kind-is ∙ directory-other layer directory gathered (layers_below stack c.args.i) w.in_default.not-DirMoved
         ];
-        blob = c.named.ensures;
+        blob = directory-unnamed layer directory gathered (check_view c.args.work.now).contents;
         origin = c.hold_origin.ensures ∙ (ap (list_any (λ child. has_attribute child.inode.now origin_name)) c.deref.ensures.value ∙ origin-children layer directory.path.now directory.children.items gathered.children);
       },
     )

@@ -1,8 +1,0 @@
-use Rattle.std.proofs.Common.{◌≡◌, ℕ, ◌<◌, length, slice_index}
-use Rattle.ovl_check.specs.declared.blobs.Blob.{Blob}
-use Rattle.ovl_check.specs.Starts.{IsStart}
-use Rattle.ovl_check.proofs.starts.starts_of_blobs.Given as goal
-
-abbrev pub invariant-loop-byte : goal.invariant-loop-byte
-invariant-loop-byte l =
-    ((k : ℕ) → k < l.byte → IsStart (λ (blob : Blob). blob.name) l.blobs k (slice_index l.starts k)) × (length l.starts ≡ 257)
