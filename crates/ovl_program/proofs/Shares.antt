@@ -13,6 +13,11 @@ one_more xs size read next share is =
     let longer : length (read ++ next ∷ []) ≡ suc (length read) = omega (arith, length-append read (next ∷ [])) in
     ap (λ n. take (n * size) xs) longer ∙ (share_here xs size (length read) ∙ ap (λ part. take (length read * size) xs ++ part) (sym is))
 
+-- the same of something that each of the list has
+pub one_more_of : {X Y Z : Type 0} (f : X → Z) (xs : List X) (size : ℕ) (read : List Y) (next : Y) (share : List X) → share ≡ slice_chunk xs size (length read)
+    → map f (take (length (read ++ next ∷ []) * size) xs) ≡ map f (take (length read * size) xs) ++ map f share
+one_more_of f xs size read next share is = ap (map f) (one_more xs size read next share is) ∙ map-append f (take (length read * size) xs) share
+
 module _ {X : Type 0} (path_of : X → List ℕ) where
   parts : (n : ℕ) (xs : List X) → map path_of (take n xs) ++ map path_of (drop n xs) ≡ map path_of xs
   parts n xs = sym (map-append path_of (take n xs) (drop n xs)) ∙ ap (map path_of) (take-append-drop n xs)

@@ -1,5 +1,5 @@
 ghost use Rattle.std.specs.Prelude.{◌≡◌, ◌≢◌, ◌≤◌, ◌+◌, true, Ok, None, IfOk, IfErr, IfSome, string_bytes, vec_len, map, All};
-ghost use Rattle.std.specs.BTreeSet.{IsOrdered};
+ghost use Rattle.std.specs.BTreeMap.{IsOrdered, keys};
 ghost use Rattle.std.specs.Fs.{dir_entry_name};
 ghost use Rattle.std.specs.Thread.{IsSync};
 ghost use Rattle.ovl_inode.specs.Hexadecimal.{digest_of_text};
@@ -16,7 +16,7 @@ use crate::files::reads::{INPUT_LIMIT, ReadFault};
 use ovl_engine::{BLOB_LIMIT, Blob};
 use ovl_inode::Digest;
 use std::alloc::{AllocError, Global};
-use std::collections::BTreeSet;
+use std::collections::BTreeMap;
 use std::fs;
 use std::fs::DirEntry;
 use std::rt::Files;
@@ -48,30 +48,31 @@ pub fn read_blobs<R: Files + SharedFiles + AllocGlobal + Clone + Drop + Threads 
     } else {
         workers
     };
-    let names = in_order(alloc, listing.names)?;
-    let held = blobs_of(rt, alloc, folder, &names, threads)?;
+    let files = in_order(alloc, listing.lengths)?;
+    let held = blobs_of(rt, alloc, folder, &files, threads)?;
     Ok(held.into_blobs())
 }
 
-// The blobs of these names in a folder, in their order, read by at most so many threads, each a share of them.
+// The blobs of these files of a folder, in their order, read by at most so many threads, each a share of them.
 fn blobs_of<R: SharedFiles + Threads + Sync>(
     rt: &R,
     alloc: Global,
     folder: &str,
-    names: &[Digest],
+    files: &[BlobFile],
     threads: usize,
 ) -> Result<HeldBlobs, ProgramFault>
-    ensures same { IfOk result (λ held. map (λ blob. blob.name) held.blobs.items ≡ names.now) }
+    ensures same { IfOk result (λ held. map (λ blob. blob.name) held.blobs.items ≡ map (λ file. file.name) files.now) }
     ensures fault { IfErr result (λ fault. IsUnread (IsInFolder folder.now) fault) }
 {
-    let size = share_of(names.len(), threads);
-    let read = |_first: usize, share: &[Digest]| -> Result<HeldBlobs, ProgramFault>
+    let size = share_of(files.len(), threads);
+    let read = |_first: usize, share: &[BlobFile]| -> Result<HeldBlobs, ProgramFault>
         requires { IsSync R.row }
-        ensures same { IfOk result (λ held. map (λ blob. blob.name) held.blobs.items ≡ share.entry.now) }
+        ensures same { IfOk result (λ held.
+            map (λ blob. blob.name) held.blobs.items ≡ map (λ file. file.name) share.entry.now) }
         ensures fault { IfErr result (λ fault. IsUnread (IsInFolder folder.entry.now) fault) }
     { read_share(rt, alloc, folder, share) };
     let mut held = HeldBlobs::new(alloc);
-    for read in map_chunks(rt, alloc, names, size, &read)? {
+    for read in map_chunks(rt, alloc, files, size, &read)? {
         held.append(read?)?;
     }
     Ok(held)
@@ -82,35 +83,35 @@ fn read_share<R: SharedFiles>(
     rt: &R,
     alloc: Global,
     folder: &str,
-    names: &[Digest],
+    files: &[BlobFile],
 ) -> Result<HeldBlobs, ProgramFault>
-    ensures same { IfOk result (λ held. map (λ blob. blob.name) held.blobs.items ≡ names.now) }
+    ensures same { IfOk result (λ held. map (λ blob. blob.name) held.blobs.items ≡ map (λ file. file.name) files.now) }
     ensures fault { IfErr result (λ fault. IsUnread (IsInFolder folder.now) fault) }
 {
     let mut held = HeldBlobs::new(alloc);
-    for name in names {
-        let path = blob_path(alloc, folder, name)?;
-        held.push(*name, rt.read_shared(path.as_str())?)?;
+    for file in files {
+        let path = blob_path(alloc, folder, &file.name)?;
+        held.push(file.name, rt.read_shared(path.as_str(), Some(file.length))?)?;
     }
     Ok(held)
 }
 
-// The names of blobs, ascending.
-fn in_order(alloc: Global, names: BTreeSet<Digest>) -> Result<Vec<Digest>, AllocError>
-    ensures same { IfOk result (λ listed. listed.items ≡ names.keys) }
-    ensures ordered { IsOrdered digest_cmp names }
+// The files of blobs, ascending by name.
+fn in_order(alloc: Global, lengths: BTreeMap<Digest, u64>) -> Result<Vec<BlobFile>, AllocError>
+    ensures same { IfOk result (λ files. map (λ file. file.name) files.items ≡ keys lengths) }
+    ensures ordered { IsOrdered digest_cmp lengths }
 {
-    let mut listed = Vec::with_capacity(alloc, names.len())?;
-    for name in names {
-        listed.push(name)?;
+    let mut files = Vec::with_capacity(alloc, lengths.len())?;
+    for (name, length) in lengths {
+        files.push(BlobFile { name, length })?;
     }
-    Ok(listed)
+    Ok(files)
 }
 
-// The names of the blobs of a folder, and how many bytes they are said to have together.
+// The length that is told of each blob of a folder, under its name, and how many bytes they come to.
 #[derive(Drop)]
 struct Listing {
-    names: BTreeSet<Digest>,
+    lengths: BTreeMap<Digest, u64>,
     bytes: u64,
 }
 
@@ -119,18 +120,18 @@ fn list_blobs<R: Files + AllocGlobal + Clone + Drop>(
     rt: &R,
     folder: &str,
 ) -> Result<Listing, ReadFault>
-    ensures each { IfOk result (λ listing. All IsNamedBy listing.names.keys) }
+    ensures each { IfOk result (λ listing. All IsNamedBy (keys listing.lengths)) }
     ensures fault { IfErr result (λ fault. fault ≢ TooLong) }
 {
-    let mut names = BTreeSet::new(rt.alloc());
+    let mut lengths = BTreeMap::new(rt.alloc());
     let mut bytes: u64 = 0;
     for entry in fs::read_dir(rt, folder)? {
         if let Some(file) = blob_file(&entry?)? {
-            names.insert(file.name)?;
+            lengths.insert(file.name, file.length)?;
             bytes = bytes.saturating_add(file.length);
         }
     }
-    Ok(Listing { names, bytes })
+    Ok(Listing { lengths, bytes })
 }
 
 // A regular file whose name is a digest, and the length that is told of it.

@@ -19,26 +19,46 @@ pub fn read_file<R: Files + AllocGlobal>(rt: &R, path: &str) -> Result<Vec<u8>, 
         (λ bytes. vec_len bytes ≤ INPUT_LIMIT)
         (λ fault. IsUnread (λ told. told ≡ path.now) fault) }
 {
-    match read_bytes(rt, path) {
+    read_hinted(rt, path, None)
+}
+
+// The same. Where its length is expected already, the open file isn't asked for it.
+fn read_hinted<R: Files + AllocGlobal>(
+    rt: &R,
+    path: &str,
+    expected: Option<u64>,
+) -> Result<Vec<u8>, ProgramFault>
+    ensures { MatchResult result
+        (λ bytes. vec_len bytes ≤ INPUT_LIMIT)
+        (λ fault. IsUnread (λ told. told ≡ path.now) fault) }
+{
+    match read_bytes(rt, path, expected) {
         Ok(bytes) => Ok(bytes),
         Err(fault) => Err(ProgramFault::unread(rt.alloc(), path, fault)),
     }
 }
 
 // The same, with a fault that doesn't name the file.
-fn read_bytes<R: Files + AllocGlobal>(rt: &R, path: &str) -> Result<Vec<u8>, ReadFault>
+fn read_bytes<R: Files + AllocGlobal>(
+    rt: &R,
+    path: &str,
+    expected: Option<u64>,
+) -> Result<Vec<u8>, ReadFault>
     ensures { IfOk result (λ bytes. vec_len bytes ≤ INPUT_LIMIT) }
 {
     let mut file = fs::open(rt, path)?;
     // A length that isn't told, or is wrong, as 0 is in /proc, changes only how room is made.
-    let expected = file.metadata().map_or(0, |metadata| metadata.len());
+    let expected = match expected {
+        Some(length) => length,
+        None => file.metadata().map_or(0, |metadata| metadata.len()),
+    };
     read_expected(rt.alloc(), &mut file, INPUT_LIMIT, expected)
 }
 
 /// A runtime whose files several threads may read: a bound by `Files` holds of one thread alone.
 pub trait SharedFiles {
-    /// What [`read_file`] gives.
-    fn read_shared(&self, path: &str) -> Result<Vec<u8>, ProgramFault>
+    /// What [`read_file`] gives. The length that is expected, if one is, changes only how room is made.
+    fn read_shared(&self, path: &str, expected: Option<u64>) -> Result<Vec<u8>, ProgramFault>
         ensures { MatchResult result
             (λ bytes. vec_len bytes ≤ INPUT_LIMIT)
             (λ fault. IsUnread (λ told. told ≡ path.now) fault) };
@@ -49,8 +69,8 @@ pub trait SharedFiles {
 }
 
 impl SharedFiles for HostRuntime {
-    fn read_shared(&self, path: &str) -> Result<Vec<u8>, ProgramFault> {
-        read_file(self, path)
+    fn read_shared(&self, path: &str, expected: Option<u64>) -> Result<Vec<u8>, ProgramFault> {
+        read_hinted(self, path, expected)
     }
 
     fn tell_shared(&self, path: &str, name: Digest) -> Result<Option<Content>, ReadFault> {
@@ -126,7 +146,7 @@ fn read_share<R: SharedFiles>(
 {
     let mut files = Vec::new(alloc);
     for path in paths {
-        files.push(rt.read_shared(path.as_str())?)?;
+        files.push(rt.read_shared(path.as_str(), None)?)?;
     }
     Ok(files)
 }
