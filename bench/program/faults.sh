@@ -349,7 +349,7 @@ each open k.json '5 12 13 24' refuses 3 'cannot read k.json' fsck --blobs blobs 
 each open "/$abc" '5 12 13 24' refuses 3 "cannot read blobs/$abc" fsck --blobs blobs k.json
 each open blobs/ '5 12 13 24' refuses 3 'cannot read blobs' fsck --blobs blobs k.json
 each list blobs/ '4 5 12' refuses 3 'cannot read blobs' fsck --blobs blobs k.json
-# (A blob is looked at once, in the listing, which tells what it is and its length. Without the length of a layer it goes.)
+# (A blob is looked at once, in the listing: what it is, and its length. A layer whose length isn't told is read all the same.)
 each stat "/$abc" '4 5 12' refuses 3 'cannot read blobs' fsck --blobs blobs k.json
 each stat k.json '4 5 12' prints 0 "$clean" fsck --blobs blobs root.json k.json
 most=100
