@@ -13,17 +13,9 @@ use std::fs::{self, OpenFile};
 use std::rt::Files;
 use std::thread::{Threads, map_chunks};
 
-/// The bytes of a file, at most [`INPUT_LIMIT`]. Links are followed. A folder can't be read.
-pub fn read_file<R: Files + AllocGlobal>(rt: &R, path: &str) -> Result<Vec<u8>, ProgramFault>
-    ensures { MatchResult result
-        (λ bytes. vec_len bytes ≤ INPUT_LIMIT)
-        (λ fault. IsUnread (λ told. told ≡ path.now) fault) }
-{
-    read_hinted(rt, path, None)
-}
-
-// The same. Where its length is expected already, the open file isn't asked for it.
-fn read_hinted<R: Files + AllocGlobal>(
+/// The bytes of a file, at most [`INPUT_LIMIT`]. Links are followed. A folder can't be read. Room is made for the length
+/// that is expected, and where none is, for the one that the open file tells; there may be fewer bytes or more.
+pub fn read_file<R: Files + AllocGlobal>(
     rt: &R,
     path: &str,
     expected: Option<u64>,
@@ -57,7 +49,7 @@ fn read_bytes<R: Files + AllocGlobal>(
 
 /// A runtime whose files several threads may read: a bound by `Files` holds of one thread alone.
 pub trait SharedFiles {
-    /// What [`read_file`] gives. The length that is expected, if one is, changes only how room is made.
+    /// What [`read_file`] gives.
     fn read_shared(&self, path: &str, expected: Option<u64>) -> Result<Vec<u8>, ProgramFault>
         ensures { MatchResult result
             (λ bytes. vec_len bytes ≤ INPUT_LIMIT)
@@ -70,7 +62,7 @@ pub trait SharedFiles {
 
 impl SharedFiles for HostRuntime {
     fn read_shared(&self, path: &str, expected: Option<u64>) -> Result<Vec<u8>, ProgramFault> {
-        read_hinted(self, path, expected)
+        read_file(self, path, expected)
     }
 
     fn tell_shared(&self, path: &str, name: Digest) -> Result<Option<Content>, ReadFault> {
