@@ -13,7 +13,6 @@ use Rattle.ovl_names.specs.Order.{ascends}
 use Rattle.ovl_inode.specs.declared.inodes.Inode.{Inode}
 use Rattle.ovl_manifest.specs.Layers.{Entries, IsLayer, entry_at, names_below}
 use Rattle.ovl_lookup.specs.declared.steps.Step.{Step}
-use Rattle.ovl_lookup.specs.Stacks.{StackView}
 use Rattle.ovl_lookup.specs.Walk.{walk, nothing_found}
 use Rattle.ovl_lookup.specs.Passes.{own_names_along, put_names}
 use Rattle.ovl_lookup.proofs.LawsOfWalks.{walk-child_end, passes-over}
@@ -27,8 +26,8 @@ use Rattle.ovl_merge.specs.declared.directories.Directory.{Directory}
 use Rattle.ovl_merge.specs.Places.{Merge, two_layers, lower_path, first_hit, shows_own_directory, shows_at, natural, base}
 use Rattle.ovl_merge.specs.MergeDown.{merged_entry, merged_entry_of, new_whiteout}
 use Rattle.ovl_merge.specs.Directories.{named_inode, base_names, entries_in}
-use Rattle.ovl_merge.specs.Stands.{IsStand, StandsAt, IsRowAt, onward_on, step_onward}
-use Rattle.ovl_merge.specs.Reckoned.{IsBelow, onward_at}
+use Rattle.ovl_merge.specs.Stands.{StandsAt, IsRowAt, onward_on, step_onward}
+use Rattle.ovl_merge.specs.Reckoned.{IsBelow, onward_at, upper_onward}
 use Rattle.ovl_merge.specs.Candidates.{Rowed, AreCandidates, AreMerged, AreRowsOf, IsCandidate, candidate_told, candidates_told, hidden_names, names_of, row_at, row_on, unrowed}
 use Rattle.ovl_merge.proofs.Firsts.{first_hit-steps, first_step}
 use Rattle.ovl_merge.proofs.NameLists.{put-none, put-unentered}
@@ -139,13 +138,13 @@ module _ (m : Merge) (upper : IsLayer m.upper) (lower : IsLayer m.lower) (dir : 
 -- ---- the names that are hidden
 
 module _ (m : Merge) (directory : Directory) where
-  pub hidden-entries : IsLayer m.upper → IsLayer m.lower → IsStand m.upper directory.path directory.upper → directory.upper.next ≡ step_onward (walk m.upper directory.path) → IsBelow m.lower directory.upper.next directory.lower
+  pub hidden-entries : IsLayer m.upper → IsLayer m.lower → StandsAt m.upper directory.path directory.upper (upper_onward m directory.path) → IsBelow m.lower (upper_onward m directory.path) directory.lower
       → filter_map (named_inode m directory.path) (put_names (put_names [] (own_names_along (two_layers m).layers directory.path)) (hidden_names m directory)) ≡ entries_in m directory.path
-  hidden-entries upper lower here goes below = by (is_some (onward_at directory.lower)) refl
+  hidden-entries upper lower here below = by (is_some (onward_at directory.lower)) refl
     where
       by : (b : Bool) → is_some (onward_at directory.lower) ≡ b
           → filter_map (named_inode m directory.path) (put_names (put_names [] (own_names_along (two_layers m).layers directory.path)) (cond b [] (base_names m.rest (base m directory.path)))) ≡ entries_in m directory.path
-      by true e = open-entries m upper lower directory.path directory.upper.row directory.upper.next here goes directory.lower below e
+      by true e = open-entries m upper lower directory.path directory.upper (upper_onward m directory.path) here refl directory.lower below e
       by false e = refl
 
   pub hidden-ascend : ascends name_cmp (hidden_names m directory) ≡ true
@@ -162,10 +161,10 @@ module _ (m : Merge) (directory : Directory) where
   -- ---- names with their rows
 
   -- those of the upper layer alone
-  pub upper-candidates : IsLayer m.upper → directory.upper.next ≡ step_onward (walk m.upper directory.path) → directory.upper.next ≡ None → (names : Rowed) → AreRowsOf Upper m.upper directory.path names
+  pub upper-candidates : IsLayer m.upper → upper_onward m directory.path ≡ None → (names : Rowed) → AreRowsOf Upper m.upper directory.path names
       → AreCandidates m directory (put_names [] (own_names_along (two_layers m).layers directory.path)) names
-  upper-candidates upper goes none names are = record {
-    all = are.below ∙ (sym (put-none (names_below m.upper directory.path) (kid-names-ascend m.upper directory.path upper.in_order)) ∙ own-names m directory.path None (sym none ∙ goes));
+  upper-candidates upper none names are = record {
+    all = are.below ∙ (sym (put-none (names_below m.upper directory.path) (kid-names-ascend m.upper directory.path upper.in_order)) ∙ own-names m directory.path None (sym none));
     rows = λ name. record {
       upper = are.own name;
       lower = subst (λ (o : Option PathNames). IfSome o (λ below. IsRowAt m.lower (child_path below name) (row_at Lower name names))) (sym none) tt;
@@ -173,14 +172,14 @@ module _ (m : Merge) (directory : Directory) where
   }
 
   -- and of the lower one
-  pub both-candidates : IsLayer m.upper → directory.upper.next ≡ step_onward (walk m.upper directory.path) → (place : PathNames) → directory.upper.next ≡ Some place → (one other both : Rowed) → AreRowsOf Upper m.upper directory.path one → AreRowsOf Lower m.lower place other → AreMerged one other both
+  pub both-candidates : IsLayer m.upper → (place : PathNames) → upper_onward m directory.path ≡ Some place → (one other both : Rowed) → AreRowsOf Upper m.upper directory.path one → AreRowsOf Lower m.lower place other → AreMerged one other both
       → AreCandidates m directory (put_names [] (own_names_along (two_layers m).layers directory.path)) both
-  both-candidates upper goes place on one other both above beneath are = record {
+  both-candidates upper place on one other both above beneath are = record {
     all =
         are.names
         ∙ ((λ j. put_names (above.below j) (beneath.below j))
         ∙ (ap (λ (own : List PathName). put_names own (names_below m.lower place)) (sym (put-none (names_below m.upper directory.path) (kid-names-ascend m.upper directory.path upper.in_order)))
-        ∙ own-names m directory.path (Some place) (sym on ∙ goes)));
+        ∙ own-names m directory.path (Some place) (sym on)));
     rows = λ name. record {
       upper = subst (IsRowAt m.upper (child_path directory.path name)) (sym (are.rows Upper name ∙ or-nothing (row_at Upper name one) (row_at Upper name other) (beneath.other name))) (above.own name);
       lower =
@@ -195,7 +194,7 @@ module _ (m : Merge) (directory : Directory) where
     all = are.names ∙ (λ j. put_names (is.all j) (names-unrowed hidden j));
     rows = λ name. record {
       upper = subst (IsRowAt m.upper (child_path directory.path name)) (sym (kept Upper name)) (is.rows name).upper;
-      lower = subst (λ (row : Option ℕ). IfSome directory.upper.next (λ below. IsRowAt m.lower (child_path below name) row)) (sym (kept Lower name)) (is.rows name).lower;
+      lower = subst (λ (row : Option ℕ). IfSome (upper_onward m directory.path) (λ below. IsRowAt m.lower (child_path below name) row)) (sym (kept Lower name)) (is.rows name).lower;
     };
   }
     where
@@ -214,7 +213,7 @@ module _ (m : Merge) (directory : Directory) where
           let rows = is.rows candidate.name.now in
           let one : IsCandidate m directory candidate = record {
             upper = subst (IsRowAt m.upper (child_path directory.path candidate.name.now)) above rows.upper;
-            lower = subst (λ (row : Option ℕ). IfSome directory.upper.next (λ below. IsRowAt m.lower (child_path below candidate.name.now) row)) beneath rows.lower;
+            lower = subst (λ (row : Option ℕ). IfSome (upper_onward m directory.path) (λ below. IsRowAt m.lower (child_path below candidate.name.now) row)) beneath rows.lower;
           } in
           (one, by left all.1)
 

@@ -7,7 +7,7 @@ use Rattle.std.specs.Option.{option_and_then}
 use Rattle.std.specs.Cmp.Lexicographic.{bytes_decides}
 use Rattle.std.proofs.lemmas.List.{length-map, map-append, take_more}
 use Rattle.ovl_names.specs.Names.{PathName, name_eq}
-use Rattle.ovl_names.specs.Paths.{PathNames, child_path, parent_path}
+use Rattle.ovl_names.specs.Paths.{PathNames, child_path}
 use Rattle.ovl_names.proofs.Ascending.{both}
 use Rattle.ovl_manifest.specs.Layers.{Entries, IsLayer, has_parent, is_directory_at, name_below, names_below}
 use Rattle.ovl_manifest.specs.Sheets.{last_name, path_at}

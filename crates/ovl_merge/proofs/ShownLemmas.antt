@@ -14,7 +14,7 @@ use Rattle.ovl_merge.specs.declared.stands.Stand.{Stand}
 use Rattle.ovl_merge.specs.declared.directories.Directory.{Directory}
 use Rattle.ovl_merge.specs.Places.{Merge, merge_of, lower_path, rest_path, first_hit, passes, shows_own_directory, is_open, is_nothing_or, is_shown_regular, reach, reach_of, natural, base, gets_opaque, shows_directory_at}
 use Rattle.ovl_merge.specs.Stands.{IsStand, StandsAt, onward_on, step_onward}
-use Rattle.ovl_merge.specs.Reckoned.{IsBelow, IsVisited, is_inside_at, onward_at, reach_from}
+use Rattle.ovl_merge.specs.Reckoned.{IsBelow, IsVisited, is_inside_at, onward_at, reach_from, upper_onward}
 use Rattle.ovl_merge.proofs.Firsts.{first_step, first_hit-steps}
 use Rattle.ovl_merge.proofs.Core.{root-shown, base-none}
 use Rattle.ovl_merge.proofs.StandLemmas.{inside-found, stand-found}
@@ -173,11 +173,5 @@ base-unreached m upper lower (name ∷ names) shown none =
 
 -- ---- by what is kept of a directory
 
-module _ (stack : StackView) (dir : PathNames) (directory : Directory) (is : IsVisited stack dir directory) where
-  pub visited-onward : directory.upper.next ≡ step_onward (walk (merge_of stack).upper dir)
-  visited-onward =
-      lower-by (merge_of stack) dir directory.upper.row directory.upper.next is.upper directory.lower is.lower
-      (sym (shown-by (merge_of stack) dir directory.upper.row directory.upper.next is.upper directory.lower is.lower) ∙ is.shown)
-
-  pub visited-reach : reach (merge_of stack) dir ≡ reach_from (merge_of stack).rest (onward_at directory.lower)
-  visited-reach = reach-below (merge_of stack) dir directory.upper.row directory.upper.next is.upper directory.lower is.lower is.shown
+pub visited-reach : (stack : StackView) (dir : PathNames) (directory : Directory) → IsVisited stack dir directory → reach (merge_of stack) dir ≡ reach_from (merge_of stack).rest (onward_at directory.lower)
+visited-reach stack dir directory is = reach-below (merge_of stack) dir directory.upper (upper_onward (merge_of stack) dir) is.upper directory.lower is.lower is.shown

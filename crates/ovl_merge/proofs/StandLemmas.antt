@@ -39,12 +39,12 @@ lower-sheet stack several layer at =
 
 -- ---- a stand
 
+pub over-row : (layer : Entries) (path : PathNames) (row : Option ℕ) (next : Option PathNames) → StandsAt layer path row next → IfSome row (λ r. r < length layer)
+over-row layer path None next is = tt
+over-row layer path (Some row) next is = is.inside
+
 pub over-stand : (layer : Entries) (path : PathNames) (stand : Stand) → IsStand layer path stand → IsOver layer stand
-over-stand layer path stand is = by stand.row is
-  where
-    by : (row : Option ℕ) → StandsAt layer path row stand.next → IfSome row (λ r. r < length layer)
-    by None is = tt
-    by (Some row) is = is.inside
+over-stand layer path stand is = over-row layer path stand.row stand.next is
 
 pub below-over : (layer : Entries) (onward : Option PathNames) (stand : Stand) → IsBelow layer onward (Some stand) → IsOver layer stand
 below-over layer None stand below = absurd below
@@ -54,6 +54,16 @@ below-over layer (Some path) stand below = over-stand layer path stand below
 pub below-place : (layer : Entries) (onward : Option PathNames) (stand : Stand) → IsBelow layer onward (Some stand) → (place : PathNames) × (onward ≡ Some place) × IsStand layer place stand
 below-place layer None stand below = absurd below
 below-place layer (Some place) stand below = (place, refl, below)
+
+-- where it goes on by a name
+pub below-none : (layer : Entries) (onward : Option PathNames) → IsBelow layer onward None → (name : PathName) → name_on onward name ≡ None
+below-none layer onward none name = ap (λ (o : Option PathNames). name_on o name) none
+
+pub below-entered : (layer : Entries) (onward : Option PathNames) (stand : Stand) → IsBelow layer onward (Some stand) → (name : PathName) (entered : Stand)
+    → (sheet : Entries) → layer ≡ sheet → ((path : PathNames) → IsStand sheet path stand → IsStand sheet (child_path path name) entered) → IsBelow layer (name_on onward name) (Some entered)
+below-entered layer None stand below name entered sheet same enters = absurd below
+below-entered layer (Some path) stand below name entered sheet same enters =
+    subst (λ (s : Entries). IsStand s (child_path path name) entered) (sym same) (enters path (subst (λ (s : Entries). IsStand s path stand) same below))
 
 passes-same : (found : Option Inode) → directory_found found ≡ passes is_directory found
 passes-same None = refl

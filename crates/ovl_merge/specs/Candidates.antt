@@ -14,7 +14,7 @@ use Rattle.ovl_merge.specs.declared.directories.Directory.{Directory}
 use Rattle.ovl_merge.specs.Places.{Merge, base}
 use Rattle.ovl_merge.specs.Directories.{base_names, entries_in, named_inode}
 use Rattle.ovl_merge.specs.Stands.{IsRowAt}
-use Rattle.ovl_merge.specs.Reckoned.{onward_at}
+use Rattle.ovl_merge.specs.Reckoned.{onward_at, upper_onward}
 
 -- the names in a directory's base, where the two layers may hide what is shown there
 abbrev pub hidden_names : Merge → Directory → List PathName
@@ -82,7 +82,7 @@ pub record AreRowsOf (side : Side) (layer : Entries) (path : PathNames) (names :
 -- the rows that the two layers have by a name in a directory
 pub record AreRowsBy (m : Merge) (directory : Directory) (name : PathName) (rows : Rows) : Type 0 where
   pub upper : IsRowAt m.upper (child_path directory.path name) rows.0
-  pub lower : IfSome directory.upper.next (λ below. IsRowAt m.lower (child_path below name) rows.1)
+  pub lower : IfSome (upper_onward m directory.path) (λ below. IsRowAt m.lower (child_path below name) rows.1)
 
 abbrev pub IsCandidate : Merge → Directory → Candidate → Type 0
 IsCandidate m directory candidate = AreRowsBy m directory candidate.name.now (candidate.upper, candidate.lower)

@@ -3,18 +3,17 @@ use Rattle.std.specs.Prelude.{◌≡◌, Bool, true, false, Option, Some, None, 
 use Rattle.ovl_names.specs.Names.{PathName}
 use Rattle.ovl_names.specs.Paths.{PathNames, child_path, path_eq}
 use Rattle.ovl_manifest.specs.Layers.{Entries}
-use Rattle.ovl_lookup.specs.declared.views.DirView.{DirView}
 use Rattle.ovl_lookup.specs.Stacks.{StackView}
 use Rattle.ovl_lookup.specs.DirViews.{IsViewOf}
 use Rattle.ovl_lookup.specs.Merged.{shows_directory}
+use Rattle.ovl_lookup.specs.Walk.{walk}
 use Rattle.ovl_merge.specs.declared.stands.Stand.{Stand}
-use Rattle.ovl_merge.specs.declared.stands.Entered.{Entered}
 use Rattle.ovl_merge.specs.declared.bases.Base.{Base}
 use Rattle.ovl_merge.specs.declared.bases.Base.TheVariants.{Reached, Apart}
 use Rattle.ovl_merge.specs.declared.directories.Directory.{Directory}
 use Rattle.ovl_merge.specs.declared.directories.Stands.{Stands}
 use Rattle.ovl_merge.specs.Places.{Merge, merge_of, shows_own_directory, shows_directory_at, reach, base, last_name}
-use Rattle.ovl_merge.specs.Stands.{IsStand, IsBesideAfter}
+use Rattle.ovl_merge.specs.Stands.{IsStand, StandsAt, step_onward}
 
 -- the name by which a path lies directly in a directory, if there is one
 abbrev pub name_directly_in : Option PathNames → PathNames → Option PathName
@@ -29,6 +28,10 @@ reach_from rest (Some place) = if shows_directory rest place then Some place els
 
 -- ---- in the lower layer, by the upper one
 
+-- where the walk of a path goes on from the upper one
+abbrev pub upper_onward : Merge → PathNames → Option PathNames
+upper_onward m path = step_onward (walk m.upper path)
+
 -- where the walk stands, where that of the upper layer goes on
 abbrev pub IsBelow : Entries → Option PathNames → Option Stand → Type 0
 IsBelow layer onward below = MatchOption below (onward ≡ None) (λ stand. IsSomeAnd onward (λ path. IsStand layer path stand))
@@ -41,12 +44,6 @@ is_inside_at (Some stand) = is_some stand.row
 abbrev pub onward_at : Option Stand → Option PathNames
 onward_at None = None
 onward_at (Some stand) = stand.next
-
--- where it stood in the directory above, from which that of the upper layer has gone on
-pub record IsBelowNear (layer : Entries) (lower : Option Stand) (upper : Entered) : Type 0 where
-  pub before : Option PathNames
-  pub below : IsBelow layer before lower
-  pub beside : IsBesideAfter before upper
 
 -- ---- in the rest
 
@@ -62,10 +59,11 @@ IsBase stack dir Apart = (reach (merge_of stack) dir ≡ None) × (shows_directo
 
 -- ---- both
 
--- where the walks of a path stand
+-- where the walks of a path stand, that of the lower layer where that of the upper one goes on
 pub record AreStands (m : Merge) (path : PathNames) (stands : Stands) : Type 0 where
-  pub upper : IsStand m.upper path stands.upper
-  pub lower : IsBelow m.lower stands.upper.next stands.lower
+  pub next : Option PathNames
+  pub upper : StandsAt m.upper path stands.upper next
+  pub lower : IsBelow m.lower next stands.lower
 
 -- the path with the names that are left is the whole, and the walks stand there
 pub record AreOnWay (m : Merge) (whole left : PathNames) (stands : Stands) : Type 0 where
@@ -77,6 +75,6 @@ pub record AreOnWay (m : Merge) (whole left : PathNames) (stands : Stands) : Typ
 pub record IsVisited (stack : StackView) (dir : PathNames) (directory : Directory) : Type 0 where
   pub path : directory.path ≡ dir
   pub shown : shows_own_directory (merge_of stack) dir ≡ true
-  pub upper : IsStand (merge_of stack).upper dir directory.upper
-  pub lower : IsBelow (merge_of stack).lower directory.upper.next directory.lower
+  pub upper : StandsAt (merge_of stack).upper dir directory.upper (upper_onward (merge_of stack) dir)
+  pub lower : IsBelow (merge_of stack).lower (upper_onward (merge_of stack) dir) directory.lower
   pub base : IsBase stack dir directory.base

@@ -13,7 +13,6 @@ use Rattle.ovl_manifest.specs.Sheets.{path_at}
 use Rattle.ovl_lookup.specs.declared.steps.Step.{Step}
 use Rattle.ovl_lookup.specs.Walk.{walk}
 use Rattle.ovl_merge.specs.declared.stands.Stand.{Stand}
-use Rattle.ovl_merge.specs.declared.stands.Entered.{Entered}
 use Rattle.ovl_merge.specs.declared.stands.Passing.{Passing}
 use Rattle.ovl_merge.specs.declared.stands.Onward.{Onward}
 use Rattle.ovl_merge.specs.declared.stands.Onward.TheVariants.{Beside, At, Nowhere}
@@ -85,10 +84,6 @@ pub record IsOnWay (layer : Entries) (whole left : PathNames) (stand : Stand) : 
   pub above : PathNames
   pub there : above ++ left ≡ whole
   pub stands : IsStand layer above stand
-
--- by a name that is kept the layer below goes on in the directory as which it knows the one above
-abbrev pub IsBesideAfter : Option PathNames → Entered → Type 0
-IsBesideAfter before entered = IfSome entered.beside (λ name. entered.stand.next ≡ name_on before name.now)
 
 -- ---- how the walk of a name in it ends
 

@@ -1,16 +1,15 @@
-ghost use Rattle.std.specs.Prelude.{◌≡◌, ◌<◌, [], true, length, IfOk};
+ghost use Rattle.std.specs.Prelude.{◌≡◌, ◌<◌, [], Option, true, length, IfOk, IfSome};
 ghost use Rattle.ovl_names.specs.Names.{name_cmp};
 ghost use Rattle.ovl_names.specs.Paths.{PathNames};
 ghost use Rattle.ovl_names.specs.Order.{ascends};
 ghost use Rattle.ovl_manifest.specs.Sheets.{path_at};
 ghost use Rattle.ovl_lookup.specs.Passes.{own_names_along, put_names};
 ghost use Rattle.ovl_merge.specs.Places.{merge_of, two_layers};
-ghost use Rattle.ovl_merge.specs.Stands.{IsOver, IsStand};
+ghost use Rattle.ovl_merge.specs.Stands.{StandsAt};
 ghost use Rattle.ovl_merge.specs.Reckoned.{IsVisited};
 ghost use Rattle.ovl_merge.specs.Candidates.{AreCandidates, AreMerged, AreRowsOf, HaveEntries, candidate_told, candidates_told, hidden_names as the_hidden, joined as joined_rows, names_of, unrowed, rows_on};
 
 use crate::directories::Directory;
-use crate::stands::Stand;
 use ovl_lookup::Stack;
 use ovl_manifest::Sheet;
 use ovl_names::Name;
@@ -112,34 +111,34 @@ fn own_candidates<'a>(
 {
     // Each layer of a stack is one.
     let _layers = stack.ordinary();
-    let upper = rows_of(alloc, stack.sheet(0), &directory.upper, Side::Upper)?;
+    let upper = rows_of(alloc, stack.sheet(0), directory.upper, Side::Upper)?;
     let Some(below) = &directory.lower else {
         return Ok(upper);
     };
-    let lower = rows_of(alloc, stack.sheet(1), below, Side::Lower)?;
+    let lower = rows_of(alloc, stack.sheet(1), below.row, Side::Lower)?;
     merged(alloc, upper, lower)
 }
 
-// The names that one layer has in a directory, by where its walk stands there.
+// The names that one layer has in the directory of a row, if it has that.
 fn rows_of<'a>(
     alloc: Global,
     sheet: &'a Sheet,
-    directory: &Stand,
+    directory: Option<u32>,
     side: Side,
 ) -> Result<Vec<Candidate<'a>>, AllocError>
-    requires { IsOver sheet.now directory.now }
-    ensures { IfOk result (λ rows. (path : PathNames) → IsStand sheet.now path directory.now
+    requires { IfSome directory (λ row. row < length sheet.now) }
+    ensures { IfOk result (λ rows. (path : PathNames) (next : Option PathNames) → StandsAt sheet.now path directory next
         → AreRowsOf side sheet.now path (candidates_told rows.items)) }
 {
     // Each sheet is a layer.
     let _root = sheet.root_number();
-    match directory.row {
+    match directory {
         Some(row) => rows_in(alloc, sheet, row, side),
         None => Ok(Vec::new(alloc)),
     }
 }
 
-// The same in the directory of a row, in the order of the rows in it.
+// The same where it has, in the order of the rows.
 fn rows_in<'a>(
     alloc: Global,
     sheet: &'a Sheet,

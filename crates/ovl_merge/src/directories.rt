@@ -1,12 +1,13 @@
-ghost use Rattle.std.specs.Prelude.{◌≡◌, ◌<◌, ◌||◌, [], false, length, is_some, IfOk, IsTrue, MatchOption};
+ghost use Rattle.std.specs.Prelude.{◌≡◌, ◌<◌, ◌||◌, [], Option, false, length, is_some, IfOk, IsTrue, MatchOption};
 ghost use Rattle.std.specs.Option.{option_map};
 ghost use Rattle.ovl_names.specs.Names.{is_name};
 ghost use Rattle.ovl_names.specs.Paths.{PathNames, child_path};
 ghost use Rattle.ovl_merge.specs.Places.{merge_of, shows_own_directory};
-ghost use Rattle.ovl_merge.specs.Reckoned.{AreStands, IsVisited, IsBelow, IsBelowNear, is_inside_at, onward_at};
+ghost use Rattle.ovl_merge.specs.Stands.{onward_to};
+ghost use Rattle.ovl_merge.specs.Reckoned.{AreStands, IsVisited, IsBelow, is_inside_at, onward_at};
 
 use crate::bases::Base;
-use crate::stands::{Entered, Stand};
+use crate::stands::{Onward, Stand, passing_in};
 use ovl_lookup::Stack;
 use ovl_names::{Name, Path};
 use std::alloc::{AllocError, Global};
@@ -15,16 +16,17 @@ use std::alloc::{AllocError, Global};
 #[derive(Drop)]
 pub(crate) struct Directory {
     pub(crate) path: Path,
-    // Where its walk in the upper layer stands, and where that in the lower one does, if it goes on there.
-    pub(crate) upper: Stand,
+    // The number of its row in the upper layer, if that has it, and where its walk in the lower one stands, if it goes on
+    // there.
+    pub(crate) upper: Option<u32>,
     pub(crate) lower: Option<Stand>,
     pub(crate) base: Base,
 }
 
-// Where the walks of a directory's path stand in both layers, in the lower one if it goes on there.
+// The same two of any path.
 #[derive(Drop)]
 pub(crate) struct Stands {
-    upper: Stand,
+    upper: Option<u32>,
     lower: Option<Stand>,
 }
 
@@ -43,7 +45,7 @@ impl Directory {
         // Each layer of a stack is one.
         let _layers = stack.ordinary();
         let Stands { upper, lower } = Stands::at(alloc, stack, dir)?;
-        if !is_shown(&upper, &lower) {
+        if !is_shown(upper, &lower) {
             return Ok(None);
         }
         let base = Base::of(alloc, stack, dir, &lower)?;
@@ -83,7 +85,7 @@ impl Stands {
         ensures { AreStands (merge_of stack.now) [] result }
     {
         Stands {
-            upper: Stand::root(alloc, stack.sheet(0)),
+            upper: Some(stack.sheet(0).root_number()),
             lower: Some(Stand::root(alloc, stack.sheet(1))),
         }
     }
@@ -96,45 +98,45 @@ impl Stands {
         ensures { IfOk result (λ entered. (path : PathNames) → AreStands (merge_of stack.now) path self
             → AreStands (merge_of stack.now) (child_path path name.now) entered) }
     {
+        // Each layer of a stack is one.
+        let _layers = stack.ordinary();
         let Stands { upper, lower } = self;
         let name = Name::copy_of(alloc, name)?;
-        let entered = upper.enter(alloc, stack.sheet(0), &name)?;
-        let lower = lower_below(alloc, stack, lower, &entered)?;
+        let passing = passing_in(stack.sheet(0), upper, &name);
+        if passing.is_file() {
+            return Ok(Stands {
+                upper: None,
+                lower: None,
+            });
+        }
+        let lower = lower_below(alloc, stack, lower, &passing.onward)?;
         Ok(Stands {
-            upper: entered.stand,
+            upper: passing.row,
             lower,
         })
     }
 }
 
-// Where the walk in the lower layer stands with one more name, by where it stood and where that in the upper one does.
+// Where the walk in the lower layer stands, if it goes on there, by where it stood in the directory above and how that in
+// the upper one goes on from there.
 fn lower_below(
     alloc: Global,
     stack: &Stack,
     lower: Option<Stand>,
-    upper: &Entered<'_>,
+    upper: &Onward<'_>,
 ) -> Result<Option<Stand>, AllocError>
     requires several { 1 < length stack.now.layers }
-    requires near { IsBelowNear (merge_of stack.now).lower lower upper.now }
-    ensures { IfOk result (IsBelow (merge_of stack.now).lower upper.now.stand.next) }
+    requires above { (next : Option PathNames) × IsBelow (merge_of stack.now).lower next lower }
+    ensures { IfOk result (λ below. (next : Option PathNames) → IsBelow (merge_of stack.now).lower next lower
+        → IsBelow (merge_of stack.now).lower (onward_to next upper.now) below) }
 {
-    match (lower, upper.beside) {
-        (Some(lower), Some(name)) => {
-            let entered = lower.enter(alloc, stack.sheet(1), name)?;
-            Ok(Some(entered.stand))
-        }
-        _ => lower_at(alloc, stack, &upper.stand),
-    }
-}
-
-// The same by a walk from the root.
-fn lower_at(alloc: Global, stack: &Stack, upper: &Stand) -> Result<Option<Stand>, AllocError>
-    requires { 1 < length stack.now.layers }
-    ensures { IfOk result (IsBelow (merge_of stack.now).lower upper.now.next) }
-{
-    match upper.onward() {
-        Some(path) => Ok(Some(Stand::at(alloc, stack.sheet(1), path)?)),
-        None => Ok(None),
+    match upper {
+        Onward::Beside(own) => match lower {
+            Some(lower) => Ok(Some(lower.enter(alloc, stack.sheet(1), own)?)),
+            None => Ok(None),
+        },
+        Onward::At(origin) => Ok(Some(Stand::at(alloc, stack.sheet(1), origin)?)),
+        Onward::Nowhere => Ok(None),
     }
 }
 
@@ -149,10 +151,10 @@ pub(crate) fn onward_of(lower: &Option<Stand>) -> Option<&Path>
 }
 
 // Whether the two layers show a directory where the walks of its path stand.
-fn is_shown(upper: &Stand, lower: &Option<Stand>) -> bool
-    ensures { result ≡ (is_some upper.now.row || is_inside_at lower.now) }
+fn is_shown(upper: Option<u32>, lower: &Option<Stand>) -> bool
+    ensures { result ≡ (is_some upper || is_inside_at lower.now) }
 {
-    if upper.is_inside() {
+    if upper.is_some() {
         return true;
     }
     match lower {

@@ -5,14 +5,14 @@ ghost use Rattle.ovl_inode.specs.Marks.{mark_of as the_mark, is_directory as dir
 ghost use Rattle.ovl_manifest.specs.Layers.{entry_at};
 ghost use Rattle.ovl_lookup.specs.Merged.{look as the_look};
 ghost use Rattle.ovl_merge.specs.Places.{merge_of, is_nothing_or, is_shown_regular as regular_look, reach as the_reach, goes_on_at};
-ghost use Rattle.ovl_merge.specs.Reckoned.{IsVisited, onward_at};
+ghost use Rattle.ovl_merge.specs.Reckoned.{IsVisited, onward_at, upper_onward};
 ghost use Rattle.ovl_merge.specs.Stands.{IsOver, IsStand, IsPassing, IsRowAt, name_on, onward_on, onward_to};
 ghost use Rattle.ovl_merge.specs.Candidates.{IsCandidate};
 ghost use Rattle.ovl_merge.specs.Passages.{IsPassage, IsPassed, IsMarked, IsPlaced, first_in, told_in, place_from, rest_from};
 
 use crate::candidates::Candidate;
 use crate::directories::Directory;
-use crate::stands::{Onward, Passing, Stand, passing_at};
+use crate::stands::{Onward, Passing, Stand, passing_at, passing_in};
 use ovl_inode::{Inode, Kind, Mark, is_directory};
 use ovl_lookup::{Found, Look, Stack, Step, walk};
 use ovl_manifest::Sheet;
@@ -119,7 +119,7 @@ impl<'a> Passed<'a> {
         requires several { 1 < length stack.now.layers }
         requires above { IsVisited stack.now above.now.path above.now }
         requires candidate { IsCandidate (merge_of stack.now) above.now candidate.now }
-        ensures { IfOk result (IsPassed (merge_of stack.now).lower (onward_to above.now.upper.next onward.entry) (onward_at above.now.lower)) }
+        ensures { IfOk result (IsPassed (merge_of stack.now).lower (onward_to (upper_onward (merge_of stack.now) above.now.path) onward.entry) (onward_at above.now.lower)) }
     {
         match onward {
             Onward::Beside(own) => Passed::beside(alloc, stack, above, candidate, own),
@@ -139,12 +139,12 @@ impl<'a> Passed<'a> {
         requires several { 1 < length stack.now.layers }
         requires above { IsVisited stack.now above.now.path above.now }
         requires candidate { IsCandidate (merge_of stack.now) above.now candidate.now }
-        ensures { IfOk result (IsPassed (merge_of stack.now).lower (name_on above.now.upper.next name.now) (onward_at above.now.lower)) }
+        ensures { IfOk result (IsPassed (merge_of stack.now).lower (name_on (upper_onward (merge_of stack.now) above.now.path) name.now) (onward_at above.now.lower)) }
     {
         let Some(lower) = &above.lower else {
             return Ok(Passed::nothing());
         };
-        let Passing { found, onward, .. } = passing_in(lower, stack.sheet(1), candidate, name);
+        let Passing { found, onward, .. } = passing_by(lower, stack.sheet(1), candidate, name);
         let rest = place_of(alloc, lower, onward)?;
         Ok(Passed { found, rest })
     }
@@ -178,7 +178,7 @@ impl<'a> Passed<'a> {
 }
 
 // How the walk of a name in the directory in the lower layer ends: the row of the candidate's own name is known.
-fn passing_in<'a>(
+fn passing_by<'a>(
     lower: &Stand,
     sheet: &'a Sheet,
     candidate: &Candidate<'a>,
@@ -192,7 +192,7 @@ fn passing_in<'a>(
     if *name == *candidate.name {
         passing_at(sheet, name, candidate.lower)
     } else {
-        lower.pass(sheet, name)
+        passing_in(sheet, lower.row, name)
     }
 }
 

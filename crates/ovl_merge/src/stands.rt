@@ -1,7 +1,7 @@
 ghost use Rattle.std.specs.Prelude.{◌≡◌, ℕ, ◌<◌, ◌&&◌, [], Option, None, Some, length, is_some, is_none, IfOk, IfSome};
 ghost use Rattle.std.specs.Option.{option_map};
 ghost use Rattle.ovl_names.specs.Paths.{PathNames, child_path};
-ghost use Rattle.ovl_merge.specs.Stands.{IsOver, IsStand, StandsAt, IsRowAt, IsThing, IsPassing, IsBesideAfter, name_on, onward_to, onward_by};
+ghost use Rattle.ovl_merge.specs.Stands.{IsOver, IsStand, StandsAt, IsRowAt, IsThing, IsPassing, name_on, onward_to, onward_by};
 
 use ovl_inode::{Mark, Redirect, is_directory};
 use ovl_lookup::Found;
@@ -18,20 +18,12 @@ pub(crate) struct Stand {
     next: Option<Path>,
 }
 
-// Where it stands with one more name.
-#[derive(Drop)]
-pub(crate) struct Entered<'a> {
-    pub(crate) stand: Stand,
-    // The name by which the layer below goes on in the directory as which it knows the one above, if it does.
-    pub(crate) beside: Option<&'a Name>,
-}
-
 // How the walk of a name in a directory ends in a layer, with nothing copied.
 #[derive(Drop)]
 pub(crate) struct Passing<'a> {
     pub(crate) found: Option<Found<'a>>,
     // The number of its row, if that is a directory.
-    row: Option<u32>,
+    pub(crate) row: Option<u32>,
     pub(crate) onward: Onward<'a>,
 }
 
@@ -49,8 +41,7 @@ pub(crate) enum Onward<'a> {
 impl Stand {
     // That of the root.
     pub(crate) fn root(alloc: Global, sheet: &Sheet) -> Stand
-        ensures stand { IsStand sheet.now [] result }
-        ensures next { result.next ≡ Some [] }
+        ensures { IsStand sheet.now [] result }
     {
         Stand {
             row: Some(sheet.root_number()),
@@ -65,57 +56,36 @@ impl Stand {
         let mut stand = Stand::root(alloc, sheet);
         for name in path.names() {
             let name = Name::copy_of(alloc, name)?;
-            let entered = stand.enter(alloc, sheet, &name)?;
-            stand = entered.stand;
+            stand = stand.enter(alloc, sheet, &name)?;
         }
         Ok(stand)
     }
 
     // That of a name in the directory.
-    pub(crate) fn enter<'a>(
+    pub(crate) fn enter(
         self,
         alloc: Global,
-        sheet: &'a Sheet,
-        name: &'a Name,
-    ) -> Result<Entered<'a>, AllocError>
+        sheet: &Sheet,
+        name: &Name,
+    ) -> Result<Stand, AllocError>
         requires { IsOver sheet.now self }
-        ensures stand { IfOk result (λ entered. (path : PathNames) → IsStand sheet.now path self
-            → IsStand sheet.now (child_path path name.now) entered.stand) }
-        ensures beside { IfOk result (IsBesideAfter self.next) }
+        ensures { IfOk result (λ entered. (path : PathNames) → IsStand sheet.now path self
+            → IsStand sheet.now (child_path path name.now) entered) }
     {
         // Each sheet is a layer.
         let _root = sheet.root_number();
-        let passing = self.pass(sheet, name);
+        let passing = passing_in(sheet, self.row, name);
         if passing.is_file() {
-            return Ok(Entered {
-                stand: Stand {
-                    row: None,
-                    next: None,
-                },
-                beside: None,
+            return Ok(Stand {
+                row: None,
+                next: None,
             });
         }
-        let Passing { row, onward, .. } = passing;
-        match onward {
-            Onward::Beside(own) => {
-                let next = child_of(self.next, own)?;
-                Ok(Entered {
-                    stand: Stand { row, next },
-                    beside: Some(own),
-                })
-            }
-            Onward::At(origin) => {
-                let next = Some(origin.copy(alloc)?);
-                Ok(Entered {
-                    stand: Stand { row, next },
-                    beside: None,
-                })
-            }
-            Onward::Nowhere => Ok(Entered {
-                stand: Stand { row, next: None },
-                beside: None,
-            }),
-        }
+        let next = next_of(alloc, self.next, &passing.onward)?;
+        Ok(Stand {
+            row: passing.row,
+            next,
+        })
     }
 
     // Whether the layer has the directory.
@@ -131,27 +101,33 @@ impl Stand {
     {
         self.next.as_ref()
     }
+}
 
-    // How the walk of a name in it ends.
-    pub(crate) fn pass<'a>(&self, sheet: &'a Sheet, name: &'a Name) -> Passing<'a>
-        requires { IsOver sheet.now self.now }
-        ensures { (path : PathNames) → IsStand sheet.now path self.now → IsPassing sheet.now (child_path path name.now) self.now.next result }
-    {
-        passing_at(sheet, name, self.row_of(sheet, name))
-    }
+// How the walk of a name ends in the directory of a row, if the layer has that.
+pub(crate) fn passing_in<'a>(
+    sheet: &'a Sheet,
+    directory: Option<u32>,
+    name: &'a Name,
+) -> Passing<'a>
+    requires { IfSome directory (λ row. row < length sheet.now) }
+    ensures { (path : PathNames) (next : Option PathNames) → StandsAt sheet.now path directory next
+        → IsPassing sheet.now (child_path path name.now) next result }
+{
+    passing_at(sheet, name, row_in(sheet, directory, name))
+}
 
-    // The number of the row that the layer has by a name in it, if it has one.
-    fn row_of(&self, sheet: &Sheet, name: &Name) -> Option<u32>
-        requires { IsOver sheet.now self.now }
-        ensures inside { IfSome result (λ row. row < length sheet.now) }
-        ensures row { (path : PathNames) → IsStand sheet.now path self.now → IsRowAt sheet.now (child_path path name.now) result }
-    {
-        // Each sheet is a layer.
-        let _root = sheet.root_number();
-        match self.row {
-            Some(directory) => sheet.child(directory, name.as_str()),
-            None => None,
-        }
+// The number of the row that the layer has by a name in it, if it has one.
+fn row_in(sheet: &Sheet, directory: Option<u32>, name: &Name) -> Option<u32>
+    requires { IfSome directory (λ row. row < length sheet.now) }
+    ensures inside { IfSome result (λ row. row < length sheet.now) }
+    ensures row { (path : PathNames) (next : Option PathNames) → StandsAt sheet.now path directory next
+        → IsRowAt sheet.now (child_path path name.now) result }
+{
+    // Each sheet is a layer.
+    let _root = sheet.root_number();
+    match directory {
+        Some(directory) => sheet.child(directory, name.as_str()),
+        None => None,
     }
 }
 
@@ -172,10 +148,25 @@ pub(crate) fn passing_at<'a>(sheet: &'a Sheet, name: &'a Name, row: Option<u32>)
 
 impl Passing<'_> {
     // Whether a file is found, which hides all that the layers below have under it.
-    fn is_file(&self) -> bool
+    pub(crate) fn is_file(&self) -> bool
         ensures { result ≡ (is_some self.now.found && is_none self.now.row) }
     {
         self.found.is_some() && self.row.is_none()
+    }
+}
+
+// The path at which a walk goes on, by that at which it does in the directory.
+fn next_of(
+    alloc: Global,
+    dir: Option<Path>,
+    onward: &Onward<'_>,
+) -> Result<Option<Path>, AllocError>
+    ensures { IfOk result (λ next. next ≡ onward_to dir onward.now) }
+{
+    match onward {
+        Onward::Beside(own) => child_of(dir, own),
+        Onward::At(origin) => Ok(Some(origin.copy(alloc)?)),
+        Onward::Nowhere => Ok(None),
     }
 }
 

@@ -10,7 +10,6 @@ use Rattle.ovl_merge.specs.Directories.{named_inode}
 use Rattle.ovl_merge.specs.Candidates.{Rowed, AreCandidates, AreMerged, candidates_told, hidden_names, names_of, unrowed}
 use Rattle.ovl_merge.proofs.FinishLemmas.{merge-each}
 use Rattle.ovl_merge.proofs.LayerLemmas.{upper, lower}
-use Rattle.ovl_merge.proofs.ShownLemmas.{visited-onward}
 use Rattle.ovl_merge.proofs.RowLists.{names-unrowed}
 use Rattle.ovl_merge.proofs.CandidateLemmas.{each-candidate, hidden-ascend, hidden-candidates, hidden-entries}
 use Rattle.ovl_merge.proofs.candidates.candidates_in.Goals as goal
@@ -38,6 +37,6 @@ returns c =
     (let merged : AreMerged one (unrowed (hidden_names m directory)) (candidates_told both.items) = subst (λ (names : Rowed). AreMerged one names (candidates_told both.items)) (c.in_ok-hidden.ensures ∙ ap unrowed c.requires.hidden) are in
     let all : AreCandidates m directory (put_names own (hidden_names m directory)) (candidates_told both.items) = hidden-candidates m directory own (hidden_names m directory) one (candidates_told both.items) c.in_ok-own.ensures merged in
     record {
-      entries = ap (filter_map (named_inode m directory.path)) all.all ∙ hidden-entries m directory (upper m each) (lower m each) is.upper (visited-onward stack directory.path directory is) is.lower;
+      entries = ap (filter_map (named_inode m directory.path)) all.all ∙ hidden-entries m directory (upper m each) (lower m each) is.upper is.lower;
       rows = each-candidate m directory both.items (put_names own (hidden_names m directory)) up all;
     })) c.merged.ensures

@@ -1,4 +1,4 @@
-use Rattle.std.proofs.Common.{◌∙◌, Bool, [], List, cond, sym, ap, subst}
+use Rattle.std.proofs.Common.{◌∙◌, Bool, [], List, cond, ap, subst}
 use Rattle.std.specs.Prelude.{◌≡◌, IfOk}
 use Rattle.ovl_names.specs.Names.{PathName}
 use Rattle.ovl_merge.specs.Places.{merge_of, base}

@@ -1,4 +1,4 @@
-use Rattle.std.proofs.Common.{◌≡◌, ◌∙◌, ◌+◌, List, length, arith, take, take_all, sym, ap, subst}
+use Rattle.std.proofs.Common.{◌≡◌, ◌∙◌, ◌+◌, List, arith, take, take_all, sym, ap, subst}
 use Rattle.std.specs.List.{AllByRecursion}
 use Rattle.ovl_names.specs.Paths.{PathNames}
 use Rattle.ovl_manifest.specs.Layers.{names_below}

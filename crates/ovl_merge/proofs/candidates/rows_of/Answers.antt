@@ -10,14 +10,12 @@ use Rattle.ovl_merge.proofs.candidates.rows_of.Goals as goal
 pub returns-in-Some : goal.returns-in-Some
 returns-in-Some c =
     let layer = c.args.sheet.now in
-    let stand = c.args.directory.now in
-    IfOk-weaker c.rows_in.result _ _ (λ rows are. λ path is.
-    (let inside = subst (λ (o : Option ℕ). StandsAt layer path o stand.next) c.in-Some.is is in
+    IfOk-weaker c.rows_in.result _ _ (λ rows are. λ path next is.
+    (let inside = subst (λ (o : Option ℕ). StandsAt layer path o next) c.in-Some.is is in
     subst (λ (p : PathNames). AreRowsOf c.args.side layer p (candidates_told rows.items)) inside.here are)) c.rows_in.ensures
 
 pub returns-in-None : goal.returns-in-None
-returns-in-None c path is =
+returns-in-None c path next is =
     let layer = c.args.sheet.now in
-    let stand = c.args.directory.now in
-    let past = subst (λ (o : Option ℕ). StandsAt layer path o stand.next) c.in-None.is is in
-    subst (λ (rows : List Candidate). AreRowsOf c.args.side layer path (candidates_told rows)) (sym c.new.ensures.items) (rows-none c.args.side layer c.root_number-root.ensures.layer path stand.next past)
+    let past = subst (λ (o : Option ℕ). StandsAt layer path o next) c.in-None.is is in
+    subst (λ (rows : List Candidate). AreRowsOf c.args.side layer path (candidates_told rows)) (sym c.new.ensures.items) (rows-none c.args.side layer c.root_number-root.ensures.layer path next past)

@@ -1,4 +1,4 @@
-use Rattle.std.proofs.Common.{ℕ, Option, subst}
+use Rattle.std.proofs.Common.{subst}
 use Rattle.ovl_names.specs.Paths.{child_path}
 use Rattle.ovl_merge.specs.Stands.{IsRowAt}
 use Rattle.ovl_merge.proofs.StandLemmas.{pass-none, pass-row}

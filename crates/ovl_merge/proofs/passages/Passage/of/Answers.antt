@@ -3,8 +3,8 @@ use Rattle.std.specs.Prelude.{IfSome}
 use Rattle.ovl_names.specs.Paths.{PathNames, child_path}
 use Rattle.ovl_manifest.specs.Layers.{Entries}
 use Rattle.ovl_merge.specs.Places.{merge_of}
-use Rattle.ovl_merge.specs.Stands.{IsRowAt, IsStand, IsPassing}
-use Rattle.ovl_merge.specs.Reckoned.{onward_at}
+use Rattle.ovl_merge.specs.Stands.{IsRowAt, StandsAt, IsPassing}
+use Rattle.ovl_merge.specs.Reckoned.{onward_at, upper_onward}
 use Rattle.ovl_merge.specs.Passages.{IsPassed}
 use Rattle.ovl_merge.proofs.StandLemmas.{upper-sheet, row-inside}
 use Rattle.ovl_merge.proofs.passages.Passage.of.Goals as goal
@@ -23,10 +23,11 @@ returns c =
     let above = c.args.above.now in
     let candidate = c.args.candidate.now in
     let path : PathNames = child_path above.path candidate.name.now in
+    let onward : Option PathNames = upper_onward m above.path in
     let sheet = upper-sheet stack c.sheet.result.now c.sheet.ensures in
-    let passing : IsPassing m.upper path above.upper.next c.passing_at.result = subst (λ (layer : Entries). IsPassing layer path above.upper.next c.passing_at.result) (sym sheet)
+    let passing : IsPassing m.upper path onward c.passing_at.result = subst (λ (layer : Entries). IsPassing layer path onward c.passing_at.result) (sym sheet)
     (c.passing_at.ensures above.path (subst (λ (layer : Entries). IsRowAt layer path candidate.upper) sheet c.requires.candidate.upper)
-    above.upper.row above.upper.next (subst (λ (layer : Entries). IsStand layer above.path above.upper) sheet c.requires.above.upper)) in
+    above.upper onward (subst (λ (layer : Entries). StandsAt layer above.path above.upper onward) sheet c.requires.above.upper)) in
     record {
       upper = passing.found;
       marked = passing.marked;

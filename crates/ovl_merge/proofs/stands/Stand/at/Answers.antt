@@ -10,7 +10,7 @@ pub loop-name-init : goal.loop-name-init
 loop-name-init c =
     let same : c.into_iter-name-iterator.result ≡ c.args.path.now = c.into_iter-name-iterator.ensures.into_iter_gives ∙ c.names-name-items.ensures.value in
     record {
-      way = record { above = []; there = same; stands = c.root-stand.ensures.stand };
+      way = record { above = []; there = same; stands = c.root-stand.ensures };
       names = ap has_names same ∙ c.names-name-items.ensures.names;
     }
 
@@ -27,7 +27,7 @@ loop-name-preserved c =
       way = record {
         above = child_path above name;
         there = append_assoc above (name ∷ []) rest ∙ whole;
-        stands = subst (λ (n : PathName). IsStand c.args.sheet.now (child_path above n) c.in_ok-entered.entered.stand) c.in_ok-name.ensures (c.in_ok-entered.ensures.stand above c.loop-name.invariant.way.stands);
+        stands = subst (λ (n : PathName). IsStand c.args.sheet.now (child_path above n) c.in_ok-stand.stand) c.in_ok-name.ensures (c.in_ok-stand.ensures above c.loop-name.invariant.way.stands);
       };
       names = (both {a = is_name name} {b = has_names rest} (sym (ap has_names c.in-Some.ensures.steps) ∙ c.loop-name.invariant.names)).1;
     }

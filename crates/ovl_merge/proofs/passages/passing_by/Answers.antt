@@ -3,7 +3,7 @@ use Rattle.std.specs.Cmp.Lexicographic.{bytes_decides}
 use Rattle.ovl_names.specs.Names.{PathName}
 use Rattle.ovl_names.specs.Paths.{child_path}
 use Rattle.ovl_merge.specs.Stands.{IsRowAt}
-use Rattle.ovl_merge.proofs.passages.passing_in.Goals as goal
+use Rattle.ovl_merge.proofs.passages.passing_by.Goals as goal
 
 pub returns-then-eq : goal.returns-then-eq
 returns-then-eq c path is row =
@@ -14,4 +14,4 @@ returns-then-eq c path is row =
     c.args.lower.now.row c.args.lower.now.next is
 
 pub returns-else-eq : goal.returns-else-eq
-returns-else-eq c path is row = c.pass.ensures path is
+returns-else-eq c path is row = c.passing_in.ensures path c.args.lower.now.next is

@@ -1,4 +1,4 @@
-use Rattle.std.proofs.Common.{ℕ, None, Option, ◌≡◌, ◌<◌, [], ap, length, subst}
+use Rattle.std.proofs.Common.{ℕ, Option, ◌≡◌, ◌<◌, [], length, subst}
 use Rattle.std.specs.Prelude.{MatchOption}
 use Rattle.ovl_names.specs.Names.{PathName}
 use Rattle.ovl_names.specs.Paths.{child_path}
@@ -6,19 +6,17 @@ use Rattle.ovl_manifest.specs.LayerTrees.{entries_under}
 use Rattle.ovl_manifest.specs.Sheets.{path_at}
 use Rattle.ovl_merge.specs.Stands.{StandsAt}
 use Rattle.ovl_merge.proofs.StandLemmas.{past-entry, sought-inside, sought-row}
-use Rattle.ovl_merge.proofs.stands.Stand.row_of.Goals as goal
+use Rattle.ovl_merge.proofs.stands.row_in.Goals as goal
 
 pub returns-in-Some-clause-inside : goal.returns-in-Some-clause-inside
 returns-in-Some-clause-inside c = sought-inside c.args.sheet.now (child_path (path_at c.args.sheet.now c.in-Some.directory) c.as_str.result.now) c.child.result c.child.ensures
 
 pub returns-in-Some-clause-row : goal.returns-in-Some-clause-row
-returns-in-Some-clause-row c path is =
-    let stand = c.args.self.now in
-    sought-row c.args.sheet.now path c.in-Some.directory stand.next (subst (λ (o : Option ℕ). StandsAt c.args.sheet.now path o stand.next) c.in-Some.is is) c.args.name.now c.child.result
+returns-in-Some-clause-row c path next is =
+    sought-row c.args.sheet.now path c.in-Some.directory next (subst (λ (o : Option ℕ). StandsAt c.args.sheet.now path o next) c.in-Some.is is) c.args.name.now c.child.result
     (subst (λ (n : PathName). MatchOption c.child.result (entries_under (child_path (path_at c.args.sheet.now c.in-Some.directory) n) c.args.sheet.now ≡ []) (λ child. (child < length c.args.sheet.now) × (path_at c.args.sheet.now child ≡ child_path (path_at c.args.sheet.now c.in-Some.directory) n)))
     c.as_str.ensures.value c.child.ensures)
 
 pub returns-in-None-clause-row : goal.returns-in-None-clause-row
-returns-in-None-clause-row c path is =
-    let stand = c.args.self.now in
-    past-entry c.args.sheet.now c.root_number-root.ensures.layer path stand.next (subst (λ (o : Option ℕ). StandsAt c.args.sheet.now path o stand.next) c.in-None.is is) c.args.name.now
+returns-in-None-clause-row c path next is =
+    past-entry c.args.sheet.now c.root_number-root.ensures.layer path next (subst (λ (o : Option ℕ). StandsAt c.args.sheet.now path o next) c.in-None.is is) c.args.name.now
