@@ -1,6 +1,7 @@
 -- The facts of a directory and of what it holds, by what is gathered of it.
 use Rattle.std.proofs.Common.{◌≡◌, ℕ, ◌⊎◌, inl, inr, Bool, true, false, cond, Option, Some, None, List, [], ◌∷◌, ◌++◌, length, drop, refl, sym, ap, ◌∙◌}
 use Rattle.std.specs.Prelude.{◌||◌, ◌↔◌, IsTrue, not, codes}
+use Rattle.std.specs.List.{list_any}
 use Rattle.std.specs.Option.{option_map}
 use Rattle.std.proofs.Math.Seq.{drop-append_seam}
 use Rattle.std.proofs.lemmas.Bool.{false_from_ne_true}
@@ -15,7 +16,7 @@ use Rattle.ovl_inode.specs.declared.marks.Redirect.{Redirect}
 use Rattle.ovl_inode.specs.Attributes.{opaque_name}
 use Rattle.ovl_inode.specs.Kinds.{size_of}
 use Rattle.ovl_inode.specs.Marks.{mark_of, is_whiteout, is_directory, is_metacopy, is_metacopy_mark, attribute_is}
-use Rattle.ovl_manifest.specs.Layers.{Entries, entry_at}
+use Rattle.ovl_manifest.specs.Layers.{Entries, entry_at, is_directory_at}
 use Rattle.ovl_lookup.specs.declared.steps.Step.{Step}
 use Rattle.ovl_lookup.specs.Walk.{mark_at, walk, walk_beyond, walk_to_file, turn, is_shut, natural_path}
 use Rattle.ovl_lookup.specs.Stacks.{StackView}
@@ -23,17 +24,20 @@ use Rattle.ovl_lookup.specs.Trace.{things_found}
 use Rattle.ovl_lookup.specs.Merged.{look, is_nothing, data_of, place_of_data, data_at_place}
 use Rattle.ovl_lookup.specs.Sound.{data_at}
 use Rattle.ovl_lookup.proofs.LawsOfWalks.{walk-whole, walk-stop}
-use Rattle.ovl_lookup.proofs.LawsOfPaths.{parent_path-child}
+use Rattle.ovl_lookup.proofs.LawsOfPaths.{parent_path-child, length-child}
 use Rattle.ovl_lookup.proofs.LawsOfInodes.{metacopy-file, bare_file}
 use Rattle.ovl_lookup.proofs.LawsOfFound.{data_of-metacopy}
 use Rattle.ovl_check.specs.declared.contents.Content.{Content}
 use Rattle.ovl_check.specs.declared.directories.Directory.{Directory}
+use Rattle.ovl_check.specs.declared.facts.Facts.{Facts}
 use Rattle.ovl_check.specs.declared.facts.KindFacts.TheVariants.{WhiteoutInOpaque, Whiteout, Moved, Metacopy, Other}
 use Rattle.ovl_check.specs.declared.facts.NamedBlob.{NamedBlob}
 use Rattle.ovl_check.specs.declared.facts.NamedBlob.TheVariants.{Unnamed}
-use Rattle.ovl_check.specs.Conditions.{is_opaque, is_in_opaque, is_in_marked}
+use Rattle.ovl_check.specs.Checks.{CheckView, layer_at, layers_below}
+use Rattle.ovl_check.specs.Conditions.{has_origin_at, is_opaque, is_in_opaque, is_in_marked}
 use Rattle.ovl_check.specs.Contents.{find_content}
-use Rattle.ovl_check.specs.Facts.{IsGathered, old_place, data_size, data_size_on, whiteout_in, whiteout_at, kind_at, blob_found, blob_named, is_whiteout_mark}
+use Rattle.ovl_check.specs.Facts.{IsGathered, AreFacts, old_place, data_size, data_size_on, whiteout_in, whiteout_at, kind_at, blob_found, blob_named, is_whiteout_mark}
+use Rattle.ovl_check.proofs.HeldLemmas.{names_below-none}
 use Rattle.ovl_check.proofs.MarkLemmas.{is_directory_mark, directory-stays, whiteout-marked, directory-marked}
 
 -- the mark of what lies in a directory is that of its inode
@@ -204,3 +208,23 @@ module _ (layer : Entries) (below : StackView) (directory : Directory) (is : IsG
         by (DirMoved redirect) e =
             let bad : true ≡ false = ap is_directory_mark (sym e ∙ marked) ∙ (directory-marked inode ∙ none) in absurd (cc)
         by _ e = refl
+
+-- the facts of what lies in a directory and is none itself
+pub child-facts : (work : CheckView) (i : ℕ) (directory : Directory) → IsGathered (layer_at work.stack i) directory → (name : PathName) (facts : Facts) → entry_at (layer_at work.stack i) (child_path directory.path.now name) ≡ Some facts.inode.now → is_directory facts.inode.now ≡ false
+    → facts.mark.now ≡ mark_of facts.inode.now → facts.is_root ≡ false → facts.holds_origin ≡ false
+    → facts.kind ≡ kind_at (layer_at work.stack i) (layers_below work.stack i) (child_path directory.path.now name) facts.inode.now facts.mark.now
+    → facts.blob ≡ blob_named work.contents facts.inode.now
+    → AreFacts work i (child_path directory.path.now name) facts
+child-facts work i directory gathered name facts here none marked below origin kind blob =
+    let layer = layer_at work.stack i in
+    let path = child_path directory.path.now name in
+    let there : is_directory_at layer path ≡ false = ap (λ (o : Option Inode). elim o as (λ _. Bool) [ Some inode ↦ is_directory inode | None ↦ false ]) here ∙ none in
+    record {
+      inode = here;
+      mark = mark-child layer directory.path.now name facts.inode.now here ∙ ap (λ m. Some m) (sym marked);
+      whiteout = whiteout-marked facts.inode.now ∙ ap is_whiteout_mark (sym marked);
+      root = below ∙ sym (length-child directory.path.now name);
+      kind = kind;
+      blob = blob;
+      origin = origin ∙ sym (ap (list_any (λ other. has_origin_at layer (child_path path other))) (names_below-none layer path gathered.layered there));
+    }

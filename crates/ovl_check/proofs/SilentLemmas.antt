@@ -1,10 +1,11 @@
 -- Entries of which little can be told.
-use Rattle.std.proofs.Common.{◌≡◌, ◌∙◌, ℕ, Bool, true, false, cond, List, [], ◌∷◌, length, refl, ap, arith, eqb-true}
+use Rattle.std.proofs.Common.{◌≡◌, ◌∙◌, ℕ, Bool, true, false, cond, Option, List, [], ◌∷◌, length, refl, sym, ap, arith, eqb-true}
 use Rattle.std.specs.Prelude.{◌&&◌, ◌==◌, not, codes, filter, Some}
 use Rattle.std.proofs.Math.Bool.{and-false}
 use Rattle.ovl_inode.specs.declared.inodes.Inode.{Inode}
 use Rattle.ovl_inode.specs.declared.marks.Mark.{Mark}
-use Rattle.ovl_inode.specs.declared.marks.Mark.TheVariants.{Leaf, DirPlain}
+use Rattle.ovl_inode.specs.declared.marks.Mark.TheVariants.{Leaf, DirPlain, Whiteout, Meta}
+use Rattle.ovl_inode.specs.declared.marks.Redirect.{Redirect}
 use Rattle.ovl_inode.specs.Kinds.{size_of}
 use Rattle.ovl_inode.specs.Marks.{is_directory, is_regular, attribute_is}
 use Rattle.ovl_inode.specs.Attributes.{impure_name}
@@ -17,7 +18,7 @@ use Rattle.ovl_check.specs.declared.facts.NamedBlob.{NamedBlob}
 use Rattle.ovl_check.specs.declared.facts.NamedBlob.TheVariants.{Unnamed, Missing, Found}
 use Rattle.ovl_check.specs.declared.facts.Facts.{Facts}
 use Rattle.ovl_check.specs.Codes.{all_codes, blob_codes, is_blob_fault}
-use Rattle.ovl_check.specs.Facts.{tells, is_lost, is_of_wrong_kind, is_open, lacks_data, has_data_of_other_size, is_missing, is_of_other_length, is_wrong, is_orphan, is_in_opaque, is_unmarked, mark_says_nothing, is_quiet_mark, is_other, is_right, is_bare}
+use Rattle.ovl_check.specs.Facts.{tells, is_lost, is_of_wrong_kind, is_open, lacks_data, has_data_of_other_size, is_missing, is_of_other_length, is_wrong, is_orphan, is_in_opaque, is_unmarked, mark_says_nothing, is_quiet_mark, is_other, is_right, has_quiet_mark, is_bare, is_silent}
 
 both : {a b : Bool} → (a && b) ≡ true → (a ≡ true) × (b ≡ true)
 both {a = true} e = (refl, e)
@@ -129,3 +130,22 @@ module _ (facts : Facts) (bare : is_bare facts ≡ true) where
         ∙ (ap (λ b. cond b (BlobMissing ∷ filter Told (BlobSize ∷ BlobDigest ∷ [])) (filter Told (BlobSize ∷ BlobDigest ∷ []))) (untold BlobMissing (right-there facts.blob (size_of inode) right))
         ∙ (ap (λ b. cond b (BlobSize ∷ filter Told (BlobDigest ∷ [])) (filter Told (BlobDigest ∷ []))) (untold BlobSize (right-length facts.blob (size_of inode) right))
         ∙ ap (λ b. cond b (BlobDigest ∷ []) []) (untold BlobDigest (right-bytes facts.blob (size_of inode) right))))
+
+-- an entry without attributes whose blob is right, and that is no directory
+pub silent-told : (facts : Facts) → facts.kind ≡ Other → facts.holds_origin ≡ false → is_silent facts.inode.now facts.mark.now facts.blob ≡ true → (sought : Code → Bool) → filter (λ code. sought code && tells facts code) all_codes ≡ []
+silent-told facts other none silent sought =
+    let quiet = has_quiet_mark facts.inode.now facts.mark.now in
+    let parts = both {a = quiet} {b = is_right facts.blob (size_of facts.inode.now)} silent in
+    let bare : is_bare facts ≡ true = (λ j. (parts.0 j && is_other (other j)) && not (none j)) in
+    nothing-told facts bare sought parts.1
+
+pub silent-quiet : (inode : Inode) (mark : Mark) (blob : NamedBlob) → is_silent inode mark blob ≡ true → is_quiet_mark mark ≡ true
+silent-quiet inode mark blob silent =
+    (both {a = length inode.attrs == 0} {b = is_quiet_mark mark} (both {a = has_quiet_mark inode mark} {b = is_right blob (size_of inode)} silent).0).1
+
+-- a quiet mark is none of those that the conditions of a kind ask of
+pub quiet-stays : (mark : Mark) → is_quiet_mark mark ≡ true → mark ≡ Whiteout → ⊥
+quiet-stays mark quiet is = let bad : false ≡ true = sym (ap is_quiet_mark is) ∙ quiet in absurd (cc)
+
+pub quiet-full : (mark : Mark) → is_quiet_mark mark ≡ true → (redirect : Option Redirect) → mark ≡ Meta redirect → ⊥
+quiet-full mark quiet redirect is = let bad : false ≡ true = sym (ap is_quiet_mark is) ∙ quiet in absurd (cc)

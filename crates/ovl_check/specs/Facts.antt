@@ -272,7 +272,14 @@ is_right Unnamed size = true
 is_right Missing size = false
 is_right (Found long wrong) size = long == size && not wrong
 
--- it has no attributes, and its kind and what it holds ask nothing
+-- it has no attributes
+abbrev pub has_quiet_mark : Inode → Mark → Bool
+has_quiet_mark inode mark = length inode.attrs == 0 && is_quiet_mark mark
+
+-- nor do its kind and what it holds ask anything
 abbrev pub is_bare : Facts → Bool
-is_bare facts =
-    length facts.inode.now.attrs == 0 && is_quiet_mark facts.mark.now && is_other facts.kind && not facts.holds_origin
+is_bare facts = has_quiet_mark facts.inode.now facts.mark.now && is_other facts.kind && not facts.holds_origin
+
+-- it has no attributes, and its blob is right
+abbrev pub is_silent : Inode → Mark → NamedBlob → Bool
+is_silent inode mark blob = has_quiet_mark inode mark && is_right blob (size_of inode)

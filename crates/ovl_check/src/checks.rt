@@ -15,7 +15,7 @@ ghost use Rattle.ovl_check.specs.Facts.{IsGathered, IsBelow, IsBelowOf, IsMarked
 use crate::blobs::Blob;
 use crate::contents::Content;
 use crate::directories::{Child, Directory, directory_at, kids_of};
-use crate::facts::{BLOB_CODES, CODES, Facts};
+use crate::facts::{BLOB_CODES, CODES, Facts, is_silent};
 use crate::findings::{Code, Finding};
 use crate::gathering::{facts_of_child, facts_of_directory};
 use crate::marks::is_moved;
@@ -199,7 +199,7 @@ fn push_directory(
 {
     let facts = facts_of_directory(alloc, work, usize::from(layer), directory)?;
     let place = EntryPlace::At(directory.path);
-    push_codes(alloc, work.stack, layer, place, facts, findings)
+    push_codes(alloc, work.stack, layer, place, &facts, findings)
 }
 
 // Adds what is found at those entries of a directory that are none themselves.
@@ -242,9 +242,13 @@ fn push_file(
     if is_directory(child.inode) {
         return Ok(());
     }
-    let facts = facts_of_child(alloc, work, usize::from(layer), directory, child)?;
+    let blob = work.told.named(child.inode);
+    if is_silent(child.inode, child.mark, &blob) {
+        return Ok(());
+    }
+    let facts = facts_of_child(alloc, work, usize::from(layer), directory, child, blob)?;
     let place = EntryPlace::In(directory.path, child.name);
-    push_codes(alloc, work.stack, layer, place, facts, findings)
+    push_codes(alloc, work.stack, layer, place, &facts, findings)
 }
 
 // Adds a finding of each code that the facts of an entry tell.
@@ -253,10 +257,10 @@ fn push_codes(
     stack: &Stack,
     layer: u16,
     place: EntryPlace<'_>,
-    facts: Facts<'_>,
+    facts: &Facts<'_>,
     findings: &mut Vec<Finding>,
 ) -> Result<(), AllocError>
-    ensures { OnOk result (findings.new.items ≡ findings.old.items ++ map (finding layer (entry_path place.entry)) (filter (λ code. sought_in stack.now layer code && tells facts.entry code) all_codes)) }
+    ensures { OnOk result (findings.new.items ≡ findings.old.items ++ map (finding layer (entry_path place.entry)) (filter (λ code. sought_in stack.now layer code && tells facts.now code) all_codes)) }
 {
     if !facts.is_bare() {
         return push_told(alloc, stack, layer, place, facts, &CODES, findings);
@@ -273,14 +277,14 @@ fn push_told(
     stack: &Stack,
     layer: u16,
     place: EntryPlace<'_>,
-    facts: Facts<'_>,
+    facts: &Facts<'_>,
     codes: &[Code],
     findings: &mut Vec<Finding>,
 ) -> Result<(), AllocError>
-    ensures { OnOk result (findings.new.items ≡ findings.old.items ++ map (finding layer (entry_path place.entry)) (filter (λ code. sought_in stack.now layer code && tells facts.entry code) codes.now)) }
+    ensures { OnOk result (findings.new.items ≡ findings.old.items ++ map (finding layer (entry_path place.entry)) (filter (λ code. sought_in stack.now layer code && tells facts.now code) codes.now)) }
 {
     for code in codes {
-        let told = is_told(stack, layer, &facts, *code);
+        let told = is_told(stack, layer, facts, *code);
         push_if(alloc, layer, place, *code, told, findings)?;
     }
     Ok(())

@@ -134,7 +134,11 @@ pub(crate) fn kids_of(
         ≡ map (λ child. directory_piece space (child_path dir.now child.name.now))
         (filter (λ child. the_directory child.inode.now) children.now)) }
 {
-    let mut kids = Vec::new(alloc);
+    let count = children
+        .iter()
+        .filter(|child| is_directory(child.inode))
+        .count();
+    let mut kids = Vec::with_capacity(alloc, count)?;
     for child in children {
         if is_directory(child.inode) {
             kids.push(Piece {

@@ -1,5 +1,5 @@
 ghost use Rattle.std.specs.Prelude.{◌≡◌};
-ghost use Rattle.ovl_check.specs.Facts.{tells as the_tells, is_lost as lost_test, is_of_wrong_kind as wrong_kind_test, is_open as open_test, lacks_data as no_data_test, has_data_of_other_size as data_size_test, is_missing as missing_test, is_of_other_length as length_test, is_wrong as wrong_test, is_orphan as orphan_test, is_in_opaque as in_opaque_test, is_unmarked as unmarked_test, impure_is_missing as the_impure, is_right as right_test, is_other as other_test, is_bare as bare_test};
+ghost use Rattle.ovl_check.specs.Facts.{tells as the_tells, is_lost as lost_test, is_of_wrong_kind as wrong_kind_test, is_open as open_test, lacks_data as no_data_test, has_data_of_other_size as data_size_test, is_missing as missing_test, is_of_other_length as length_test, is_wrong as wrong_test, is_orphan as orphan_test, is_in_opaque as in_opaque_test, is_unmarked as unmarked_test, impure_is_missing as the_impure, is_right as right_test, is_other as other_test, is_bare as bare_test, is_silent as silent_test, has_quiet_mark as quiet_test};
 ghost use Rattle.ovl_inode.specs.Kinds.{size_of};
 
 use crate::findings::Code;
@@ -84,15 +84,27 @@ pub(crate) struct Facts<'a> {
     pub(crate) holds_origin: bool,
 }
 
+// Whether no code can be told of an entry of this inode, mark and blob that is no directory: it has no attributes, and the
+// blob, if it names one, is right.
+pub(crate) fn is_silent(inode: &Inode, mark: &Mark, blob: &NamedBlob) -> bool
+    ensures { result ≡ silent_test inode.now mark.now blob.now }
+{
+    has_quiet_mark(inode, mark) && is_right(blob, file_size(inode))
+}
+
+// Whether it has no attributes, and a mark of such entries.
+fn has_quiet_mark(inode: &Inode, mark: &Mark) -> bool
+    ensures { result ≡ quiet_test inode.now mark.now }
+{
+    inode.attrs.pairs().is_empty() && is_quiet(mark)
+}
+
 impl<'a> Facts<'a> {
     // Whether no code can be told but those on blobs: of an entry without attributes of which its kind asks nothing.
     pub(crate) fn is_bare(&self) -> bool
         ensures { result ≡ bare_test self.now }
     {
-        self.inode.attrs.pairs().is_empty()
-            && is_quiet(self.mark)
-            && is_other(&self.kind)
-            && !self.holds_origin
+        has_quiet_mark(self.inode, self.mark) && is_other(&self.kind) && !self.holds_origin
     }
 
     // Whether no code on blobs is told.

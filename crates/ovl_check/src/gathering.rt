@@ -9,7 +9,7 @@ ghost use Rattle.ovl_lookup.specs.Merged.{place_of_data};
 ghost use Rattle.ovl_lookup.specs.Sound.{is_seen_there};
 ghost use Rattle.ovl_check.specs.Checks.{layer_at, layers_below};
 ghost use Rattle.ovl_check.specs.CheckViews.{check_view};
-ghost use Rattle.ovl_check.specs.Facts.{IsGathered, IsBelow, IsMarked, AreFacts, asks, old_place as the_old_place, thing_shown as the_thing, whiteout_in as the_whiteout, data_size_on};
+ghost use Rattle.ovl_check.specs.Facts.{IsGathered, IsBelow, IsMarked, AreFacts, asks, old_place as the_old_place, thing_shown as the_thing, whiteout_in as the_whiteout, data_size_on, blob_named as the_blob_named};
 
 use crate::below::{data_size_in, show_in};
 use crate::directories::{Child, Directory, hold_origin};
@@ -52,13 +52,14 @@ pub(crate) fn facts_of_directory<'a>(
     })
 }
 
-// The facts of an entry that lies in a directory of layer `i` and is none itself.
+// The facts of an entry that lies in a directory of layer `i` and is none itself, with the blob that it names.
 pub(crate) fn facts_of_child<'a>(
     alloc: Global,
     work: &CheckWork<'_>,
     i: usize,
     directory: &Directory<'_, '_>,
     child: &'a Child<'_>,
+    blob: NamedBlob,
 ) -> Result<Facts<'a>, AllocError>
     requires inside { i < length (all_layers work.now.stack.now) }
     requires gathered { IsGathered (layer_at work.now.stack.now i) directory.now }
@@ -66,6 +67,7 @@ pub(crate) fn facts_of_child<'a>(
     requires none { the_directory child.now.inode.now ≡ false }
     requires marked { IsMarked child.now }
     requires below { directory.now.closed ≡ false → asks child.now.mark.now ≡ true → IsBelow work.now.stack.now i directory.now.next directory.now.below }
+    requires blob { blob ≡ the_blob_named (check_view work.now).contents child.now.inode.now }
     ensures { IfOk result (λ facts. (facts.inode.now ≡ child.now.inode.now) × AreFacts (check_view work.now) i (child_path directory.now.path.now child.now.name.now) facts) }
 {
     let kind = match child.mark {
@@ -86,7 +88,7 @@ pub(crate) fn facts_of_child<'a>(
         inode: child.inode,
         mark: child.mark,
         kind,
-        blob: work.told.named(child.inode),
+        blob,
         holds_origin: false,
     })
 }

@@ -9,10 +9,10 @@ use Rattle.ovl_check.proofs.checks.push_told.Goals as goal
 
 pub loop-code-preserved : goal.loop-code-preserved
 loop-code-preserved c =
-    codes-more (finding c.args.layer (entry_path c.args.place)) (λ code. sought_in c.args.stack.now c.args.layer code && tells c.args.facts code) c.args.codes.now c.loop-code.code-index _ c.args.findings.now.items c.loop-code.findings.items _ c.is_told-told.result
+    codes-more (finding c.args.layer (entry_path c.args.place)) (λ code. sought_in c.args.stack.now c.args.layer code && tells c.args.facts.now code) c.args.codes.now c.loop-code.code-index _ c.args.findings.now.items c.loop-code.findings.items _ c.is_told-told.result
     (omega arith) c.loop-code.invariant c.is_told-told.ensures c.in_ok-push_if.ensures
 
 pub returns : goal.returns
 returns c =
     c.loop-code.invariant
-    ∙ ap (λ (codes : List Code). c.args.findings.now.items ++ map (finding c.args.layer (entry_path c.args.place)) (filter (λ code. sought_in c.args.stack.now c.args.layer code && tells c.args.facts code) codes)) (take_all c.loop-code.code-index c.args.codes.now (omega arith))
+    ∙ ap (λ (codes : List Code). c.args.findings.now.items ++ map (finding c.args.layer (entry_path c.args.place)) (filter (λ code. sought_in c.args.stack.now c.args.layer code && tells c.args.facts.now code) codes)) (take_all c.loop-code.code-index c.args.codes.now (omega arith))
