@@ -11,9 +11,7 @@ pub(crate) fn place_beside<'a>(last: &str, depth: usize, text: &'a str) -> Optio
         → IfSome result (λ place. (place.0 ≤ depth)
         × (text.now ≡ slashed (child_path (take place.0 path) place.1.now))) }
 {
-    let end = text.as_bytes().iter().rposition(|byte| *byte == b'/')?;
-    let directory = &text[..end];
-    let name = &text[end + 1..];
+    let (directory, name) = text.rsplit_once('/')?;
     let rest = last.as_bytes().strip_prefix(directory.as_bytes())?;
     if !rest.is_empty() && rest[0] != b'/' {
         return None;

@@ -1,7 +1,7 @@
-use Rattle.std.proofs.Common.{◌≡◌, ◌+◌, ◌-◌, ◌∙◌, ◌∷◌, ◌++◌, List, ℕ, eqb-true, length, take, drop, get_or, sym, ap, arith, rules}
+use Rattle.std.proofs.Common.{◌≡◌, ◌-◌, ◌∙◌, ◌∷◌, ◌++◌, List, ℕ, lit<, eqb-true, length, take, sym, ap, arith}
 use Rattle.std.specs.Prelude.{slice_index}
-use Rattle.std.proofs.lemmas.List.{take-append-drop, drop_more}
-use Rattle.std.proofs.lemmas.Str.{IsCharBoundary-after_ascii}
+use Rattle.std.proofs.lemmas.List.{take-append-drop}
+use Rattle.std.proofs.lemmas.Str.Pattern.{drop_at_char}
 use Rattle.std.specs.Cmp.Lexicographic.{bytes_decides}
 use Rattle.ovl_names.specs.Names.{slash}
 use Rattle.ovl_manifest.specs.TextPaths.{slashed, slash_count}
@@ -9,29 +9,21 @@ use Rattle.ovl_manifest.proofs.WayLemmas.{slashed-child, slashed-cut, IsWayDown}
 use Rattle.ovl_manifest.proofs.text_paths.place_beside.Goals as goal
 use Rattle.ovl_manifest.proofs.text_paths.place_beside.Goals.{else-not-is_empty-via-then-not-is_empty+else-rest-ne47, else-not-is_empty-via-else-not-is_empty}
 
-pub range_from-name-requires : goal.range_from-name-requires
-range_from-name-requires c _ =
-    let slash : get_or c.args.text.now c.in_ok-end.end 0 ≡ 47 = search rules in
-    IsCharBoundary-after_ascii _ _ c.utf8.text (search rules) (omega arith)
-
 pub returns : goal.returns
 returns c = λ path named spelled count.
     let text : List ℕ = c.args.text.now in
-    let end : ℕ = c.in_ok-end.end in
-    let directory : List ℕ = c.range-directory.result.now in
-    let name : List ℕ = c.range_from-name.result.now in
+    let directory : List ℕ = c.in_ok-directory.directory.now in
+    let name : List ℕ = c.in_ok-directory.name.now in
     let rest : List ℕ = c.in_ok-rest.rest.now in
-    let found : get_or text end 0 ≡ slash = search rules in
-    let before : take end text ≡ directory = search rules in
-    let behind : drop (end + 1) text ≡ name = search rules in
+    let found = c.in_ok-directory.ensures.cases in
     let apart : text ≡ directory ++ slash ∷ name =
-    sym (take-append-drop end text) ∙ (λ j. before j ++ (drop_more text end 0 (omega arith) ∙ (λ i. found i ∷ behind i)) j) in
-    let whole : List ℕ = c.as_bytes-2.result.now in
-    let front : List ℕ = c.as_bytes-3.result.now in
+    sym (take-append-drop found.0 text) ∙ (λ j. sym found.3 j ++ (drop_at_char 47 text found.0 found.1 found.2.1 (lit< tt) ∙ ap (λ (own : List ℕ). slash ∷ own) (sym found.4)) j) in
+    let whole : List ℕ = c.as_bytes.result.now in
+    let front : List ℕ = c.as_bytes-2.result.now in
     let cut = c.in_ok-rest.ensures.cases in
     let begins : take (length front) whole ≡ front = (bytes_decides (take (length front) whole) front).0 cut.0 in
     let last : whole ≡ front ++ rest = sym (take-append-drop (length front) whole) ∙ (λ j. begins j ++ sym cut.1 j) in
-    let same : slashed path ≡ directory ++ rest = spelled ∙ (sym c.as_bytes-2.ensures.value ∙ (last ∙ ap (λ (own : List ℕ). own ++ rest) c.as_bytes-3.ensures.value)) in
+    let same : slashed path ≡ directory ++ rest = spelled ∙ (sym c.as_bytes.ensures.value ∙ (last ∙ ap (λ (own : List ℕ). own ++ rest) c.as_bytes-2.ensures.value)) in
     let down : IsWayDown rest = λ byte more e.
     elim c.else-not-is_empty.branch [
       | else-not-is_empty-via-then-not-is_empty+else-rest-ne47 w ↦ ap (λ (own : List ℕ). slice_index own 0) (sym e) ∙ w.if-rest-ne47.false
