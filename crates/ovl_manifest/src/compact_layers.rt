@@ -88,7 +88,10 @@ fn read_entries(alloc: Global, version: Version, rest: &mut Rest<'_>) -> Option<
         if number == ENTRY_LIMIT {
             return None;
         }
-        let (path, inode) = read_entry(alloc, version, rest)?;
+        // A `?` here would move each inode three times more.
+        let Some((path, inode)) = read_entry(alloc, version, rest) else {
+            return None;
+        };
         add_beside(
             alloc,
             version,

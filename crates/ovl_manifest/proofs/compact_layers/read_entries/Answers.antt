@@ -16,9 +16,9 @@ entries-preserved c =
     let before : Entries = drafted c.entries.draft in
     let rest : List ℕ = c.read_entry-in-entries.new.rest in
     let added = c.in_ok-add_beside.ensures in
-    let entry : Entry = (last_path c.add_beside.new.draft, c.in_ok-path.inode) in
+    let entry : Entry = (last_path c.add_beside.new.draft, c.in-Some.inode) in
     let comma = some-taken _ c.take.result c.take.ensures (sym c.is_some.ensures ∙ c.entries-test.true) in
-    let own = c.in_ok-path.ensures.text entry.0 (added.path ∙ c.as_str-in-entries-2.ensures.value) in
+    let own = c.in-Some.ensures.text entry.0 (added.path ∙ c.as_str-in-entries-2.ensures.value) in
     record {
       draft = added.draft;
       taken = c.entries.invariant.taken
@@ -26,7 +26,7 @@ entries-preserved c =
           ∙ (entries-onto c.args.version before entry rest (omega (arith, c.entries.invariant.count, c.entries.invariant.some)) ∙ ap (λ (all : Entries). entries_text c.args.version false all ++ rest) (sym added.entries)));
       stated = ap (list_all (is_stated_by c.args.version)) added.entries
           ∙ (list_all-append (is_stated_by c.args.version) before (entry ∷ [])
-          ∙ (λ j. c.entries.invariant.stated j && ((le-leb (length entry.0) (depth_of c.args.version) added.depth j && c.in_ok-path.ensures.stated j) && true)));
+          ∙ (λ j. c.entries.invariant.stated j && ((le-leb (length entry.0) (depth_of c.args.version) added.depth j && c.in-Some.ensures.stated j) && true)));
       last = added.last ∙ c.as_str-in-entries-2.ensures.value;
       count = ap length added.entries ∙ (length-append before (entry ∷ []) ∙ ap (λ n. n + 1) c.entries.invariant.count);
       some = omega arith;
