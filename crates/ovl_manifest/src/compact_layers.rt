@@ -88,7 +88,7 @@ fn read_entries(alloc: Global, version: Version, rest: &mut Rest<'_>) -> Option<
         if number == ENTRY_LIMIT {
             return None;
         }
-        // A `?` here would move each inode three times more.
+        // A `?` here would copy each inode three more times.
         let Some((path, inode)) = read_entry(alloc, version, rest) else {
             return None;
         };
