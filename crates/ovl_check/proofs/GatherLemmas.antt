@@ -13,9 +13,9 @@ use Rattle.ovl_inode.specs.declared.inodes.Kind.TheVariants.{Dir, File}
 use Rattle.ovl_inode.specs.declared.marks.Mark.{Mark}
 use Rattle.ovl_inode.specs.declared.marks.Mark.TheVariants.{Whiteout as WhiteoutMark, DirMoved, DirPlain, Meta}
 use Rattle.ovl_inode.specs.declared.marks.Redirect.{Redirect}
-use Rattle.ovl_inode.specs.Attributes.{opaque_name}
+use Rattle.ovl_inode.specs.Attributes.{opaque_name, origin_name}
 use Rattle.ovl_inode.specs.Kinds.{size_of}
-use Rattle.ovl_inode.specs.Marks.{mark_of, is_whiteout, is_directory, is_metacopy, is_metacopy_mark, attribute_is}
+use Rattle.ovl_inode.specs.Marks.{mark_of, is_whiteout, is_directory, is_metacopy, is_metacopy_mark, attribute_is, has_attribute}
 use Rattle.ovl_manifest.specs.Layers.{Entries, entry_at, is_directory_at}
 use Rattle.ovl_lookup.specs.declared.steps.Step.{Step}
 use Rattle.ovl_lookup.specs.Walk.{mark_at, walk, walk_beyond, walk_to_file, turn, is_shut, natural_path}
@@ -30,6 +30,7 @@ use Rattle.ovl_lookup.proofs.LawsOfFound.{data_of-metacopy}
 use Rattle.ovl_check.specs.declared.contents.Content.{Content}
 use Rattle.ovl_check.specs.declared.directories.Directory.{Directory}
 use Rattle.ovl_check.specs.declared.facts.Facts.{Facts}
+use Rattle.ovl_check.specs.declared.facts.KindFacts.{KindFacts}
 use Rattle.ovl_check.specs.declared.facts.KindFacts.TheVariants.{WhiteoutInOpaque, Whiteout, Moved, Metacopy, Other}
 use Rattle.ovl_check.specs.declared.facts.NamedBlob.{NamedBlob}
 use Rattle.ovl_check.specs.declared.facts.NamedBlob.TheVariants.{Unnamed}
@@ -37,7 +38,7 @@ use Rattle.ovl_check.specs.Checks.{CheckView, layer_at, layers_below}
 use Rattle.ovl_check.specs.Conditions.{has_origin_at, is_opaque, is_in_opaque, is_in_marked}
 use Rattle.ovl_check.specs.Contents.{find_content}
 use Rattle.ovl_check.specs.Facts.{IsGathered, AreFacts, old_place, data_size, data_size_on, whiteout_in, whiteout_at, kind_at, blob_found, blob_named, is_whiteout_mark}
-use Rattle.ovl_check.proofs.HeldLemmas.{names_below-none}
+use Rattle.ovl_check.proofs.HeldLemmas.{names_below-none, origin-children}
 use Rattle.ovl_check.proofs.MarkLemmas.{is_directory_mark, directory-stays, whiteout-marked, directory-marked}
 
 -- the mark of what lies in a directory is that of its inode
@@ -90,7 +91,7 @@ module _ (layer : Entries) (directory : Directory) (is : IsGathered layer direct
     | inr own ↦ ap is_directory_mark own ∙ (directory-marked inode ∙ is.kind)
   ]
 
-  pub directory-whiteout : is_whiteout inode ≡ is_whiteout_mark mark
+  directory-whiteout : is_whiteout inode ≡ is_whiteout_mark mark
   directory-whiteout = elim own_mark [
     | inl plain ↦ directory-stays inode is.kind ∙ sym (ap is_whiteout_mark plain)
     | inr own ↦ whiteout-marked inode ∙ sym (ap is_whiteout_mark own)
@@ -112,7 +113,7 @@ module _ (layer : Entries) (directory : Directory) (is : IsGathered layer direct
       by _ e d = refl
 
   -- it names no blob
-  pub directory-unnamed : (contents : List Content) → Unnamed ≡ blob_named contents inode
+  directory-unnamed : (contents : List Content) → Unnamed ≡ blob_named contents inode
   directory-unnamed contents = by inode.kind is.kind
     where
       by : (kind : Kind) → elim kind as (λ _. Bool) [ Dir ↦ true | _ ↦ false ] ≡ true
@@ -227,4 +228,21 @@ child-facts work i directory gathered name facts here none marked below origin k
       kind = kind;
       blob = blob;
       origin = origin ∙ sym (ap (list_any (λ other. has_origin_at layer (child_path path other))) (names_below-none layer path gathered.layered there));
+    }
+
+-- the facts of the directory
+pub directory-facts : (work : CheckView) (i : ℕ) (directory : Directory) → IsGathered (layer_at work.stack i) directory → (root : Bool) (kind : KindFacts) (origin : Bool) → root ≡ is_root directory.path.now
+    → kind ≡ kind_at (layer_at work.stack i) (layers_below work.stack i) directory.path.now directory.inode.now directory.mark.now
+    → origin ≡ list_any (λ child. has_attribute child.inode.now origin_name) directory.children.items
+    → AreFacts work i directory.path.now (record { is_root = root; inode = directory.inode; mark = directory.mark; kind = kind; blob = Unnamed; holds_origin = origin })
+directory-facts work i directory gathered root kind origin at_root own held =
+    let layer = layer_at work.stack i in
+    record {
+      inode = gathered.inode;
+      mark = gathered.mark;
+      whiteout = directory-whiteout layer directory gathered;
+      root = at_root;
+      kind = own;
+      blob = directory-unnamed layer directory gathered work.contents;
+      origin = held ∙ origin-children layer directory.path.now directory.children.items gathered.children;
     }

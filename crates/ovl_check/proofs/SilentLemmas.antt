@@ -4,7 +4,7 @@ use Rattle.std.specs.Prelude.{◌&&◌, ◌==◌, not, codes, filter, Some}
 use Rattle.std.proofs.Math.Bool.{and-false}
 use Rattle.ovl_inode.specs.declared.inodes.Inode.{Inode}
 use Rattle.ovl_inode.specs.declared.marks.Mark.{Mark}
-use Rattle.ovl_inode.specs.declared.marks.Mark.TheVariants.{Leaf, DirPlain, Whiteout, Meta}
+use Rattle.ovl_inode.specs.declared.marks.Mark.TheVariants.{Leaf, DirPlain, DirMoved, Whiteout, Meta}
 use Rattle.ovl_inode.specs.declared.marks.Redirect.{Redirect}
 use Rattle.ovl_inode.specs.Kinds.{size_of}
 use Rattle.ovl_inode.specs.Marks.{is_directory, is_regular, attribute_is}
@@ -124,7 +124,7 @@ module _ (facts : Facts) (bare : is_bare facts ≡ true) where
     blob_codes-enough = filter-only Told is_blob_fault all_codes (λ code e. untold code (other-untold code e))
 
     -- nor are they where the blob is right
-    pub nothing-told : is_right facts.blob (size_of inode) ≡ true → filter (λ code. sought code && tells facts code) all_codes ≡ []
+    nothing-told : is_right facts.blob (size_of inode) ≡ true → filter (λ code. sought code && tells facts code) all_codes ≡ []
     nothing-told right =
         blob_codes-enough
         ∙ (ap (λ b. cond b (BlobMissing ∷ filter Told (BlobSize ∷ BlobDigest ∷ [])) (filter Told (BlobSize ∷ BlobDigest ∷ []))) (untold BlobMissing (right-there facts.blob (size_of inode) right))
@@ -149,3 +149,6 @@ quiet-stays mark quiet is = let bad : false ≡ true = sym (ap is_quiet_mark is)
 
 pub quiet-full : (mark : Mark) → is_quiet_mark mark ≡ true → (redirect : Option Redirect) → mark ≡ Meta redirect → ⊥
 quiet-full mark quiet redirect is = let bad : false ≡ true = sym (ap is_quiet_mark is) ∙ quiet in absurd (cc)
+
+pub quiet-unmoved : (mark : Mark) → is_quiet_mark mark ≡ true → (redirect : Redirect) → mark ≡ DirMoved redirect → ⊥
+quiet-unmoved mark quiet redirect is = let bad : false ≡ true = sym (ap is_quiet_mark is) ∙ quiet in absurd (cc)

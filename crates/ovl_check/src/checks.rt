@@ -14,8 +14,8 @@ ghost use Rattle.ovl_check.specs.Facts.{IsGathered, IsBelow, IsBelowOf, IsMarked
 
 use crate::blobs::Blob;
 use crate::contents::Content;
-use crate::directories::{Child, Directory, directory_at, kids_of};
-use crate::facts::{BLOB_CODES, CODES, Facts, is_silent};
+use crate::directories::{Child, Directory, directory_at, hold_origin, kids_of};
+use crate::facts::{BLOB_CODES, CODES, Facts, NamedBlob, is_silent};
 use crate::findings::{Code, Finding};
 use crate::gathering::{facts_of_child, facts_of_directory};
 use crate::marks::is_moved;
@@ -197,7 +197,11 @@ fn push_directory(
     requires gathered { IsGathered (layer_at work.now.stack.now layer) directory.now }
     ensures { OnOk result (findings.new.items ≡ findings.old.items ++ findings_at_path (check_view work.now) layer directory.now.path.now) }
 {
-    let facts = facts_of_directory(alloc, work, usize::from(layer), directory)?;
+    let holds_origin = hold_origin(&directory.children);
+    if !holds_origin && is_silent(directory.inode, directory.mark, &NamedBlob::Unnamed) {
+        return Ok(());
+    }
+    let facts = facts_of_directory(alloc, work, usize::from(layer), directory, holds_origin)?;
     let place = EntryPlace::At(directory.path);
     push_codes(alloc, work.stack, layer, place, &facts, findings)
 }
@@ -262,13 +266,10 @@ fn push_codes(
 ) -> Result<(), AllocError>
     ensures { OnOk result (findings.new.items ≡ findings.old.items ++ map (finding layer (entry_path place.entry)) (filter (λ code. sought_in stack.now layer code && tells facts.now code) all_codes)) }
 {
-    if !facts.is_bare() {
-        return push_told(alloc, stack, layer, place, facts, &CODES, findings);
+    if facts.is_bare() {
+        return push_told(alloc, stack, layer, place, facts, &BLOB_CODES, findings);
     }
-    if facts.has_right_blob() {
-        return Ok(());
-    }
-    push_told(alloc, stack, layer, place, facts, &BLOB_CODES, findings)
+    push_told(alloc, stack, layer, place, facts, &CODES, findings)
 }
 
 // Adds a finding of each of these codes that the facts of an entry tell.

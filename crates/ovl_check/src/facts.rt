@@ -1,6 +1,5 @@
 ghost use Rattle.std.specs.Prelude.{◌≡◌};
 ghost use Rattle.ovl_check.specs.Facts.{tells as the_tells, is_lost as lost_test, is_of_wrong_kind as wrong_kind_test, is_open as open_test, lacks_data as no_data_test, has_data_of_other_size as data_size_test, is_missing as missing_test, is_of_other_length as length_test, is_wrong as wrong_test, is_orphan as orphan_test, is_in_opaque as in_opaque_test, is_unmarked as unmarked_test, impure_is_missing as the_impure, is_right as right_test, is_other as other_test, is_bare as bare_test, is_silent as silent_test, has_quiet_mark as quiet_test};
-ghost use Rattle.ovl_inode.specs.Kinds.{size_of};
 
 use crate::findings::Code;
 use crate::marks::{attribute_is, is_malformed, is_quiet, mark_is_ignored};
@@ -84,8 +83,8 @@ pub(crate) struct Facts<'a> {
     pub(crate) holds_origin: bool,
 }
 
-// Whether no code can be told of an entry of this inode, mark and blob that is no directory: it has no attributes, and the
-// blob, if it names one, is right.
+// Whether no code can be told of an entry of this inode, mark and blob that holds none with `origin`: it has no attributes,
+// and the blob, if it names one, is right.
 pub(crate) fn is_silent(inode: &Inode, mark: &Mark, blob: &NamedBlob) -> bool
     ensures { result ≡ silent_test inode.now mark.now blob.now }
 {
@@ -105,13 +104,6 @@ impl<'a> Facts<'a> {
         ensures { result ≡ bare_test self.now }
     {
         has_quiet_mark(self.inode, self.mark) && is_other(&self.kind) && !self.holds_origin
-    }
-
-    // Whether no code on blobs is told.
-    pub(crate) fn has_right_blob(&self) -> bool
-        ensures { result ≡ right_test self.now.blob (size_of self.now.inode.now) }
-    {
-        is_right(&self.blob, file_size(self.inode))
     }
 
     // Whether the condition of a code other than redirect-double holds.

@@ -1,7 +1,9 @@
 ghost use Rattle.std.specs.Prelude.{◌≡◌, ◌<◌, true, false, Some, length, IfOk};
+ghost use Rattle.std.specs.List.{list_any};
 ghost use Rattle.ovl_lookup.specs.Stacks.{all_layers};
 ghost use Rattle.ovl_names.specs.Paths.{child_path};
-ghost use Rattle.ovl_inode.specs.Marks.{is_directory as the_directory};
+ghost use Rattle.ovl_inode.specs.Attributes.{origin_name};
+ghost use Rattle.ovl_inode.specs.Marks.{has_attribute as attribute_test, is_directory as the_directory};
 ghost use Rattle.ovl_inode.specs.declared.marks.Mark.TheVariants.{Meta};
 ghost use Rattle.ovl_manifest.specs.Layers.{entry_at};
 ghost use Rattle.ovl_lookup.specs.Walk.{walk_to_file};
@@ -12,7 +14,7 @@ ghost use Rattle.ovl_check.specs.CheckViews.{check_view};
 ghost use Rattle.ovl_check.specs.Facts.{IsGathered, IsBelow, IsMarked, AreFacts, asks, old_place as the_old_place, thing_shown as the_thing, whiteout_in as the_whiteout, data_size_on, blob_named as the_blob_named};
 
 use crate::below::{data_size_in, show_in};
-use crate::directories::{Child, Directory, hold_origin};
+use crate::directories::{Child, Directory};
 use crate::facts::{Facts, KindFacts, NamedBlob, OldPlace, ThingShown};
 use crate::places::{data_size_below, is_plain_at, look_below, step_of};
 use crate::subjects::CheckWork;
@@ -21,15 +23,17 @@ use ovl_lookup::{Look, Stack, Trail};
 use ovl_names::{Name, Path};
 use std::alloc::{AllocError, Global};
 
-// The facts of a directory of layer `i`.
+// The facts of a directory of layer `i`, with whether it directly holds an entry with `origin`.
 pub(crate) fn facts_of_directory<'a>(
     alloc: Global,
     work: &CheckWork<'_>,
     i: usize,
     directory: &'a Directory<'_, '_>,
+    holds_origin: bool,
 ) -> Result<Facts<'a>, AllocError>
     requires inside { i < length (all_layers work.now.stack.now) }
     requires gathered { IsGathered (layer_at work.now.stack.now i) directory.now }
+    requires origin { holds_origin ≡ list_any (λ child. attribute_test child.inode.now origin_name) directory.now.children.items }
     ensures { IfOk result (λ facts. (facts.inode.now ≡ directory.now.inode.now) × AreFacts (check_view work.now) i directory.now.path.now facts) }
 {
     let kind = match directory.mark {
@@ -48,7 +52,7 @@ pub(crate) fn facts_of_directory<'a>(
         mark: directory.mark,
         kind,
         blob: NamedBlob::Unnamed,
-        holds_origin: hold_origin(&directory.children),
+        holds_origin,
     })
 }
 
