@@ -12,19 +12,19 @@ use Rattle.ovl_manifest.proofs.NodeLemmas.{entries_of_nodes-more, placed-under, 
 use Rattle.ovl_engine.specs.Reports.{shown_names}
 use Rattle.ovl_engine.specs.LayerReports.{marked_line, entry_line}
 use Rattle.ovl_engine.proofs.ListingSteps.{text-child}
-use Rattle.ovl_engine.proofs.LayerReportSteps.{fewer_below, line_in}
+use Rattle.ovl_engine.proofs.LayerReportSteps.{fewer_below, nothing_below, told}
 use Rattle.ovl_engine.proofs.layer_reports.+push_under.Goals as goal
 
 pub push_under-requires : goal.push_under-requires
 push_under-requires t c =
-    let fewer = fewer_below c.children-child-items.result.now c.loop-child.child-index c.child-item.result c.loop-child-test.true c.child-item.is in
-    let count = ap length c.children-child-items.ensures in
+    let fewer = fewer_below c.children-children.result.now c.loop-child.child-index c.child-item.result c.loop-child-test.true c.child-item.is in
+    let count = ap length c.children-children.ensures in
     (omega (arith, fewer, count), tt)
 
 pub loop-child-preserved : goal.loop-child-preserved
 loop-child-preserved t c =
     let named : string_bytes c.in_ok-path.path ≡ c.args.above.now ++ (codes "/" ++ escaped c.args.node.now.name) = search rules in
-    let nodes : List NodeView = c.children-child-items.result.now in
+    let nodes : List NodeView = c.children-children.result.now in
     let child : NodeView = c.child-item.result in
     let done : Entries = entries_of_nodes (take c.loop-child.child-index nodes) in
     let own : Entries = under child.name (entries_from child.inode child.below) in
@@ -32,8 +32,8 @@ loop-child-preserved t c =
     let more = entries_of_nodes-more nodes c.loop-child.child-index child c.loop-child-test.true c.child-item.is in
     λ dir text.
     let path : PathNames = child_path dir c.args.node.now.name in
-    let there : c.as_str-in-loop-child.result.now ≡ shown_names path =
-    c.as_str-in-loop-child.ensures.value ∙ (named ∙ (ap (λ (t : List ℕ). t ++ (codes "/" ++ escaped c.args.node.now.name)) text ∙ sym (text-child dir c.args.node.now.name))) in
+    let there : c.as_str.result.now ≡ shown_names path =
+    c.as_str.ensures.value ∙ (named ∙ (ap (λ (t : List ℕ). t ++ (codes "/" ++ escaped c.args.node.now.name)) text ∙ sym (text-child dir c.args.node.now.name))) in
     let below = sym (placed-under path child.name (entries_from child.inode child.below)) in
     c.in_ok-push_under.ensures path there
     ∙ ((λ j. c.loop-child.invariant dir text j ++ flat_map entry_line (below j))
@@ -42,17 +42,26 @@ loop-child-preserved t c =
     (sym (flat_map-append entry_line (placed path done) (placed path own))
     ∙ ap (flat_map entry_line) (sym (placed-append path done own) ∙ ap (placed path) (sym more)))))
 
-pub returns : goal.returns
-returns t c dir text =
-    let named : string_bytes c.in_ok-path.path ≡ c.args.above.now ++ (codes "/" ++ escaped c.args.node.now.name) = search rules in
-    let nodes : List NodeView = c.children-child-items.result.now in
+pub returns-then-is_empty : goal.returns-then-is_empty
+returns-then-is_empty t c dir text =
     let name = c.args.node.now.name in
     let path : PathNames = child_path dir name in
-    let seen : entries_of_nodes (take c.loop-child.child-index nodes) ≡ c.args.node.now.below = ap entries_of_nodes (take_all c.loop-child.child-index nodes c.loop-child-test.false) ∙ c.children-child-items.ensures in
-    let line : string_bytes c.push_entry.new.report ≡ string_bytes c.args.report.now ++ entry_line (path ++ [], c.args.node.now.inode) =
-    c.in_ok-push_entry.ensures
-    ∙ ((λ j. string_bytes c.args.report.now ++ marked_line (mark_of (c.inode.ensures j)) ((c.as_str-2.ensures.value ∙ (named ∙ ap (λ (t : List ℕ). t ++ (codes "/" ++ escaped name)) text)) j))
-    ∙ ap (λ (l : List ℕ). string_bytes c.args.report.now ++ l) (line_in dir name c.args.node.now.inode ∙ ap (λ (p : PathNames). entry_line (p, c.args.node.now.inode)) (sym (append-nil path)))) in
+    let own : List ℕ = entry_line (path ++ [], c.args.node.now.inode) in
+    let none : [] ≡ c.args.node.now.below = sym (nothing_below c.children-children.result.now c.if-is_empty.ensures) ∙ c.children-children.ensures in
+    let line = told (string_bytes c.args.report.now) (string_bytes c.push_entry.new.report) c.args.above.now dir name c.as_str-name.result.now c.args.node.now.inode c.inode.result.now
+    text (c.as_str-name.ensures.value ∙ c.name.ensures) c.inode.ensures c.in_ok-push_entry.ensures in
+    line
+    ∙ (ap (λ (l : List ℕ). string_bytes c.args.report.now ++ l) (sym (append-nil own))
+    ∙ (λ j. string_bytes c.args.report.now ++ flat_map entry_line (placed path (entries_from c.args.node.now.inode (none j)))))
+
+pub returns : goal.returns
+returns t c dir text =
+    let nodes : List NodeView = c.children-children.result.now in
+    let name = c.args.node.now.name in
+    let path : PathNames = child_path dir name in
+    let seen : entries_of_nodes (take c.loop-child.child-index nodes) ≡ c.args.node.now.below = ap entries_of_nodes (take_all c.loop-child.child-index nodes c.loop-child-test.false) ∙ c.children-children.ensures in
+    let line = told (string_bytes c.args.report.now) (string_bytes c.push_entry.new.report) c.args.above.now dir name c.as_str-name.result.now c.args.node.now.inode c.inode.result.now
+    text (c.as_str-name.ensures.value ∙ c.name.ensures) c.inode.ensures c.in_ok-push_entry.ensures in
     c.loop-child.invariant dir text
     ∙ ((λ j. line j ++ flat_map entry_line (placed path (seen j)))
     ∙ append_assoc (string_bytes c.args.report.now) (entry_line (path ++ [], c.args.node.now.inode)) (flat_map entry_line (placed path c.args.node.now.below)))

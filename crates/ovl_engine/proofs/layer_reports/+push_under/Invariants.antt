@@ -13,4 +13,4 @@ decreases-push_under l = length l.node.now.below
 abbrev pub invariant-loop-child : goal.invariant-loop-child
 invariant-loop-child l =
     (dir : PathNames) → l.above ≡ shown_names dir → string_bytes l.report
-    ≡ string_bytes l.initial.report ++ flat_map entry_line (placed (child_path dir l.node.name) (entries_of_nodes (take l.child-index l.child-items)))
+    ≡ string_bytes l.initial.report ++ flat_map entry_line (placed (child_path dir l.node.name) (entries_of_nodes (take l.child-index l.children)))
