@@ -671,7 +671,7 @@ module _ (stack : StackView) (is : IsLayer (top_layer stack)) where
               ∙ (λ j. (is_none (only-there row (omega (arith, before, last-inside)) differ j) || is_idle_throughout (top_layer stack) (lower_layers stack) (path_at (top_layer stack) last)) && kids_go (top_layer stack) (lower_layers stack) (path_at (top_layer stack) row) (drop number (top_layer stack))))))
 
   pub pass-ends : (number : ℕ) (flags : List Bool) → number ≤ 1 → PassedTo stack number flags → flags ≡ gone_flags stack
-  pass-ends number flags end to = flags-same (is_idle_throughout (top_layer stack) (lower_layers stack)) (top_layer stack) flags to.count (λ row inside. by row inside (cases_eq row 0))
+  pass-ends number flags end to = flags-same (is_idle_throughout (top_layer stack) (lower_layers stack)) (top_layer stack) flags to.count (λ own inside. by own inside (cases_eq own 0))
     where
       by : (row : ℕ) → row < length (top_layer stack) → (row ≡ 0) ⊎ (row ≡ 0 → ⊥) → get_or flags row false ≡ is_idle_throughout (top_layer stack) (lower_layers stack) (path_at (top_layer stack) row)
       by row inside (inl same) =
