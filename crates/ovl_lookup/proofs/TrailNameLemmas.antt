@@ -44,4 +44,3 @@ pub named-at : (names : PathNames) (n : ℕ) (name : PathName) → slice_get nam
 named-at [] n name is named = cc
 named-at (own ∷ names) zero name is named = let same : own ≡ name = cc in ap is_name (sym same) ∙ (both {a = is_name own} {b = has_names names} named).0
 named-at (own ∷ names) (suc n) name is named = named-at names n name is (both {a = is_name own} {b = has_names names} named).1
-
