@@ -8,7 +8,7 @@ refusal; and so is each start of a thread, of which there is none by 1 worker. A
 status 5 and `out of memory`, nothing on standard output, no new layer, and the one that was there as it was.
 
 Each test of the other program runs in a process of its own, again and again, with one request for memory or one start of a
-thread refused: it must pass each time, as it makes what wanted memory again.
+thread refused: it must pass each time, as it makes a call that ran out of memory again.
 
     python3 bench/refusals.py --program crates/ovl_layers/out/ovl_layers \
         --tests crates/ovl_refusal_tests/out/ovl_refusal_tests_tests
