@@ -45,10 +45,10 @@ use std::thread::Threads;
 /// layers first checks as [`Command::Fsck`] does, and is refused with that report where it tells a fault, else with
 /// `LimitOut` where a new layer passes a limit of manifests. Else the manifests with the new ones in place of the topmost,
 /// as many of them data-only as before, show the same merged tree, and after vacuum and deref have no fault of a layer.
-/// `Run` comes where the gate refuses a piece that the command reaches, or the board has a fault, which some parcels of the
-/// command's own runs have; `Memory` can come at any time but before the first three refusals. It waits for its workers, and
-/// returns only where each question to the gate does. The merged tree, what is checked and the new layers are those of
-/// `docs/PROFILE.md`, the reports those of `docs/FORMATS.md`. overlayfs.rst: "Data-only lower layers".
+/// `Run` comes only where the gate refuses a piece that the command reaches; `Memory` can come at any time but before the
+/// first three refusals. It waits for its workers, and returns only where each question to the gate does. The merged tree,
+/// what is checked and the new layers are those of `docs/PROFILE.md`, the reports those of `docs/FORMATS.md`.
+/// overlayfs.rst: "Data-only lower layers".
 pub fn command<G: Gate + Sync, R: Threads + Wait + Sync>(
     rt: &R,
     alloc: Global,
