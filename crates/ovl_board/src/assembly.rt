@@ -22,7 +22,7 @@ pub enum BoardFault {
     /// Kids lead to this piece from the root, and no parcel has it.
     #[error("no parcel has a piece to which kids lead from the root")]
     Missing(Piece),
-    /// Memory is wanted.
+    /// Out of memory.
     #[error("out of memory")]
     Memory,
 }

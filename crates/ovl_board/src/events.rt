@@ -23,7 +23,7 @@ pub enum CoreFault {
     /// The step, or the number of workers, isn't possible.
     #[error("the step is not possible")]
     NotPossible,
-    /// Memory is wanted.
+    /// Out of memory.
     #[error("out of memory")]
     Memory,
 }

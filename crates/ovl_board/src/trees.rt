@@ -17,7 +17,7 @@ pub enum TreeFault {
     /// The first path isn't `/`, or one doesn't come after the one before it, or has no parent among them.
     #[error("the paths do not begin with `/`, do not ascend, or lack a parent")]
     Shape,
-    /// Memory is wanted, or a path has 2^32 names or more.
+    /// Out of memory, or a path has 2^32 names or more.
     #[error("out of memory")]
     Memory,
 }

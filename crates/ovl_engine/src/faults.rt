@@ -44,7 +44,7 @@ pub enum EngineFault {
     /// A run over the layers or the blobs gives no walk, for another reason than memory.
     #[error("{}", run_word(.0))]
     Run(RunFault),
-    /// Memory is wanted.
+    /// Out of memory.
     #[error("out of memory")]
     Memory,
     /// All layers would be data-only.

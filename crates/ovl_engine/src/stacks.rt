@@ -102,7 +102,7 @@ fn read_share<M: AsSlice<u8> + Drop>(
     Ok(layers)
 }
 
-/// Lets a stack go, its layers shared by at most as many threads as there are workers. Where memory is wanted for that,
+/// Lets a stack go, its layers shared by at most as many threads as there are workers. When out of memory for that,
 /// this thread does it alone.
 pub(crate) fn let_go<R: Threads + Sync>(rt: &R, alloc: Global, stack: Stack, workers: usize)
     requires { 0 < workers }

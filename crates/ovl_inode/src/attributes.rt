@@ -21,7 +21,7 @@ pub enum AttrFault {
     /// The name has not 1 to [`ATTR_NAME_LIMIT`] bytes, or holds NUL.
     #[error("the attribute's name has not 1 to {max} bytes without NUL", max = ATTR_NAME_LIMIT)]
     Name,
-    /// No memory was left.
+    /// Out of memory.
     #[error("out of memory")]
     Memory,
 }

@@ -36,7 +36,7 @@ pub enum RedirectFault {
     /// A part is `.` or `..`, or has more than [`NAME_LIMIT`] bytes.
     #[error("the redirect has a part that is no name")]
     Part,
-    /// No memory was left.
+    /// Out of memory.
     #[error("out of memory")]
     Memory,
 }

@@ -4,7 +4,7 @@ ghost use Rattle.json.specs.Reads.{skip_items, skip_members};
 use json::{Invalid, Reader};
 use std::alloc::{AllocError, AllocFailed};
 
-/// Why nothing was read: no memory was left. Without that, no value stands there, which
+/// Why nothing was read: out of memory. Without that, no value stands there, which
 /// [`is_json`](crate::is_json) rules out.
 #[derive(Clone, Copy, Debug, Drop, PartialEq, Eq)]
 pub struct Unread;

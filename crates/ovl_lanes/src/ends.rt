@@ -71,7 +71,7 @@ impl Lane {
         self.deque.len_as::<Left>() as u64
     }
 
-    /// Adds a piece at the back of the lane. Gives it back, with nothing changed, where memory is wanted, the deque is at
+    /// Adds a piece at the back of the lane. Gives it back, with nothing changed, when out of memory, where the deque is at
     /// its own end, or 2^64 - 1 pieces were pushed already; never while a slot of the lane wasn't used yet.
     pub fn push(&mut self, piece: Piece) -> Result<(), Piece>
         ensures same { IsSameLane self.old self.new }

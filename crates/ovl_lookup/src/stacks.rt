@@ -25,7 +25,7 @@ pub enum StackFault {
     /// There is none, or there are more than [`LAYER_LIMIT`].
     #[error("layers must be 1 to {max}", max = LAYER_LIMIT)]
     Layers,
-    /// No memory was left.
+    /// Out of memory.
     #[error("out of memory")]
     Memory,
     /// All of them would be data-only.
@@ -63,7 +63,7 @@ impl Model for Stack {
 
 impl Stack {
     /// The stack of these layers, the topmost first; refused exactly where they are none or more than [`LAYER_LIMIT`].
-    /// Where memory was short, the layers are dropped.
+    /// When out of memory, the layers are dropped.
     pub fn of(alloc: Global, layers: Vec<Layer>) -> Result<Stack, StackFault>
         ensures value { IfOk result (λ stack. stack.layers ≡ layers.items) }
         ensures bare { IfOk result (λ stack. stack.data_only ≡ []) }
@@ -78,7 +78,7 @@ impl Stack {
     }
 
     /// The stack of these layers, the topmost first, of which the last `bottom` are data-only; refused exactly where they
-    /// are none or more than [`LAYER_LIMIT`], and where no other is left. Where memory was short, the layers are dropped.
+    /// are none or more than [`LAYER_LIMIT`], and where no other is left. When out of memory, the layers are dropped.
     /// overlayfs.rst: "Data-only lower layers".
     pub fn with_data(alloc: Global, layers: Vec<Layer>, bottom: u16) -> Result<Stack, StackFault>
         ensures value { IfOk result (λ stack. stack ≡ stack_with layers.items bottom) }
@@ -215,7 +215,7 @@ fn is_outside(number: usize) -> bool
     number == 0 || number > LAYER_LIMIT
 }
 
-// A sheet of each layer, in their order; the layers are dropped where memory was short.
+// A sheet of each layer, in their order; the layers are dropped when out of memory.
 fn sheets_of(alloc: Global, layers: Vec<Layer>) -> Result<Vec<Sheet>, AllocError>
     ensures { IfOk result (λ sheets. sheets.items ≡ layers.items) }
 {

@@ -36,7 +36,7 @@ pub enum LayerFault {
     /// An attribute's name begins with [`ESCAPED_PREFIX`](ovl_inode::overlay::ESCAPED_PREFIX).
     #[error("entry {0}: escaped attribute")]
     Escaped(u32),
-    /// No memory was left.
+    /// Out of memory.
     #[error("out of memory")]
     Memory,
 }

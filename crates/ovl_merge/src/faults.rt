@@ -15,7 +15,7 @@ pub enum MergeFault {
     /// The new lower layer has more entries than a manifest may have, or a path with more names or a longer text.
     #[error("result over the limits")]
     LimitOut,
-    /// No memory was left.
+    /// Out of memory.
     #[error("out of memory")]
     Memory,
 }

@@ -34,7 +34,7 @@ pub enum NameFault {
     /// It holds NUL.
     #[error("the name holds NUL")]
     Nul,
-    /// No memory was left.
+    /// Out of memory.
     #[error("out of memory")]
     Memory,
 }

@@ -42,7 +42,7 @@ pub enum PathFault {
     /// It has more than [`TEXT_LIMIT`] bytes.
     #[error("the path has more than {max} bytes", max = TEXT_LIMIT)]
     TooLong,
-    /// No memory was left.
+    /// Out of memory.
     #[error("out of memory")]
     Memory,
 }

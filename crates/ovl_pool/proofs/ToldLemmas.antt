@@ -25,7 +25,7 @@ use Rattle.ovl_pool.specs.declared.runs.RunFault.{RunFault}
 use Rattle.ovl_pool.specs.declared.runs.RunFault.TheVariants.{Workers}
 use Rattle.ovl_pool.specs.Flows.{all_pushed, all_taken, each_one, indicator, refused_weight, accounted, delivered, below, AreCounted, AreSettled, AreTied, AreWithin, HaveRoot, HaveGone, CountsParcels}
 use Rattle.ovl_pool.specs.Hauls.{IsOwnHaul}
-use Rattle.ovl_pool.specs.Runs.{MayBeRefused, IsWantOfMemory}
+use Rattle.ovl_pool.specs.Runs.{MayBeRefused, IsOutOfMemory}
 use Rattle.ovl_pool.proofs.FlowLemmas.{length_delivered, gathered_balance, delivered_pieces, below_kids}
 
 -- what the workers did from the start on
@@ -50,7 +50,7 @@ pub none_if : (o : Option Piece) → false ≡ is_some o → o ≡ None
 none_if None e = refl
 none_if (Some p) e = absurd (cc)
 
-pub not_workers : {T : Type 0} (r : Result T RunFault) → IfErr r IsWantOfMemory → r ≡ Err Workers → ⊥
+pub not_workers : {T : Type 0} (r : Result T RunFault) → IfErr r IsOutOfMemory → r ≡ Err Workers → ⊥
 not_workers (Ok x) want e = absurd (cc)
 not_workers (Err f) (inl memory) e = absurd (cc)
 not_workers (Err f) (inr board) e = absurd (cc)

@@ -10,7 +10,7 @@ use Rattle.ovl_pool.specs.declared.hauls.Haul.{Haul}
 abbrev pub IsOwnHaul : {O S : Type 0} → (O → S) → (Piece → List Piece) → (Piece → S) → (Piece → Type 0) → Haul O → Type 0
 IsOwnHaul seen kids out may_refuse haul = AreOwn kids out (parcel_views seen haul.parcels.items) × IfSome haul.refused may_refuse
 
--- no memory was wanted, and the gate refused nothing
+-- no worker was out of memory, and the gate refused nothing
 abbrev pub IsClean : {O : Type 0} → Haul O → Type 0
 IsClean haul = (haul.starved ≡ false) × (haul.refused ≡ None)
 

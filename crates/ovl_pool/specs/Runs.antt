@@ -25,9 +25,9 @@ IsBoardMemory Workers = Unit {0}
 IsBoardMemory Gate = Unit {0}
 IsBoardMemory Memory = Unit {0}
 
--- memory is wanted, to assemble parcels or before that
-abbrev pub IsWantOfMemory : RunFault → Type 0
-IsWantOfMemory fault = (fault ≡ Memory) ⊎ (fault ≡ Board BoardMemory)
+-- out of memory, to assemble parcels or before that
+abbrev pub IsOutOfMemory : RunFault → Type 0
+IsOutOfMemory fault = (fault ≡ Memory) ⊎ (fault ≡ Board BoardMemory)
 
 -- so many pieces were known, delivered and taken, and none is left
 abbrev pub CountsAll : ℕ → RunCount → Type 0

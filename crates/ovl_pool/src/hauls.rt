@@ -6,7 +6,7 @@ use crate::merging::merged;
 use ovl_board::{Parcel, Piece, sort_parcels};
 use std::alloc::{AllocError, Global};
 
-/// What workers bring: their parcels, a piece that the gate refused, and whether memory was wanted.
+/// What workers bring: their parcels, a piece that the gate refused, and whether a worker was out of memory.
 #[derive(Drop)]
 pub(crate) struct Haul<T> {
     pub(crate) parcels: Vec<Parcel<T>>,

@@ -7,7 +7,7 @@ ghost use Rattle.ovl_board.specs.Balance.{IsBalanced, AllLawful};
 ghost use Rattle.ovl_board.specs.Assembly.{IsInOrder, bare};
 ghost use Rattle.ovl_pool.specs.Flows.{AreSettled, CountsParcels, all_pushed, all_taken, each_one};
 ghost use Rattle.ovl_pool.specs.Passes.{AreSeated};
-ghost use Rattle.ovl_pool.specs.Runs.{MayBeRefused, IsBoardMemory, IsWantOfMemory, CountsAll, no_lanes};
+ghost use Rattle.ovl_pool.specs.Runs.{MayBeRefused, IsBoardMemory, IsOutOfMemory, CountsAll, no_lanes};
 
 use crate::crews::crew;
 use crate::gates::Gate;
@@ -48,11 +48,11 @@ pub enum RunFault {
     /// The gate refused a piece that is reached from the root.
     #[error("the gate refused a piece")]
     Gate,
-    /// The parcels that the workers brought can't be assembled. Memory is wanted then: no run makes parcels that have
+    /// The parcels that the workers brought can't be assembled. Out of memory then: no run makes parcels that have
     /// another fault.
     #[error("the parcels are no walk: {0}")]
     Board(BoardFault),
-    /// Memory is wanted.
+    /// Out of memory.
     #[error("out of memory")]
     Memory,
 }
@@ -214,7 +214,7 @@ fn told<T: Drop>(
     ensures order { IfOk result (λ done. IsInOrder root.now parcels.items done.0.items) }
     ensures balance { IfOk result (λ done. IsBalanced root.now (bare done.0.items) []) }
     ensures counted { IfOk result (λ done. CountsAll (vec_len done.0) done.1) }
-    ensures fault { IfErr result IsWantOfMemory }
+    ensures fault { IfErr result IsOutOfMemory }
 {
     if count.known != count.delivered {
         return Err(RunFault::Memory);

@@ -10,7 +10,7 @@ pub enum RewriteFault {
     /// The new layer has more entries than a manifest may have, or a path with more names or a longer text.
     #[error("result over the limits")]
     LimitOut,
-    /// No memory was left.
+    /// Out of memory.
     #[error("out of memory")]
     Memory,
 }

@@ -34,7 +34,7 @@ pub enum LineFault {
     /// No command takes them, for the reason that this text tells.
     #[error("{0}")]
     Usage(String),
-    /// Memory is wanted.
+    /// Out of memory.
     #[error("out of memory")]
     Memory,
 }

@@ -25,7 +25,7 @@ pub enum ReadFault {
     Device,
     /// More bytes than the limit came, or than a length can tell.
     TooLong,
-    /// Memory is wanted.
+    /// Out of memory.
     Memory,
 }
 
@@ -111,7 +111,7 @@ fn read_more<R: Read>(
     Ok(count)
 }
 
-// No bytes yet, with room for so many. Where memory is wanted for it, room comes as they do.
+// No bytes yet, with room for so many. When out of memory for it, room comes as they do.
 fn room_for(alloc: Global, expected: usize) -> Vec<u8>
     ensures { result.items ≡ [] }
 {
