@@ -34,9 +34,9 @@ IsNumberAt layer path (Some number) = (number < length layer) × (path_at layer 
 
 -- what a layer has at a name in a directory: another directory, or something else, if anything
 abbrev pub IsBelow : Entries → PathNames → PathName → Below → Type 0
-IsBelow layer dir name (DirectoryBelow number) =
+IsBelow layer dir name (DirectoryBelow number own) =
     (number < length layer) × (path_at layer number ≡ child_path dir name)
-    × (is_directory_at layer (child_path dir name) ≡ true)
+    × (is_directory_at layer (child_path dir name) ≡ true) × (own.now ≡ name)
 IsBelow layer dir name (Other number) =
     (is_directory_at layer (child_path dir name) ≡ false) × IsNumberAt layer (child_path dir name) number
 

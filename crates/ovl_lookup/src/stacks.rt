@@ -197,7 +197,7 @@ impl Stack {
         &'a self,
         alloc: Global,
         i: usize,
-        path: &'a Path,
+        path: &Path,
     ) -> Result<Option<OwnDirectory<'a>>, AllocError>
         requires { i < length (all_layers self.now) }
         ensures { IfSome (slice_get (all_layers self.now) i) (λ layer. IfOk result (λ found. MatchOption found

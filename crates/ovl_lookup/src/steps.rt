@@ -9,8 +9,8 @@ ghost use Rattle.ovl_lookup.specs.Walk.{walk as the_walk, walk_beyond, walk_to_f
 
 use crate::trails::Trail;
 use ovl_inode::{Inode, Mark, Redirect, is_directory, is_whiteout};
-use ovl_manifest::Sheet;
-use ovl_names::Path;
+use ovl_manifest::{Sheet, SheetRow};
+use ovl_names::{Name, Path};
 use std::alloc::{AllocError, Global};
 
 /// What a walk in one layer found, and where it goes on.
@@ -92,7 +92,7 @@ pub(crate) fn follow<'a>(
         closed,
         stop,
     } = descend(alloc, sheet, trail)?;
-    let next = turned_or_first(alloc, turned, trail, depth)?;
+    let next = turned_or_own(alloc, sheet, turned, row, depth)?;
     let Some(stop) = stop else {
         return Ok(TrailStep {
             found: Some(found_in(sheet, row)),
@@ -133,27 +133,27 @@ fn found_in(sheet: &Sheet, number: u32) -> Found<'_>
 // by which the layer below knows it, if that has other names, whether the layers below are hidden there, and where it
 // stops, if it goes further.
 #[derive(Drop)]
-pub(crate) struct Descent<'a> {
+pub(crate) struct Descent<'a, 't> {
     pub(crate) row: u32,
     pub(crate) depth: usize,
     pub(crate) turned: Option<Trail<'a>>,
     pub(crate) closed: bool,
-    pub(crate) stop: Option<Stop<'a>>,
+    pub(crate) stop: Option<Stop<'t>>,
 }
 
 // The name of a path that is no directory of a layer, and the number of what the layer has there, if it has anything.
 #[derive(Drop)]
-pub(crate) struct Stop<'a> {
-    pub(crate) name: &'a str,
+pub(crate) struct Stop<'t> {
+    pub(crate) name: &'t str,
     pub(crate) number: Option<u32>,
 }
 
 // How far a path goes through directories. No name is kept while no mark turns the path.
-pub(crate) fn descend<'a>(
+pub(crate) fn descend<'a, 't>(
     alloc: Global,
     sheet: &'a Sheet,
-    trail: &Trail<'a>,
-) -> Result<Descent<'a>, AllocError>
+    trail: &Trail<'t>,
+) -> Result<Descent<'a, 't>, AllocError>
     ensures { IfOk result (λ descent. IsDescent sheet.now trail.now descent) }
 {
     let mut row = sheet.root_number();
@@ -162,9 +162,9 @@ pub(crate) fn descend<'a>(
     let mut depth = 0;
     for name in trail.names() {
         match thing_below(sheet, row, name) {
-            Below::Directory(number) => {
+            Below::Directory { number, own } => {
                 let mark = sheet.mark(number);
-                turned = turned_by(alloc, mark, turned, trail, depth, name)?;
+                turned = turned_by(alloc, sheet, mark, own, turned, row, depth)?;
                 closed = closed_by(mark, closed);
                 row = number;
                 depth += 1;
@@ -189,19 +189,46 @@ pub(crate) fn descend<'a>(
     })
 }
 
-// The path by which the layer below knows a directory to which so many names of the trail lead.
-fn turned_or_first<'a>(
+// The path by which the layer below knows the directory of a row, which lies so deep.
+fn turned_or_own<'a>(
     alloc: Global,
+    sheet: &'a Sheet,
     turned: Option<Trail<'a>>,
-    trail: &Trail<'a>,
+    row: u32,
     depth: usize,
 ) -> Result<Trail<'a>, AllocError>
-    ensures { IfOk result (λ next. next ≡ unwrap_or turned.entry (take depth trail.now)) }
+    requires inside { row < length sheet.now }
+    requires depth { depth ≡ length (path_at sheet.now row) }
+    ensures { IfOk result (λ next. next ≡ unwrap_or turned.entry (path_at sheet.now row)) }
 {
     match turned {
         Some(next) => Ok(next),
-        None => trail.first(alloc, depth),
+        None => trail_of_row(alloc, sheet, row, depth),
     }
+}
+
+// The path of a row, which lies so deep, in names that the layer holds. A call for each name.
+fn trail_of_row<'a>(
+    alloc: Global,
+    sheet: &'a Sheet,
+    row: u32,
+    depth: usize,
+) -> Result<Trail<'a>, AllocError>
+    requires inside { row < length sheet.now }
+    requires depth { depth ≡ length (path_at sheet.now row) }
+    ensures { IfOk result (λ trail. trail ≡ path_at sheet.now row) }
+{
+    if depth == 0 {
+        return Ok(Trail::root(alloc));
+    }
+    let Some(SheetRow { name, parent, .. }) = sheet.row(row) else {
+        return Ok(Trail::root(alloc));
+    };
+    let Some(name) = name else {
+        // The root alone has no name.
+        return Ok(Trail::root(alloc));
+    };
+    trail_of_row(alloc, sheet, *parent, depth - 1)?.child(name.as_str())
 }
 
 /// A directory of one layer, and how its walk goes on.
@@ -219,7 +246,7 @@ pub struct OwnDirectory<'a> {
 pub(crate) fn trail_in<'a>(
     alloc: Global,
     sheet: &'a Sheet,
-    path: &'a Path,
+    path: &Path,
 ) -> Result<Option<OwnDirectory<'a>>, AllocError>
     ensures { IfOk result (λ found. MatchOption found
         (is_directory_at sheet.now path.now ≡ false)
@@ -236,7 +263,7 @@ pub(crate) fn trail_in<'a>(
     if depth < trail.len() {
         return Ok(None);
     }
-    let next = turned.unwrap_or(trail);
+    let next = turned_or_own(alloc, sheet, turned, row, depth)?;
     Ok(Some(OwnDirectory { row, next, closed }))
 }
 
@@ -298,48 +325,53 @@ fn turned_onward<'a>(
     }
 }
 
-// What a layer has at a name in a directory: the number of another directory's row, or of something else, if there is
-// anything.
+// What a layer has at a name in a directory: a directory, with the number of its row and its name, or the number of
+// something else, if there is anything.
 #[derive(Drop)]
-pub(crate) enum Below {
-    Directory(u32),
+pub(crate) enum Below<'a> {
+    Directory { number: u32, own: &'a Name },
     Other(Option<u32>),
 }
 
 // What stands at `name` in the directory of a row.
-fn thing_below(sheet: &Sheet, row: u32, name: &str) -> Below
+fn thing_below<'a>(sheet: &'a Sheet, row: u32, name: &str) -> Below<'a>
     requires { row < length sheet.now }
     ensures { IsBelow sheet.now (path_at sheet.now row) name.now result }
 {
     let Some(number) = sheet.child(row, name) else {
         return Below::Other(None);
     };
-    if is_directory(sheet.inode(number)) {
-        Below::Directory(number)
-    } else {
-        Below::Other(Some(number))
+    if !is_directory(sheet.inode(number)) {
+        return Below::Other(Some(number));
+    }
+    match sheet.name(number) {
+        Some(own) => Below::Directory { number, own },
+        // The root alone has no name.
+        None => Below::Other(Some(number)),
     }
 }
 
-// The path by which the layer below knows the entry `name` of a directory, one of this mark, if it has other names
-// than the trail; so many names of it lead to that directory.
+// The path by which the layer below knows the directory `name` in that of a row, by its mark and by the path by which it
+// knows that one, where these have other names than their own.
 fn turned_by<'a>(
     alloc: Global,
+    sheet: &'a Sheet,
     mark: &'a Mark,
+    name: &'a Name,
     turned: Option<Trail<'a>>,
-    trail: &Trail<'a>,
+    row: u32,
     depth: usize,
-    name: &'a str,
 ) -> Result<Option<Trail<'a>>, AllocError>
-    requires { IsTrue (is_name name.now) }
-    ensures { IfOk result (λ entered. unwrap_or entered (child_path (take depth trail.now) name.now)
-        ≡ entered_path mark.now (unwrap_or turned.entry (take depth trail.now)) name.now) }
+    requires inside { row < length sheet.now }
+    requires depth { depth ≡ length (path_at sheet.now row) }
+    ensures { IfOk result (λ entered. unwrap_or entered (child_path (path_at sheet.now row) name.now)
+        ≡ entered_path mark.now (unwrap_or turned.entry (path_at sheet.now row)) name.now) }
 {
     match mark {
         Mark::DirMoved(Redirect::To(origin)) => Ok(Some(Trail::of(alloc, &origin.names())?)),
-        Mark::DirMoved(Redirect::Beside(own)) => {
-            let next = turned_or_first(alloc, turned, trail, depth)?;
-            Ok(Some(next.child(own.as_str())?))
+        Mark::DirMoved(Redirect::Beside(other)) => {
+            let next = turned_or_own(alloc, sheet, turned, row, depth)?;
+            Ok(Some(next.child(other.as_str())?))
         }
         Mark::Whiteout
         | Mark::DirOpaque
@@ -348,7 +380,7 @@ fn turned_by<'a>(
         | Mark::Meta(_)
         | Mark::MetaBad
         | Mark::Leaf => match turned {
-            Some(next) => Ok(Some(next.child(name)?)),
+            Some(next) => Ok(Some(next.child(name.as_str())?)),
             None => Ok(None),
         },
     }

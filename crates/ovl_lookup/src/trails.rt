@@ -1,4 +1,4 @@
-ghost use Rattle.std.specs.Prelude.{◌≡◌, ◌<◌, ◌^◌, ◌++◌, [], Some, length, take, drop, reverse, IsTrue, IfOk};
+ghost use Rattle.std.specs.Prelude.{◌≡◌, ◌<◌, ◌^◌, ◌++◌, [], Some, length, drop, reverse, IsTrue, IfOk};
 ghost use Rattle.std.specs.Cmp.{partial_equiv_from_equiv, po};
 ghost use Rattle.std.specs.Cmp.Lexicographic.{nat_list_cmp_total, nat_list_eq_equiv, texts_ties, lists_total, lists_equiv, lists_ties};
 ghost use Rattle.std.proofs.Common.{refl};
@@ -90,23 +90,6 @@ impl<'a> Trail<'a> {
         // Its number fits a `usize`.
         let _count = self.len;
         TrailNames::of(&self.parts)
-    }
-
-    // The trail of the first `count` names.
-    pub(crate) fn first(&self, alloc: Global, count: usize) -> Result<Trail<'a>, AllocError>
-        ensures { IfOk result (λ trail. trail ≡ take count self.now) }
-    {
-        if count >= self.len {
-            return self.copy(alloc);
-        }
-        let mut trail = Trail::root(alloc);
-        for name in self.names() {
-            if trail.len() == count {
-                break;
-            }
-            trail = trail.child(name)?;
-        }
-        Ok(trail)
     }
 
     // The trail that goes on at `next` in place of so many names.

@@ -33,6 +33,6 @@ returns c =
       inside = is.inside;
       here = is.here ∙ whole;
       directory = holds;
-      next = c.unwrap_or-next.ensures ∙ ((λ j. unwrap_or descent.turned (same j)) ∙ (ap (unwrap_or descent.turned) (sym whole) ∙ is.turned)) ∙ (ap (turn layer) whole ∙ sym (ap (λ (s : Step). s.next) step));
+      next = c.in_ok-next.ensures ∙ (ap (unwrap_or descent.turned) is.here ∙ is.turned) ∙ (ap (turn layer) whole ∙ sym (ap (λ (s : Step). s.next) step));
       closed = is.shut ∙ (ap (is_shut layer) whole ∙ sym (ap (λ (s : Step). s.closed) step));
     }
