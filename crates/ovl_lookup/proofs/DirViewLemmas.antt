@@ -44,14 +44,17 @@ module _ (layer : Entries) (path : PathNames) (descent : Descent) (name : PathNa
   abbrev above : PathNames
   above = take descent.depth path
 
+  abbrev onward : PathNames
+  onward = unwrap_or descent.turned above
+
   whole : above ++ name ∷ drop (descent.depth + 1) path ≡ path
   whole = cut layer path descent.depth name inside at
 
   none : is_directory_at layer (child_path above name) ≡ false
   none = stopped layer path descent name is inside at
 
-  walked : (found : Option Inode) → entry_at layer (child_path above name) ≡ found → walk_beyond found descent.next descent.closed name (drop (descent.depth + 1) path) ≡ walk layer path
-  walked found here = walk-ends layer path descent.depth name inside at is.layered is.directory none found descent.next descent.closed (sym here) is.turned is.shut
+  walked : (found : Option Inode) → entry_at layer (child_path above name) ≡ found → walk_beyond found onward descent.closed name (drop (descent.depth + 1) path) ≡ walk layer path
+  walked found here = walk-ends layer path descent.depth name inside at is.layered is.directory none found onward descent.closed (sym here) is.turned is.shut
 
   pub not-directory : is_directory_at layer path ≡ false
   not-directory = ap (is_directory_at layer) (sym whole) ∙ no-directory-below layer above name is.layered none (drop (descent.depth + 1) path)
@@ -64,10 +67,10 @@ module _ (layer : Entries) (path : PathNames) (descent : Descent) (name : PathNa
       by [] e =
           ap (λ (o : Option Inode). is_some o || (walk layer path).closed) (ap (entry_at layer) (sym whole ∙ ap (λ (r : PathNames). above ++ name ∷ r) e) ∙ here)
       by (other ∷ rest) e =
-          ap (λ (s : Step). is_some (entry_at layer path) || s.closed) (sym (walked (Some inode) here) ∙ ap (walk_beyond (Some inode) descent.next descent.closed name) e)
+          ap (λ (s : Step). is_some (entry_at layer path) || s.closed) (sym (walked (Some inode) here) ∙ ap (walk_beyond (Some inode) onward descent.closed name) e)
           ∙ or-true (is_some (entry_at layer path))
 
-  pub goes-past : entry_at layer (child_path above name) ≡ None → descent.closed ≡ false → (entry_at layer path ≡ None) × ((walk layer path).closed ≡ false) × (descent.next ++ drop descent.depth path ≡ (walk layer path).next)
+  pub goes-past : entry_at layer (child_path above name) ≡ None → descent.closed ≡ false → (entry_at layer path ≡ None) × ((walk layer path).closed ≡ false) × (onward ++ drop descent.depth path ≡ (walk layer path).next)
   goes-past here open_ = (by (past layer path is.layered beyond), closed, next)
     where
       beyond : Beyond layer path
@@ -76,8 +79,8 @@ module _ (layer : Entries) (path : PathNames) (descent : Descent) (name : PathNa
       closed : (walk layer path).closed ≡ false
       closed = ap (λ (s : Step). s.closed) (sym (walked None here)) ∙ open_
 
-      next : descent.next ++ drop descent.depth path ≡ (walk layer path).next
-      next = ap (λ (r : PathNames). descent.next ++ r) (drop-head path descent.depth name inside at) ∙ ap (λ (s : Step). s.next) (walked None here)
+      next : onward ++ drop descent.depth path ≡ (walk layer path).next
+      next = ap (λ (r : PathNames). onward ++ r) (drop-head path descent.depth name inside at) ∙ ap (λ (s : Step). s.next) (walked None here)
 
       by : NothingAt layer path ⊎ FileAt layer path → entry_at layer path ≡ None
       by (inl nothing) = nothing.none
@@ -94,7 +97,7 @@ module _ (layer : Entries) (path : PathNames) (descent : Descent) (name : PathNa
       let found = entry-of_row layer number is.layered here.0 in
       ends-there (Some found.0) (sym (ap (entry_at layer) here.1) ∙ found.1) refl
 
-  pub passes-there : (number : Option ℕ) → IsNumberAt layer (child_path above name) number → (is_some number || descent.closed) ≡ false → (entry_at layer path ≡ None) × ((walk layer path).closed ≡ false) × (descent.next ++ drop descent.depth path ≡ (walk layer path).next)
+  pub passes-there : (number : Option ℕ) → IsNumberAt layer (child_path above name) number → (is_some number || descent.closed) ≡ false → (entry_at layer path ≡ None) × ((walk layer path).closed ≡ false) × (onward ++ drop descent.depth path ≡ (walk layer path).next)
   passes-there None nothing open_ = goes-past nothing open_
   passes-there (Some number) here open_ = cc
 
@@ -136,11 +139,12 @@ module _ (stack : StackView) where
       ∙ (λ j. record { layer = place.layer; path = is j; next = turn layer (is j); closed = is_shut layer (is j) })
 
   -- a layer that has the directory, and then the layers below it
-  pub directory-step : (i : ℕ) (layer : Entries) (path : PathNames) (row : ℕ) (next : PathNames) (closed : Bool) → slice_get stack.layers i ≡ Some layer → IsArrival layer path (Directory row next closed)
+  pub directory-step : (i : ℕ) (layer : Entries) (path : PathNames) (row : ℕ) (told : Option PathNames) (closed : Bool) → slice_get stack.layers i ≡ Some layer → IsArrival layer path (Directory row told closed)
       → (old so_far new : List DirPlace) (more : List Reached) → new ≡ so_far ++ (record { layer = i; row = row }) ∷ [] → places_in stack so_far ++ reached (drop i stack.layers) i path ≡ places_in stack old ++ more
-      → places_in stack new ++ cond closed [] (reached (drop (i + 1) stack.layers) (i + 1) next) ≡ places_in stack old ++ more
-  directory-step i layer path row next closed at arrival old so_far new more is same =
+      → places_in stack new ++ cond closed [] (reached (drop (i + 1) stack.layers) (i + 1) (unwrap_or told path)) ≡ places_in stack old ++ more
+  directory-step i layer path row told closed at arrival old so_far new more is same =
       let own : DirPlace = record { layer = i; row = row } in
+      let next : PathNames = unwrap_or told path in
       let rest : List Reached = cond closed [] (reached (drop (i + 1) stack.layers) (i + 1) next) in
       let step = walk-whole layer path arrival.0 in
       let turned : turn layer path ≡ next = sym (arrival.3 ∙ ap (λ (s : Step). s.next) step) in

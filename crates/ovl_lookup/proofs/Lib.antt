@@ -12,6 +12,7 @@ pub mod FoundLemmas
 pub mod KidLemmas
 pub mod ListLemmas
 pub mod Notation
+pub mod RowLemmas
 pub mod RowStacks
 pub mod ViewLemmas
 pub mod PlaceLemmas

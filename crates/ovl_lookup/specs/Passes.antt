@@ -47,14 +47,15 @@ IsStop layer path depth (Some stop) =
     (Some stop.name.now ≡ slice_get path depth) × IsTrue (is_name stop.name.now)
     × IsNumberAt layer (child_path (take depth path) stop.name.now) stop.number
 
--- how far a path goes through directories of a layer: the row of the last of them, and how the layers below know it
+-- how far a path goes through directories of a layer: the row of the last of them, and how the layers below know it: by
+-- the same names, where none are told
 pub record IsDescent (layer : Entries) (path : PathNames) (descent : Descent) : Type 0 where
   pub layered : IsLayer layer
   pub inside : descent.row < length layer
   pub within : descent.depth ≤ length path
   pub here : path_at layer descent.row ≡ take descent.depth path
   pub directory : is_directory_at layer (take descent.depth path) ≡ true
-  pub turned : descent.next ≡ turn layer (take descent.depth path)
+  pub turned : unwrap_or descent.turned (take descent.depth path) ≡ turn layer (take descent.depth path)
   pub shut : descent.closed ≡ is_shut layer (take descent.depth path)
   pub stops : IfSome (slice_get path descent.depth) (λ name. is_directory_at layer (child_path (take descent.depth path) name) ≡ false)
   pub stop : IsStop layer path descent.depth descent.stop
@@ -74,13 +75,14 @@ step_of step = record { found = option_map (λ found. found.inode.now) step.foun
 abbrev pub IsMarked : TrailStep → Type 0
 IsMarked step = IfSome step.found (λ found. found.mark.now ≡ mark_of found.inode.now)
 
--- where the walk of a path in a layer leads: to a directory, past the layer where nothing is there, or no further
+-- where the walk of a path in a layer leads: to a directory, past the layer where nothing is there, or no further; it
+-- goes on by the same names, where none are told
 abbrev pub IsArrival : Entries → PathNames → Arrival → Type 0
 IsArrival layer path (Directory row next closed) =
     (is_directory_at layer path ≡ true) × (row < length layer) × (path_at layer row ≡ path)
-    × (next ≡ (walk layer path).next) × (closed ≡ (walk layer path).closed)
+    × (unwrap_or next path ≡ (walk layer path).next) × (closed ≡ (walk layer path).closed)
 IsArrival layer path (Past next) =
-    (entry_at layer path ≡ None) × ((walk layer path).closed ≡ false) × (next ≡ (walk layer path).next)
+    (entry_at layer path ≡ None) × ((walk layer path).closed ≡ false) × (unwrap_or next path ≡ (walk layer path).next)
 IsArrival layer path End =
     (is_directory_at layer path ≡ false) × ((is_some (entry_at layer path) || (walk layer path).closed) ≡ true)
 

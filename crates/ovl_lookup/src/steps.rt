@@ -1,4 +1,4 @@
-ghost use Rattle.std.specs.Prelude.{◌≡◌, ◌<◌, [], false, true, Some, length, IsTrue, IfOk, MatchOption};
+ghost use Rattle.std.specs.Prelude.{◌≡◌, ◌<◌, ◌++◌, [], false, true, Some, length, take, drop, unwrap_or, IsTrue, IfOk, MatchOption};
 ghost use Rattle.ovl_names.specs.Names.{is_name};
 ghost use Rattle.ovl_names.specs.Paths.{child_path};
 ghost use Rattle.ovl_inode.specs.Marks.{mark_of as the_mark};
@@ -9,7 +9,7 @@ ghost use Rattle.ovl_lookup.specs.Walk.{walk as the_walk, walk_beyond, walk_to_f
 
 use crate::trails::Trail;
 use ovl_inode::{Inode, Mark, Redirect, is_directory, is_whiteout};
-use ovl_manifest::Sheet;
+use ovl_manifest::{Sheet, SheetRow};
 use ovl_names::{Name, Path};
 use std::alloc::{AllocError, Global};
 
@@ -88,10 +88,11 @@ pub(crate) fn follow<'a>(
     let Descent {
         row,
         depth,
-        next,
+        turned,
         closed,
         stop,
     } = descend(alloc, sheet, trail)?;
+    let next = turned_or_own(alloc, sheet, turned, row, depth)?;
     let Some(stop) = stop else {
         return Ok(TrailStep {
             found: Some(found_in(sheet, row)),
@@ -129,12 +130,13 @@ fn found_in(sheet: &Sheet, number: u32) -> Found<'_>
 }
 
 // How far a path goes through directories of a layer: the row of the last of them, how many names lead to it, the path
-// by which the layer below knows it, whether the layers below are hidden there, and where it stops, if it goes further.
+// by which the layer below knows it, if that has other names, whether the layers below are hidden there, and where it
+// stops, if it goes further.
 #[derive(Drop)]
 pub(crate) struct Descent<'a, 't> {
     pub(crate) row: u32,
     pub(crate) depth: usize,
-    pub(crate) next: Trail<'a>,
+    pub(crate) turned: Option<Trail<'a>>,
     pub(crate) closed: bool,
     pub(crate) stop: Option<Stop<'t>>,
 }
@@ -146,7 +148,7 @@ pub(crate) struct Stop<'t> {
     pub(crate) number: Option<u32>,
 }
 
-// How far a path goes through directories. Each name that it goes on by is the layer's own.
+// How far a path goes through directories. No name is kept while no mark turns the path.
 pub(crate) fn descend<'a, 't>(
     alloc: Global,
     sheet: &'a Sheet,
@@ -155,15 +157,15 @@ pub(crate) fn descend<'a, 't>(
     ensures { IfOk result (λ descent. IsDescent sheet.now trail.now descent) }
 {
     let mut row = sheet.root_number();
-    let mut next = Trail::root(alloc);
+    let mut turned = None;
     let mut closed = false;
     let mut depth = 0;
     for name in trail.names() {
         match thing_below(sheet, row, name) {
             Below::Directory { number, own } => {
-                let entered = enter(alloc, sheet.mark(number), own, closed, next)?;
-                next = entered.next;
-                closed = entered.closed;
+                let mark = sheet.mark(number);
+                turned = turned_by(alloc, sheet, mark, own, turned, row, depth)?;
+                closed = closed_by(mark, closed);
                 row = number;
                 depth += 1;
             }
@@ -171,7 +173,7 @@ pub(crate) fn descend<'a, 't>(
                 return Ok(Descent {
                     row,
                     depth,
-                    next,
+                    turned,
                     closed,
                     stop: Some(Stop { name, number }),
                 });
@@ -181,10 +183,52 @@ pub(crate) fn descend<'a, 't>(
     Ok(Descent {
         row,
         depth,
-        next,
+        turned,
         closed,
         stop: None,
     })
+}
+
+// The path by which the layer below knows the directory of a row, which lies so deep.
+fn turned_or_own<'a>(
+    alloc: Global,
+    sheet: &'a Sheet,
+    turned: Option<Trail<'a>>,
+    row: u32,
+    depth: usize,
+) -> Result<Trail<'a>, AllocError>
+    requires inside { row < length sheet.now }
+    requires depth { depth ≡ length (path_at sheet.now row) }
+    ensures { IfOk result (λ next. next ≡ unwrap_or turned.entry (path_at sheet.now row)) }
+{
+    match turned {
+        Some(next) => Ok(next),
+        None => trail_of_row(alloc, sheet, row, depth),
+    }
+}
+
+// The path of a row, which lies so deep, in names that the layer holds. A call for each name.
+fn trail_of_row<'a>(
+    alloc: Global,
+    sheet: &'a Sheet,
+    row: u32,
+    depth: usize,
+) -> Result<Trail<'a>, AllocError>
+    requires inside { row < length sheet.now }
+    requires depth { depth ≡ length (path_at sheet.now row) }
+    ensures { IfOk result (λ trail. trail ≡ path_at sheet.now row) }
+{
+    if depth == 0 {
+        return Ok(Trail::root(alloc));
+    }
+    let Some(SheetRow { name, parent, .. }) = sheet.row(row) else {
+        return Ok(Trail::root(alloc));
+    };
+    let Some(name) = name else {
+        // The root alone has no name.
+        return Ok(Trail::root(alloc));
+    };
+    trail_of_row(alloc, sheet, *parent, depth - 1)?.child(name.as_str())
 }
 
 /// A directory of one layer, and how its walk goes on.
@@ -212,27 +256,28 @@ pub(crate) fn trail_in<'a>(
     let Descent {
         row,
         depth,
-        next,
+        turned,
         closed,
         ..
     } = descend(alloc, sheet, &trail)?;
     if depth < trail.len() {
         return Ok(None);
     }
+    let next = turned_or_own(alloc, sheet, turned, row, depth)?;
     Ok(Some(OwnDirectory { row, next, closed }))
 }
 
-// Where the walk of a path in one layer leads: to a directory's row, past the layer, where `next` goes on, or no
-// further.
+// Where the walk of a path in one layer leads: to a directory's row, past the layer, or no further. `next` is the path
+// that goes on, if it has other names.
 #[derive(Drop)]
 pub(crate) enum Arrival<'a> {
     Directory {
         row: u32,
-        next: Trail<'a>,
+        next: Option<Trail<'a>>,
         closed: bool,
     },
     Past {
-        next: Trail<'a>,
+        next: Option<Trail<'a>>,
     },
     End,
 }
@@ -248,18 +293,36 @@ pub(crate) fn arrive<'a>(
     let Descent {
         row,
         depth,
-        next,
+        turned,
         closed,
         stop,
     } = descend(alloc, sheet, trail)?;
     let Some(stop) = stop else {
-        return Ok(Arrival::Directory { row, next, closed });
+        return Ok(Arrival::Directory {
+            row,
+            next: turned,
+            closed,
+        });
     };
     if stop.number.is_some() || closed {
         return Ok(Arrival::End);
     }
-    let next = trail.onward(next, depth)?;
+    let next = turned_onward(turned, trail, depth)?;
     Ok(Arrival::Past { next })
+}
+
+// The path that goes on past so many names of the trail, if it has other names.
+fn turned_onward<'a>(
+    turned: Option<Trail<'a>>,
+    trail: &Trail<'a>,
+    depth: usize,
+) -> Result<Option<Trail<'a>>, AllocError>
+    ensures { IfOk result (λ next. unwrap_or next trail.now ≡ unwrap_or turned.entry (take depth trail.now) ++ drop depth trail.now) }
+{
+    match turned {
+        Some(next) => Ok(Some(trail.onward(next, depth)?)),
+        None => Ok(None),
+    }
 }
 
 // What a layer has at a name in a directory: a directory, with the number of its row and its name, or the number of
@@ -288,44 +351,54 @@ fn thing_below<'a>(sheet: &'a Sheet, row: u32, name: &str) -> Below<'a>
     }
 }
 
-// Where a walk has come to in a directory: the path by which the layer below knows it, and whether the layers below are
-// hidden there.
-#[derive(Drop)]
-struct Entered<'a> {
-    next: Trail<'a>,
-    closed: bool,
-}
-
-// How the next path and its flag go on in a directory of this mark.
-fn enter<'a>(
+// The path by which the layer below knows the directory `name` in that of a row, by its mark and by the path by which it
+// knows that one, where these have other names than their own.
+fn turned_by<'a>(
     alloc: Global,
+    sheet: &'a Sheet,
     mark: &'a Mark,
     name: &'a Name,
-    closed: bool,
-    next: Trail<'a>,
-) -> Result<Entered<'a>, AllocError>
-    ensures { IfOk result (λ entered. entered ≡ record { next = entered_path mark.now next.entry name.now; closed = entered_closed mark.now closed }) }
+    turned: Option<Trail<'a>>,
+    row: u32,
+    depth: usize,
+) -> Result<Option<Trail<'a>>, AllocError>
+    requires inside { row < length sheet.now }
+    requires depth { depth ≡ length (path_at sheet.now row) }
+    ensures { IfOk result (λ entered. unwrap_or entered (child_path (path_at sheet.now row) name.now)
+        ≡ entered_path mark.now (unwrap_or turned.entry (path_at sheet.now row)) name.now) }
 {
     match mark {
-        Mark::DirMoved(Redirect::To(origin)) => {
-            let next = Trail::of(alloc, &origin.names())?;
-            Ok(Entered {
-                next,
-                closed: false,
-            })
+        Mark::DirMoved(Redirect::To(origin)) => Ok(Some(Trail::of(alloc, &origin.names())?)),
+        Mark::DirMoved(Redirect::Beside(other)) => {
+            let next = turned_or_own(alloc, sheet, turned, row, depth)?;
+            Ok(Some(next.child(other.as_str())?))
         }
-        Mark::DirMoved(Redirect::Beside(own)) => {
-            let next = next.child(own.as_str())?;
-            Ok(Entered { next, closed })
-        }
-        Mark::DirOpaque | Mark::DirBad => {
-            let next = next.child(name.as_str())?;
-            Ok(Entered { next, closed: true })
-        }
-        Mark::Whiteout | Mark::DirPlain | Mark::Meta(_) | Mark::MetaBad | Mark::Leaf => {
-            let next = next.child(name.as_str())?;
-            Ok(Entered { next, closed })
-        }
+        Mark::Whiteout
+        | Mark::DirOpaque
+        | Mark::DirBad
+        | Mark::DirPlain
+        | Mark::Meta(_)
+        | Mark::MetaBad
+        | Mark::Leaf => match turned {
+            Some(next) => Ok(Some(next.child(name.as_str())?)),
+            None => Ok(None),
+        },
+    }
+}
+
+// Whether the layers below are hidden in a directory of this mark, by whether they are in the one above it.
+fn closed_by(mark: &Mark, closed: bool) -> bool
+    ensures { result ≡ entered_closed mark.now closed }
+{
+    match mark {
+        Mark::DirMoved(Redirect::To(_)) => false,
+        Mark::DirOpaque | Mark::DirBad => true,
+        Mark::DirMoved(Redirect::Beside(_))
+        | Mark::Whiteout
+        | Mark::DirPlain
+        | Mark::Meta(_)
+        | Mark::MetaBad
+        | Mark::Leaf => closed,
     }
 }
 

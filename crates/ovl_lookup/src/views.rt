@@ -137,9 +137,9 @@ fn push_reached<'a>(
                 if closed {
                     return Ok(());
                 }
-                trail = next;
+                trail = next.unwrap_or(trail);
             }
-            Arrival::Past { next } => trail = next,
+            Arrival::Past { next } => trail = next.unwrap_or(trail),
             Arrival::End => return Ok(()),
         }
     }

@@ -1,4 +1,4 @@
-use Rattle.std.proofs.Common.{◌≡◌, ◌∙◌, Bool, true, false, is_some, inl, inr, ◌⊎◌, take, sym, ap, subst}
+use Rattle.std.proofs.Common.{◌≡◌, ◌∙◌, Bool, true, false, is_some, inl, inr, ◌⊎◌, take, unwrap_or, sym, ap, subst}
 use Rattle.std.specs.Prelude.{◌||◌}
 use Rattle.std.proofs.lemmas.List.{take_all}
 use Rattle.ovl_names.specs.Paths.{PathNames}
@@ -21,7 +21,7 @@ returns-in_default c =
     let whole : take descent.depth path ≡ path = take_all descent.depth path (subst (IsStop layer path descent.depth) c.in_default.is is.stop) in
     let holds : is_directory_at layer path ≡ true = ap (is_directory_at layer) (sym whole) ∙ is.directory in
     let step = walk-whole layer path holds in
-    (holds, is.inside, is.here ∙ whole, is.turned ∙ (ap (turn layer) whole ∙ sym (ap (λ (s : Step). s.next) step)), is.shut ∙ (ap (is_shut layer) whole ∙ sym (ap (λ (s : Step). s.closed) step)))
+    (holds, is.inside, is.here ∙ whole, ap (unwrap_or descent.turned) (sym whole) ∙ is.turned ∙ (ap (turn layer) whole ∙ sym (ap (λ (s : Step). s.next) step)), is.shut ∙ (ap (is_shut layer) whole ∙ sym (ap (λ (s : Step). s.closed) step)))
 
 -- something stands there, or the layers below are hidden
 ends : (found told shut : Bool) → told ≡ found → (told ≡ true) ⊎ ((told ≡ false) × (shut ≡ true)) → (found || shut) ≡ true

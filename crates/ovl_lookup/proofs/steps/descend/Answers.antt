@@ -1,11 +1,11 @@
-use Rattle.std.proofs.Common.{◌≡◌, ◌∙◌, Bool, false, Option, IfSome, take, sym, ap, subst, arith}
+use Rattle.std.proofs.Common.{◌≡◌, ◌∙◌, Bool, false, Option, IfSome, length, take, unwrap_or, sym, ap, subst, arith}
 use Rattle.std.specs.Option.{option_map}
+use Rattle.std.proofs.lemmas.List.{length-take-le}
 use Rattle.ovl_names.specs.Names.{PathName}
 use Rattle.ovl_names.specs.Paths.{PathNames, child_path}
 use Rattle.ovl_inode.specs.Marks.{mark_of}
 use Rattle.ovl_manifest.specs.Layers.{Entries, is_directory_at, entry_at}
 use Rattle.ovl_manifest.specs.Sheets.{path_at}
-use Rattle.ovl_lookup.specs.declared.steps.Entered.{Entered}
 use Rattle.ovl_lookup.specs.declared.steps.Below.{Below}
 use Rattle.ovl_lookup.specs.Passes.{IsBelow, entered_path, entered_closed}
 use Rattle.ovl_lookup.proofs.WalkFacts.{taken, turn-next, shut-next}
@@ -26,7 +26,7 @@ loop-name-preserved c =
     let own : c.in-Directory.own.now ≡ name = below.3 in
     let path : path_at layer c.in-Directory.number ≡ child_path (take i names) name =
     below.1 ∙ ap (λ (p : PathNames). child_path p name) c.loop-name.invariant.here in
-    let marked = sym (ap (λ (p : PathNames). option_map mark_of (entry_at layer p)) path) ∙ c.mark.ensures in
+    let marked = sym (ap (λ (p : PathNames). option_map mark_of (entry_at layer p)) path) ∙ c.mark-mark.ensures in
     record {
       ahead = sym head.1;
       inside = below.0;
@@ -34,13 +34,15 @@ loop-name-preserved c =
       here = path ∙ more;
       directory = sym (ap (is_directory_at layer) (path ∙ more)) ∙ (ap (is_directory_at layer) below.1 ∙ below.2);
       turned =
-          ap (λ (e : Entered). e.next) c.in_ok-entered-in-Directory.ensures
-          ∙ ((λ j. entered_path c.mark.result.now (c.loop-name.invariant.turned j) (own j))
-          ∙ turn-next layer names i name at.0 at.1 c.mark.result.now marked);
+          ap (unwrap_or c.in_ok-turned-in-Directory.turned) (sym more ∙ (λ j. child_path (sym c.loop-name.invariant.here j) (sym own j)))
+          ∙ (c.in_ok-turned-in-Directory.ensures
+          ∙ ((λ j. entered_path c.mark-mark.result.now (unwrap_or c.loop-name.turned (c.loop-name.invariant.here j)) (own j))
+          ∙ (ap (λ (p : PathNames). entered_path c.mark-mark.result.now p name) c.loop-name.invariant.turned
+          ∙ turn-next layer names i name at.0 at.1 c.mark-mark.result.now marked)));
       shut =
-          ap (λ (e : Entered). e.closed) c.in_ok-entered-in-Directory.ensures
-          ∙ (ap (λ (b : Bool). entered_closed c.mark.result.now b) c.loop-name.invariant.shut
-          ∙ shut-next layer names i name at.0 at.1 c.mark.result.now marked);
+          c.closed_by-closed.ensures
+          ∙ (ap (λ (b : Bool). entered_closed c.mark-mark.result.now b) c.loop-name.invariant.shut
+          ∙ shut-next layer names i name at.0 at.1 c.mark-mark.result.now marked);
     }
 
 pub overflow_add-depth : goal.overflow_add-depth
@@ -87,3 +89,7 @@ returns c =
       stops = subst (λ (o : Option PathName). IfSome o (λ name. is_directory_at layer (child_path (take i names) name) ≡ false)) (sym (end-read names i (sym so_far.ahead ∙ c.in-None.ensures.steps.0))) tt;
       stop = name-past names i (sym (end-read names i (sym so_far.ahead ∙ c.in-None.ensures.steps.0)));
     }
+
+pub turned_by-requires-clause-depth : goal.turned_by-requires-clause-depth
+turned_by-requires-clause-depth c =
+    sym (ap length c.loop-name.invariant.here ∙ length-take-le c.loop-name.depth c.args.trail.now c.loop-name.invariant.within)

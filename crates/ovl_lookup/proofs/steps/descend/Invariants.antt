@@ -1,4 +1,4 @@
-use Rattle.std.proofs.Common.{◌≡◌, ◌<◌, ◌≤◌, true, length, take, drop}
+use Rattle.std.proofs.Common.{◌≡◌, ◌<◌, ◌≤◌, true, length, take, drop, unwrap_or}
 use Rattle.ovl_manifest.specs.Layers.{is_directory_at}
 use Rattle.ovl_manifest.specs.Sheets.{path_at}
 use Rattle.ovl_lookup.specs.Walk.{turn, is_shut}
@@ -12,6 +12,6 @@ invariant-loop-name l = record {
   within : l.depth ≤ length l.trail;
   here : path_at l.sheet l.row ≡ take l.depth l.trail;
   directory : is_directory_at l.sheet (take l.depth l.trail) ≡ true;
-  turned : l.next ≡ turn l.sheet (take l.depth l.trail);
+  turned : unwrap_or l.turned (take l.depth l.trail) ≡ turn l.sheet (take l.depth l.trail);
   shut : l.closed ≡ is_shut l.sheet (take l.depth l.trail);
 }

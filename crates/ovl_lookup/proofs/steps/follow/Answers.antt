@@ -1,4 +1,4 @@
-use Rattle.std.proofs.Common.{◌≡◌, ◌+◌, ◌<◌, ◌≤◌, ◌∙◌, ◌++◌, ◌∷◌, IfOk, Bool, true, Some, None, [], length, take, drop, length-drop, refl, sym, ap, subst, arith}
+use Rattle.std.proofs.Common.{◌≡◌, ◌+◌, ◌<◌, ◌≤◌, ◌∙◌, ◌++◌, ◌∷◌, IfOk, Bool, true, Some, None, [], length, take, drop, unwrap_or, length-drop, refl, sym, ap, subst, arith}
 use Rattle.std.proofs.lemmas.List.{drop_all}
 use Rattle.std.proofs.lemmas.Bool.Decides.{nat_tests}
 use Rattle.ovl_names.specs.Names.{PathName}
@@ -26,8 +26,8 @@ returns-in_default-clause-value c =
     let descent : Descent = c.in_ok-row.field-0 in
     let is = c.in_ok-row.ensures in
     let here : Some c.found_in.result.inode.now ≡ entry_at layer (take descent.depth path) = sym c.found_in.ensures.value ∙ ap (entry_at layer) is.here in
-    walk-ends_whole layer path descent.depth (Some c.found_in.result.inode.now) descent.next descent.closed
-    (subst (IsStop layer path descent.depth) c.in_default.is is.stop) is.directory here is.turned is.shut
+    walk-ends_whole layer path descent.depth (Some c.found_in.result.inode.now) c.in_ok-next.next descent.closed
+    (subst (IsStop layer path descent.depth) c.in_default.is is.stop) is.directory here (c.in_ok-next.ensures ∙ (ap (unwrap_or descent.turned) is.here ∙ is.turned)) is.shut
 
 pub returns-in_default-number-clause-value : goal.returns-in_default-number-clause-value
 returns-in_default-number-clause-value c =
@@ -41,7 +41,7 @@ returns-in_default-number-clause-value c =
     let here : entry_at layer (child_path (take descent.depth path) name) ≡ None = subst (IsNumberAt layer (child_path (take descent.depth path) name)) c.in_default-number.is stop.2 in
     ap (λ (next : PathNames). nothing_found next descent.closed) c.in_ok-onward.ensures
     ∙ walk-misses layer path descent.depth name at.0 at.1 is.layered is.directory (stopped layer path descent name is at.0 at.1)
-    descent.next descent.closed here is.turned is.shut
+    c.in_ok-next.next descent.closed here (c.in_ok-next.ensures ∙ (ap (unwrap_or descent.turned) is.here ∙ is.turned)) is.shut
 
 pub returns-then-len-depth-clause-value : goal.returns-then-len-depth-clause-value
 returns-then-len-depth-clause-value c =
@@ -57,10 +57,10 @@ returns-then-len-depth-clause-value c =
     let here : Some found.0 ≡ entry_at layer (child_path (take descent.depth path) name) = sym (sym (ap (entry_at layer) number.1) ∙ found.1) in
     let more : descent.depth + 1 < length path = grind (arith, nat_tests, c.if-len-depth.true, c.len.ensures) in
     let some : 0 < length (drop (descent.depth + 1) path) = omega (arith, more, length-drop (descent.depth + 1) path) in
-    ap (λ (next : PathNames). nothing_found next true) (c.in_ok-onward-2.ensures ∙ ap (λ (r : PathNames). descent.next ++ r) (drop-head path descent.depth name at.0 at.1))
-    ∙ (below-file found.0 descent.next descent.closed name (drop (descent.depth + 1) path) some
+    ap (λ (next : PathNames). nothing_found next true) (c.in_ok-onward-2.ensures ∙ ap (λ (r : PathNames). c.in_ok-next.next ++ r) (drop-head path descent.depth name at.0 at.1))
+    ∙ (below-file found.0 c.in_ok-next.next descent.closed name (drop (descent.depth + 1) path) some
     ∙ walk-ends layer path descent.depth name at.0 at.1 is.layered is.directory (stopped layer path descent name is at.0 at.1)
-    (Some found.0) descent.next descent.closed here is.turned is.shut)
+    (Some found.0) c.in_ok-next.next descent.closed here (c.in_ok-next.ensures ∙ (ap (unwrap_or descent.turned) is.here ∙ is.turned)) is.shut)
 
 pub returns-clause-value : goal.returns-clause-value
 returns-clause-value c =
@@ -76,7 +76,7 @@ returns-clause-value c =
     let here : Some inode ≡ entry_at layer (child_path (take descent.depth path) name) = sym c.found_in-2.ensures.value ∙ ap (entry_at layer) number.1 in
     let last : length path ≤ descent.depth + 1 = grind (arith, nat_tests, c.if-len-depth.false, c.len.ensures) in
     subst (λ (s : Step). IfOk c.beyond.result (λ step. step_of step ≡ s))
-    (ap (walk_beyond (Some inode) descent.next descent.closed name) (sym (drop_all (descent.depth + 1) path last))
+    (ap (walk_beyond (Some inode) c.in_ok-next.next descent.closed name) (sym (drop_all (descent.depth + 1) path last))
     ∙ walk-ends layer path descent.depth name at.0 at.1 is.layered is.directory (stopped layer path descent name is at.0 at.1)
-    (Some inode) descent.next descent.closed here is.turned is.shut)
+    (Some inode) c.in_ok-next.next descent.closed here (c.in_ok-next.ensures ∙ (ap (unwrap_or descent.turned) is.here ∙ is.turned)) is.shut)
     c.beyond.ensures.value

@@ -1,4 +1,4 @@
-use Rattle.std.proofs.Common.{◌≡◌, ◌∙◌, true, length, take, sym, ap, subst, arith}
+use Rattle.std.proofs.Common.{◌≡◌, ◌∙◌, true, length, take, unwrap_or, sym, ap, subst, arith}
 use Rattle.std.proofs.lemmas.Bool.Decides.{nat_tests}
 use Rattle.std.proofs.lemmas.List.{take_all}
 use Rattle.ovl_names.specs.Paths.{PathNames}
@@ -33,6 +33,6 @@ returns c =
       inside = is.inside;
       here = is.here ∙ whole;
       directory = holds;
-      next = is.turned ∙ (ap (turn layer) whole ∙ sym (ap (λ (s : Step). s.next) step));
+      next = c.in_ok-next.ensures ∙ (ap (unwrap_or descent.turned) is.here ∙ is.turned) ∙ (ap (turn layer) whole ∙ sym (ap (λ (s : Step). s.next) step));
       closed = is.shut ∙ (ap (is_shut layer) whole ∙ sym (ap (λ (s : Step). s.closed) step));
     }
