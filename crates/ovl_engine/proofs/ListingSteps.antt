@@ -1,10 +1,11 @@
 -- The lines of the merged tree as far as they are written, from a number of its paths on, and what each entry adds to them.
-use Rattle.std.proofs.Common.{◌≡◌, ℕ, zero, suc, ◌+◌, ◌<◌, ◌≤◌, Bool, false, true, cond, List, [], ◌∷◌, ◌++◌, length, get_or, map, take, drop, drop-cons, refl, sym, ap, ◌∙◌, arith, append-nil, length-append, length-drop, string_bytes}
+use Rattle.std.proofs.Common.{◌≡◌, ℕ, zero, suc, ◌+◌, ◌-◌, ◌<◌, ◌≤◌, Bool, false, true, cond, List, [], ◌∷◌, ◌++◌, length, get_or, map, take, drop, drop-cons, refl, sym, ap, ◌∙◌, subst, arith, append-nil, append_assoc, length-append, length-drop, string_bytes}
 use Rattle.std.specs.Prelude.{◌==◌, codes}
 use Rattle.std.specs.List.{flat_map, All}
-use Rattle.std.proofs.Math.Dec.{eqb-suc-zero}
+use Rattle.std.proofs.Math.Dec.{eqb-suc-zero, leb}
 use Rattle.std.proofs.Math.Seq.{take-append_seam}
-use Rattle.std.proofs.lemmas.List.{drop-append-le, drop-map, drop-take, drop_all, take-map, take_all}
+use Rattle.std.proofs.lemmas.Bool.{leb-true, leb-false}
+use Rattle.std.proofs.lemmas.List.{drop-append-le, drop-drop, drop-map, drop-take, drop_all, map-append, take-map, take_all}
 use Rattle.std.proofs.lemmas.List.Concat.{flat_map-append}
 use Rattle.std.proofs.lemmas.List.Folds.{flat_map-map}
 use Rattle.ovl_names.specs.Names.{PathName}
@@ -17,7 +18,7 @@ use Rattle.ovl_board.proofs.LawsOfMembers.{Every}
 use Rattle.ovl_engine.specs.declared.listings.Open.{Open}
 use Rattle.ovl_engine.specs.Directories.{NamedLook, ShowParcel, IsShowWalk}
 use Rattle.ovl_engine.specs.Reports.{look_line, show_line, shown_names}
-use Rattle.ovl_engine.specs.Listings.{merged_tree}
+use Rattle.ovl_engine.specs.Listings.{TellsLeaves, name_line, merged_tree}
 use Rattle.ovl_engine.proofs.MergedLemmas.{with_look, tree_paths}
 use Rattle.ovl_engine.proofs.ListingLemmas.{OpenView, IsTold, stacked, paths_left, all_paths, views_of, left-exhausted, left-look, left-told, next-path, left-entered, first-path, left-first, every-front, every-last, every-push}
 
@@ -52,6 +53,24 @@ module _ (stack : StackView) (first : ℕ) where
     pub written : report ≡ flat_map line_at (drop first told)
     pub counted : entries ≡ length told
     pub texts : Every HasText opens
+
+  -- the lines of some entries, of which the first one is told
+  first_told : (line : NamedLook → List ℕ) (report : List ℕ) (entry : NamedLook) (others : List NamedLook) (entries : ℕ)
+      → report ++ flat_map line (drop (first - entries) (entry ∷ others)) ≡ (report ++ cond (leb first entries) (line entry) []) ++ flat_map line (drop (first - (entries + 1)) others)
+  first_told line report entry others entries = by (leb first entries) refl
+    where
+      by : (b : Bool) → leb first entries ≡ b → report ++ flat_map line (drop (first - entries) (entry ∷ others)) ≡ (report ++ cond (leb first entries) (line entry) []) ++ flat_map line (drop (first - (entries + 1)) others)
+      by true e =
+          let now : first - entries ≡ 0 = omega (arith, leb-true first entries e) in
+          let then : first - (entries + 1) ≡ 0 = omega (arith, leb-true first entries e) in
+          ap (λ n. report ++ flat_map line (drop n (entry ∷ others))) now
+          ∙ (sym (append_assoc report (line entry) (flat_map line others))
+          ∙ (λ j. (report ++ cond (sym e j) (line entry) []) ++ flat_map line (drop (sym then j) others)))
+      by false e =
+          let now : first - entries ≡ suc (first - (entries + 1)) = omega (arith, leb-false first entries e) in
+          ap (λ n. report ++ flat_map line (drop n (entry ∷ others))) now
+          ∙ (λ j. (sym (append-nil report) j) ++ flat_map line (drop (first - (entries + 1)) others))
+          ∙ (λ j. (report ++ cond (sym e j) (line entry) []) ++ flat_map line (drop (first - (entries + 1)) others))
 
   module _ (each : All IsLayer stack.layers) where
     -- the directory that was opened last has nothing left
@@ -133,6 +152,43 @@ module _ (stack : StackView) (first : ℕ) where
             every-push HasText (opens ++ o' ∷ []) o'' texts-next
             (its_text ∙ (ap (λ l. l ++ (codes "/" ++ escaped entry.0)) (every-last HasText opens o h.texts) ∙ (sym (text-child (view o).0 entry.0) ∙ ap shown_names path)));
       }
+
+    -- ... or entries that are no directories
+    pub listing-leaves : (report : List ℕ) (entries : ℕ) (opens : List Open) (o : Open) (rest : List ShowParcel) → IsListing report entries (opens ++ o ∷ []) rest
+        → (leaves left : List NamedLook) → (view o).1 ≡ leaves ++ left → All (λ entry. is_shown_directory entry.1 ≡ false) leaves
+        → (longer : List ℕ) → longer ≡ report ++ flat_map (name_line (string_bytes o.text)) (drop (first - entries) leaves)
+        → (o' : Open) → view o' ≡ ((view o).0, left) → string_bytes o'.text ≡ string_bytes o.text → IsListing longer (entries + length leaves) (opens ++ o' ∷ []) rest
+    listing-leaves report entries opens o rest h [] left all are longer more o' same text =
+        let none : drop (first - entries) [] ≡ [] = drop_all {X = NamedLook} (first - entries) [] (omega arith) in
+        let seen : view o' ≡ view o = same ∙ (λ j. ((view o).0, sym all j)) in
+        let count : entries ≡ entries + 0 = omega arith in
+        let reported : longer ≡ report = more ∙ (ap (λ l. report ++ flat_map (name_line (string_bytes o.text)) l) none ∙ append-nil report) in
+        subst (λ n. IsListing longer n (opens ++ o' ∷ []) rest) count
+        (record {
+          told = h.told;
+          is_told = subst (λ l. IsTold stack l h.told (views_of rest)) (map-append view opens (o ∷ []) ∙ (ap (λ v. map view opens ++ v ∷ []) (sym seen) ∙ sym (map-append view opens (o' ∷ [])))) h.is_told;
+          written = reported ∙ h.written;
+          counted = h.counted;
+          texts = every-push HasText opens o' (every-front HasText opens o h.texts) (text ∙ (every-last HasText opens o h.texts ∙ ap (λ (v : OpenView). shown_names v.0) (sym seen)));
+        })
+    listing-leaves report entries opens o rest h (entry ∷ leaves) left all are longer more o' same text =
+        let line = name_line (string_bytes o.text) in
+        let o'' = record o { told = o.told + 1 } in
+        let behind : drop (o.told + 1) o.parcel.now.out.items ≡ leaves ++ left = sym (drop-drop 1 o.told o.parcel.now.out.items) ∙ ap (drop 1) all in
+        let told = listing-told report entries opens o rest h entry (leaves ++ left) all (leb first entries) (leb-true first entries) (leb-false first entries)
+        (report ++ cond (leb first entries) (line entry) []) refl o'' (λ j. ((view o).0, behind j)) refl (are 0 entry (omega arith)) in
+        let count : (entries + 1) + length leaves ≡ entries + suc (length leaves) = omega arith in
+        subst (λ n. IsListing longer n (opens ++ o' ∷ []) rest) count
+        (listing-leaves (report ++ cond (leb first entries) (line entry) []) (entries + 1) opens o'' rest told leaves left behind (λ k d i. are (suc k) d (omega (arith, i)))
+        longer (more ∙ first_told line report entry leaves entries) o' same text)
+
+    pub listing-leaves_told : (report : List ℕ) (entries : ℕ) (opens : List Open) (o : Open) (rest : List ShowParcel) → IsListing report entries (opens ++ o ∷ []) rest
+        → (o' : Open) (longer : List ℕ) (number : ℕ) → TellsLeaves first (string_bytes o.text) (view o).1 (drop o'.told o.parcel.now.out.items) entries number report longer
+        → o'.parcel ≡ o.parcel → o'.text ≡ o.text → IsListing longer number (opens ++ o' ∷ []) rest
+    listing-leaves_told report entries opens o rest h o' longer number told parcel text =
+        subst (λ n. IsListing longer n (opens ++ o' ∷ []) rest) (sym told.counted)
+        (listing-leaves report entries opens o rest h told.leaves (drop o'.told o.parcel.now.out.items) told.all told.are longer told.written
+        o' (λ j. ((parcel j).now.piece.dir, drop o'.told (parcel j).now.out.items)) (ap string_bytes text))
 
     module _ (some : 0 < length stack.layers) where
       -- at first the root is told, and its directory is open

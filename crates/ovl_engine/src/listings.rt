@@ -6,7 +6,7 @@ ghost use Rattle.ovl_lookup.specs.Stacks.{StackView};
 ghost use Rattle.ovl_board.specs.Parcels.{parcel_views};
 ghost use Rattle.ovl_engine.specs.declared.listings.Open.{Open};
 ghost use Rattle.ovl_engine.specs.Directories.{ShowParcel, IsShowWalk};
-ghost use Rattle.ovl_engine.specs.Listings.{IsTreeOf, merged_tree};
+ghost use Rattle.ovl_engine.specs.Listings.{IsTreeOf, StartsAtDirectory, TellsLeaves, merged_tree};
 ghost use Rattle.ovl_engine.specs.Reports.{line_of, look_line, show_line};
 ghost use Rattle.ovl_engine.specs.Outcomes.{IsShowReport};
 
@@ -145,6 +145,7 @@ fn lines_from(
     let mut open = Vec::new(alloc);
     let mut rest = enter(&mut open, parcels, String::new(alloc))?;
     while let Some(mut directory) = open.pop() {
+        told = push_leaves(alloc, &mut lines, first, end, told, &mut directory)?;
         if told == end {
             break;
         }
@@ -161,13 +162,9 @@ fn lines_from(
         )?;
         told += 1;
         directory.told += 1;
-        if look.is_shown_directory() {
-            let text = text_of(alloc, directory.text.as_str(), name.as_str())?;
-            open.push(directory)?;
-            rest = enter(&mut open, rest, text)?;
-        } else {
-            open.push(directory)?;
-        }
+        let text = text_of(alloc, directory.text.as_str(), name.as_str())?;
+        open.push(directory)?;
+        rest = enter(&mut open, rest, text)?;
     }
     Ok(lines)
 }
@@ -201,6 +198,43 @@ fn enter<'a>(
         text,
     })?;
     Ok(rest)
+}
+
+// Tells what isn't a directory in an open directory, up to what is one: appends the lines from number `first` on. So many
+// paths are told before; gives how many are told then, `end` at most.
+fn push_leaves(
+    alloc: Global,
+    lines: &mut String,
+    first: usize,
+    end: usize,
+    told: usize,
+    directory: &mut Open<'_>,
+) -> Result<usize, AllocError>
+    requires { told ≤ end }
+    ensures leaves { IfOk result (λ number. TellsLeaves first (string_bytes directory.old.text)
+        (drop directory.old.told directory.old.parcel.now.out.items) (drop directory.new.told directory.old.parcel.now.out.items)
+        told number (string_bytes lines.old) (string_bytes lines.new)) }
+    ensures within { IfOk result (λ number. number ≤ end) }
+    ensures next { IfOk result (λ number. number < end → StartsAtDirectory (drop directory.new.told directory.old.parcel.now.out.items)) }
+    ensures same { OnOk result ((directory.new.parcel ≡ directory.old.parcel) × (directory.new.text ≡ directory.old.text)) }
+{
+    let mut number = told;
+    while let Some((name, look)) = directory.parcel.out.get(directory.told) {
+        if number == end || look.is_shown_directory() {
+            break;
+        }
+        push_wanted(
+            alloc,
+            lines,
+            first <= number,
+            directory.text.as_str(),
+            name.as_str(),
+            look,
+        )?;
+        number += 1;
+        directory.told += 1;
+    }
+    Ok(number)
 }
 
 // The next number: memory can't hold as many paths as have none.

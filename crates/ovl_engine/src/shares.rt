@@ -1,5 +1,6 @@
 //! Texts of which several threads write a share each, and work of two parts that are done side by side.
-ghost use Rattle.std.specs.Prelude.{◌≡◌, ◌<◌, ◌≤◌, ◌*◌, IfOk, Ok, map, string_bytes};
+ghost use Rattle.std.specs.Prelude.{◌≡◌, ◌<◌, ◌≤◌, ◌*◌, ◌++◌, IfOk, Ok, map, string_bytes};
+ghost use Rattle.std.specs.List.{flat_map};
 ghost use Rattle.ovl_engine.specs.Shares.{AreJoined, least_share};
 
 use std::alloc::{AllocError, Global};
@@ -39,19 +40,31 @@ pub(crate) fn side_by_side<R: Threads, F: FnOnce() -> A + Send, G: FnOnce() -> B
     }
 }
 
-/// The texts of all shares one after another, or the first fault. Each is let go once it is appended.
+/// The texts of all shares one after another, or the first fault.
 pub(crate) fn joined(
     alloc: Global,
     parts: Vec<Result<String, AllocError>>,
 ) -> Result<String, AllocError>
     ensures { IfOk result (λ whole. AreJoined string_bytes parts.items (string_bytes whole)) }
 {
-    let texts = texts_of(alloc, parts)?;
-    let mut whole = String::with_capacity(alloc, room_for(&texts))?;
-    for text in texts {
-        whole.push_str(text.as_str())?;
+    let mut texts = texts_of(alloc, parts)?;
+    if texts.is_empty() {
+        return Ok(String::new(alloc));
     }
-    Ok(whole)
+    let first = texts.remove(0);
+    with_others(first, texts)
+}
+
+// A text and the others behind it. It grows by all of them at once, in place where it can, and each is let go once it is
+// appended.
+fn with_others(mut text: String, others: Vec<String>) -> Result<String, AllocError>
+    ensures { IfOk result (λ whole. string_bytes whole ≡ string_bytes text ++ flat_map string_bytes others.items) }
+{
+    text.reserve_exact(room_for(&others))?;
+    for other in others {
+        text.push_str(other.as_str())?;
+    }
+    Ok(text)
 }
 
 fn texts_of(

@@ -1,14 +1,15 @@
-use Rattle.std.proofs.Common.{rules, ◌≡◌, ◌+◌, ◌<◌, ◌≤◌, ◌∙◌, ◌++◌, ◌∷◌, [], cond, length, get_or, drop, refl, ap, sym, subst, arith, string_bytes}
+use Rattle.std.proofs.Common.{rules, ◌≡◌, ◌+◌, ◌<◌, ◌≤◌, ◌∙◌, ◌++◌, ◌∷◌, [], cond, true, length, get_or, drop, refl, ap, sym, subst, arith, string_bytes}
 use Rattle.std.specs.Prelude.{codes, ◌==◌}
 use Rattle.std.proofs.Math.Dec.{leb}
 use Rattle.std.proofs.lemmas.Bool.{leb-true, leb-false}
 use Rattle.std.proofs.lemmas.List.{drop_all}
 use Rattle.ovl_names.specs.Escapes.{escaped}
+use Rattle.ovl_lookup.specs.Merged.{is_shown_directory}
 use Rattle.ovl_engine.specs.Directories.{IsShowWalk}
 use Rattle.ovl_engine.specs.Reports.{look_line}
 use Rattle.ovl_engine.proofs.ListingLemmas.{views_of, has-first, has-next}
-use Rattle.ovl_engine.proofs.ListingSteps.{view, IsListing, next_left, listing-first, listing-exhausted, listing-told, listing-entered, listing-share, listing-last}
-use Rattle.ovl_engine.proofs.listings.lines_from.Goals.{in-Some+then-told-end, in_default}
+use Rattle.ovl_engine.proofs.ListingSteps.{view, IsListing, next_left, listing-first, listing-exhausted, listing-leaves_told, listing-entered, listing-share, listing-last}
+use Rattle.ovl_engine.proofs.listings.lines_from.Goals.{in-Some+in_ok-told+then-told-end, in_default}
 use Rattle.ovl_engine.proofs.listings.lines_from.Goals as goal
 
 pub loop-directory-init : goal.loop-directory-init
@@ -30,65 +31,54 @@ loop-directory-init c =
 pub loop-directory-preserved-in_default-get : goal.loop-directory-preserved-in_default-get
 loop-directory-preserved-in_default-get c =
     let l = c.loop-directory in
-    let o = c.in-Some.directory in
+    let given = c.in-Some.directory in
+    let o = c.push_leaves.new.directory in
+    let kept = c.pop.new.self.items in
+    let lines = string_bytes c.push_leaves.new.lines in
     let past : length o.parcel.now.out.items ≤ o.told = subst (λ entries. length entries ≤ o.told) c.deref.ensures.value c.in_default-get.ensures.lookup.3 in (
       λ stack tree.
-          listing-exhausted stack c.args.first tree.each (string_bytes l.lines) l.told c.pop.new.self.items o l.rest.now
-          (subst (λ opens. IsListing stack c.args.first (string_bytes l.lines) l.told opens l.rest.now) c.in-Some.ensures.items (l.invariant.0 stack tree)) (drop_all o.told o.parcel.now.out.items past),
-      l.invariant.1,
+          let before = subst (λ opens. IsListing stack c.args.first (string_bytes l.lines) l.told opens l.rest.now) c.in-Some.ensures.items (l.invariant.0 stack tree) in
+          listing-exhausted stack c.args.first tree.each lines c.in_ok-told.told kept o l.rest.now
+          (listing-leaves_told stack c.args.first tree.each (string_bytes l.lines) l.told kept given l.rest.now before o lines c.in_ok-told.told c.in_ok-told.ensures.leaves c.in_ok-told.ensures.same.0 c.in_ok-told.ensures.same.1)
+          (drop_all o.told o.parcel.now.out.items past),
+      c.in_ok-told.ensures.within,
     )
 
 pub loop-directory-preserved : goal.loop-directory-preserved
 loop-directory-preserved c =
     let l = c.loop-directory in
-    let lines = string_bytes l.lines in
-    let o = c.in-Some.directory in
-    let out = o.parcel.now.out.items in
-    let entry = c.in-Some-get.field-0.now in
-    let wanted = leb c.args.first l.told in
-    let longer = string_bytes c.push_wanted-in-Some.new.report in
-    let more : longer ≡ lines ++ cond wanted (look_line (string_bytes o.text ++ (codes "/" ++ escaped entry.0)) entry.1) [] =
-    c.in_ok-push_wanted-2.ensures ∙ (λ j. lines ++ cond wanted (look_line (c.as_str.ensures.value j ++ (codes "/" ++ escaped (c.as_str-in-Some.ensures.value j))) entry.1) []) in
-    let some : drop o.told out ≡ entry ∷ drop (o.told + 1) out =
-    next_left out o.told entry (subst (λ entries. o.told < length entries) c.deref.ensures.value c.in-Some-get.ensures.lookup.3.0)
-    (c.in-Some-get.ensures.lookup.1 ∙ ap (λ entries. get_or entries o.told entry) c.deref.ensures.value) in (
-      λ stack tree.
-          let h = subst (λ opens. IsListing stack c.args.first lines l.told opens l.rest.now) c.in-Some.ensures.items (l.invariant.0 stack tree) in
-          subst (λ opens. IsListing stack c.args.first longer (l.told + 1) opens l.rest.now) (sym c.in_ok-push-2.ensures.items)
-          (listing-told stack c.args.first tree.each lines l.told c.pop.new.self.items o l.rest.now h entry (drop (o.told + 1) out) some
-          wanted (leb-true c.args.first l.told) (leb-false c.args.first l.told) longer more (record o { told = o.told + 1 }) refl refl (sym c.if-is_shown_directory.ensures)),
-      omega (arith, l.invariant.1, c.if-told-end.false),
-    )
-
-pub loop-directory-preserved-then-is_shown_directory : goal.loop-directory-preserved-then-is_shown_directory
-loop-directory-preserved-then-is_shown_directory c =
-    let l = c.loop-directory in
-    let lines = string_bytes l.lines in
-    let o = c.in-Some.directory in
+    let given = c.in-Some.directory in
+    let o = c.push_leaves.new.directory in
+    let number = c.in_ok-told.told in
+    let lines = string_bytes c.push_leaves.new.lines in
     let out = o.parcel.now.out.items in
     let kept = c.pop.new.self.items in
     let entry = c.in-Some-get.field-0.now in
-    let wanted = leb c.args.first l.told in
+    let wanted = leb c.args.first number in
     let longer = string_bytes c.push_wanted-in-Some.new.report in
     let more : longer ≡ lines ++ cond wanted (look_line (string_bytes o.text ++ (codes "/" ++ escaped entry.0)) entry.1) [] =
     c.in_ok-push_wanted-2.ensures ∙ (λ j. lines ++ cond wanted (look_line (c.as_str.ensures.value j ++ (codes "/" ++ escaped (c.as_str-in-Some.ensures.value j))) entry.1) []) in
     let some : drop o.told out ≡ entry ∷ drop (o.told + 1) out =
     next_left out o.told entry (subst (λ entries. o.told < length entries) c.deref.ensures.value c.in-Some-get.ensures.lookup.3.0)
     (c.in-Some-get.ensures.lookup.1 ∙ ap (λ entries. get_or entries o.told entry) c.deref.ensures.value) in
-    let o' = record o { told = o.told + 1 } in
-    let is = sym c.if-is_shown_directory.ensures in (
+    let within : number ≤ c.in_ok-end.end = c.in_ok-told.ensures.within in
+    let few : number < c.in_ok-end.end = omega (arith, within, c.if-told-end.false) in
+    let is : is_shown_directory entry.1 ≡ true =
+    c.in_ok-told.ensures.next few entry (drop (o.told + 1) out) (subst (λ parcel. drop o.told parcel.now.out.items ≡ entry ∷ drop (o.told + 1) out) c.in_ok-told.ensures.same.0 some) in
+    let o' = record o { told = o.told + 1 } in (
       λ stack tree.
-          let h = subst (λ opens. IsListing stack c.args.first lines l.told opens l.rest.now) c.in-Some.ensures.items (l.invariant.0 stack tree) in
+          let before = subst (λ opens. IsListing stack c.args.first (string_bytes l.lines) l.told opens l.rest.now) c.in-Some.ensures.items (l.invariant.0 stack tree) in
+          let h = listing-leaves_told stack c.args.first tree.each (string_bytes l.lines) l.told kept given l.rest.now before o lines number c.in_ok-told.ensures.leaves c.in_ok-told.ensures.same.0 c.in_ok-told.ensures.same.1 in
           let next = has-next stack tree.each view kept o entry (drop (o.told + 1) out) h.told l.rest.now h.is_told some is in
           let opened = c.in_ok-rest-2.ensures.next next.0 next.1.0 next.1.1 in
           let o'' = opened.1.0 in
           let text : string_bytes o''.text ≡ string_bytes o.text ++ (codes "/" ++ escaped entry.0) =
-          opened.1.1.3 ∙ (c.in_ok-text.ensures ∙ (λ j. c.as_str-then-is_shown_directory.ensures.value j ++ (codes "/" ++ escaped (c.as_str-then-is_shown_directory-2.ensures.value j)))) in
-          subst (IsListing stack c.args.first longer (l.told + 1) c.enter-then-is_shown_directory.new.opened.items) (sym opened.0)
-          (subst (λ opens. IsListing stack c.args.first longer (l.told + 1) opens next.1.0) (sym (opened.1.1.0 ∙ ap (λ opens. opens ++ o'' ∷ []) c.in_ok-push.ensures.items))
-          (listing-entered stack c.args.first tree.each lines l.told kept o l.rest.now h entry (drop (o.told + 1) out) some
-          wanted (leb-true c.args.first l.told) (leb-false c.args.first l.told) longer more o' refl refl is next.0 next.1.0 next.1.1 o'' opened.1.1.1 opened.1.1.2 text)),
-      omega (arith, l.invariant.1, c.if-told-end.false),
+          opened.1.1.3 ∙ (c.in_ok-text.ensures ∙ (λ j. c.as_str-in-Some-2.ensures.value j ++ (codes "/" ++ escaped (c.as_str-in-Some-3.ensures.value j)))) in
+          subst (IsListing stack c.args.first longer (number + 1) c.enter-in-Some.new.opened.items) (sym opened.0)
+          (subst (λ opens. IsListing stack c.args.first longer (number + 1) opens next.1.0) (sym (opened.1.1.0 ∙ ap (λ opens. opens ++ o'' ∷ []) c.in_ok-push.ensures.items))
+          (listing-entered stack c.args.first tree.each lines number kept o l.rest.now h entry (drop (o.told + 1) out) some
+          wanted (leb-true c.args.first number) (leb-false c.args.first number) longer more o' refl refl is next.0 next.1.0 next.1.1 o'' opened.1.1.1 opened.1.1.2 text)),
+      omega (arith, few),
     )
 
 pub returns : goal.returns
@@ -98,8 +88,16 @@ returns c stack tree =
     let end : c.in_ok-end.end ≡ c.args.first + c.args.share = search rules in
     let h : IsListing stack c.args.first lines l.told l.open.items l.rest.now = l.invariant.0 stack tree in
     elim c.match-pop.branch [
-      | in-Some+then-told-end w ↦ listing-share stack c.args.first tree.each tree.some lines l.told l.open.items l.rest.now h c.args.share (omega (arith, w.if-told-end.true, end))
+      | in-Some+in_ok-told+then-told-end w ↦
+          let o = w.push_leaves.new.directory in
+          let longer = string_bytes w.push_leaves.new.lines in
+          let number = w.in_ok-told.told in
+          let kept = c.pop.new.self.items in
+          let before = subst (λ opens. IsListing stack c.args.first lines l.told opens l.rest.now) w.in-Some.ensures.items h in
+          let told = listing-leaves_told stack c.args.first tree.each lines l.told kept w.in-Some.directory l.rest.now before o longer number w.in_ok-told.ensures.leaves w.in_ok-told.ensures.same.0 w.in_ok-told.ensures.same.1 in
+          ap string_bytes w.lines-is ∙ listing-share stack c.args.first tree.each tree.some longer number (kept ++ o ∷ []) l.rest.now told c.args.share (omega (arith, w.if-told-end.true, end))
       | in_default w ↦
           let none : l.open.items ≡ [] = search (rules, w) in
-          listing-last stack c.args.first tree.each tree.some lines l.told l.rest.now (subst (λ opens. IsListing stack c.args.first lines l.told opens l.rest.now) none h) c.args.share (omega (arith, l.invariant.1, end))
+          ap string_bytes w.lines-is
+          ∙ listing-last stack c.args.first tree.each tree.some lines l.told l.rest.now (subst (λ opens. IsListing stack c.args.first lines l.told opens l.rest.now) none h) c.args.share (omega (arith, l.invariant.1, end))
     ]
