@@ -1,13 +1,14 @@
 -- The entries of open nodes.
-use Rattle.std.proofs.Common.{◌≡◌, ℕ, zero, suc, ◌<◌, ◌≤◌, length, get_or, take, Bool, true, false, Some, None, List, [], ◌∷◌, ◌++◌, map, refl, sym, ap, ◌∙◌, subst, append_assoc, arith}
+use Rattle.std.proofs.Common.{◌≡◌, ℕ, zero, suc, ◌+◌, ◌-◌, ◌<◌, ◌≤◌, length, get_or, set, take, Bool, true, false, Some, None, List, [], ◌∷◌, ◌++◌, map, refl, sym, ap, ◌∙◌, subst, append_assoc, arith, length-append}
 use Rattle.std.specs.Prelude.{◌&&◌}
 use Rattle.std.specs.List.{list_all}
 use Rattle.std.specs.Ordering.{is_lt, is_eq}
 use Rattle.std.specs.Cmp.Lexicographic.{bytes_decides}
 use Rattle.std.specs.declared.cmp.Ordering.{Ordering}
 use Rattle.std.specs.declared.cmp.Ordering.TheVariants.{Less, Equal, Greater}
-use Rattle.std.proofs.lemmas.List.{append-nil, map-append}
+use Rattle.std.proofs.lemmas.List.{append-nil, map-append, take_more, take_more_set, take_all, length-set, length-map}
 use Rattle.std.proofs.lemmas.List.Elements.{filter_map-append}
+use Rattle.std.proofs.Math.Seq.{take-append_seam}
 use Rattle.ovl_names.specs.Names.{PathName, name_cmp, name_eq}
 use Rattle.ovl_names.specs.Paths.{PathNames, path_cmp}
 use Rattle.ovl_names.specs.Order.{ascends}
@@ -98,8 +99,32 @@ pub nothing : (nodes : List NodeView) → length nodes ≡ 0 → nodes ≡ []
 nothing [] none = refl
 nothing (node ∷ nodes) none = absurd (omega (arith, none))
 
+-- nodes by their last one, and with another in its place
+pub last_apart : (nodes : List NodeView) (k : ℕ) (node : NodeView) → length nodes ≡ k + 1 → node ≡ get_or nodes k node → nodes ≡ take k nodes ++ node ∷ []
+last_apart nodes k node long is =
+    sym (take_all (k + 1) nodes (omega (arith, long)))
+    ∙ (take_more nodes k node (omega (arith, long)) ∙ ap (λ (n : NodeView). take k nodes ++ n ∷ []) (sym is))
+
+pub last_changed : (nodes : List NodeView) (k : ℕ) (node : NodeView) → length nodes ≡ k + 1 → set nodes k node ≡ take k nodes ++ node ∷ []
+last_changed nodes k node long =
+    sym (take_all (k + 1) (set nodes k node) (omega (arith, long, length-set nodes k node)))
+    ∙ take_more_set nodes k node (omega (arith, long))
+
+pub last_named : (front : List NodeView) (node last : NodeView) → map (λ n. n.name) (front ++ grown node last ∷ []) ≡ map (λ n. n.name) (front ++ node ∷ [])
+last_named front node last =
+    map-append (λ (n : NodeView). n.name) front (grown node last ∷ [])
+    ∙ sym (map-append (λ (n : NodeView). n.name) front (node ∷ []))
+
 -- one step of closing: the last node of the spine goes into the one before, or to the root
 module _ (inode : Inode) (nodes spine rest : List NodeView) (node : NodeView) (popped : spine ≡ rest ++ node ∷ []) where
+  -- ... and the names that are left are those before the last
+  pub names_left : (count : ℕ) → count ≡ length spine → map (λ n. n.name) rest ≡ take (count - 1) (map (λ n. n.name) spine)
+  names_left count whole =
+      let names : List PathName = map (λ (n : NodeView). n.name) rest in
+      let all : map (λ (n : NodeView). n.name) spine ≡ names ++ node.name ∷ [] = ap (map (λ (n : NodeView). n.name)) popped ∙ map-append (λ (n : NodeView). n.name) rest (node ∷ []) in
+      let short : count - 1 ≡ length names = omega (arith, whole, ap length popped, length-append rest (node ∷ []), length-map rest (λ (n : NodeView). n.name)) in
+      sym ((λ j. take (short j) (all j)) ∙ take-append_seam names (node.name ∷ []))
+
   pub closed_first : rest ≡ [] → entries_from inode (entries_of_nodes (nodes ++ node ∷ []) ++ entries_of_open rest) ≡ entries_from inode (entries_of_nodes nodes ++ entries_of_open spine)
   closed_first none =
       let same : spine ≡ node ∷ [] = popped ∙ ap (λ (front : List NodeView). front ++ node ∷ []) none in

@@ -17,10 +17,12 @@ use std::marker::Model;
 pub struct LayerBuilder {
     draft: Draft,
     count: u32,
+    // Whether a change was begun and failed, after which nothing is known of the draft.
+    failed: bool,
 }
 
 impl Model for LayerBuilder {
-    ghost use Rattle.std.specs.Prelude.{◌≡◌, ◌≤◌, length};
+    ghost use Rattle.std.specs.Prelude.{◌≡◌, ◌≤◌, false, length};
     ghost use Rattle.ovl_manifest.specs.Layers.{Entries, entry_limit};
     ghost use Rattle.ovl_manifest.specs.Drafts.{draft_entries, IsDraft};
 
@@ -28,7 +30,7 @@ impl Model for LayerBuilder {
 
     ghost view = { λ a. draft_entries a.draft };
 
-    ghost invariant = { λ a. IsDraft a.draft × (a.count ≡ length (draft_entries a.draft)) × (a.count ≤ entry_limit) };
+    ghost invariant = { λ a. a.failed ≡ false → IsDraft a.draft × (a.count ≡ length (draft_entries a.draft)) × (a.count ≤ entry_limit) };
 }
 
 impl LayerBuilder {
@@ -39,7 +41,11 @@ impl LayerBuilder {
             (λ fault. entry_after [] (stated_pair ([], root)) ≡ Err fault) }
     {
         let draft = start(alloc, stated((Path::root(alloc), root)))?;
-        Ok(LayerBuilder { draft, count: 1 })
+        Ok(LayerBuilder {
+            draft,
+            count: 1,
+            failed: false,
+        })
     }
 
     /// The layer with one more entry. It is refused with `Count` behind [`ENTRY_LIMIT`] entries, and else as
@@ -55,54 +61,72 @@ impl LayerBuilder {
             (λ builder. pair_after self (path, inode) ≡ Ok builder)
             (λ fault. IsFaultOf (pair_after self (path, inode)) fault) }
     {
-        let LayerBuilder { draft, count } = self;
+        let LayerBuilder {
+            mut draft,
+            count,
+            failed,
+        } = self;
+        if failed {
+            return Err(LayerFault::Memory);
+        }
         if count as usize == ENTRY_LIMIT {
             return Err(LayerFault::Count);
         }
-        let draft = add(alloc, draft, count, stated((path, inode)))?;
+        add(alloc, &mut draft, count, stated((path, inode)))?;
         Ok(LayerBuilder {
             draft,
             count: count + 1,
+            failed: false,
         })
     }
 
-    /// The same for the entry `name` of a directory, of which no path is made.
-    pub fn with_child(
-        self,
+    /// Adds the entry `name` of a directory, of which no path is made. It is refused as
+    /// [`with_entry`](LayerBuilder::with_entry) refuses it; behind a refusal `Memory` may be told of all else.
+    pub fn add_child(
+        &mut self,
         alloc: Global,
         directory: &Path,
         name: Name,
         inode: Inode,
-    ) -> Result<LayerBuilder, LayerFault>
+    ) -> Result<(), LayerFault>
         ensures { MatchResult result
-            (λ builder. pair_after self (child_path directory.now name, inode) ≡ Ok builder)
-            (λ fault. IsFaultOf (pair_after self (child_path directory.now name, inode)) fault) }
+            (λ _. pair_after self.old (child_path directory.now name, inode) ≡ Ok self.new)
+            (λ fault. IsFaultOf (pair_after self.old (child_path directory.now name, inode)) fault) }
     {
-        let LayerBuilder { draft, count } = self;
-        if count as usize >= ENTRY_LIMIT {
+        if self.failed {
+            return Err(LayerFault::Memory);
+        }
+        if self.count as usize >= ENTRY_LIMIT {
             return Err(LayerFault::Count);
         }
-        let draft = add_child(alloc, draft, count, directory, name, inode)?;
-        Ok(LayerBuilder {
-            draft,
-            count: count + 1,
-        })
+        self.failed = true;
+        add_child(alloc, &mut self.draft, self.count, directory, name, inode)?;
+        self.count += 1;
+        self.failed = false;
+        Ok(())
     }
 
-    /// The same layer, with room for so many entries directly below the last one, so that their list needn't grow as they
-    /// come. Fails only when out of memory.
-    pub fn with_room(self, entries: usize) -> Result<LayerBuilder, AllocError>
-        ensures { IfOk result (λ builder. builder ≡ self) }
+    /// Makes room for so many entries directly below the last one, so that their list needn't grow as they come. Fails
+    /// only when out of memory.
+    pub fn make_room(&mut self, entries: usize) -> Result<(), AllocError>
+        ensures { IfOk result (λ _. self.new ≡ self.old) }
     {
-        let LayerBuilder { mut draft, count } = self;
-        draft.make_room(entries)?;
-        Ok(LayerBuilder { draft, count })
+        if self.failed {
+            return Err(AllocError);
+        }
+        self.failed = true;
+        self.draft.make_room(entries)?;
+        self.failed = false;
+        Ok(())
     }
 
     /// The finished layer; fails only when out of memory.
     pub fn finish(self) -> Result<Layer, AllocError>
         ensures { IfOk result (λ layer. layer ≡ self) }
     {
+        if self.failed {
+            return Err(AllocError);
+        }
         let LayerBuilder { draft, .. } = self;
         draft.finish()
     }

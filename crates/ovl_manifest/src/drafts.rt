@@ -108,43 +108,47 @@ impl Draft {
         is_directory(self.inode_on_way(depth))
     }
 
-    /// The draft with one more entry, which comes after all others and whose directory is there.
-    pub(crate) fn with(self, alloc: Global, path: &Path, inode: Inode) -> Result<Draft, AllocError>
-        requires draft { IsDraft self }
-        requires entry { CanTake self path.now inode }
-        ensures entries { IfOk result (λ draft. draft_entries draft ≡ draft_entries self ++ (path.now, inode) ∷ []) }
-        ensures draft { IfOk result (λ draft. IsDraft draft) }
+    /// Enters one more entry, which comes after all others and whose directory is there.
+    pub(crate) fn enter(
+        &mut self,
+        alloc: Global,
+        path: &Path,
+        inode: Inode,
+    ) -> Result<(), AllocError>
+        requires draft { IsDraft self.old }
+        requires entry { CanTake self.old path.now inode }
+        ensures entries { IfOk result (λ _. draft_entries self.new ≡ draft_entries self.old ++ (path.now, inode) ∷ []) }
+        ensures draft { IfOk result (λ _. IsDraft self.new) }
     {
         let (name, above) = path.names().split_last().unwrap();
         let name = Name::copy_of(alloc, name)?;
-        self.with_child(alloc, above.len(), name, inode)
+        self.enter_child(alloc, above.len(), name, inode)
     }
 
-    /// The draft with the entry `name` of the directory of the first `depth` names of the last path, which is there; the
-    /// entry comes after all others.
-    pub(crate) fn with_child(
-        self,
+    /// Enters the entry `name` of the directory of the first `depth` names of the last path, which is there; the entry
+    /// comes after all others.
+    pub(crate) fn enter_child(
+        &mut self,
         alloc: Global,
         depth: usize,
         name: Name,
         inode: Inode,
-    ) -> Result<Draft, AllocError>
-        requires draft { IsDraft self }
-        requires depth { depth ≤ length self.last }
-        requires entry { CanTake self (child_path (take depth self.last) name) inode }
-        ensures entries { IfOk result (λ draft. draft_entries draft
-            ≡ draft_entries self ++ (child_path (take depth self.last) name, inode) ∷ []) }
-        ensures draft { IfOk result (λ draft. IsDraft draft) }
+    ) -> Result<(), AllocError>
+        requires draft { IsDraft self.old }
+        requires depth { depth ≤ length self.old.last }
+        requires entry { CanTake self.old (child_path (take depth self.old.last) name) inode }
+        ensures entries { IfOk result (λ _. draft_entries self.new
+            ≡ draft_entries self.old ++ (child_path (take depth self.old.last) name, inode) ∷ []) }
+        ensures draft { IfOk result (λ _. IsDraft self.new) }
     {
-        let mut draft = self;
-        draft.close(depth)?;
-        draft.last.go_to(depth, &name)?;
-        draft.spine.push(Node {
+        self.close(depth)?;
+        self.last.go_to(depth, &name)?;
+        self.spine.push(Node {
             name,
             inode,
             children: Vec::new(alloc),
         })?;
-        Ok(draft)
+        Ok(())
     }
 
     /// Makes room for so many entries directly below the last one.
@@ -153,11 +157,12 @@ impl Draft {
         ensures entries { IfOk result (λ _. draft_entries self.new ≡ draft_entries self.old) }
         ensures draft { IfOk result (λ _. IsDraft self.new) }
     {
-        let Some(node) = self.spine.pop() else {
+        let depth = self.spine.len();
+        if depth == 0 {
             return self.children.reserve_exact(entries);
-        };
-        self.spine.push(node.with_room(entries)?)?;
-        Ok(())
+        }
+        let node = &mut self.spine[depth - 1];
+        node.children.reserve_exact(entries)
     }
 
     /// The finished layer.
@@ -202,40 +207,24 @@ impl Draft {
         ensures last { IfOk result (λ _. self.new.last ≡ self.old.last) }
     {
         let node = self.spine.pop().unwrap();
-        let Some(parent) = self.spine.pop() else {
+        let depth = self.spine.len();
+        if depth == 0 {
             self.children.push(node)?;
             return Ok(());
-        };
-        self.spine.push(parent.with_child(node)?)?;
+        }
+        let parent = &mut self.spine[depth - 1];
+        parent.take_child(node)?;
         Ok(())
     }
 }
 
 impl Node {
-    // The same node, with room for so many children more.
-    fn with_room(self, children: usize) -> Result<Node, AllocError>
-        ensures { IfOk result (λ node. node ≡ self) }
+    // Takes one more child, which comes after all others.
+    fn take_child(&mut self, child: Node) -> Result<(), AllocError>
+        requires { ascends entry_cmp (self.old.below ++ under child.name (entries_from child.inode child.below)) ≡ true }
+        ensures { IfOk result (λ _. self.new ≡ grown self.old child) }
     {
-        let mut node = self;
-        node.children.reserve_exact(children)?;
-        Ok(node)
-    }
-
-    // The node with one more child, which comes after all others.
-    fn with_child(self, child: Node) -> Result<Node, AllocError>
-        requires { ascends entry_cmp (self.below ++ under child.name (entries_from child.inode child.below)) ≡ true }
-        ensures { IfOk result (λ node. node ≡ grown self child) }
-    {
-        let Node {
-            name,
-            inode,
-            mut children,
-        } = self;
-        children.push(child)?;
-        Ok(Node {
-            name,
-            inode,
-            children,
-        })
+        self.children.push(child)?;
+        Ok(())
     }
 }

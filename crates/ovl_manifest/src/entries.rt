@@ -40,7 +40,7 @@ pub fn from_entries(alloc: Global, entries: Vec<(Path, Inode)>) -> Result<Layer,
     let mut number = 0;
     for entry in entries {
         number += 1;
-        draft = add(alloc, draft, number, stated(entry))?;
+        add(alloc, &mut draft, number, stated(entry))?;
     }
     Ok(draft.finish()?)
 }
@@ -64,20 +64,20 @@ pub(crate) fn start(alloc: Global, entry: Option<(Path, Inode)>) -> Result<Draft
     Ok(Draft::start(alloc, inode))
 }
 
-/// The draft with the entry of this number, if one is stated.
+/// Adds the entry of this number to a draft, if one is stated.
 pub(crate) fn add(
     alloc: Global,
-    draft: Draft,
+    draft: &mut Draft,
     number: u32,
     entry: Option<(Path, Inode)>,
-) -> Result<Draft, LayerFault>
-    requires draft { IsDraft draft }
-    requires number { number ≡ length (draft_entries draft) }
+) -> Result<(), LayerFault>
+    requires draft { IsDraft draft.old }
+    requires number { number ≡ length (draft_entries draft.old) }
     requires room { number < entry_limit }
     requires stated { IfSome entry (λ stated. IsTrue (is_statable stated)) }
     ensures { MatchResult result
-        (λ more. (entry_after (draft_entries draft) entry ≡ Ok (draft_entries more)) × IsDraft more)
-        (λ fault. IsFaultOf (entry_after (draft_entries draft) entry) fault) }
+        (λ _. (entry_after (draft_entries draft.old) entry ≡ Ok (draft_entries draft.new)) × IsDraft draft.new)
+        (λ fault. IsFaultOf (entry_after (draft_entries draft.old) entry) fault) }
 {
     let Some((path, inode)) = entry else {
         return Err(LayerFault::Entry(number));
@@ -91,24 +91,24 @@ pub(crate) fn add(
     if !draft.has_parent(&path) {
         return Err(LayerFault::NoParent(number));
     }
-    Ok(draft.with(alloc, &path, inode)?)
+    Ok(draft.enter(alloc, &path, inode)?)
 }
 
-/// The draft with the entry of this number, `name` in a directory, if one is stated.
+/// The same for the entry `name` of a directory.
 pub(crate) fn add_child(
     alloc: Global,
-    draft: Draft,
+    draft: &mut Draft,
     number: u32,
     directory: &Path,
     name: Name,
     inode: Inode,
-) -> Result<Draft, LayerFault>
-    requires draft { IsDraft draft }
-    requires number { number ≡ length (draft_entries draft) }
+) -> Result<(), LayerFault>
+    requires draft { IsDraft draft.old }
+    requires number { number ≡ length (draft_entries draft.old) }
     requires room { number < entry_limit }
     ensures { MatchResult result
-        (λ more. (entry_after (draft_entries draft) (stated_pair (child_path directory.now name, inode)) ≡ Ok (draft_entries more)) × IsDraft more)
-        (λ fault. IsFaultOf (entry_after (draft_entries draft) (stated_pair (child_path directory.now name, inode))) fault) }
+        (λ _. (entry_after (draft_entries draft.old) (stated_pair (child_path directory.now name, inode)) ≡ Ok (draft_entries draft.new)) × IsDraft draft.new)
+        (λ fault. IsFaultOf (entry_after (draft_entries draft.old) (stated_pair (child_path directory.now name, inode))) fault) }
 {
     if !draft.is_within(directory) {
         let path = directory.child(alloc, &name)?;
@@ -123,20 +123,20 @@ pub(crate) fn add_child(
 // The same in the directory of the first `depth` names of the last path, where a manifest can state it.
 fn add_on_way(
     alloc: Global,
-    draft: Draft,
+    draft: &mut Draft,
     number: u32,
     depth: usize,
     name: Name,
     inode: Inode,
-) -> Result<Draft, LayerFault>
-    requires draft { IsDraft draft }
-    requires number { number ≡ length (draft_entries draft) }
+) -> Result<(), LayerFault>
+    requires draft { IsDraft draft.old }
+    requires number { number ≡ length (draft_entries draft.old) }
     requires room { number < entry_limit }
-    requires depth { depth ≤ length draft.last }
-    requires stated { IsTrue (is_statable (child_path (take depth draft.last) name, inode)) }
+    requires depth { depth ≤ length draft.old.last }
+    requires stated { IsTrue (is_statable (child_path (take depth draft.old.last) name, inode)) }
     ensures { MatchResult result
-        (λ more. (entry_after (draft_entries draft) (Some (child_path (take depth draft.last) name, inode)) ≡ Ok (draft_entries more)) × IsDraft more)
-        (λ fault. IsFaultOf (entry_after (draft_entries draft) (Some (child_path (take depth draft.last) name, inode))) fault) }
+        (λ _. (entry_after (draft_entries draft.old) (Some (child_path (take depth draft.old.last) name, inode)) ≡ Ok (draft_entries draft.new)) × IsDraft draft.new)
+        (λ fault. IsFaultOf (entry_after (draft_entries draft.old) (Some (child_path (take depth draft.old.last) name, inode))) fault) }
 {
     if has_escaped_name(&inode.attrs) {
         return Err(LayerFault::Escaped(number));
@@ -147,7 +147,7 @@ fn add_on_way(
     if !draft.is_directory_above(depth) {
         return Err(LayerFault::NoParent(number));
     }
-    Ok(draft.with_child(alloc, depth, name, inode)?)
+    Ok(draft.enter_child(alloc, depth, name, inode)?)
 }
 
 // Whether a manifest can state the entry `name` of a directory.

@@ -1,12 +1,13 @@
 //! The entries of a text that is JSON, of which one at a time is held as a value.
-ghost use Rattle.std.specs.Prelude.{◌≡◌, ◌+◌, ◌<◌, true, Ok, IfOk, IsSomeAnd, is_some, MatchResult, [], option_and_then};
+ghost use Rattle.std.specs.Prelude.{◌≡◌, ◌+◌, ◌<◌, true, Ok, IfOk, IfSome, IsSomeAnd, IsTrue, is_some, MatchResult, [], length, option_and_then};
 ghost use Rattle.serde_json.specs.Data.{object, no_members};
 ghost use Rattle.serde_json.specs.Find.{as_array};
 ghost use Rattle.serde_json.specs.Read.{read};
 ghost use Rattle.ovl_json.specs.Reading.{read_value, read_items as items_read, read_members as members_read};
 ghost use Rattle.ovl_manifest.specs.Layers.{entry_limit};
 ghost use Rattle.ovl_manifest.specs.Fields.{entry_of};
-ghost use Rattle.ovl_manifest.specs.Manifest.{layer_of_entries, stated_entries, IsFaultOf};
+ghost use Rattle.ovl_manifest.specs.Manifest.{is_statable, entry_after, layer_of_entries, stated_entries, IsFaultOf};
+ghost use Rattle.ovl_manifest.specs.Drafts.{draft_entries, IsDraft};
 ghost use Rattle.ovl_manifest.specs.Lists.{listed, entry_on, made, IsProgress, IsProgressOf, Tells, TellsLast, member_depth, item_depth};
 
 use crate::drafts::Draft;
@@ -164,13 +165,33 @@ fn with_item(
         }
         Progress::Made(draft) => {
             let entry = read_item(alloc, version, reader)?;
-            progress_of(add(alloc, draft, number, entry))
+            progress_of(with_entry(alloc, draft, number, entry))
         }
         Progress::Refused(fault) => {
             reader.skip_value(ITEM_DEPTH)?;
             Ok(Progress::Refused(fault))
         }
     }
+}
+
+// The draft with the entry of this number, if one is stated.
+fn with_entry(
+    alloc: Global,
+    draft: Draft,
+    number: u32,
+    entry: Option<(Path, Inode)>,
+) -> Result<Draft, LayerFault>
+    requires draft { IsDraft draft }
+    requires number { number ≡ length (draft_entries draft) }
+    requires room { number < entry_limit }
+    requires stated { IfSome entry (λ stated. IsTrue (is_statable stated)) }
+    ensures { MatchResult result
+        (λ more. (entry_after (draft_entries draft) entry ≡ Ok (draft_entries more)) × IsDraft more)
+        (λ fault. IsFaultOf (entry_after (draft_entries draft) entry) fault) }
+{
+    let mut draft = draft;
+    add(alloc, &mut draft, number, entry)?;
+    Ok(draft)
 }
 
 // The progress that a draft with one more entry is, or its fault.

@@ -11,6 +11,7 @@ ghost use Rattle.ovl_manifest.specs.TextPaths.{slashed};
 use crate::trees::{Layer, Node};
 use crate::versions::Version;
 use crate::written_entries::{push_entry, push_number};
+use ovl_inode::Kind;
 use std::alloc::{AllocError, Global};
 
 /// The manifest of a layer: compact JSON whose objects have their members in the byte order of their names, and a
@@ -21,10 +22,37 @@ pub fn write_layer(alloc: Global, layer: &Layer) -> Result<Vec<u8>, AllocError>
 {
     // The type keeps that it is a layer.
     let _root = layer.root();
-    let mut text = String::new(alloc);
+    let mut text = String::with_capacity(alloc, room_for(layer))?;
     push_layer(alloc, &mut text, layer)?;
     text.push_str("\n")?;
     Ok(text.into_bytes())
+}
+
+// What the text of most entries takes at most, but for its path and its blob's name, and what such a name takes.
+const ENTRY_ROOM: usize = 136;
+
+const BLOB_ROOM: usize = 74;
+
+// As many bytes as the manifest of a layer of common entries takes, and a few more, so that its text needn't grow.
+fn room_for(layer: &Layer) -> usize {
+    let mut room = ENTRY_ROOM;
+    for child in &layer.children {
+        room = room.saturating_add(room_under(child, 0));
+    }
+    room
+}
+
+// Those of the entries at and under a node, by how long the text of its directory's path is.
+fn room_under(node: &Node, above: usize) -> usize {
+    let path = above.saturating_add(node.name.as_str().len() + 1);
+    let mut room = path.saturating_add(ENTRY_ROOM);
+    if matches!(&node.inode.kind, Kind::File { blob: Some(_), .. }) {
+        room = room.saturating_add(BLOB_ROOM);
+    }
+    for child in &node.children {
+        room = room.saturating_add(room_under(child, path));
+    }
+    room
 }
 
 fn push_layer(alloc: Global, text: &mut String, layer: &Layer) -> Result<(), AllocError>

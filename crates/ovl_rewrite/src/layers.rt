@@ -30,9 +30,9 @@ pub fn layer_told(
     ensures limit { result ≡ Err LimitOut → (new : NewLayer) → IsToldBy new root (parcel_views inodes_seen parcels.items)
         → (entries : Entries) × (ascends entry_cmp entries ≡ true) × IsOf new entries × (IsLayer entries → ⊥) }
 {
-    let builder = begun(alloc, root)?;
+    let mut builder = begun(alloc, root)?;
     let mut rest = parcels.into_iter();
-    let builder = with_under(alloc, builder, &mut rest)?;
+    add_under(alloc, &mut builder, &mut rest)?;
     let layer = builder.finish()?;
     // The type keeps that it is a layer.
     let _root = layer.root();
@@ -76,45 +76,45 @@ fn begun(alloc: Global, root: Inode) -> Result<LayerBuilder, RewriteFault>
     }
 }
 
-// The new layer with the entries under the directory of the next parcel; its parcel and those of what lies under it are
-// taken. `LimitOut` comes only where no layer goes on with them.
-fn with_under(
+// Adds the entries under the directory of the next parcel; its parcel and those of what lies under it are taken.
+// `LimitOut` comes only where no layer goes on with them.
+fn add_under(
     alloc: Global,
-    builder: LayerBuilder,
+    builder: &mut LayerBuilder,
     rest: &mut IntoIter<Parcel<Vec<(Name, Inode)>>>,
-) -> Result<LayerBuilder, RewriteFault>
+) -> Result<(), RewriteFault>
     ensures fewer { OnOk result (length (into_iter_items rest.new) ≤ length (into_iter_items rest.old)) }
-    ensures entries { IfOk result (WalksUnder (parcel_views inodes_seen (into_iter_items rest.old)) (parcel_views inodes_seen (into_iter_items rest.new)) builder) }
-    ensures limit { result ≡ Err LimitOut → StopsUnder (parcel_views inodes_seen (into_iter_items rest.old)) builder }
-    ensures none { into_iter_items rest.old ≡ [] → result ≡ Ok builder }
+    ensures entries { IfOk result (λ _. WalksUnder (parcel_views inodes_seen (into_iter_items rest.old)) (parcel_views inodes_seen (into_iter_items rest.new)) builder.old builder.new) }
+    ensures limit { result ≡ Err LimitOut → StopsUnder (parcel_views inodes_seen (into_iter_items rest.old)) builder.old }
+    ensures none { into_iter_items rest.old ≡ [] → (result ≡ Ok tt) × (builder.new ≡ builder.old) }
 {
     let Some(Parcel { piece, out, .. }) = rest.next() else {
-        return Ok(builder);
+        return Ok(());
     };
-    let mut builder = builder.with_room(out.len())?;
+    builder.make_room(out.len())?;
     for (name, inode) in out {
         let is_above = is_directory(&inode);
-        builder = with_child(alloc, builder, &piece.dir, name, inode)?;
+        add_child(alloc, builder, &piece.dir, name, inode)?;
         if is_above {
-            builder = with_under(alloc, builder, rest)?;
+            add_under(alloc, builder, rest)?;
         }
     }
-    Ok(builder)
+    Ok(())
 }
 
-// The new layer with the entry `name` of a directory; `LimitOut` comes only where no layer goes on with it.
-fn with_child(
+// Adds the entry `name` of a directory; `LimitOut` comes only where no layer goes on with it.
+fn add_child(
     alloc: Global,
-    builder: LayerBuilder,
+    builder: &mut LayerBuilder,
     directory: &Path,
     name: Name,
     inode: Inode,
-) -> Result<LayerBuilder, RewriteFault>
-    ensures entries { IfOk result (λ more. more ≡ builder ++ (child_path directory.now name, inode) ∷ []) }
-    ensures limit { result ≡ Err LimitOut → (more : Entries) → IsLayer (builder ++ (child_path directory.now name, inode) ∷ more) → ⊥ }
+) -> Result<(), RewriteFault>
+    ensures entries { IfOk result (λ _. builder.new ≡ builder.old ++ (child_path directory.now name, inode) ∷ []) }
+    ensures limit { result ≡ Err LimitOut → (more : Entries) → IsLayer (builder.old ++ (child_path directory.now name, inode) ∷ more) → ⊥ }
 {
-    match builder.with_child(alloc, directory, name, inode) {
-        Ok(more) => Ok(more),
+    match builder.add_child(alloc, directory, name, inode) {
+        Ok(()) => Ok(()),
         Err(fault) => Err(refusal(fault)),
     }
 }

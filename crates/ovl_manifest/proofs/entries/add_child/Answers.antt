@@ -15,30 +15,30 @@ add-requires-clause-stated c = stated_pair_statable (c.in_ok-path.path, c.args.i
 
 pub returns-then-not-is_within : goal.returns-then-not-is_within
 returns-then-not-is_within c =
-    let before : Entries = draft_entries c.args.draft in
+    let before : Entries = draft_entries c.args.draft.now in
     subst (λ (o : Option Entry). MatchResult c.add.result
-    (λ more. (entry_after before o ≡ Ok (draft_entries more)) × IsDraft more)
+    (λ _. (entry_after before o ≡ Ok (draft_entries c.add.new.draft)) × IsDraft c.add.new.draft)
     (λ fault. IsFaultOf (entry_after before o) fault))
     (c.stated.ensures ∙ ap (λ (path : PathNames). stated_pair (path, c.args.inode)) c.in_ok-path.ensures) c.add.ensures
 
 pub add_on_way-requires-clause-depth : goal.add_on_way-requires-clause-depth
-add_on_way-requires-clause-depth c = omega (arith, c.len.ensures, (on_way c.args.draft.last c.args.directory.now (sym c.is_within.ensures ∙ c.if-not-is_within.false)).1)
+add_on_way-requires-clause-depth c = omega (arith, c.len.ensures, (on_way c.args.draft.now.last c.args.directory.now (sym c.is_within.ensures ∙ c.if-not-is_within.false)).1)
 
 pub add_on_way-requires-clause-stated : goal.add_on_way-requires-clause-stated
 add_on_way-requires-clause-stated c =
-    let way = on_way c.args.draft.last c.args.directory.now (sym c.is_within.ensures ∙ c.if-not-is_within.false) in
-    ap (λ (path : PathNames). is_statable (child_path path c.args.name, c.args.inode)) (ap (λ n. take n c.args.draft.last) c.len.ensures ∙ way.0)
+    let way = on_way c.args.draft.now.last c.args.directory.now (sym c.is_within.ensures ∙ c.if-not-is_within.false) in
+    ap (λ (path : PathNames). is_statable (child_path path c.args.name, c.args.inode)) (ap (λ n. take n c.args.draft.now.last) c.len.ensures ∙ way.0)
     ∙ (sym c.is_child_statable.ensures ∙ c.if-not-is_child_statable.false)
 
 pub returns : goal.returns
 returns c =
-    let before : Entries = draft_entries c.args.draft in
+    let before : Entries = draft_entries c.args.draft.now in
     let pair : Entry = (child_path c.args.directory.now c.args.name, c.args.inode) in
-    let way = on_way c.args.draft.last c.args.directory.now (sym c.is_within.ensures ∙ c.if-not-is_within.false) in
+    let way = on_way c.args.draft.now.last c.args.directory.now (sym c.is_within.ensures ∙ c.if-not-is_within.false) in
     let parts = both {a = is_within_limits pair.0} {b = is_sound_inode pair.1} (sym c.is_child_statable.ensures ∙ c.if-not-is_child_statable.false) in
-    let same : ◌≡◌ {A = Option Entry} (Some (child_path (take c.len.result c.args.draft.last) c.args.name, c.args.inode)) (stated_pair pair) =
-    ap (λ (path : PathNames). Some (child_path path c.args.name, c.args.inode)) (ap (λ n. take n c.args.draft.last) c.len.ensures ∙ way.0)
+    let same : ◌≡◌ {A = Option Entry} (Some (child_path (take c.len.result c.args.draft.now.last) c.args.name, c.args.inode)) (stated_pair pair) =
+    ap (λ (path : PathNames). Some (child_path path c.args.name, c.args.inode)) (ap (λ n. take n c.args.draft.now.last) c.len.ensures ∙ way.0)
     ∙ sym (stated-own pair parts.0 parts.1) in
     subst (λ (o : Option Entry). MatchResult c.add_on_way.result
-    (λ more. (entry_after before o ≡ Ok (draft_entries more)) × IsDraft more)
+    (λ _. (entry_after before o ≡ Ok (draft_entries c.add_on_way.new.draft)) × IsDraft c.add_on_way.new.draft)
     (λ fault. IsFaultOf (entry_after before o) fault)) same c.add_on_way.ensures

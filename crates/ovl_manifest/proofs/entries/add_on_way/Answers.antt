@@ -8,13 +8,13 @@ use Rattle.ovl_manifest.proofs.SheetLemmas.{parent_path-child}
 use Rattle.ovl_manifest.proofs.EntryLemmas.{entry-taken}
 use Rattle.ovl_manifest.proofs.entries.add_on_way.Goals as goal
 
-pub with_child-requires-clause-entry : goal.with_child-requires-clause-entry
-with_child-requires-clause-entry c =
-    let above : PathNames = take c.args.depth c.args.draft.last in
+pub enter_child-requires-clause-entry : goal.enter_child-requires-clause-entry
+enter_child-requires-clause-entry c =
+    let above : PathNames = take c.args.depth c.args.draft.now.last in
     let parts = both {a = is_within_limits (child_path above c.args.name)} {b = is_sound_inode c.args.inode} c.requires.stated in
     record {
       after = sym c.comes_before_child.ensures ∙ c.if-not-comes_before_child.false;
-      parent = ap (is_directory_at (draft_entries c.args.draft)) (parent_path-child above c.args.name) ∙ (sym c.is_directory_above.ensures ∙ c.if-not-is_directory_above.false);
+      parent = ap (is_directory_at (draft_entries c.args.draft.now)) (parent_path-child above c.args.name) ∙ (sym c.is_directory_above.ensures ∙ c.if-not-is_directory_above.false);
       sound = parts.1;
       unescaped = sym c.has_escaped_name.ensures ∙ c.if-has_escaped_name.false;
       limited = parts.0;
@@ -23,11 +23,11 @@ with_child-requires-clause-entry c =
 
 pub returns : goal.returns
 returns c =
-    let above : PathNames = take c.args.depth c.args.draft.last in
-    let parent : is_directory_at (draft_entries c.args.draft) (parent_path (child_path above c.args.name)) ≡ true =
-    ap (is_directory_at (draft_entries c.args.draft)) (parent_path-child above c.args.name) ∙ (sym c.is_directory_above.ensures ∙ c.if-not-is_directory_above.false) in (
-      entry-taken ([], c.args.draft.inode) _ (child_path above c.args.name, c.args.inode)
+    let above : PathNames = take c.args.depth c.args.draft.now.last in
+    let parent : is_directory_at (draft_entries c.args.draft.now) (parent_path (child_path above c.args.name)) ≡ true =
+    ap (is_directory_at (draft_entries c.args.draft.now)) (parent_path-child above c.args.name) ∙ (sym c.is_directory_above.ensures ∙ c.if-not-is_directory_above.false) in (
+      entry-taken ([], c.args.draft.now.inode) _ (child_path above c.args.name, c.args.inode)
           (sym c.has_escaped_name.ensures ∙ c.if-has_escaped_name.false) (sym c.comes_before_child.ensures ∙ c.if-not-comes_before_child.false) parent
-          ∙ ap (λ (entries : Entries). Ok entries) (sym c.in_ok-with_child.ensures.entries),
-      c.in_ok-with_child.ensures.draft,
+          ∙ ap (λ (entries : Entries). Ok entries) (sym c.in_ok-enter_child.ensures.entries),
+      c.in_ok-enter_child.ensures.draft,
     )

@@ -15,7 +15,7 @@ use Rattle.ovl_manifest.proofs.writing.write_layer.Goals as goal
 told : (c : goal.After-into_bytes) → string_bytes c.push_str.new.self ≡ compact_text (layer_value written c.args.layer.now) ++ codes "\n"
 told c =
     c.in_ok-push_str.ensures.bytes
-    ∙ ap (λ (t : List ℕ). t ++ codes "\n") (c.in_ok-push_layer.ensures ∙ ap (λ (t : List ℕ). t ++ compact_text (layer_value written c.args.layer.now)) c.new-text.ensures.bytes)
+    ∙ ap (λ (t : List ℕ). t ++ codes "\n") (c.in_ok-push_layer.ensures ∙ ap (λ (t : List ℕ). t ++ compact_text (layer_value written c.args.layer.now)) c.in_ok-text.ensures.bytes)
 
 pub returns-clause-text : goal.returns-clause-text
 returns-clause-text c = ap (λ (bytes : Vec ℕ Global). bytes.items) c.into_bytes.ensures.value ∙ told c

@@ -13,20 +13,20 @@ use Rattle.ovl_manifest.proofs.builders.LayerBuilder.with_entry.Goals as goal
 pub add-requires-clause-stated : goal.add-requires-clause-stated
 add-requires-clause-stated c = stated_pair_statable (c.args.path, c.args.inode) c.stated.result c.stated.ensures
 
-pub returns-in_err-draft : goal.returns-in_err-draft
-returns-in_err-draft c =
+pub returns-in_err-add : goal.returns-in_err-add
+returns-in_err-add c =
     let before : Entries = draft_entries c.self.inside.draft in
     let pair : Entry = (c.args.path, c.args.inode) in
-    let few : length before < entry_limit = omega (arith, c.self.invariant.1, c.self.invariant.2, c.if-count-eq-ENTRY_LIMIT.false) in
+    let few : length before < entry_limit = omega (arith, (c.self.invariant c.if-failed.false).1, (c.self.invariant c.if-failed.false).2, c.if-count-eq-ENTRY_LIMIT.false) in
     let out = err_from_is_err_and c.from_residual.result c.from_residual.ensures.1 in
     let told = out.1 ∙ ap Err out.2 in
-    rw told (subst (λ (r : Result Entries LayerFault). IsFaultOf r c.in_err-draft.field-0.0) (ap (entry_after before) c.stated.ensures ∙ (sym (pair-room before pair few) ∙ ap (λ (es : Entries). pair_after es pair) c.self.view_is)) c.in_err-draft.ensures)
+    rw told (subst (λ (r : Result Entries LayerFault). IsFaultOf r c.in_err-add.field-0.0) (ap (entry_after before) c.stated.ensures ∙ (sym (pair-room before pair few) ∙ ap (λ (es : Entries). pair_after es pair) c.self.view_is)) c.in_err-add.ensures)
 
 pub invariant_of-result : goal.invariant_of-result
-invariant_of-result c =
+invariant_of-result c _ =
     let before : Entries = draft_entries c.self.inside.draft in
-    let longer = one_more before c.stated.result (draft_entries c.in_ok-draft.draft) c.in_ok-draft.ensures.0 in (
-      c.in_ok-draft.ensures.1,
-      omega (arith, longer, c.self.invariant.1),
-      omega (arith, c.self.invariant.2, c.if-count-eq-ENTRY_LIMIT.false),
+    let longer = one_more before c.stated.result (draft_entries c.add.new.draft) c.in_ok-add.ensures.0 in (
+      c.in_ok-add.ensures.1,
+      omega (arith, longer, (c.self.invariant c.if-failed.false).1),
+      omega (arith, (c.self.invariant c.if-failed.false).2, c.if-count-eq-ENTRY_LIMIT.false),
     )

@@ -9,7 +9,7 @@ use Rattle.ovl_manifest.specs.declared.drafts.Draft.{Draft}
 use Rattle.ovl_manifest.specs.Drafts.{draft_entries, IsDraft, CanTake}
 use Rattle.ovl_manifest.proofs.LayerLemmas.{after-some}
 use Rattle.ovl_manifest.proofs.DraftLemmas.{after_last, parent, spine_length}
-use Rattle.ovl_manifest.proofs.drafts.Draft.with.Goals as goal
+use Rattle.ovl_manifest.proofs.drafts.Draft.enter.Goals as goal
 
 -- the path of the entry is that of its directory and one name more
 apart : (c : goal.After-name-1) → c.args.path.now ≡ c.unwrap-above.result.1 ++ c.unwrap-above.result.0.now ∷ []
@@ -19,7 +19,7 @@ pub unwrap-above-requires : goal.unwrap-above-requires
 unwrap-above-requires c = there c.split_last.result c.split_last.ensures.value
   where
     some : c.names.result ≡ [] → ⊥
-    some none = omega (arith, ap length (sym c.names.ensures.value ∙ none), after-some c.args.self.last c.args.path.now (after_last c.args.self c.requires.draft c.args.path.now c.requires.entry.after))
+    some none = omega (arith, ap length (sym c.names.ensures.value ∙ none), after-some c.args.self.now.last c.args.path.now (after_last c.args.self.now c.requires.draft c.args.path.now c.requires.entry.after))
 
     there : (o : Option (Bor (List ℕ) × PathNames)) → MatchOption o (c.names.result ≡ []) (λ parts. c.names.result ≡ parts.1 ++ parts.0.now ∷ []) → IsSome o
     there None none = absurd (some none)
@@ -41,12 +41,12 @@ spelled draft is path above name own inode depth can cut copied long =
       (λ j. child_path (way j) (copied j)) ∙ sym cut,
     )
 
-pub with_child-requires-clause-depth : goal.with_child-requires-clause-depth
-with_child-requires-clause-depth c = (spelled c.args.self c.requires.draft c.args.path.now c.unwrap-above.result.1 c.unwrap-above.result.0.now c.in_ok-name.name c.args.inode c.len.result c.requires.entry (sym c.names.ensures.value ∙ (rw c.unwrap-above.ensures at c.split_last.ensures.value)) c.in_ok-name.ensures c.len.ensures).0
+pub enter_child-requires-clause-depth : goal.enter_child-requires-clause-depth
+enter_child-requires-clause-depth c = (spelled c.args.self.now c.requires.draft c.args.path.now c.unwrap-above.result.1 c.unwrap-above.result.0.now c.in_ok-name.name c.args.inode c.len.result c.requires.entry (sym c.names.ensures.value ∙ (rw c.unwrap-above.ensures at c.split_last.ensures.value)) c.in_ok-name.ensures c.len.ensures).0
 
-pub with_child-requires-clause-entry : goal.with_child-requires-clause-entry
-with_child-requires-clause-entry c = subst (λ (path : PathNames). CanTake c.args.self path c.args.inode) (sym (spelled c.args.self c.requires.draft c.args.path.now c.unwrap-above.result.1 c.unwrap-above.result.0.now c.in_ok-name.name c.args.inode c.len.result c.requires.entry (sym c.names.ensures.value ∙ (rw c.unwrap-above.ensures at c.split_last.ensures.value)) c.in_ok-name.ensures c.len.ensures).1) c.requires.entry
+pub enter_child-requires-clause-entry : goal.enter_child-requires-clause-entry
+enter_child-requires-clause-entry c = subst (λ (path : PathNames). CanTake c.args.self.now path c.args.inode) (sym (spelled c.args.self.now c.requires.draft c.args.path.now c.unwrap-above.result.1 c.unwrap-above.result.0.now c.in_ok-name.name c.args.inode c.len.result c.requires.entry (sym c.names.ensures.value ∙ (rw c.unwrap-above.ensures at c.split_last.ensures.value)) c.in_ok-name.ensures c.len.ensures).1) c.requires.entry
 
 pub returns-clause-entries : goal.returns-clause-entries
 returns-clause-entries c =
-    subst (λ (path : PathNames). IfOk c.with_child.result (λ draft. draft_entries draft ≡ draft_entries c.args.self ++ (path, c.args.inode) ∷ [])) (spelled c.args.self c.requires.draft c.args.path.now c.unwrap-above.result.1 c.unwrap-above.result.0.now c.in_ok-name.name c.args.inode c.len.result c.requires.entry (sym c.names.ensures.value ∙ (rw c.unwrap-above.ensures at c.split_last.ensures.value)) c.in_ok-name.ensures c.len.ensures).1 c.with_child.ensures.entries
+    subst (λ (path : PathNames). IfOk c.enter_child.result (λ _. draft_entries c.enter_child.new.self ≡ draft_entries c.args.self.now ++ (path, c.args.inode) ∷ [])) (spelled c.args.self.now c.requires.draft c.args.path.now c.unwrap-above.result.1 c.unwrap-above.result.0.now c.in_ok-name.name c.args.inode c.len.result c.requires.entry (sym c.names.ensures.value ∙ (rw c.unwrap-above.ensures at c.split_last.ensures.value)) c.in_ok-name.ensures c.len.ensures).1 c.enter_child.ensures.entries

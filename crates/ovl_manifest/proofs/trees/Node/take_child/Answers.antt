@@ -4,10 +4,10 @@ use Rattle.ovl_manifest.specs.Layers.{Entries, entry_cmp}
 use Rattle.ovl_manifest.specs.LayerTrees.{NodeView, entries_from, entries_of_nodes, under, grown}
 use Rattle.ovl_manifest.proofs.OpenLemmas.{nodes_ascend}
 use Rattle.ovl_manifest.proofs.NodeLemmas.{entries_of_nodes-push}
-use Rattle.ovl_manifest.proofs.trees.Node.with_child.Goals as goal
+use Rattle.ovl_manifest.proofs.trees.Node.take_child.Goals as goal
 
-pub invariant_of-result : goal.invariant_of-result
-invariant_of-result c =
+pub invariant_of-self-2 : goal.invariant_of-self-2
+invariant_of-self-2 c =
     let child : NodeView = c.args.child in
     let below = ap (λ (node : NodeView). node.below ++ under child.name (entries_from child.inode child.below)) (sym c.self.view_is) in
     let same = below ∙ (sym (entries_of_nodes-push c.self.inside.children.items child) ∙ ap entries_of_nodes (sym c.in_ok-push.ensures.items)) in

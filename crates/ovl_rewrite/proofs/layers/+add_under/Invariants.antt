@@ -3,10 +3,10 @@ use Rattle.std.specs.Vec.Iter.{into_iter_items}
 use Rattle.ovl_board.specs.Parcels.{parcel_views}
 use Rattle.ovl_rewrite.specs.Directories.{inodes_seen}
 use Rattle.ovl_rewrite.proofs.UnderLemmas.{WalksAmong}
-use Rattle.ovl_rewrite.proofs.layers.+with_under.Given as goal
+use Rattle.ovl_rewrite.proofs.layers.+add_under.Given as goal
 
-abbrev pub decreases-with_under : goal.decreases-with_under
-decreases-with_under l = length (into_iter_items l.rest.now)
+abbrev pub decreases-add_under : goal.decreases-add_under
+decreases-add_under l = length (into_iter_items l.rest.now)
 
 abbrev pub invariant-loop-name : goal.invariant-loop-name
 invariant-loop-name l =
