@@ -50,7 +50,7 @@ child_after-end [] name = refl
 child_after-end (own ∷ last) name = ap is_lt (path_cmp-under own last (child_path (take (length last) last) name)) ∙ child_after-end last name
 
 -- its path goes the way of the last path as far as its directory
-take-child : (last : PathNames) (depth d : ℕ) (name : PathName) → d ≤ depth → depth ≤ length last → take d (child_path (take depth last) name) ≡ take d last
+pub take-child : (last : PathNames) (depth d : ℕ) (name : PathName) → d ≤ depth → depth ≤ length last → take d (child_path (take depth last) name) ≡ take d last
 take-child last depth zero name shallow within = refl
 take-child [] depth (suc d) name shallow within = absurd (omega (arith, shallow, within))
 take-child (own ∷ last) zero (suc d) name shallow within = absurd (omega (arith, shallow))
@@ -65,7 +65,7 @@ path-end entries front entry ends =
 
 -- ---- rows, and one more
 
-slice_get-take : {X : Type 0} (xs : List X) (n k : ℕ) → k < n → slice_get (take n xs) k ≡ slice_get xs k
+pub slice_get-take : {X : Type 0} (xs : List X) (n k : ℕ) → k < n → slice_get (take n xs) k ≡ slice_get xs k
 slice_get-take xs zero k less = absurd (omega (arith, less))
 slice_get-take [] (suc n) k less = refl
 slice_get-take (x ∷ xs) (suc n) zero less = refl

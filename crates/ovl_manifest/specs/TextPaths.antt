@@ -1,5 +1,5 @@
 -- Paths as texts where that of the root is empty.
-use Rattle.std.specs.Prelude.{ℕ, ◌==◌, length, List, ◌∷◌, flat_map, filter}
+use Rattle.std.specs.Prelude.{◌≡◌, ◌≤◌, ℕ, suc, Some, length, take, slice_get, List, ◌∷◌, flat_map}
 use Rattle.ovl_names.specs.Names.{slash}
 use Rattle.ovl_names.specs.Paths.{PathNames}
 
@@ -7,6 +7,7 @@ use Rattle.ovl_names.specs.Paths.{PathNames}
 abbrev pub slashed : PathNames → List ℕ
 slashed names = flat_map (λ own. slash ∷ own) names
 
--- how many separators stand in a text
-abbrev pub slash_count : List ℕ → ℕ
-slash_count text = length (filter (λ byte. byte == slash) text)
+-- where the texts of the paths on the way to a path end in its text, the root's first
+pub record AreEnds (path : PathNames) (ends : List ℕ) : Type 0 where
+  pub count : length ends ≡ suc (length path)
+  pub places : (depth : ℕ) → depth ≤ length path → slice_get ends depth ≡ Some (length (slashed (take depth path)))

@@ -1,6 +1,7 @@
 //! Entries as their texts are written: members in the order of their names, without space.
 ghost use Rattle.std.specs.Prelude.{◌≡◌, true, IsTrue, IfSome, ◌++◌};
 ghost use Rattle.std.specs.Cow.{cow_str_bytes};
+ghost use Rattle.json.specs.Print.{quoted};
 ghost use Rattle.serde_json.specs.Data.{object};
 ghost use Rattle.serde_json.specs.Written.{compact_text};
 ghost use Rattle.ovl_names.specs.Paths.{PathNames, path_text};
@@ -31,7 +32,7 @@ pub(crate) fn read_entry<'a>(
     let group = read_group(rest)?;
     let (blob, gid) = group;
     rest.take(",\"kind\":")?;
-    let word = rest.take_string()?;
+    let word = take_word(rest)?;
     let device = read_device(rest, word)?;
     rest.take(",\"mode\":")?;
     let mode = rest.take_natural(MODE_LIMIT as u64)?;
@@ -75,6 +76,20 @@ fn read_group(rest: &mut Rest<'_>) -> Option<(Option<Digest>, u32)>
     rest.take(",\"gid\":")?;
     let gid = rest.take_natural(u32::MAX as u64)?;
     Some((Some(digest), gid as u32))
+}
+
+// The word of a kind with its quotation marks; most entries are files or directories.
+#[inline(always)]
+fn take_word<'a>(rest: &mut Rest<'a>) -> Option<&'a str>
+    ensures { IfSome result (λ word. rest.old ≡ quoted word.now ++ rest.new) }
+{
+    if rest.take("\"file\"").is_some() {
+        return Some("file");
+    }
+    if rest.take("\"dir\"").is_some() {
+        return Some("dir");
+    }
+    rest.take_string()
 }
 
 // The nanoseconds past the second, where the version has them.

@@ -9,7 +9,7 @@ ghost use Rattle.ovl_manifest.specs.Layers.{IsLayer, entry_limit};
 ghost use Rattle.ovl_manifest.specs.Manifest.{read_layer as layer_stated};
 ghost use Rattle.ovl_manifest.specs.Text.{entry_items, layer_value};
 ghost use Rattle.ovl_manifest.specs.Versions.{depth_of, is_stated_by};
-ghost use Rattle.ovl_manifest.specs.TextPaths.{slashed};
+ghost use Rattle.ovl_manifest.specs.TextPaths.{slashed, AreEnds};
 ghost use Rattle.ovl_manifest.specs.SheetDrafts.{drafted, last_path, IsSheetDraft};
 
 use crate::compact_entries::read_entry;
@@ -17,7 +17,7 @@ use crate::compact_texts::Rest;
 use crate::entries::{ENTRY_LIMIT, has_escaped_name};
 use crate::sheet_drafts::SheetDraft;
 use crate::sheets::Sheet;
-use crate::text_paths::place_beside;
+use crate::text_paths::{go_on, place_beside};
 use crate::versions::Version;
 use ovl_inode::{Inode, is_directory};
 use ovl_names::{Name, TEXT_LIMIT};
@@ -83,6 +83,10 @@ fn read_entries(alloc: Global, version: Version, rest: &mut Rest<'_>) -> Option<
     let (text, root) = read_entry(alloc, version, rest)?;
     let mut draft = start(alloc, text.as_str(), root, room)?;
     let mut last = CowStr::Borrowed("");
+    let mut ends = Vec::new(alloc);
+    let Ok(()) = ends.push(0) else {
+        return None;
+    };
     let mut number = 1;
     'entries: while rest.take(",").is_some() {
         if number == ENTRY_LIMIT {
@@ -97,6 +101,7 @@ fn read_entries(alloc: Global, version: Version, rest: &mut Rest<'_>) -> Option<
             version,
             &mut draft,
             last.as_str(),
+            &mut ends,
             path.as_str(),
             inode,
         )?;
@@ -127,28 +132,31 @@ fn start(alloc: Global, text: &str, inode: Inode, room: usize) -> Option<SheetDr
     }
 }
 
-// Puts the entry of a sound inode, whose path a text spells, into the draft, whose last path has the text `last`; the
-// text of the root is empty here. Gives none of a path or an inode that no layer of the version has there, and for want
+// Puts the entry of a sound inode, whose path a text spells, into the draft, whose last path has the text `last`, and
+// where in it those of the paths on the way there end; the text of the root is empty here. Gives none of a path or an inode that no layer of the version has there, and for want
 // of memory.
 fn add_beside(
     alloc: Global,
     version: Version,
     draft: &mut SheetDraft,
     last: &str,
+    ends: &mut Vec<usize>,
     text: &str,
     inode: Inode,
 ) -> Option<()>
     requires draft { IsSheetDraft draft.old }
     requires room { length (drafted draft.old) < entry_limit }
     requires last { slashed (last_path draft.old) ≡ last.now }
+    requires ends { AreEnds (last_path draft.old) ends.old.items }
     requires sound { is_sound_inode inode ≡ true }
     ensures draft { IfSome result (λ _. IsSheetDraft draft.new) }
     ensures depth { IfSome result (λ _. length (last_path draft.new) ≤ depth_of version) }
     ensures last { IfSome result (λ _. slashed (last_path draft.new) ≡ text.now) }
+    ensures ends { IfSome result (λ _. AreEnds (last_path draft.new) ends.new.items) }
     ensures path { IfSome result (λ _. path_text (last_path draft.new) ≡ text.now) }
     ensures entries { IfSome result (λ _. drafted draft.new ≡ drafted draft.old ++ (last_path draft.new, inode) ∷ []) }
 {
-    let (depth, name) = place_beside(last, draft.last_depth(), text)?;
+    let (depth, name) = place_beside(last, ends, text)?;
     if depth >= version.depth() || text.len() > TEXT_LIMIT {
         return None;
     }
@@ -161,7 +169,10 @@ fn add_beside(
     if !draft.comes_before_child(depth, &name) || !draft.is_directory_above(depth) {
         return None;
     }
-    match draft.enter(alloc, depth, name, inode) {
+    let Ok(()) = draft.enter(alloc, depth, name, inode) else {
+        return None;
+    };
+    match go_on(ends, depth, text.len()) {
         Ok(()) => Some(()),
         Err(_) => None,
     }

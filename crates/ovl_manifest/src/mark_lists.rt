@@ -1,8 +1,9 @@
 ghost use Rattle.std.specs.Prelude.{◌≡◌, ◌<◌, ◌++◌, [], ◌∷◌, length, slice_get, Some, IfOk, IfSome, OnOk};
+ghost use Rattle.ovl_inode.specs.Marks.{mark_of as the_mark};
 ghost use Rattle.ovl_manifest.specs.Layers.{entry_limit};
 ghost use Rattle.ovl_manifest.specs.MarkLists.{plain_marks};
 
-use ovl_inode::Mark;
+use ovl_inode::{Inode, Kind, Mark, mark_of};
 use std::alloc::{AllocError, Global};
 use std::marker::Model;
 
@@ -44,8 +45,20 @@ impl MarkList {
         Ok(MarkList { numbers, different })
     }
 
-    /// Adds the mark of the next row.
-    pub(crate) fn push(&mut self, mark: Mark) -> Result<(), AllocError>
+    /// Adds the mark of the next row, by its inode.
+    pub(crate) fn push_of(&mut self, alloc: Global, inode: &Inode) -> Result<(), AllocError>
+        requires { length self.old < entry_limit }
+        ensures { OnOk result (self.new ≡ self.old ++ the_mark inode.now ∷ []) }
+    {
+        if let Some(number) = bare_number(inode) {
+            self.numbers.push(number)?;
+            return Ok(());
+        }
+        self.push(mark_of(alloc, inode)?)
+    }
+
+    // Adds the mark of the next row.
+    fn push(&mut self, mark: Mark) -> Result<(), AllocError>
         requires { length self.old < entry_limit }
         ensures { OnOk result (self.new ≡ self.old ++ mark ∷ []) }
     {
@@ -66,6 +79,20 @@ impl MarkList {
         ensures { slice_get self.now number ≡ Some result.now }
     {
         &self.different[self.numbers[number as usize] as usize]
+    }
+}
+
+// The number of the mark of an inode without attributes. A device may be a whiteout, and is left to `mark_of`.
+fn bare_number(inode: &Inode) -> Option<u32>
+    ensures { IfSome result (λ number. slice_get plain_marks number ≡ Some (the_mark inode.now)) }
+{
+    if !inode.attrs.pairs().is_empty() {
+        return None;
+    }
+    match &inode.kind {
+        Kind::Dir => Some(3),
+        Kind::Char { .. } => None,
+        _ => Some(6),
     }
 }
 

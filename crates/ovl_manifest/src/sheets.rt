@@ -12,7 +12,7 @@ ghost use Rattle.ovl_manifest.specs.SheetPasses.{AddsParents, IsRoomFor, rows_fr
 use crate::kid_lists::KidLists;
 use crate::mark_lists::MarkList;
 use crate::trees::{Layer, Node};
-use ovl_inode::{Inode, Mark, mark_of};
+use ovl_inode::{Inode, Mark};
 use ovl_names::{Name, Path};
 use std::alloc::{AllocError, Global};
 use std::cmp::Ordering;
@@ -93,7 +93,7 @@ impl Sheet {
         let mut marks = MarkList::with_capacity(alloc, rows.len())?;
         for row in &rows {
             parents.push(row.parent)?;
-            marks.push(mark_of(alloc, &row.inode)?)?;
+            marks.push_of(alloc, &row.inode)?;
         }
         let kids = KidLists::of(alloc, &parents)?;
         let depths = depths_of(alloc, &rows)?;
@@ -311,7 +311,7 @@ impl Room {
         afters.push(count as u32)?;
         push_afters(&layer.children, &mut afters)?;
         let mut marks = MarkList::with_capacity(alloc, count)?;
-        marks.push(mark_of(alloc, &layer.inode)?)?;
+        marks.push_of(alloc, &layer.inode)?;
         push_marks(alloc, &layer.children, &mut marks)?;
         let kids = KidLists::of(alloc, &parents)?;
         let rows = Vec::with_capacity(alloc, count)?;
@@ -361,7 +361,7 @@ fn push_marks(alloc: Global, nodes: &[Node], marks: &mut MarkList) -> Result<(),
         ≡ marks.old ++ map (λ entry. the_mark entry.1) (entries_of_nodes nodes.now)) }
 {
     for node in nodes {
-        marks.push(mark_of(alloc, &node.inode)?)?;
+        marks.push_of(alloc, &node.inode)?;
         push_marks(alloc, &node.children, marks)?;
     }
     Ok(())

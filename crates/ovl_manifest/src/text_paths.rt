@@ -1,33 +1,41 @@
 //! Paths as their texts, each beside the path that comes before it.
-ghost use Rattle.std.specs.Prelude.{◌≡◌, ◌≤◌, IfSome, IsTrue, length, take};
-ghost use Rattle.ovl_names.specs.Paths.{PathNames, child_path, has_names};
-ghost use Rattle.ovl_manifest.specs.TextPaths.{slashed, slash_count as slashes};
+ghost use Rattle.std.specs.Prelude.{◌≡◌, ◌+◌, ◌<◌, ◌≤◌, ◌^◌, IfSome, OnOk, length, take};
+ghost use Rattle.ovl_names.specs.Names.{PathName};
+ghost use Rattle.ovl_names.specs.Paths.{PathNames, child_path};
+ghost use Rattle.ovl_manifest.specs.TextPaths.{slashed, AreEnds};
 
-/// Where the path of a text stands beside the last path, whose text is given and the number of its names: how many of
-/// those names lead to the directory of the path, and the path's own name. The text of the root is empty here. Gives
-/// none where the directory isn't on the way to the last path.
-pub(crate) fn place_beside<'a>(last: &str, depth: usize, text: &'a str) -> Option<(usize, &'a str)>
-    ensures { (path : PathNames) → IsTrue (has_names path) → slashed path ≡ last.now → length path ≡ depth
-        → IfSome result (λ place. (place.0 ≤ depth)
+use std::alloc::AllocError;
+
+/// Where the path of a text stands beside the last path, whose text is given, and where in it those of the paths on the
+/// way there end: how many names lead to the directory of the path, and what stands behind that directory. The text of
+/// the root is empty here. Gives none where no directory is on the way to the last path.
+pub(crate) fn place_beside<'a>(
+    last: &str,
+    ends: &[usize],
+    text: &'a str,
+) -> Option<(usize, &'a str)>
+    ensures { (path : PathNames) → slashed path ≡ last.now → AreEnds path ends.now
+        → IfSome result (λ place. (place.0 ≤ length path)
         × (text.now ≡ slashed (child_path (take place.0 path) place.1.now))) }
 {
-    let (directory, name) = text.rsplit_once('/')?;
-    let rest = last.as_bytes().strip_prefix(directory.as_bytes())?;
-    if !rest.is_empty() && rest[0] != b'/' {
-        return None;
-    }
-    let above = depth.checked_sub(slash_count(rest))?;
-    Some((above, name))
+    let bytes = text.as_bytes();
+    // A name has no separator, so no text of a path that is longer than the directory's ends before one.
+    let depth = ends.iter().rposition(|end| bytes.get(*end) == Some(&b'/'))?;
+    let end = ends[depth];
+    let (directory, rest) = text.split_at_checked(end)?;
+    let _below = last.as_bytes().strip_prefix(directory.as_bytes())?;
+    let name = rest.strip_prefix('/')?;
+    Some((depth, name))
 }
 
-fn slash_count(bytes: &[u8]) -> usize
-    ensures { result ≡ slashes bytes.now }
+/// Goes from the last path to an entry of the directory of its first `depth` names, whose text is so long.
+pub(crate) fn go_on(ends: &mut Vec<usize>, depth: usize, len: usize) -> Result<(), AllocError>
+    requires { depth < 2 ^ 32 }
+    ensures { (path : PathNames) → (name : PathName) → AreEnds path ends.old.items → depth ≤ length path
+        → len ≡ length (slashed (child_path (take depth path) name))
+        → OnOk result (AreEnds (child_path (take depth path) name) ends.new.items) }
 {
-    let mut count = 0;
-    for byte in bytes {
-        if *byte == b'/' {
-            count += 1;
-        }
-    }
-    count
+    ends.truncate(depth + 1);
+    ends.push(len)?;
+    Ok(())
 }

@@ -27,14 +27,15 @@ entries-preserved c =
       stated = ap (list_all (is_stated_by c.args.version)) added.entries
           ∙ (list_all-append (is_stated_by c.args.version) before (entry ∷ [])
           ∙ (λ j. c.entries.invariant.stated j && ((le-leb (length entry.0) (depth_of c.args.version) added.depth j && c.in-Some.ensures.stated j) && true)));
+      ends = added.ends;
       last = added.last ∙ c.as_str-in-entries-2.ensures.value;
       count = ap length added.entries ∙ (length-append before (entry ∷ []) ∙ ap (λ n. n + 1) c.entries.invariant.count);
       some = omega arith;
       limit = omega (arith, c.entries.invariant.limit, c.if-number-eq-ENTRY_LIMIT.false);
     }
 
-pub returns-in-Ok-clause-text : goal.returns-in-Ok-clause-text
-returns-in-Ok-clause-text c =
+pub returns-in-Ok-finish-clause-text : goal.returns-in-Ok-finish-clause-text
+returns-in-Ok-finish-clause-text c =
     let entries : Entries = drafted c.entries.draft in
     let rest : List ℕ = c.take-2.new.self in
     let ended = sym (none-taken _ c.take.result c.take.ensures (sym c.is_some.ensures ∙ c.entries-test.false)) ∙ c.in_ok-take.ensures in
@@ -42,7 +43,7 @@ returns-in-Ok-clause-text c =
     ∙ (ap (λ (t : List ℕ). entries_text c.args.version false entries ++ t) ended
     ∙ (sym (append_assoc (entries_text c.args.version false entries) (93 ∷ []) rest)
     ∙ (ap (λ (t : List ℕ). t ++ rest) (sym (items-entries c.args.version false entries))
-    ∙ ap (λ (all : Entries). items_text false (entry_items c.args.version all) ++ rest) (sym c.in-Ok.ensures))))
+    ∙ ap (λ (all : Entries). items_text false (entry_items c.args.version all) ++ rest) (sym c.in-Ok-finish.ensures))))
 
-pub returns-in-Ok-clause-stated : goal.returns-in-Ok-clause-stated
-returns-in-Ok-clause-stated c = ap (list_all (is_stated_by c.args.version)) c.in-Ok.ensures ∙ c.entries.invariant.stated
+pub returns-in-Ok-finish-clause-stated : goal.returns-in-Ok-finish-clause-stated
+returns-in-Ok-finish-clause-stated c = ap (list_all (is_stated_by c.args.version)) c.in-Ok-finish.ensures ∙ c.entries.invariant.stated

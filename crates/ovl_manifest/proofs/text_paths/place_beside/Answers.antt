@@ -1,40 +1,38 @@
-use Rattle.std.proofs.Common.{◌≡◌, ◌-◌, ◌∙◌, ◌∷◌, ◌++◌, List, ℕ, lit<, eqb-true, length, take, sym, ap, arith}
-use Rattle.std.specs.Prelude.{slice_index}
+use Rattle.std.proofs.Common.{◌≡◌, ◌<◌, ◌≤◌, ◌∙◌, ◌∷◌, ◌++◌, Some, List, ℕ, lit<, length, take, sym, ap, arith, rules}
+use Rattle.std.specs.Prelude.{slice_get}
+use Rattle.std.proofs.lemmas.Bool.Decides.{Decides-eqb}
+use Rattle.std.proofs.Math.Seq.{take-append_seam}
 use Rattle.std.proofs.lemmas.List.{take-append-drop}
-use Rattle.std.proofs.lemmas.Str.Pattern.{drop_at_char}
-use Rattle.std.specs.Cmp.Lexicographic.{bytes_decides}
+use Rattle.std.proofs.lemmas.Option.{slice_get-get_or}
+use Rattle.std.proofs.lemmas.Slice.Eq.{strip_prefix_is}
+use Rattle.std.proofs.lemmas.Str.Pattern.{strip_prefix_char}
 use Rattle.ovl_names.specs.Names.{slash}
-use Rattle.ovl_manifest.specs.TextPaths.{slashed, slash_count}
-use Rattle.ovl_manifest.proofs.WayLemmas.{slashed-child, slashed-cut, IsWayDown}
+use Rattle.ovl_manifest.specs.TextPaths.{slashed}
+use Rattle.ovl_manifest.proofs.SheetLemmas.{some-same}
+use Rattle.ovl_manifest.proofs.WayLemmas.{slashed-child, slashed-front}
 use Rattle.ovl_manifest.proofs.text_paths.place_beside.Goals as goal
-use Rattle.ovl_manifest.proofs.text_paths.place_beside.Goals.{else-not-is_empty-via-then-not-is_empty+else-rest-ne47, else-not-is_empty-via-else-not-is_empty}
 
 pub returns : goal.returns
-returns c = λ path named spelled count.
+returns c = λ path spelled are.
     let text : List ℕ = c.args.text.now in
+    let last : List ℕ = c.args.last.now in
     let directory : List ℕ = c.in_ok-directory.directory.now in
-    let name : List ℕ = c.in_ok-directory.name.now in
-    let rest : List ℕ = c.in_ok-rest.rest.now in
-    let found = c.in_ok-directory.ensures.cases in
-    let apart : text ≡ directory ++ slash ∷ name =
-    sym (take-append-drop found.0 text) ∙ (λ j. sym found.3 j ++ (drop_at_char 47 text found.0 found.1 found.2.1 (lit< tt) ∙ ap (λ (own : List ℕ). slash ∷ own) (sym found.4)) j) in
-    let whole : List ℕ = c.as_bytes.result.now in
-    let front : List ℕ = c.as_bytes-2.result.now in
-    let cut = c.in_ok-rest.ensures.cases in
-    let begins : take (length front) whole ≡ front = (bytes_decides (take (length front) whole) front).0 cut.0 in
-    let last : whole ≡ front ++ rest = sym (take-append-drop (length front) whole) ∙ (λ j. begins j ++ sym cut.1 j) in
-    let same : slashed path ≡ directory ++ rest = spelled ∙ (sym c.as_bytes.ensures.value ∙ (last ∙ ap (λ (own : List ℕ). own ++ rest) c.as_bytes-2.ensures.value)) in
-    let down : IsWayDown rest = λ byte more e.
-    elim c.else-not-is_empty.branch [
-      | else-not-is_empty-via-then-not-is_empty+else-rest-ne47 w ↦ ap (λ (own : List ℕ). slice_index own 0) (sym e) ∙ w.if-rest-ne47.false
-      | else-not-is_empty-via-else-not-is_empty w ↦
-          let none : length rest ≡ 0 = eqb-true (length rest) 0 (sym c.is_empty.ensures ∙ w.if-not-is_empty.false) in
-          let some : length rest ≡ length (byte ∷ more) = ap length e in
-          absurd (omega (arith, none, some))
-    ] in
-    let way = slashed-cut path directory rest named same down in
-    let above : c.in_ok-above.above ≡ length path - slash_count rest = (c.in_ok-above.ensures).1 ∙ (λ j. sym count j - c.slash_count.ensures j) in (
-      omega (arith, (c.in_ok-above.ensures).1),
-      apart ∙ (ap (λ (own : List ℕ). own ++ slash ∷ name) (way.1 ∙ ap (λ n. slashed (take n path)) (sym above))
-          ∙ sym (slashed-child (take c.in_ok-above.above path) name)),
+    let rest : List ℕ = c.in_ok-directory.rest.now in
+    let name : List ℕ = c.in_ok-name.name.now in
+    let below : List ℕ = c.in_ok-_below._below.now in
+    let depth : ℕ = c.in_ok-depth.depth in
+    let inside : depth < length c.args.ends.now = search rules in
+    let read : slice_get c.args.ends.now depth ≡ Some (length directory) =
+    slice_get-get_or c.args.ends.now depth 0 inside ∙ ap Some (sym c.in_ok-directory.ensures.front_len) in
+    let above : List ℕ = slashed (take depth path) in
+    let within : depth ≤ length path = omega (arith, inside, are.count) in
+    let long : length directory ≡ length above = some-same _ _ (sym read ∙ are.places depth within) in
+    let apart : last ≡ directory ++ below =
+    sym c.as_bytes.ensures.value ∙ (strip_prefix_is Decides-eqb c.as_bytes.result.now c.as_bytes-2.result.now (Some c.in_ok-_below._below) c.in_ok-_below.ensures.cases ∙ ap (λ (own : List ℕ). own ++ below) c.as_bytes-2.ensures.value) in
+    let front : directory ≡ above =
+    sym (take-append_seam directory below) ∙ (ap (take (length directory)) (sym apart) ∙ (ap (take (length directory)) (sym spelled) ∙ (ap (λ (n : ℕ). take n (slashed path)) long ∙ slashed-front path depth))) in
+    let whole : text ≡ directory ++ rest = sym (take-append-drop _ text) ∙ (λ j. sym c.in_ok-directory.ensures.front j ++ sym c.in_ok-directory.ensures.back j) in
+    let behind : rest ≡ slash ∷ name = strip_prefix_char 47 rest (Some c.in_ok-name.name) c.in_ok-name.ensures.cases (lit< tt) in (
+      within,
+      whole ∙ ((λ j. front j ++ behind j) ∙ sym (slashed-child (take depth path) name)),
     )

@@ -1,6 +1,8 @@
 use Rattle.std.proofs.Common.{◌≡◌, ◌∙◌, ◌++◌, ◌∷◌, ℕ, suc, [], Some, List, length, drop, ap, subst, arith}
 use Rattle.std.specs.Prelude.{slice_get}
 use Rattle.ovl_inode.specs.declared.inodes.Inode.{Inode}
+use Rattle.ovl_inode.specs.declared.marks.Mark.{Mark}
+use Rattle.ovl_inode.specs.Marks.{mark_of}
 use Rattle.ovl_manifest.specs.Layers.{Entries}
 use Rattle.ovl_manifest.specs.LayerTrees.{NodeView, entries_of_nodes}
 use Rattle.ovl_manifest.specs.Sheets.{afters_from, are_earlier, kid_numbers}
@@ -33,5 +35,5 @@ returns c =
           (c.in_ok-push_afters.ensures ∙ (λ j. ends j ++ afters_from (one j) (entries_of_nodes (c.deref-2.ensures.value j))));
       kids = λ number inside. c.in_ok-kids.ensures number (omega (arith, inside, ap length seen, count)) ∙ ap (λ (ns : List ℕ). Some (kid_numbers 1 (drop 1 ns) number)) seen;
       marks = c.in_ok-push_marks.ensures
-          ∙ (λ j. (c.in_ok-push-3.ensures ∙ (λ k. c.in_ok-marks.ensures k ++ c.in_ok-mark_of.ensures k ∷ [])) j ++ marks_of (entries_of_nodes (c.deref-3.ensures.value j)));
+          ∙ (λ j. (c.in_ok-push_of.ensures ∙ ap (λ (own : List Mark). own ++ mark_of inode ∷ []) c.in_ok-marks.ensures) j ++ marks_of (entries_of_nodes (c.deref-3.ensures.value j)));
     })

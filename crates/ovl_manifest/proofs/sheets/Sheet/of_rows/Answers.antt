@@ -6,8 +6,8 @@ use Rattle.ovl_manifest.specs.Sheets.{IsSheet, entries_of_rows, afters_from, kid
 use Rattle.ovl_manifest.proofs.AfterLemmas.{few-rows, set-entries, set-sheet}
 use Rattle.ovl_manifest.proofs.sheets.Sheet.of_rows.Goals as goal
 
-pub push-requires-in-loop-row : goal.push-requires-in-loop-row
-push-requires-in-loop-row c =
+pub push_of-requires : goal.push_of-requires
+push_of-requires c =
     let rows : List SheetRow = c.args.rows.items in
     let inside : c.loop-row.row-index < length rows = omega (arith, c.loop-row-test.true, ap length c.deref-row-items.ensures.value) in
     omega (arith, inside, few-rows rows c.requires, ap length c.loop-row.invariant.marks, length-map (take c.loop-row.row-index rows) (λ (row : SheetRow). mark_of row.inode), length-take-le c.loop-row.row-index rows (omega (arith, inside)))
