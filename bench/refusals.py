@@ -4,8 +4,9 @@
 Python 3.11, standard library, and `rt`, whose compiler builds refuse.c. Each command is run on small stacks by 1 and by
 2 workers, and on one of 40 directories by 7, again and again: the first, the second, the third and each later request
 for memory is refused, then all from the first on, from the second on, and so forth, each time until a run meets no
-refusal; and so is each start of a thread, of which there is none by 1 worker. A run must end with its full answer, or with
-status 5 and `out of memory`, nothing on standard output, no new layer, and the one that was there as it was.
+refusal; and so is each start of a thread, of which there is none by 1 worker, and by others one fewer than they are for each
+thing that a command does, at most, also where it writes many lines. A run must end with its full answer, or with status 5
+and `out of memory`, nothing on standard output, no new layer, and the one that was there as it was.
 
 Each test of the other program runs in a process of its own, again and again, with one request for memory or one start of a
 thread refused: it must pass each time, as it makes a call that ran out of memory again.
@@ -34,6 +35,9 @@ COMMANDS = ("show", "fsck", "vacuum", "deref", "merge", "fsck --any-size", "merg
 THREAD = "the start of a thread"
 WAYS = {"a request": {"REFUSE": "memory"}, "a request and all after it": {"REFUSE": "memory", "REFUSE_ON": ""},
         THREAD: {"REFUSE": "thread"}}
+# What a command does beside checking its layers, each by as many threads as there are workers: it reads files, reads what these
+# state, reads blobs, digests them, makes what is shown or a new layer, lets the stack go, and writes lines.
+THINGS = 7
 # No run meets so many requests. A sweep ends with so many wrong endings; of a command so many are told.
 MOST, ENOUGH, TOLD = 50_000, 40, 5
 # So many processes share the requests of a test.
@@ -67,16 +71,20 @@ def opaque(path):
 
 @dataclass(frozen=True)
 class Stack:
-    """Layers, the topmost first, each below its root; the contents of the blobs by their names; and how many workers."""
+    """Layers, the topmost first, each below its root; the contents of the blobs by their names; how many workers; and what
+    these are refused."""
 
     layers: tuple
     blobs: dict
     workers: tuple = (1, 2)
+    refused: tuple = tuple(WAYS)
 
 
 A = {digest(b"a"): b"a"}
 DIRECTORY = [entry("/d"), file("/d/k", b"a")]
 FORTY = [it for n in range(40) for it in (entry(f"/d{n:02d}"), file(f"/d{n:02d}/k", b"a"))]
+# Each has a line of the report and a note, twenty times as many as one thread writes at least.
+LINES = [entry(f"/d{n:05d}", attrs={"trusted.overlay.opaque": "z"}) for n in range(20 * 1024)]
 STACKS = {
     "root_alone": Stack(([],), {}),
     "moved_under_opaque": Stack(([opaque("/n"), moved("/n/d", "/x"), whiteout("/x")],
@@ -87,6 +95,7 @@ STACKS = {
     "wrong_contents": Stack(([entry("/e", "file", size=0), file("/k", b"abc"), file("/m", b"a"), file("/s", b"ab", 3)],),
                             {digest(b"abc"): b"abd", digest(b"ab"): b"ab"}),
     "forty_directories": Stack((FORTY, FORTY), A, (7,)),
+    "many_lines": Stack((LINES, []), {}, refused=(THREAD,)),
 }
 
 
@@ -127,6 +136,9 @@ class Sweep:
     workers: int
     refused: str
 
+    def most_threads(self):
+        return (THINGS + len(STACKS[self.stack].layers)) * (self.workers - 1)
+
     def words(self, program, room):
         stack, blobs, folder = STACKS[self.stack], room / "blobs", room / "layers"
         for it in (blobs, folder):
@@ -155,8 +167,8 @@ def swept(program, library, sweep):
                 wrong.append(f"{how}, refused {sweep.refused}, number {number}: {ending}")
             if number == 1 and not refused and sweep.refused != THREAD:
                 wrong.append(f"{how}: no request was met")
-            if number == 1 and refused and sweep.refused == THREAD and sweep.workers == 1:
-                wrong.append(f"{how}: a thread was started")
+            if refused and sweep.refused == THREAD and number > sweep.most_threads():
+                wrong.append(f"{how}: thread {number} was started")
             if not refused or len(wrong) >= ENOUGH:
                 return number, wrong
         return MOST, [*wrong, f"{how}: no run without a refusal"]
@@ -208,7 +220,7 @@ def build(library):
 def sweeps():
     """All, those of the longest runs first."""
     for name, stack in reversed(STACKS.items()):
-        for refused in WAYS:
+        for refused in stack.refused:
             yield from (Sweep(command, name, workers, refused) for workers in stack.workers for command in COMMANDS)
 
 

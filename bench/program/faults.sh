@@ -254,6 +254,20 @@ printf -v name_255 '%0255d' 0
 } | layer > long_named.json
 below "$name_255" 14 | layer > long.fits.json
 below "$name_255" 15 | layer > long.over.json
+# A moved directory and many pipes beside it, and as many below its old place: with the whiteout of that one entry more than
+# a layer may have.
+fifos() {
+    seq -f ',{"gid":0,"kind":"fifo","mode":384,"mtime":0,"mtime-nsec":0,"path":"'"$1"'%07.0f","uid":0,'"$plain"'}' "$2" | tr -d '\n'
+}
+{
+    fifos /a 524288
+    at dir /m "${moved[0]}"
+    at char /x "${moved[1]}"
+} | layer > many_beside.json
+{
+    at dir /x "$plain"
+    fifos /x/ 524286
+} | layer > many_below.json
 # A redirect of 100,000 names; and a chain of as many directories as a path may have names, the last of which goes on at the
 # chain of deeper.json.
 at dir /m "\"xattrs\":{\"trusted.overlay.redirect\":\"$(printf '2f61%.0s' {1..100000})\"}" | layer > far.json
@@ -558,6 +572,10 @@ rm -f new/layer-0.json
 refuses 5 'result over the limits' deref "${rewritten[@]}" long_named.json long.over.json
 gives new
 closes 'entries 130\n' show moved.json deeper.json
+closes 'entries 66\n' show moved.json half.json
+refuses 5 'result over the limits' deref "${rewritten[@]}" many_beside.json many_below.json
+gives new
+closes 'entries 1048576\n' merge "${rewritten[@]}" many_beside.json many_below.json
 closes 'entries 129\n' merge "${rewritten[@]}" moved.json deep.json
 closes 'entries 128\n' merge "${rewritten[@]}" chain_moved.json half.json
 rm -f new/layer-*.json
