@@ -191,10 +191,10 @@ pub struct Inode {
     pub uid: u32,
     /// The owning group's number.
     pub gid: u32,
+    /// The nanoseconds of the modification time past its second; at most [`NSEC_LIMIT`] where it is sound.
+    pub nsec: u32,
     /// The time of the last modification, in whole seconds from the start of 1970 in UTC, rounded down.
     pub mtime: i64,
-    /// The nanoseconds of that time past the second; at most [`NSEC_LIMIT`] where it is sound.
-    pub nsec: u32,
     /// The extended attributes.
     pub attrs: Attrs,
 }

@@ -19,7 +19,7 @@ pub(crate) fn place_beside<'a>(
         × (text.now ≡ slashed (child_path (take place.0 path) place.1.now))) }
 {
     let bytes = text.as_bytes();
-    // A name has no separator, so no text of a path that is longer than the directory's ends before one.
+    // A name has no separator, so of the ends with one behind them the deepest is the directory's.
     let depth = ends.iter().rposition(|end| bytes.get(*end) == Some(&b'/'))?;
     let end = ends[depth];
     let (directory, rest) = text.split_at_checked(end)?;
