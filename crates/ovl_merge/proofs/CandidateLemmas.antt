@@ -236,3 +236,14 @@ listed-more m dir items j candidate inside here listed found so_far is =
         ap (λ (candidates : List Candidate). names_of (candidates_told candidates)) (take_more items j candidate inside ∙ ap (λ (c : Candidate). take j items ++ c ∷ []) (sym here))
         ∙ (ap names_of (map-append candidate_told (take j items) (candidate ∷ []))
         ∙ map-append (λ name. name.0) (candidates_told (take j items)) (candidate_told candidate ∷ []))
+
+-- ---- the rows of one layer
+
+-- a sheet's rows are those of the layer that it is
+pub rows-there : (side : Side) (layer sheet : Entries) → layer ≡ sheet → (told : Rowed) (row : Option ℕ) (path : PathNames) (next : Option PathNames) → StandsAt layer path row next
+    → ((path : PathNames) (next : Option PathNames) → StandsAt sheet path row next → AreRowsOf side sheet path told) → AreRowsOf side layer path told
+rows-there side layer sheet same told row path next stands are =
+    subst (λ (l : Entries). AreRowsOf side l path told) (sym same) (are path next (subst (λ (l : Entries). StandsAt l path row next) same stands))
+
+pub rows-ascend : (side : Side) (layer : Entries) → IsLayer layer → (path : PathNames) (told : Rowed) → AreRowsOf side layer path told → ascends name_cmp (names_of told) ≡ true
+rows-ascend side layer is path told rows = ap (ascends name_cmp) rows.below ∙ kid-names-ascend layer path is.in_order

@@ -8,14 +8,22 @@ use Rattle.ovl_inode.specs.declared.inodes.Inode.{Inode}
 use Rattle.ovl_inode.specs.Attributes.{Attributes, metacopy_name, opaque_name, visible_attributes}
 use Rattle.ovl_inode.specs.Marks.{is_directory}
 use Rattle.ovl_inode.specs.Inodes.{visible}
+use Rattle.ovl_lookup.specs.declared.looks.Look.{Look}
+use Rattle.ovl_lookup.specs.Merged.{is_shown_directory}
 use Rattle.ovl_lookup.specs.Stacks.{StackView}
+use Rattle.ovl_lookup.specs.Words.{look_on}
 use Rattle.ovl_lookup.proofs.LawsOfPaths.{length-child}
 use Rattle.ovl_merge.specs.declared.bases.Base.{Base}
+use Rattle.ovl_merge.specs.declared.directories.Directory.{Directory}
+use Rattle.ovl_merge.specs.declared.passages.Passage.{Passage}
 use Rattle.ovl_merge.specs.declared.bases.Base.TheVariants.{Reached, Apart}
 use Rattle.ovl_merge.specs.Places.{Merge, merge_of, first_hit, passes, shows_own_directory, reach, base, child_of, gets_opaque, shows_directory_at}
 use Rattle.ovl_merge.specs.MergeDown.{with_value, redirected_from, merged_directory, merged_metacopy}
-use Rattle.ovl_merge.specs.Reckoned.{IsBase, name_directly_in, reached_in}
+use Rattle.ovl_merge.specs.Reckoned.{IsBase, name_directly_in, onward_at, reached_in}
+use Rattle.ovl_merge.specs.Passages.{IsPassage, first_in}
 use Rattle.ovl_merge.proofs.Core.{last_name-child, natural-child}
+use Rattle.ovl_merge.proofs.BaseLemmas.{directory-on as shown-on}
+use Rattle.ovl_merge.proofs.PassageLemmas.{passage-first}
 use Rattle.ovl_merge.proofs.VisitLemmas.{directory-told, metacopy-told}
 
 -- ---- what is shown of one without attributes
@@ -50,6 +58,15 @@ pub opaque-told : (m : Merge) (dir : PathNames) (name : PathName) (inode : Inode
 opaque-told m dir name inode hit d none =
     let shown : shows_own_directory m (child_path dir name) ≡ true = ap (passes is_directory) hit ∙ d in
     (λ j. not (length-child dir name j) && shown j && is_none (none j) && shows_directory_at m.rest (natural-child m dir name j))
+
+-- ... by the passage of its name, and what is hidden there
+pub hides-told : (m : Merge) (above : Directory) (name : PathName) (inode : Inode) (passage : Passage) → IsPassage m (child_path above.path name) (onward_at above.lower) passage → Some inode ≡ first_in passage → is_directory inode ≡ true
+    → reach m (child_path above.path name) ≡ None → (hidden : Look) → hidden ≡ look_on m.rest (child_of (base m above.path) name) → (b : Bool) → b ≡ is_shown_directory hidden → gets_opaque m (child_path above.path name) ≡ b
+hides-told m above name inode passage is first d none hidden looked b shown =
+    let path : PathNames = child_path above.path name in
+    let hit : first_hit m path ≡ Some inode = sym (first ∙ passage-first m path (onward_at above.lower) passage is) in
+    opaque-told m above.path name inode hit d none
+    ∙ (sym (shown-on m.rest (child_of (base m above.path) name)) ∙ (ap is_shown_directory (sym looked) ∙ sym shown))
 
 pub directory-apart : (m : Merge) (path : PathNames) (inode shown : Inode) → shown ≡ visible inode → reach m path ≡ None → (b : Bool) → gets_opaque m path ≡ b → cond b (with_value shown opaque_name (codes "y")) shown ≡ merged_directory m path inode (reach m path)
 directory-apart m path inode shown seen none b hides =

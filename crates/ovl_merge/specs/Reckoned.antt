@@ -1,5 +1,5 @@
 -- The directories of a merge, as the program reckons them.
-use Rattle.std.specs.Prelude.{◌≡◌, Bool, true, false, Option, Some, None, ◌++◌, if◌then◌else◌, is_some, IsSomeAnd, MatchOption}
+use Rattle.std.specs.Prelude.{◌≡◌, Bool, true, false, Option, Some, None, if◌then◌else◌, is_some, IsSomeAnd, MatchOption}
 use Rattle.ovl_names.specs.Names.{PathName}
 use Rattle.ovl_names.specs.Paths.{PathNames, child_path, path_eq}
 use Rattle.ovl_manifest.specs.Layers.{Entries}
@@ -64,12 +64,6 @@ pub record AreStands (m : Merge) (path : PathNames) (stands : Stands) : Type 0 w
   pub next : Option PathNames
   pub upper : StandsAt m.upper path stands.upper next
   pub lower : IsBelow m.lower next stands.lower
-
--- the path with the names that are left is the whole, and the walks stand there
-pub record AreOnWay (m : Merge) (whole left : PathNames) (stands : Stands) : Type 0 where
-  pub above : PathNames
-  pub there : above ++ left ≡ whole
-  pub are : AreStands m above stands
 
 -- a directory of the new lower layer, with what is kept of it for the names in it
 pub record IsVisited (stack : StackView) (dir : PathNames) (directory : Directory) : Type 0 where

@@ -79,12 +79,6 @@ IsStand layer path stand = StandsAt layer path stand.row stand.next
 abbrev pub IsOver : Entries → Stand → Type 0
 IsOver layer stand = IfSome stand.row (λ row. row < length layer)
 
--- the path with the names that are left is the whole, and the walk stands there
-pub record IsOnWay (layer : Entries) (whole left : PathNames) (stand : Stand) : Type 0 where
-  pub above : PathNames
-  pub there : above ++ left ≡ whole
-  pub stands : IsStand layer above stand
-
 -- ---- how the walk of a name in it ends
 
 -- the number of the row of an entry, if there is one

@@ -1,40 +1,22 @@
-use Rattle.std.proofs.Common.{◌≡◌, ◌∙◌, ◌++◌, ◌∷◌, [], sym, ap, subst, append_assoc, append-nil}
-use Rattle.ovl_names.specs.Names.{PathName, is_name}
-use Rattle.ovl_names.specs.Paths.{PathNames, child_path, has_names}
-use Rattle.ovl_names.proofs.Ascending.{both}
+use Rattle.std.proofs.Common.{◌∙◌}
 use Rattle.ovl_merge.specs.Places.{merge_of}
 use Rattle.ovl_merge.specs.Reckoned.{AreStands}
+use Rattle.ovl_merge.proofs.WayLemmas.{way-starts, way-goes-on, way-ends}
 use Rattle.ovl_merge.proofs.directories.Stands.at.Goals as goal
 
 pub loop-name-init : goal.loop-name-init
 loop-name-init c =
-    let same : c.into_iter-name-iterator.result ≡ c.args.path.now = c.into_iter-name-iterator.ensures.into_iter_gives ∙ c.names-name-items.ensures.value in
-    record {
-      way = record { above = []; there = same; are = c.root-stands.ensures };
-      names = ap has_names same ∙ c.names-name-items.ensures.names;
-    }
+    way-starts (λ path. AreStands (merge_of c.args.stack.now) path c.root-stands.result) c.args.path.now c.into_iter-name-iterator.result
+    (c.into_iter-name-iterator.ensures.into_iter_gives ∙ c.names-name-items.ensures.value) c.names-name-items.ensures.names c.root-stands.ensures
 
 pub enter-requires-clause-stands : goal.enter-requires-clause-stands
-enter-requires-clause-stands c = (c.loop-name.invariant.way.above, c.loop-name.invariant.way.are)
+enter-requires-clause-stands c = (c.loop-name.invariant.above, c.loop-name.invariant.holds)
 
 pub loop-name-preserved : goal.loop-name-preserved
 loop-name-preserved c =
-    let above : PathNames = c.loop-name.invariant.way.above in
-    let name : PathName = c.in-Some.name.now in
-    let rest : PathNames = c.next.new.self in
-    let whole : above ++ name ∷ rest ≡ c.args.path.now = sym (ap (λ (left : PathNames). above ++ left) c.in-Some.ensures.steps) ∙ c.loop-name.invariant.way.there in
-    record {
-      way = record {
-        above = child_path above name;
-        there = append_assoc above (name ∷ []) rest ∙ whole;
-        are = c.in_ok-stands.ensures above c.loop-name.invariant.way.are;
-      };
-      names = (both {a = is_name name} {b = has_names rest} (sym (ap has_names c.in-Some.ensures.steps) ∙ c.loop-name.invariant.names)).1;
-    }
+    let way = c.loop-name.invariant in
+    way-goes-on (λ path. AreStands (merge_of c.args.stack.now) path c.loop-name.stands) (λ path. AreStands (merge_of c.args.stack.now) path c.in_ok-stands.stands) c.args.path.now c.loop-name.name-iterator c.next.new.self c.in-Some.name.now c.in-Some.ensures.steps way
+    (c.in_ok-stands.ensures way.above way.holds)
 
 pub returns : goal.returns
-returns c =
-    let above : PathNames = c.loop-name.invariant.way.above in
-    let all : above ≡ c.args.path.now =
-    sym (append-nil above) ∙ (sym (ap (λ (left : PathNames). above ++ left) c.in-None.ensures.steps.0) ∙ c.loop-name.invariant.way.there) in
-    subst (λ (p : PathNames). AreStands (merge_of c.args.stack.now) p c.loop-name.stands) all c.loop-name.invariant.way.are
+returns c = way-ends (λ path. AreStands (merge_of c.args.stack.now) path c.loop-name.stands) c.args.path.now c.loop-name.name-iterator c.in-None.ensures.steps.0 c.loop-name.invariant

@@ -1,11 +1,7 @@
-use Rattle.std.proofs.Common.{◌≡◌, true}
-use Rattle.ovl_names.specs.Paths.{has_names}
 use Rattle.ovl_merge.specs.Places.{merge_of}
-use Rattle.ovl_merge.specs.Reckoned.{AreOnWay}
+use Rattle.ovl_merge.specs.Reckoned.{AreStands}
+use Rattle.ovl_merge.proofs.WayLemmas.{IsOnWay}
 use Rattle.ovl_merge.proofs.directories.Stands.at.Given as goal
 
 abbrev pub invariant-loop-name : goal.invariant-loop-name
-invariant-loop-name l = record {
-  way : AreOnWay (merge_of l.stack) l.path l.name-iterator l.stands;
-  names : has_names l.name-iterator ≡ true;
-}
+invariant-loop-name l = IsOnWay (λ path. AreStands (merge_of l.stack) path l.stands) l.path l.name-iterator

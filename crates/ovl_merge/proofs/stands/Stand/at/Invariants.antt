@@ -1,10 +1,6 @@
-use Rattle.std.proofs.Common.{◌≡◌, true}
-use Rattle.ovl_names.specs.Paths.{has_names}
-use Rattle.ovl_merge.specs.Stands.{IsOnWay}
+use Rattle.ovl_merge.specs.Stands.{IsStand}
+use Rattle.ovl_merge.proofs.WayLemmas.{IsOnWay}
 use Rattle.ovl_merge.proofs.stands.Stand.at.Given as goal
 
 abbrev pub invariant-loop-name : goal.invariant-loop-name
-invariant-loop-name l = record {
-  way : IsOnWay l.sheet l.path l.name-iterator l.stand;
-  names : has_names l.name-iterator ≡ true;
-}
+invariant-loop-name l = IsOnWay (λ path. IsStand l.sheet path l.stand) l.path l.name-iterator
