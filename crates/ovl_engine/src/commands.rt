@@ -281,7 +281,7 @@ fn show<G: Gate + Sync, R: Threads + Wait + Sync>(
     let look = work.root_look(team.alloc)?;
     let_go(team.rt, team.alloc, stack, team.workers);
     Ok(Answer {
-        report: report_by(team.rt, team.alloc, &look, &parcels, team.workers)?,
+        report: report_by(team.rt, team.alloc, &look, parcels, team.workers)?,
         layers: Vec::new(team.alloc),
         clean: true,
     })

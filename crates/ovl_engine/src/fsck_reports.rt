@@ -3,7 +3,7 @@ ghost use Rattle.std.specs.List.{flat_map};
 ghost use Rattle.ovl_names.specs.Escapes.{shown_path};
 ghost use Rattle.ovl_engine.specs.FsckReports.{code_word as the_code_word, weight_word as the_weight_word, finding_line, fault_count, note_count, is_clean as clean_test, fsck_report};
 
-use crate::reports::{push_name, push_number, push_word};
+use crate::reports::{push_name, push_number, push_number_word, push_word};
 use crate::shares::{joined, share_of};
 use ovl_check::{Code, Finding};
 use ovl_names::{Names, Path};
@@ -150,7 +150,7 @@ fn push_finding<'a>(
 {
     push_word(report, weight_word(finding.code))?;
     push_word(report, code_word(finding.code))?;
-    push_word(report, itoa::Buffer::new().format(finding.layer))?;
+    push_number_word(report, u64::from(finding.layer))?;
     above.push_path(alloc, report, &finding.path)?;
     report.push_str("\n")
 }

@@ -1,4 +1,4 @@
-ghost use Rattle.std.specs.Prelude.{◌≡◌, ◌+◌, ◌*◌, ◌<◌, ◌≤◌, ◌++◌, ◌∷◌, [], List, IfOk, OnOk, codes, drop, if◌then◌else◌, length, string_bytes, take};
+ghost use Rattle.std.specs.Prelude.{◌≡◌, ℕ, ◌+◌, ◌*◌, ◌<◌, ◌≤◌, ◌++◌, ◌∷◌, [], List, IfOk, OnOk, codes, drop, if◌then◌else◌, length, string_bytes, take};
 ghost use Rattle.std.specs.Fork.{slice_chunk};
 ghost use Rattle.std.specs.List.{flat_map, sum_by};
 ghost use Rattle.ovl_names.specs.Escapes.{escaped as escaped_text};
@@ -9,9 +9,10 @@ ghost use Rattle.ovl_engine.specs.Directories.{ShowParcel, IsShowWalk};
 ghost use Rattle.ovl_engine.specs.Listings.{IsTreeOf, StartsAtDirectory, TellsLeaves, merged_tree};
 ghost use Rattle.ovl_engine.specs.Reports.{line_of, look_line, show_line};
 ghost use Rattle.ovl_engine.specs.Outcomes.{IsShowReport};
+ghost use Rattle.ovl_engine.specs.Shares.{AreJoined};
 
 use crate::reports::{push_attributes, push_contents, push_count, push_name, push_status};
-use crate::shares::{joined, share_of};
+use crate::shares::{joined, share_of, side_by_side};
 use crate::works::ShowWork;
 use ovl_board::Parcel;
 use ovl_inode::Inode;
@@ -54,24 +55,30 @@ fn report_of_tree(
 }
 
 /// The report of `show` by what is shown at `/` and the parcels of the walk, written by at most as many threads as there
-/// are workers: each writes a share of the lines.
+/// are workers: each writes a share of the lines. The parcels are let go while these are put together.
 pub(crate) fn report_by<R: Threads + Sync>(
     rt: &R,
     alloc: Global,
     root: &Look,
-    parcels: &[Parcel<Vec<(Name, Look)>>],
+    parcels: Vec<Parcel<Vec<(Name, Look)>>>,
     workers: usize,
 ) -> Result<Vec<u8>, AllocError>
     requires { 0 < workers }
-    ensures { IfOk result (λ report. (stack : StackView) → IsTreeOf stack root.now (parcel_views (λ looks. looks.items) parcels.now)
+    ensures { IfOk result (λ report. (stack : StackView) → IsTreeOf stack root.now (parcel_views (λ looks. looks.items) parcels.items)
         → IsShowReport stack report.items) }
 {
-    let entries = entries_of(parcels)?;
+    let walk = parcels.as_slice();
+    let entries = entries_of(walk)?;
     let share = share_of(entries, workers);
     if entries <= share {
-        return report_of_tree(alloc, root, parcels);
+        return report_of_tree(alloc, root, walk);
     }
-    let mut report = lines_by(rt, alloc, root, parcels, share, entries.div_ceil(share))?;
+    let parts = parts_by(rt, alloc, root, walk, share, entries.div_ceil(share))?;
+    let join = || -> Result<String, AllocError>
+        ensures { IfOk result (λ whole. AreJoined string_bytes parts.items (string_bytes whole)) }
+    { joined(alloc, parts) };
+    let (lines, ()) = side_by_side(rt, workers, join, || drop(parcels));
+    let mut report = lines?;
     push_count(&mut report, entries as u64)?;
     Ok(report.into_bytes())
 }
@@ -88,17 +95,17 @@ fn entries_of(parcels: &[Parcel<Vec<(Name, Look)>>]) -> Result<usize, AllocError
 }
 
 // The lines of the first paths, in so many shares of `share` lines at most; each is written by a thread of its own.
-fn lines_by<R: Threads + Sync>(
+fn parts_by<R: Threads + Sync>(
     rt: &R,
     alloc: Global,
     root: &Look,
     parcels: &[Parcel<Vec<(Name, Look)>>],
     share: usize,
     shares: usize,
-) -> Result<String, AllocError>
+) -> Result<Vec<Result<String, AllocError>>, AllocError>
     requires { 0 < share }
-    ensures { IfOk result (λ lines. (stack : StackView) → IsTreeOf stack root.now (parcel_views (λ looks. looks.items) parcels.now)
-        → string_bytes lines ≡ flat_map show_line (take (shares * share) (merged_tree stack))) }
+    ensures { IfOk result (λ parts. (stack : StackView) → IsTreeOf stack root.now (parcel_views (λ looks. looks.items) parcels.now)
+        → (whole : List ℕ) → AreJoined string_bytes parts.items whole → whole ≡ flat_map show_line (take (shares * share) (merged_tree stack))) }
 {
     let write = |index: usize| -> Result<String, AllocError>
         requires { 0 < share }
@@ -106,8 +113,7 @@ fn lines_by<R: Threads + Sync>(
             → string_bytes lines ≡ flat_map show_line (slice_chunk (merged_tree stack) share index)) }
     { lines_of_share(alloc, root, parcels, index, share) };
     let parts = map_indices(rt, alloc, shares, &write)?;
-    let lines = joined(alloc, parts)?;
-    Ok(lines)
+    Ok(parts)
 }
 
 // The lines of the share of this number.

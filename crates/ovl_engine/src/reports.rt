@@ -60,8 +60,8 @@ pub(crate) fn push_status(report: &mut String, inode: &Inode) -> Result<(), Allo
 {
     push_word(report, inode.kind.word())?;
     push_mode(report, inode.mode)?;
-    push_word(report, itoa::Buffer::new().format(inode.uid))?;
-    push_word(report, itoa::Buffer::new().format(inode.gid))?;
+    push_number_word(report, u64::from(inode.uid))?;
+    push_number_word(report, u64::from(inode.gid))?;
     push_time(report, inode.mtime, inode.nsec)
 }
 
@@ -120,10 +120,23 @@ fn octal_digit(number: u16) -> char
     (b'0' + (number % 8) as u8) as char
 }
 
+// Many numbers have one digit, as those of root: it needs no buffer.
+#[tactic(auto, using(std::proofs::lemmas::Fmt::decimal_digit, std::proofs::lemmas::Grind::common_steps))]
 pub(crate) fn push_number(report: &mut String, number: u64) -> Result<(), AllocError>
     ensures { OnOk result (string_bytes report.new ≡ string_bytes report.old ++ decimal number) }
 {
+    if number < 10 {
+        return report.push((b'0' + number as u8) as char);
+    }
     report.push_str(itoa::Buffer::new().format(number))
+}
+
+// A number, and a space after it.
+pub(crate) fn push_number_word(report: &mut String, number: u64) -> Result<(), AllocError>
+    ensures { OnOk result (string_bytes report.new ≡ string_bytes report.old ++ spaced (decimal number)) }
+{
+    push_number(report, number)?;
+    report.push_str(" ")
 }
 
 // The size and what else the kind has, with a space after each.
@@ -146,7 +159,7 @@ fn push_size(report: &mut String, kind: &Kind) -> Result<(), AllocError>
     ensures { OnOk result (string_bytes report.new ≡ string_bytes report.old ++ spaced (size_word kind.now)) }
 {
     match kind {
-        Kind::File { size, .. } => push_word(report, itoa::Buffer::new().format(*size)),
+        Kind::File { size, .. } => push_number_word(report, *size),
         _ => push_word(report, "-"),
     }
 }

@@ -6,13 +6,13 @@ use Rattle.ovl_engine.specs.Listings.{IsTreeOf, merged_tree}
 use Rattle.ovl_engine.specs.Reports.{show_line}
 use Rattle.ovl_engine.proofs.ListingLemmas.{views_of}
 use Rattle.ovl_engine.proofs.ShareLemmas.{if_given, shares_told}
-use Rattle.ovl_engine.proofs.listings.lines_by.Goals as goal
+use Rattle.ovl_engine.proofs.listings.parts_by.Goals as goal
 
 pub returns : goal.returns
-returns g c stack tree =
+returns g c stack tree whole joined =
     let parts = c.in_ok-parts.parts in
     let share = c.args.share in
-    shares_told show_line (merged_tree stack) share string_bytes parts.items (string_bytes c.in_ok-lines.lines) c.in_ok-lines.ensures
+    shares_told show_line (merged_tree stack) share string_bytes parts.items whole joined
     (λ n d inside.
     if_given (λ (stack : StackView). IsTreeOf stack c.args.root.now (views_of c.args.parcels.now)) (λ stack text. string_bytes text ≡ flat_map show_line (slice_chunk (merged_tree stack) share n))
     (get_or parts.items n d) (c.in_ok-parts.ensures.each n d (omega (arith, inside, parts.ok.0, c.in_ok-parts.ensures.len))).1.met stack tree)
