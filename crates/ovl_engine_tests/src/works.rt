@@ -84,7 +84,6 @@ bare /f metacopy= redirect=a/b | file /f -> /f false; removed 0 kept 2
 dir /d, file-b /d/k | dir /d, file /d/k -> /d true; /d/k false; removed 0 kept 3
 dir /d, file /d/k -> /d false; /d/k false; removed 0 kept 3
 bare /f metacopy= | root -> /f false; removed 0 kept 2
-bare /f metacopy= redirect=a/b | file /f -> /f false; removed 0 kept 2
 ";
 
 fn row_vacuumed(alloc: Global, row: &str) -> Result<(), Fail> {
