@@ -113,6 +113,7 @@ impl<K: Ledger, D: Ledger> Tally<K, D> {
         requires { (known.old.parts ≡ K.parts) × (delivered.old.parts ≡ D.parts) }
         ensures told { (self.new.known ≡ known.old.amount + 1) × (self.new.delivered ≡ delivered.old.amount) }
         ensures same { (self.new.known ≡ self.old.known) × (self.new.delivered ≡ self.old.delivered) }
+        ensures failed { self.new.failed ≡ self.old.failed }
     {
         self.kids.audit(known);
         self.parcels.audit(delivered);
