@@ -69,7 +69,7 @@ pub record IsOwnDirectory (layer : Entries) (path : PathNames) (own : OwnDirecto
   pub next : own.next ≡ (walk layer path).next
   pub closed : own.closed ≡ (walk layer path).closed
 
--- the same, where it goes on by the same names, where none are told
+-- the same, where the path that goes on is told only where marks turn it
 pub record IsOwnTurn (layer : Entries) (path : PathNames) (own : OwnTurn) : Type 0 where
   pub inside : own.row < length layer
   pub here : path_at layer own.row ≡ path
