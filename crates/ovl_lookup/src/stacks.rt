@@ -207,7 +207,8 @@ impl Stack {
         trail_in(alloc, self.any_sheet(i), path)
     }
 
-    /// The same directory, with a trail only where marks turn its path. Fails only when out of memory.
+    /// The directory that [`own_trail`](Stack::own_trail) gives, with a trail only where marks turn its path; `i` is below
+    /// the number of layers. Fails only when out of memory.
     pub fn own_turn<'a>(
         &'a self,
         alloc: Global,
