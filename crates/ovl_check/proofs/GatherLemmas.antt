@@ -37,7 +37,7 @@ use Rattle.ovl_check.specs.declared.facts.NamedBlob.TheVariants.{Unnamed}
 use Rattle.ovl_check.specs.Checks.{CheckView, layer_at, layers_below}
 use Rattle.ovl_check.specs.Conditions.{has_origin_at, is_opaque, is_in_opaque, is_in_marked}
 use Rattle.ovl_check.specs.Contents.{find_content}
-use Rattle.ovl_check.specs.Facts.{IsGathered, AreFacts, old_place, data_size, data_size_on, whiteout_in, whiteout_at, kind_at, blob_found, blob_named, is_whiteout_mark}
+use Rattle.ovl_check.specs.Facts.{IsGathered, AreFacts, next_of, old_place, data_size, data_size_on, whiteout_in, whiteout_at, kind_at, blob_found, blob_named, is_whiteout_mark}
 use Rattle.ovl_check.proofs.HeldLemmas.{names_below-none, origin-children}
 use Rattle.ovl_check.proofs.MarkLemmas.{is_directory_mark, directory-stays, whiteout-marked, directory-marked}
 
@@ -98,7 +98,7 @@ module _ (layer : Entries) (directory : Directory) (is : IsGathered layer direct
   ]
 
   -- a moved directory, and another
-  pub directory-moved : (below : StackView) (redirect : Redirect) → mark ≡ DirMoved redirect → Moved (old_place layer below directory.next directory.closed) ≡ kind_at layer below path inode mark
+  pub directory-moved : (below : StackView) (redirect : Redirect) → mark ≡ DirMoved redirect → Moved (old_place layer below (next_of directory) directory.closed) ≡ kind_at layer below path inode mark
   directory-moved below redirect moved =
       (λ j. Moved (old_place layer below (is.next j) (is.closed j)))
       ∙ sym (ap (kind_at layer below path inode) moved)
@@ -148,7 +148,7 @@ module _ (layer : Entries) (below : StackView) (directory : Directory) (is : IsG
       hidden : directory.closed ≡ (walk layer (parent_path child)).closed
       hidden = is.closed ∙ ap (λ (p : PathNames). (walk layer p).closed) (sym parent)
 
-      natural : child_path directory.next name ≡ natural_path layer child
+      natural : child_path (next_of directory) name ≡ natural_path layer child
       natural =
           ap (λ (p : PathNames). p ++ name ∷ []) is.next
           ∙ (ap (λ (rest : PathNames). (walk layer dir).next ++ rest) (sym (drop-append_seam dir (name ∷ [])))
@@ -156,7 +156,7 @@ module _ (layer : Entries) (below : StackView) (directory : Directory) (is : IsG
 
   module _ (inode : Inode) (here : entry_at layer child ≡ Some inode) (none : is_directory inode ≡ false) where
     -- its own walk, by that of the directory
-    child-walk : is_whiteout inode ≡ false → walk layer child ≡ walk_to_file inode (mark_of inode) directory.next directory.closed name
+    child-walk : is_whiteout inode ≡ false → walk layer child ≡ walk_to_file inode (mark_of inode) (next_of directory) directory.closed name
     child-walk stays =
         walk-stop layer dir name [] is.layered (ap found is.inode ∙ is.kind) (ap found here ∙ none)
         ∙ (ap (λ (o : Option Inode). walk_beyond o (turn layer dir) (is_shut layer dir) name []) here
@@ -172,15 +172,15 @@ module _ (layer : Entries) (below : StackView) (directory : Directory) (is : IsG
         whole : walk layer dir ≡ record { found = entry_at layer dir; next = turn layer dir; closed = is_shut layer dir }
         whole = walk-whole layer dir (ap found is.inode ∙ is.kind)
 
-        turned : directory.next ≡ turn layer dir
+        turned : next_of directory ≡ turn layer dir
         turned = is.next ∙ ap (λ (s : Step). s.next) whole
 
         shut : directory.closed ≡ is_shut layer dir
         shut = is.closed ∙ ap (λ (s : Step). s.closed) whole
 
-    meta-child : (redirect : Option Redirect) → mark_of inode ≡ Meta redirect → data_size_on below (place_of_data (Meta redirect)) (walk_to_file inode (Meta redirect) directory.next directory.closed name) ≡ option_map size_of (data_at layer below child inode)
+    meta-child : (redirect : Option Redirect) → mark_of inode ≡ Meta redirect → data_size_on below (place_of_data (Meta redirect)) (walk_to_file inode (Meta redirect) (next_of directory) directory.closed name) ≡ option_map size_of (data_at layer below child inode)
     meta-child redirect marked =
-        ap (λ m. data_size_on below (place_of_data m) (walk_to_file inode m directory.next directory.closed name)) (sym marked)
+        ap (λ m. data_size_on below (place_of_data m) (walk_to_file inode m (next_of directory) directory.closed name)) (sym marked)
         ∙ (ap (data_size_on below (place_of_data (mark_of inode))) (sym (child-walk (whiteout-marked inode ∙ ap is_whiteout_mark marked)))
         ∙ on_data (walk layer child).closed (walk layer child).next)
       where
@@ -195,7 +195,7 @@ module _ (layer : Entries) (below : StackView) (directory : Directory) (is : IsG
     pub child-whiteout : (own : Mark) → own ≡ WhiteoutMark → whiteout_in below directory name ≡ kind_at layer below child inode own
     child-whiteout own marked = whiteout-child ∙ sym (ap (kind_at layer below child inode) marked)
 
-    pub child-metacopy : (own : Mark) (redirect : Option Redirect) → own ≡ mark_of inode → own ≡ Meta redirect → Metacopy (data_size_on below (place_of_data (Meta redirect)) (walk_to_file inode (Meta redirect) directory.next directory.closed name)) ≡ kind_at layer below child inode own
+    pub child-metacopy : (own : Mark) (redirect : Option Redirect) → own ≡ mark_of inode → own ≡ Meta redirect → Metacopy (data_size_on below (place_of_data (Meta redirect)) (walk_to_file inode (Meta redirect) (next_of directory) directory.closed name)) ≡ kind_at layer below child inode own
     child-metacopy own redirect is_own marked =
         ap (λ size. Metacopy size) (meta-child redirect (sym is_own ∙ marked))
         ∙ sym (ap (kind_at layer below child inode) marked)

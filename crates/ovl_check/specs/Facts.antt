@@ -1,6 +1,6 @@
 -- What the conditions ask of one entry of a layer, over the blobs and the stack of the layers below it, and the
 -- condition of each code by that.
-use Rattle.std.specs.Prelude.{◌≡◌, ℕ, MatchOption, Bool, true, false, ◌&&◌, ◌||◌, ◌==◌, not, Option, Some, None, List, [], ◌∷◌, if◌then◌else◌, length, map, All, codes}
+use Rattle.std.specs.Prelude.{◌≡◌, ℕ, MatchOption, Bool, true, false, ◌&&◌, ◌||◌, ◌==◌, not, Option, Some, None, List, [], ◌∷◌, if◌then◌else◌, length, map, unwrap_or, All, codes}
 use Rattle.std.specs.List.{list_any, flat_map}
 use Rattle.std.specs.Option.{option_map}
 use Rattle.ovl_names.specs.Names.{PathName}
@@ -66,6 +66,10 @@ seen_at layer path = elim (last_name path) [ Some name ↦ held name (entry_at l
 abbrev pub IsMarked : Child → Type 0
 IsMarked child = child.mark.now ≡ mark_of child.inode.now
 
+-- the path by which the layers below know a directory
+abbrev pub next_of : Directory → PathNames
+next_of directory = unwrap_or directory.turned directory.path.now
+
 -- what was gathered of a directory is what the layer has there
 pub record IsGathered (layer : Entries) (directory : Directory) : Type 0 where
   pub layered : IsLayer layer
@@ -73,7 +77,7 @@ pub record IsGathered (layer : Entries) (directory : Directory) : Type 0 where
   pub kind : is_directory directory.inode.now ≡ true
   pub mark : mark_at layer directory.path.now ≡ Some directory.mark.now
   pub marked : directory.is_marked ≡ attribute_is directory.inode.now opaque_name (codes "x")
-  pub next : directory.next ≡ (walk layer directory.path.now).next
+  pub next : next_of directory ≡ (walk layer directory.path.now).next
   pub closed : directory.closed ≡ (walk layer directory.path.now).closed
   pub children : map child_seen directory.children.items ≡ held_in layer directory.path.now
   pub marks : All IsMarked directory.children.items
@@ -93,7 +97,7 @@ IsBelow stack i next below =
 abbrev pub IsBelowOf : StackView → ℕ → Directory → Type 0
 IsBelowOf stack i directory =
     directory.closed ≡ false → list_any (λ child. asks child.mark.now) directory.children.items ≡ true
-    → IsBelow stack i directory.next directory.below
+    → IsBelow stack i (next_of directory) directory.below
 
 -- ---- the facts of an entry of a layer, by its mark
 
@@ -119,7 +123,7 @@ abbrev pub whiteout_in : StackView → Directory → PathName → KindFacts
 whiteout_in below directory name =
     if is_opaque (Some directory.mark.now) then WhiteoutInOpaque
     else Whiteout directory.is_marked
-    (not (directory.closed || is_nothing (look below (child_path directory.next name))))
+    (not (directory.closed || is_nothing (look below (child_path (next_of directory) name))))
 
 abbrev pub whiteout_at : Entries → StackView → PathNames → KindFacts
 whiteout_at layer below path =

@@ -1,31 +1,32 @@
-ghost use Rattle.std.specs.Prelude.{◌≡◌, ◌<◌, true, false, None, length, IfOk};
+ghost use Rattle.std.specs.Prelude.{◌≡◌, ◌<◌, true, false, None, length, unwrap_or, IfOk};
 ghost use Rattle.std.specs.List.{list_any};
 ghost use Rattle.ovl_lookup.specs.Stacks.{all_layers};
 ghost use Rattle.ovl_names.specs.Paths.{child_path};
 ghost use Rattle.ovl_lookup.specs.Merged.{shows};
 ghost use Rattle.ovl_check.specs.Checks.{layers_below};
-ghost use Rattle.ovl_check.specs.Facts.{IsBelow, asks as asks_test, data_size};
+ghost use Rattle.ovl_check.specs.Facts.{IsBelow, asks as asks_test, data_size, next_of};
 
 use crate::directories::{Child, Directory};
 use crate::places::first_below;
 use ovl_inode::{Mark, file_size};
 use ovl_lookup::{DirView, Stack, Trail};
-use ovl_names::Name;
+use ovl_names::{Name, Path};
 use std::alloc::{AllocError, Global};
 
-// The view of the layers below layer `i` where the walk of a directory with these entries goes on, made only where that
-// is open and an entry asks.
+// The view of the layers below layer `i` where the walk of a directory of this path with these entries goes on, made only
+// where that is open and an entry asks.
 pub(crate) fn below_children(
     alloc: Global,
     stack: &Stack,
     i: usize,
-    next: &Trail<'_>,
+    path: &Path,
+    turned: &Option<Trail<'_>>,
     closed: bool,
     children: &[Child<'_>],
 ) -> Result<Option<DirView>, AllocError>
     requires { i < length (all_layers stack.now) }
     ensures { IfOk result (λ below. closed ≡ false → list_any (λ child. asks_test child.mark.now) children.now ≡ true
-        → IsBelow stack.now i next.now below) }
+        → IsBelow stack.now i (unwrap_or turned.now path.now) below) }
 {
     if closed {
         return Ok(None);
@@ -33,8 +34,11 @@ pub(crate) fn below_children(
     if !any_asks(children) {
         return Ok(None);
     }
-    let next = next.path(alloc)?;
-    DirView::of(alloc, stack, first_below(stack, i), &next)
+    let from = first_below(stack, i);
+    match turned {
+        Some(next) => DirView::of(alloc, stack, from, &next.path(alloc)?),
+        None => DirView::of(alloc, stack, from, path),
+    }
 }
 
 fn any_asks(children: &[Child<'_>]) -> bool
@@ -52,8 +56,8 @@ fn asks(mark: &Mark) -> bool
 
 // Whether the layers below layer `i` show something under a name in the place of a directory.
 pub(crate) fn show_in(stack: &Stack, _i: usize, directory: &Directory<'_, '_>, name: &Name) -> bool
-    requires { IsBelow stack.now _i directory.now.next directory.now.below }
-    ensures { result ≡ shows (layers_below stack.now _i) (child_path directory.now.next name.now) }
+    requires { IsBelow stack.now _i (next_of directory.now) directory.now.below }
+    ensures { result ≡ shows (layers_below stack.now _i) (child_path (next_of directory.now) name.now) }
 {
     // Each of them is a layer.
     let _layers = stack.ordinary();
@@ -71,8 +75,8 @@ pub(crate) fn data_size_in(
     directory: &Directory<'_, '_>,
     name: &Name,
 ) -> Result<Option<u64>, AllocError>
-    requires { IsBelow stack.now _i directory.now.next directory.now.below }
-    ensures { IfOk result (λ size. size ≡ data_size (layers_below stack.now _i) None (child_path directory.now.next name.now)) }
+    requires { IsBelow stack.now _i (next_of directory.now) directory.now.below }
+    ensures { IfOk result (λ size. size ≡ data_size (layers_below stack.now _i) None (child_path (next_of directory.now) name.now)) }
 {
     // Each of them is a layer.
     let _layers = stack.ordinary();

@@ -1,4 +1,4 @@
-ghost use Rattle.std.specs.Prelude.{◌≡◌, ◌<◌, ◌&&◌, ◌||◌, not, ◌++◌, ◌∷◌, [], if◌then◌else◌, true, false, Some, None, IfOk, OnOk, length, map, filter};
+ghost use Rattle.std.specs.Prelude.{◌≡◌, ◌<◌, ◌&&◌, ◌||◌, not, ◌++◌, ◌∷◌, [], if◌then◌else◌, true, false, Some, None, IfOk, OnOk, length, map, filter, unwrap_or};
 ghost use Rattle.std.specs.List.{flat_map};
 ghost use Rattle.ovl_lookup.specs.Stacks.{all_layers};
 ghost use Rattle.ovl_names.specs.Paths.{child_path};
@@ -10,7 +10,7 @@ ghost use Rattle.ovl_check.specs.Blobs.{blob_views, are_in_order, wrong_names};
 ghost use Rattle.ovl_check.specs.Contents.{contents_of, contents_ascend};
 ghost use Rattle.ovl_check.specs.Checks.{check_seen, no_seen, is_ordinary as ordinary_test, sought_in, layer_at, directory_piece, findings_at_path, check_out};
 ghost use Rattle.ovl_check.specs.CheckViews.{check_view};
-ghost use Rattle.ovl_check.specs.Facts.{IsGathered, IsBelow, IsBelowOf, IsMarked, asks, child_seen, entry_path, found_at_child, tells};
+ghost use Rattle.ovl_check.specs.Facts.{IsGathered, IsBelow, IsBelowOf, IsMarked, asks, child_seen, entry_path, found_at_child, next_of, tells};
 
 use crate::blobs::Blob;
 use crate::contents::Content;
@@ -20,6 +20,7 @@ use crate::findings::{Code, Finding};
 use crate::gathering::{facts_of_child, facts_of_directory};
 use crate::marks::is_moved;
 use crate::named::ByName;
+use crate::next_places::Place;
 use crate::sources::HeldBlobs;
 use crate::subjects::{CheckOut, CheckWork, ToldBlobs};
 use ovl_board::{Piece, Work};
@@ -119,10 +120,16 @@ fn directory_out<'a>(
     push_files(alloc, work, layer, &directory, &mut findings)?;
     let ordinary = is_ordinary(work.stack, layer);
     let moved = is_moved_in(ordinary, directory.mark);
-    let Directory { next, closed, .. } = directory;
+    let Directory {
+        path,
+        turned,
+        closed,
+        ..
+    } = directory;
+    let place = place_of(alloc, path, turned, is_hidden(ordinary, closed))?;
     Ok(CheckOut {
         findings,
-        place: place_of(next, is_hidden(ordinary, closed)),
+        place,
         moved,
     })
 }
@@ -147,14 +154,19 @@ fn is_ordinary(stack: &Stack, layer: u16) -> bool
     usize::from(layer) < stack.ordinary()
 }
 
-// The path that goes on from a walk, where that is open.
-fn place_of<'a>(next: Trail<'a>, closed: bool) -> Option<Trail<'a>>
-    ensures { result ≡ (if closed then None else Some next.entry) }
+// Where the walk of a directory of this path goes on, if that is open.
+fn place_of<'a>(
+    alloc: Global,
+    path: &Path,
+    turned: Option<Trail<'a>>,
+    closed: bool,
+) -> Result<Option<Place<'a>>, AllocError>
+    ensures { IfOk result (λ place. place ≡ (if closed then None else Some (unwrap_or turned.entry path.now))) }
 {
     if closed {
-        return None;
+        return Ok(None);
     }
-    Some(next)
+    Ok(Some(Place::of(alloc, path, turned)?))
 }
 
 fn nothing<'a>(alloc: Global) -> CheckOut<'a>
@@ -239,7 +251,7 @@ fn push_file(
     requires gathered { IsGathered (layer_at work.now.stack.now layer) directory.now }
     requires entry { entry_at (layer_at work.now.stack.now layer) (child_path directory.now.path.now child.now.name.now) ≡ Some child.now.inode.now }
     requires marked { IsMarked child.now }
-    requires below { directory.now.closed ≡ false → asks child.now.mark.now ≡ true → IsBelow work.now.stack.now layer directory.now.next directory.now.below }
+    requires below { directory.now.closed ≡ false → asks child.now.mark.now ≡ true → IsBelow work.now.stack.now layer (next_of directory.now) directory.now.below }
     ensures { OnOk result (findings.new.items ≡ findings.old.items
         ++ found_at_child (check_view work.now) layer directory.now.path.now (child_seen child.now)) }
 {

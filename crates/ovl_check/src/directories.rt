@@ -15,7 +15,7 @@ use crate::marks::{attribute_is, has_attribute};
 use crate::places::mark_in;
 use ovl_board::Piece;
 use ovl_inode::{Inode, Mark, is_directory, overlay};
-use ovl_lookup::{DirView, OwnDirectory, Stack, Trail};
+use ovl_lookup::{DirView, OwnTurn, Stack, Trail};
 use ovl_manifest::Sheet;
 use ovl_names::{Name, Path};
 use std::alloc::{AllocError, Global};
@@ -36,8 +36,8 @@ pub(crate) struct Directory<'p, 'a> {
     pub(crate) mark: &'p Mark,
     // Whether its `opaque` says that it may hold marked whiteouts.
     pub(crate) is_marked: bool,
-    // The path by which the layers below know it, and whether they are hidden there.
-    pub(crate) next: Trail<'a>,
+    // The path by which the layers below know it, where marks turn it from its own, and whether they are hidden there.
+    pub(crate) turned: Option<Trail<'a>>,
     pub(crate) closed: bool,
     pub(crate) children: Vec<Child<'a>>,
     // The view of the layers below there, where they aren't hidden and an entry asks them.
@@ -61,20 +61,25 @@ pub(crate) fn directory_at<'p, 'a: 'p>(
 {
     // Each of them is a layer.
     let _layers = stack.layers();
-    let Some(OwnDirectory { row, next, closed }) = stack.own_trail(alloc, i, path)? else {
+    let Some(own) = stack.own_turn(alloc, i, path)? else {
         return Ok(None);
     };
+    let OwnTurn {
+        row,
+        turned,
+        closed,
+    } = own;
     let sheet = stack.any_sheet(i);
     let inode = sheet.inode(row);
     let mark = mark_in(sheet, row, path, plain);
     let children = children_in(alloc, sheet, row)?;
-    let below = below_children(alloc, stack, i, &next, closed, &children)?;
+    let below = below_children(alloc, stack, i, path, &turned, closed, &children)?;
     Ok(Some(Directory {
         path,
         inode,
         mark,
         is_marked: attribute_is(inode, overlay::OPAQUE, b"x"),
-        next,
+        turned,
         closed,
         children,
         below,

@@ -153,10 +153,10 @@ fn has_moved(parcels: &[Parcel<CheckOut<'_>>]) -> bool
 }
 
 // Notes where a directory goes on, and adds a finding where it is moved and an earlier one goes on there.
-fn note_place<'a>(
+fn note_place<'p>(
     alloc: Global,
-    parcel: &Parcel<CheckOut<'a>>,
-    places: &mut BTreeSet<Trail<'a>>,
+    parcel: &'p Parcel<CheckOut<'_>>,
+    places: &mut BTreeSet<Trail<'p>>,
     findings: &mut Vec<Finding>,
 ) -> Result<(), AllocError>
     ensures found { OnOk result (findings.new.items ≡ findings.old.items
@@ -166,7 +166,7 @@ fn note_place<'a>(
     let Some(place) = &parcel.out.place else {
         return Ok(());
     };
-    let first = places.insert(place.copy(alloc)?)?;
+    let first = places.insert(place.trail(alloc)?)?;
     if parcel.out.moved && !first {
         findings.push(Finding {
             layer: parcel.piece.space,

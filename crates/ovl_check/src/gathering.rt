@@ -11,7 +11,7 @@ ghost use Rattle.ovl_lookup.specs.Merged.{place_of_data};
 ghost use Rattle.ovl_lookup.specs.Sound.{is_seen_there};
 ghost use Rattle.ovl_check.specs.Checks.{layer_at, layers_below};
 ghost use Rattle.ovl_check.specs.CheckViews.{check_view};
-ghost use Rattle.ovl_check.specs.Facts.{IsGathered, IsBelow, IsMarked, AreFacts, asks, old_place as the_old_place, thing_shown as the_thing, whiteout_in as the_whiteout, data_size_on, blob_named as the_blob_named};
+ghost use Rattle.ovl_check.specs.Facts.{IsGathered, IsBelow, IsMarked, AreFacts, asks, old_place as the_old_place, thing_shown as the_thing, whiteout_in as the_whiteout, data_size_on, blob_named as the_blob_named, next_of};
 
 use crate::below::{data_size_in, show_in};
 use crate::directories::{Child, Directory};
@@ -19,7 +19,7 @@ use crate::facts::{Facts, KindFacts, NamedBlob, OldPlace, ThingShown};
 use crate::places::{data_size_below, is_plain_at, look_below, step_of};
 use crate::subjects::CheckWork;
 use ovl_inode::{Inode, Mark, Redirect};
-use ovl_lookup::{Look, Stack, Trail};
+use ovl_lookup::{Look, Stack};
 use ovl_names::{Name, Path};
 use std::alloc::{AllocError, Global};
 
@@ -37,13 +37,7 @@ pub(crate) fn facts_of_directory<'a>(
     ensures { IfOk result (λ facts. (facts.inode.now ≡ directory.now.inode.now) × AreFacts (check_view work.now) i directory.now.path.now facts) }
 {
     let kind = match directory.mark {
-        Mark::DirMoved(_) => KindFacts::Moved(old_place(
-            alloc,
-            work.stack,
-            i,
-            &directory.next,
-            directory.closed,
-        )?),
+        Mark::DirMoved(_) => KindFacts::Moved(old_place(alloc, work.stack, i, directory)?),
         _ => KindFacts::Other,
     };
     Ok(Facts {
@@ -70,7 +64,7 @@ pub(crate) fn facts_of_child<'a>(
     requires entry { entry_at (layer_at work.now.stack.now i) (child_path directory.now.path.now child.now.name.now) ≡ Some child.now.inode.now }
     requires none { the_directory child.now.inode.now ≡ false }
     requires marked { IsMarked child.now }
-    requires below { directory.now.closed ≡ false → asks child.now.mark.now ≡ true → IsBelow work.now.stack.now i directory.now.next directory.now.below }
+    requires below { directory.now.closed ≡ false → asks child.now.mark.now ≡ true → IsBelow work.now.stack.now i (next_of directory.now) directory.now.below }
     requires blob { blob ≡ the_blob_named (check_view work.now).contents child.now.inode.now }
     ensures { IfOk result (λ facts. (facts.inode.now ≡ child.now.inode.now) × AreFacts (check_view work.now) i (child_path directory.now.path.now child.now.name.now) facts) }
 {
@@ -102,18 +96,27 @@ fn old_place(
     alloc: Global,
     stack: &Stack,
     i: usize,
-    next: &Trail<'_>,
-    closed: bool,
+    directory: &Directory<'_, '_>,
 ) -> Result<OldPlace, AllocError>
     requires { i < length (all_layers stack.now) }
-    ensures { IfOk result (λ place. place ≡ the_old_place (layer_at stack.now i) (layers_below stack.now i) next.now closed) }
+    ensures { IfOk result (λ place. place ≡ the_old_place (layer_at stack.now i) (layers_below stack.now i) (next_of directory.now) directory.now.closed) }
 {
-    if closed {
+    if directory.closed {
         return Ok(OldPlace::Hidden);
     }
-    let place = next.path(alloc)?;
-    let thing = thing_shown(&look_below(alloc, stack, i, &place)?);
-    let is_seen = is_seen(alloc, stack, i, &place)?;
+    match &directory.turned {
+        Some(next) => open_place(alloc, stack, i, &next.path(alloc)?),
+        None => open_place(alloc, stack, i, directory.path),
+    }
+}
+
+// The same at a path where the layers below aren't hidden.
+fn open_place(alloc: Global, stack: &Stack, i: usize, place: &Path) -> Result<OldPlace, AllocError>
+    requires { i < length (all_layers stack.now) }
+    ensures { IfOk result (λ old. old ≡ the_old_place (layer_at stack.now i) (layers_below stack.now i) place.now false) }
+{
+    let thing = thing_shown(&look_below(alloc, stack, i, place)?);
+    let is_seen = is_seen(alloc, stack, i, place)?;
     Ok(OldPlace::Open { thing, is_seen })
 }
 
@@ -150,7 +153,7 @@ fn is_seen(alloc: Global, stack: &Stack, i: usize, place: &Path) -> Result<bool,
 // A whiteout in a directory of layer `i`.
 fn whiteout_in(stack: &Stack, i: usize, directory: &Directory<'_, '_>, name: &Name) -> KindFacts
     requires inside { i < length (all_layers stack.now) }
-    requires below { directory.now.closed ≡ false → IsBelow stack.now i directory.now.next directory.now.below }
+    requires below { directory.now.closed ≡ false → IsBelow stack.now i (next_of directory.now) directory.now.below }
     ensures { result ≡ the_whiteout (layers_below stack.now i) directory.now name.now }
 {
     if matches!(directory.mark, Mark::DirOpaque) {
@@ -180,9 +183,9 @@ fn data_size(
     _inode: &Inode,
 ) -> Result<Option<u64>, AllocError>
     requires inside { i < length (all_layers stack.now) }
-    requires below { directory.now.closed ≡ false → IsBelow stack.now i directory.now.next directory.now.below }
+    requires below { directory.now.closed ≡ false → IsBelow stack.now i (next_of directory.now) directory.now.below }
     ensures { IfOk result (λ size. size
-        ≡ data_size_on (layers_below stack.now i) (place_of_data (Meta redirect.now)) (walk_to_file _inode.now (Meta redirect.now) directory.now.next directory.now.closed name.now)) }
+        ≡ data_size_on (layers_below stack.now i) (place_of_data (Meta redirect.now)) (walk_to_file _inode.now (Meta redirect.now) (next_of directory.now) directory.now.closed name.now)) }
 {
     let own = match redirect {
         Some(Redirect::To(origin)) => return data_size_below(alloc, stack, i, origin),

@@ -6,18 +6,18 @@ use crate::contents::{Content, blob_named, content_named};
 use crate::facts::NamedBlob;
 use crate::findings::Finding;
 use crate::named::ByName;
+use crate::next_places::Place;
 use crate::sources::HeldBlobs;
 use ovl_inode::Inode;
-use ovl_lookup::{Stack, Trail};
+use ovl_lookup::Stack;
 
 /// What comes of checking a directory of a layer.
 #[derive(Debug, Drop)]
 pub struct CheckOut<'a> {
     /// What is found at the directory and at each entry in it that is no directory, redirect-double apart.
     pub findings: Vec<Finding>,
-    /// The path by which the layers below know the directory, where they aren't hidden, in names that the layer holds; none
-    /// in a data-only layer.
-    pub place: Option<Trail<'a>>,
+    /// The path by which the layers below know the directory, where they aren't hidden; none in a data-only layer.
+    pub place: Option<Place<'a>>,
     /// Whether the directory is a moved one; none is in a data-only layer.
     pub moved: bool,
 }

@@ -15,6 +15,7 @@ use Rattle.ovl_lookup.specs.declared.steps.Stop.{Stop}
 use Rattle.ovl_lookup.specs.declared.steps.Below.{Below}
 use Rattle.ovl_lookup.specs.declared.steps.Below.TheVariants.{Directory as DirectoryBelow, Other}
 use Rattle.ovl_lookup.specs.declared.steps.OwnDirectory.{OwnDirectory}
+use Rattle.ovl_lookup.specs.declared.steps.OwnTurn.{OwnTurn}
 use Rattle.ovl_lookup.specs.declared.steps.Step.{Step}
 use Rattle.ovl_lookup.specs.declared.steps.TrailStep.{TrailStep}
 use Rattle.ovl_lookup.specs.declared.steps.Arrival.{Arrival}
@@ -66,6 +67,14 @@ pub record IsOwnDirectory (layer : Entries) (path : PathNames) (own : OwnDirecto
   pub here : path_at layer own.row ≡ path
   pub directory : is_directory_at layer path ≡ true
   pub next : own.next ≡ (walk layer path).next
+  pub closed : own.closed ≡ (walk layer path).closed
+
+-- the same, where the path that goes on is told only where marks turn it
+pub record IsOwnTurn (layer : Entries) (path : PathNames) (own : OwnTurn) : Type 0 where
+  pub inside : own.row < length layer
+  pub here : path_at layer own.row ≡ path
+  pub directory : is_directory_at layer path ≡ true
+  pub next : unwrap_or own.turned path ≡ (walk layer path).next
   pub closed : own.closed ≡ (walk layer path).closed
 
 -- the step that a walk along a trail gives, and that what it found has its mark

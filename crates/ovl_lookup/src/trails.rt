@@ -45,8 +45,8 @@ impl<'a> Trail<'a> {
         }
     }
 
-    // The trail of these names.
-    pub(crate) fn of(alloc: Global, names: &Names<'a>) -> Result<Trail<'a>, AllocError>
+    /// The trail of these names, in one part; fails only when out of memory.
+    pub fn of(alloc: Global, names: &Names<'a>) -> Result<Trail<'a>, AllocError>
         ensures { IfOk result (λ trail. trail ≡ names.now) }
     {
         Trail::root(alloc).with(names)
