@@ -4,7 +4,7 @@ ghost use Rattle.ovl_manifest.specs.Manifest.{entry_after, stated_pair, IsFaultO
 ghost use Rattle.ovl_manifest.specs.Builders.{pair_after};
 
 use crate::drafts::Draft;
-use crate::entries::{ENTRY_LIMIT, add, add_child, start, stated};
+use crate::entries::{ENTRY_LIMIT, add_child, start, stated};
 use crate::faults::LayerFault;
 use crate::trees::Layer;
 use ovl_inode::Inode;
@@ -48,40 +48,9 @@ impl LayerBuilder {
         })
     }
 
-    /// The layer with one more entry. It is refused with `Count` behind [`ENTRY_LIMIT`] entries, and else as
-    /// [`from_entries`](crate::from_entries) refuses the entry that comes after those so far; `Memory` can come at any
-    /// time.
-    pub fn with_entry(
-        self,
-        alloc: Global,
-        path: Path,
-        inode: Inode,
-    ) -> Result<LayerBuilder, LayerFault>
-        ensures { MatchResult result
-            (λ builder. pair_after self (path, inode) ≡ Ok builder)
-            (λ fault. IsFaultOf (pair_after self (path, inode)) fault) }
-    {
-        let LayerBuilder {
-            mut draft,
-            count,
-            failed,
-        } = self;
-        if failed {
-            return Err(LayerFault::Memory);
-        }
-        if count as usize == ENTRY_LIMIT {
-            return Err(LayerFault::Count);
-        }
-        add(alloc, &mut draft, count, stated((path, inode)))?;
-        Ok(LayerBuilder {
-            draft,
-            count: count + 1,
-            failed: false,
-        })
-    }
-
-    /// Adds the entry `name` of a directory, of which no path is made. It is refused as
-    /// [`with_entry`](LayerBuilder::with_entry) refuses it; behind a refusal `Memory` may be told of all else.
+    /// Adds the entry `name` of a directory, of which no path is made. It is refused with `Count` behind
+    /// [`ENTRY_LIMIT`] entries, and else as [`from_entries`](crate::from_entries) refuses the entry that comes after
+    /// those so far; `Memory` can come at any time, and behind a refusal it may be told of all else.
     pub fn add_child(
         &mut self,
         alloc: Global,

@@ -1,6 +1,7 @@
 -- The rows of the topmost layer: which are told to be idle, and which go.
-use Rattle.std.proofs.Common.{◌≡◌, ℕ, zero, suc, ◌+◌, ◌-◌, ◌<◌, ◌≤◌, ◌⊎◌, inl, inr, Bool, true, false, cond, Option, Some, None, Ok, List, [], ◌∷◌, ◌++◌, length, map, get_or, set, replicate, take, drop, refl, sym, ap, subst, ◌∙◌, append_assoc, arith, length-append}
+use Rattle.std.proofs.Common.{◌≡◌, ℕ, zero, suc, ◌+◌, ◌-◌, ◌<◌, ◌≤◌, ◌⊎◌, inl, inr, Bool, true, false, cond, Option, Some, None, IsSome, Bor, Ok, List, [], ◌∷◌, ◌++◌, length, map, get_or, set, replicate, take, drop, refl, sym, ap, subst, ◌∙◌, append_assoc, arith, length-append}
 use Rattle.std.specs.Prelude.{Vec, All, IsSomeAnd, slice_get, filter, is_none, ◌&&◌, ◌||◌, not, unwrap_or}
+use Rattle.std.specs.Option.{option_map}
 use Rattle.std.specs.Global.{Global}
 use Rattle.std.specs.List.{list_all}
 use Rattle.std.specs.Ordering.{is_lt, ordering_then, ordering_reverse}
@@ -113,6 +114,13 @@ unnamed-path path unnamed = by (last-name path)
     by : (path ≡ []) ⊎ ((directory : PathNames) × (own : PathName) × (path ≡ child_path directory own)) → path ≡ []
     by (inl e) = e
     by (inr (directory, own, e)) = let bad : Some own ≡ None = sym (ap last_name e ∙ last_name-child directory own) ∙ unnamed in cc
+
+-- each row but the first has a name
+pub named-row : (layer : Entries) → IsLayer layer → (number : ℕ) → 1 ≤ number → number < length layer → (found : Option (Bor PathName)) → option_map (λ name. name.now) found ≡ last_name (path_at layer number) → IsSome found
+named-row layer is number some inside None named =
+    let root : path_at layer number ≡ path_at layer 0 = unnamed-path (path_at layer number) (sym named) ∙ sym (root-first layer is) in
+    absurd (omega (arith, some, one-number layer is.in_order number 0 inside (some-rows layer is) root))
+named-row layer is number some inside (Some name) named = refl
 
 pub shorter : (path : PathNames) (name : PathName) → last_name path ≡ Some name → length (parent_path path) < length path
 shorter path name named = omega (arith, ap length (named-path path name named), length-append (parent_path path) (name ∷ []))
@@ -712,7 +720,7 @@ module _ (stack : StackView) (is : IsLayer (top_layer stack)) (number : ℕ) (in
       so_far ∙ sym (left-step ∙ (ap (λ b. left_to stack number ++ cond b (spot.0 ∷ []) []) (stays-flag gone are true goes) ∙ append-nil (left_to stack number)))
 
   -- an entry that stays is taken
-  pub left-taken : (gone : List Bool) (before more : Entries) (path : PathNames) (inode : Inode) → gone ≡ gone_flags stack → get_or gone number false ≡ false → before ≡ left_to stack number
+  left-taken : (gone : List Bool) (before more : Entries) (path : PathNames) (inode : Inode) → gone ≡ gone_flags stack → get_or gone number false ≡ false → before ≡ left_to stack number
       → path ≡ path_at (top_layer stack) number → entry_at (top_layer stack) (path_at (top_layer stack) number) ≡ Some inode → pair_after before (path, inode) ≡ Ok more → more ≡ left_to stack (number + 1)
   left-taken gone before more path inode are kept so_far is_path at taken =
       let left : Entries = vacuumed_layer (top_layer stack) (lower_layers stack) in
@@ -732,6 +740,14 @@ module _ (stack : StackView) (is : IsLayer (top_layer stack)) (number : ℕ) (in
       ∙ ((λ j. pair_after (sym so_far j) (same_path j, sym same_inode j)) ∙ taken) in
       let entries : left_to stack number ++ spot.0 ∷ [] ≡ more = cc in
       sym (one ∙ entries)
+
+  -- so it is by its name in its directory
+  pub left-child : (gone : List Bool) (before more : Entries) (directory : PathNames) (name : PathName) (inode : Inode) → gone ≡ gone_flags stack → get_or gone number false ≡ false → before ≡ left_to stack number
+      → directory ≡ parent_path (path_at (top_layer stack) number) → last_name (path_at (top_layer stack) number) ≡ Some name → entry_at (top_layer stack) (path_at (top_layer stack) number) ≡ Some inode
+      → pair_after before (child_path directory name, inode) ≡ Ok more → more ≡ left_to stack (number + 1)
+  left-child gone before more directory name inode are kept so_far above named at taken =
+      left-taken gone before more (child_path directory name) inode are kept so_far
+      (ap (λ (d : PathNames). child_path d name) above ∙ named-path (path_at (top_layer stack) number) name named) at taken
 
 -- the root stays
 pub left-first : (stack : StackView) (is : IsLayer (top_layer stack)) (gone : List Bool) (more : Entries) (inode : Inode) → gone ≡ gone_flags stack

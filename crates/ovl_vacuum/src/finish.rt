@@ -1,4 +1,5 @@
 ghost use Rattle.std.specs.Prelude.{◌≡◌, ◌<◌, [], Ok, IfOk, length};
+ghost use Rattle.ovl_names.specs.Paths.{child_path};
 ghost use Rattle.ovl_board.specs.Parcels.{parcel_views};
 ghost use Rattle.ovl_lookup.specs.Words.{top_layer, lower_layers};
 ghost use Rattle.ovl_manifest.specs.Builders.{pair_after};
@@ -115,9 +116,9 @@ fn layer_left(alloc: Global, stack: &Stack, gone: &[bool]) -> Result<Layer, Allo
                 above = path_of(alloc, sheet, own)?;
                 directory = own;
             }
-            let path = path_in(alloc, sheet, number, &above)?;
+            let name = sheet.name(number).unwrap().copy(alloc)?;
             let inode = sheet.inode(number).copy(alloc)?;
-            builder = with_entry(alloc, builder, path, inode)?;
+            add_child(alloc, &mut builder, &above, name, inode)?;
         }
     }
     builder.finish()
@@ -133,17 +134,18 @@ fn begun(alloc: Global, root: Inode) -> Result<LayerBuilder, AllocError>
     }
 }
 
-// The layer with one more entry.
-fn with_entry(
+// Adds the entry `name` of a directory. Here too nothing but memory can stand in the way.
+fn add_child(
     alloc: Global,
-    builder: LayerBuilder,
-    path: Path,
+    builder: &mut LayerBuilder,
+    directory: &Path,
+    name: Name,
     inode: Inode,
-) -> Result<LayerBuilder, AllocError>
-    ensures { IfOk result (λ more. pair_after builder (path, inode) ≡ Ok more) }
+) -> Result<(), AllocError>
+    ensures { IfOk result (λ _. pair_after builder.old (child_path directory.now name, inode) ≡ Ok builder.new) }
 {
-    match builder.with_entry(alloc, path, inode) {
-        Ok(more) => Ok(more),
+    match builder.add_child(alloc, directory, name, inode) {
+        Ok(()) => Ok(()),
         Err(_) => Err(AllocError),
     }
 }

@@ -1,14 +1,24 @@
 use Rattle.std.proofs.Common.{◌≡◌, ◌∙◌, ◌<◌, ℕ, Some, length, sym, ap, subst, arith}
 use Rattle.std.proofs.lemmas.Result.{IfOk-weaker}
+use Rattle.std.specs.Option.{option_map}
+use Rattle.ovl_names.specs.Names.{PathName}
+use Rattle.ovl_names.specs.Paths.{parent_path}
 use Rattle.ovl_inode.specs.declared.inodes.Inode.{Inode}
 use Rattle.ovl_manifest.specs.Layers.{Entries, entry_at}
-use Rattle.ovl_manifest.specs.Sheets.{path_at}
+use Rattle.ovl_manifest.specs.Sheets.{path_at, last_name}
 use Rattle.ovl_lookup.specs.Stacks.{StackView}
 use Rattle.ovl_lookup.specs.Words.{top_layer}
 use Rattle.ovl_lookup.proofs.LawsOfLooks.{top-layer}
-use Rattle.ovl_vacuum.proofs.RowLemmas.{left-first, left-taken, left-passed, left-all, root-first}
+use Rattle.ovl_vacuum.proofs.RowLemmas.{left-first, left-child, left-passed, left-all, root-first, named-row}
 use Rattle.ovl_vacuum.proofs.finish.layer_left.Goals as goal
-use Rattle.ovl_vacuum.proofs.finish.layer_left.Goals.{then-not-gone-number+in_ok-path+in_ok-inode+in_ok-builder-2, then-own-directory+in_ok-above, else-own-directory, else-not-gone-number}
+use Rattle.ovl_vacuum.proofs.finish.layer_left.Goals.{then-not-gone-number+in_ok-name+in_ok-inode+in_ok-add_child, then-own-directory+in_ok-above, else-own-directory, else-not-gone-number}
+
+pub unwrap-requires : goal.unwrap-requires
+unwrap-requires c =
+    let same = c.top_sheet-sheet.ensures.value in
+    let inside : c.loop-number.number < length (top_layer c.args.stack.now) = omega (arith, c.loop-number-test.true, c.len-number-end.ensures.value, ap length same) in
+    named-row (top_layer c.args.stack.now) (top-layer c.args.stack.now c.top_sheet-sheet.ensures.some c.top_sheet-sheet.ensures.each) c.loop-number.number c.loop-number.invariant.some inside
+    c.name.result (c.name.ensures ∙ (λ j. last_name (path_at (same j) c.loop-number.number)))
 
 pub loop-number-init : goal.loop-number-init
 loop-number-init c =
@@ -17,6 +27,7 @@ loop-number-init c =
     let at : entry_at (top_layer stack) (path_at (top_layer stack) 0) ≡ Some c.in_ok-root.root =
     subst (λ (l : Entries). entry_at l (path_at l 0) ≡ Some c.inode.result.now) c.top_sheet-sheet.ensures.value c.inode.ensures ∙ ap (λ (i : Inode). Some i) (sym c.in_ok-root.ensures) in
     record {
+      some = omega arith;
       left = left-first stack is c.args.gone.now c.in_ok-builder.builder c.in_ok-root.root c.requires at c.in_ok-builder.ensures;
       above = c.root-above.ensures ∙ sym (root-first (top_layer stack) is);
     }
@@ -29,21 +40,34 @@ loop-number-preserved c =
     let number : ℕ = c.loop-number.number in
     let inside : number < length (top_layer stack) = omega (arith, c.loop-number-test.true, c.len-number-end.ensures.value, ap length same) in
     elim c.if-not-gone-number.branch [
-      | then-not-gone-number+in_ok-path+in_ok-inode+in_ok-builder-2 w ↦
+      | then-not-gone-number+in_ok-name+in_ok-inode+in_ok-add_child w ↦
           let kept : w.if-own-directory.above ≡ path_at (top_layer stack) w.if-own-directory.directory =
           elim w.if-own-directory.branch [
             | then-own-directory+in_ok-above v ↦ v.above-is ∙ (v.in_ok-above.ensures ∙ ((λ j. path_at (same j) w.directory_of-own.result) ∙ ap (path_at (top_layer stack)) (sym v.directory-is)))
             | else-own-directory v ↦ v.above-is ∙ (c.loop-number.invariant.above ∙ ap (path_at (top_layer stack)) (sym v.directory-is))
           ] in
+          let own : w.if-own-directory.directory ≡ w.directory_of-own.result =
+          elim w.if-own-directory.branch [
+            | then-own-directory+in_ok-above v ↦ v.directory-is
+            | else-own-directory v ↦ v.directory-is ∙ sym v.if-own-directory.false
+          ] in
           let at : entry_at (top_layer stack) (path_at (top_layer stack) number) ≡ Some w.in_ok-inode.inode =
           subst (λ (l : Entries). entry_at l (path_at l number) ≡ Some w.inode-then-not-gone-number.result.now) same w.inode-then-not-gone-number.ensures ∙ ap (λ (i : Inode). Some i) (sym w.in_ok-inode.ensures) in
+          let parent : w.if-own-directory.above ≡ parent_path (path_at (top_layer stack) number) =
+          kept
+          ∙ (ap (path_at (top_layer stack)) own
+          ∙ subst (λ (l : Entries). path_at l w.directory_of-own.result ≡ parent_path (path_at l number)) same w.directory_of-own.ensures.path) in
+          let named : last_name (path_at (top_layer stack) number) ≡ Some w.in_ok-name.name =
+          sym (w.name.ensures ∙ (λ j. last_name (path_at (same j) number))) ∙ (ap (option_map (λ name. name.now)) w.unwrap.ensures ∙ ap (λ (n : PathName). Some n) (sym w.in_ok-name.ensures)) in
           record {
+            some = omega (arith, c.loop-number.invariant.some);
             left = w.builder-is
-                ∙ left-taken stack is number inside c.args.gone.now c.loop-number.builder w.in_ok-builder-2.builder w.in_ok-path.path w.in_ok-inode.inode c.requires w.if-not-gone-number.true c.loop-number.invariant.left
-                (w.in_ok-path.ensures ∙ (λ j. path_at (same j) number)) at w.in_ok-builder-2.ensures;
+                ∙ left-child stack is number inside c.args.gone.now c.loop-number.builder w.add_child.new.builder w.if-own-directory.above w.in_ok-name.name w.in_ok-inode.inode c.requires w.if-not-gone-number.true c.loop-number.invariant.left
+                parent named at w.in_ok-add_child.ensures;
             above = w.above-is ∙ (kept ∙ ap (path_at (top_layer stack)) (sym w.directory-is));
           }
       | else-not-gone-number w ↦ record {
+        some = omega (arith, c.loop-number.invariant.some);
         left = w.builder-is ∙ left-passed stack is number inside c.args.gone.now c.loop-number.builder c.requires w.if-not-gone-number.false c.loop-number.invariant.left;
         above = w.above-is ∙ (c.loop-number.invariant.above ∙ ap (path_at (top_layer stack)) (sym w.directory-is));
       }
