@@ -21,7 +21,7 @@ use crate::teams::Team;
 use ovl_check::Finding;
 use ovl_lookup::Stack;
 use ovl_merge::laws::merge_keeps_the_tree;
-use ovl_merge::{MergeDone, MergeWork, finish_merge};
+use ovl_merge::{MergeDone, MergeWork};
 use ovl_pool::Gate;
 use std::alloc::AllocError;
 use std::sync::Wait;
@@ -43,9 +43,7 @@ pub(crate) fn merge<G: Gate + Sync, R: Threads + Wait + Sync>(
     let _layers = stack.ordinary();
     merge_keeps_the_tree();
     expect_clean(team.alloc, found)?;
-    let done = merged(team, &stack)?;
-    let_go(team.rt, team.alloc, stack, team.workers);
-    let MergeDone { top, lower } = done;
+    let MergeDone { top, lower } = merged(team, stack)?;
     let alloc = team.alloc;
     let report = || -> Result<Vec<u8>, AllocError>
         ensures told { IfOk result (λ report. report.items ≡ layer_report lower) }
@@ -54,21 +52,24 @@ pub(crate) fn merge<G: Gate + Sync, R: Threads + Wait + Sync>(
     Ok(rewritten(team.rt, team.alloc, team.workers, report, &[&top, &lower])?)
 }
 
-// What merge makes of the two topmost layers of a sound stack.
+// What merge makes of the two topmost layers of a sound stack, which goes once its work is walked, so that all rows don't
+// stand beside the new layers.
 fn merged<G: Gate + Sync, R: Threads + Wait + Sync>(
     team: &Team<'_, G, R>,
-    stack: &Stack,
+    stack: Stack,
 ) -> Result<MergeDone, EngineFault>
     requires number { (0 < team.now.workers) × (team.now.workers ≤ worker_limit) }
-    requires several { 1 < length stack.now.layers }
-    requires sound { IsSoundStack stack.now }
-    ensures top { IfOk result (λ done. done.top ≡ merged_top (merge_of stack.now)) }
-    ensures lower { IfOk result (λ done. IsMergedDown (merge_of stack.now) done.lower) }
-    ensures within { IfOk result (λ _. PassesLimit (merge_of stack.now) → ⊥) }
+    requires several { 1 < length stack.layers }
+    requires sound { IsSoundStack stack }
+    ensures top { IfOk result (λ done. done.top ≡ merged_top (merge_of stack)) }
+    ensures lower { IfOk result (λ done. IsMergedDown (merge_of stack) done.lower) }
+    ensures within { IfOk result (λ _. PassesLimit (merge_of stack) → ⊥) }
     ensures fault { IfErr result (λ fault. (found : List Finding) → is_clean found ≡ true
-        → IsFailure Merge stack.now found (MayRefuseOwn Merge stack.now (G.may_refuse team.now.gate.now)) fault) }
+        → IsFailure Merge stack found (MayRefuseOwn Merge stack (G.may_refuse team.now.gate.now)) fault) }
 {
-    let work = MergeWork::new(stack)?;
+    let work = MergeWork::new(&stack)?;
     let parcels = team.walk(&work, 0)?;
-    Ok(finish_merge(team.alloc, &work, parcels)?)
+    let end = work.end(team.alloc)?;
+    let_go(team.rt, team.alloc, stack, team.workers);
+    Ok(end.finish(team.alloc, parcels)?)
 }

@@ -7,3 +7,4 @@ pub mod Stands
 pub mod Reckoned
 pub mod Passages
 pub mod Candidates
+pub mod Ends

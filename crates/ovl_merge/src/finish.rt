@@ -1,7 +1,5 @@
-ghost use Rattle.std.specs.Prelude.{◌≡◌, Err, Some, IfOk, [], ◌∷◌};
-ghost use Rattle.std.specs.Option.{option_map};
-ghost use Rattle.ovl_inode.specs.Inodes.{visible as the_visible};
-ghost use Rattle.ovl_manifest.specs.Layers.{entry_at};
+ghost use Rattle.std.specs.Prelude.{◌≡◌, Err, IfOk, [], ◌∷◌};
+ghost use Rattle.ovl_lookup.specs.Stacks.{StackView};
 ghost use Rattle.ovl_lookup.specs.Sound.{IsSoundStack};
 ghost use Rattle.ovl_board.specs.Parcels.{parcel_views};
 ghost use Rattle.ovl_rewrite.specs.Directories.{inodes_seen};
@@ -10,6 +8,7 @@ ghost use Rattle.ovl_merge.specs.Places.{merge_of};
 ghost use Rattle.ovl_merge.specs.MergeDown.{merged_top, IsMergedDown};
 ghost use Rattle.ovl_merge.specs.Directories.{IsMergeWalk};
 ghost use Rattle.ovl_merge.specs.Limits.{PassesLimit};
+ghost use Rattle.ovl_merge.specs.Ends.{IsMergeEnd};
 
 use crate::{MergeFault, MergeWork};
 use ovl_board::Parcel;
@@ -28,6 +27,49 @@ pub struct MergeDone {
     pub lower: Layer,
 }
 
+/// What the end of a merge needs of its work: the visible root of both new layers.
+#[derive(Drop)]
+pub struct MergeEnd {
+    root: Inode,
+}
+
+impl MergeWork<'_> {
+    /// The end of this merge, for which the stack needn't stay.
+    pub fn end(&self, alloc: Global) -> Result<MergeEnd, AllocError>
+        ensures { IfOk result (IsMergeEnd self.now) }
+    {
+        // A stack has a topmost layer, and each of its layers is one.
+        let _layers = self.stack.ordinary();
+        let root = visible(alloc, self.stack.sheet(0).root().inode())?;
+        Ok(MergeEnd { root })
+    }
+}
+
+impl MergeEnd {
+    /// The two topmost layers as one, below a topmost layer that has its root alone, of each stack whose merge ends so. The
+    /// parcels are the plain walk of its work from `/` of space 0. Over a sound stack it is refused, unless memory runs
+    /// out, exactly where the new lower layer passes a limit of manifests.
+    pub fn finish(
+        self,
+        alloc: Global,
+        parcels: Vec<Parcel<Vec<(Name, Inode)>>>,
+    ) -> Result<MergeDone, MergeFault>
+        ensures top { IfOk result (λ done. (stack : StackView) → IsMergeEnd stack self → done.top ≡ merged_top (merge_of stack)) }
+        ensures lower { IfOk result (λ done. (stack : StackView) → IsMergeEnd stack self
+            → IsMergeWalk stack (parcel_views inodes_seen parcels.items) → IsMergedDown (merge_of stack) done.lower) }
+        ensures kept { IfOk result (λ _. (stack : StackView) → IsMergeEnd stack self
+            → IsMergeWalk stack (parcel_views inodes_seen parcels.items) → PassesLimit (merge_of stack) → ⊥) }
+        ensures limit { result ≡ Err LimitOut → (stack : StackView) → IsMergeEnd stack self → IsSoundStack stack
+            → IsMergeWalk stack (parcel_views inodes_seen parcels.items) → PassesLimit (merge_of stack) }
+        ensures two { result ≡ Err NoLower → ⊥ }
+    {
+        let MergeEnd { root } = self;
+        let top = layer_of(alloc, root_alone(alloc, root.copy(alloc)?)?)?;
+        let lower = layer_told(alloc, root, parcels)?;
+        Ok(MergeDone { top, lower })
+    }
+}
+
 /// The two topmost layers as one, below a topmost layer that has its root alone. The parcels are the plain walk of the
 /// work from `/` of space 0. Over a sound stack it is refused, unless memory runs out, exactly where the new lower layer
 /// passes a limit of manifests.
@@ -43,21 +85,7 @@ pub fn finish_merge(
     ensures limit { IsSoundStack work.now → result ≡ Err LimitOut → PassesLimit (merge_of work.now) }
     ensures two { result ≡ Err NoLower → ⊥ }
 {
-    // Each layer of a stack is one.
-    let _layers = work.stack.ordinary();
-    let root = root_of(alloc, work)?;
-    let top = layer_of(alloc, root_alone(alloc, root.copy(alloc)?)?)?;
-    let lower = layer_told(alloc, root, parcels)?;
-    Ok(MergeDone { top, lower })
-}
-
-// The root of both new layers.
-fn root_of(alloc: Global, work: &MergeWork<'_>) -> Result<Inode, AllocError>
-    ensures { IfOk result (λ root. option_map the_visible (entry_at (merge_of work.now).upper []) ≡ Some root) }
-{
-    // A stack has a topmost layer.
-    let _layers = work.stack.ordinary();
-    visible(alloc, work.stack.sheet(0).root().inode())
+    work.end(alloc)?.finish(alloc, parcels)
 }
 
 // The entries of a layer that has this root alone.

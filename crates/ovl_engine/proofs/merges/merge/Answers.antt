@@ -18,13 +18,13 @@ returns-in_err-expect_clean-clause-outcome g c =
 pub returns-clause-tree : goal.returns-clause-tree
 returns-clause-tree g c =
     let stack = c.args.stack in
-    let lower = c.in_ok-done.done.lower in
+    let lower = c.in_ok-top.field-0.lower in
     keeps_tree c.in_ok-rewritten.field-0 (merged_top (merge_of stack) ∷ lower ∷ []) stack
-    (c.in_ok-rewritten.ensures.back ∙ ap (λ (top : Entries). Ok top ∷ Ok lower ∷ []) c.in_ok-done.ensures.top) c.requires.several
+    (c.in_ok-rewritten.ensures.back ∙ ap (λ (top : Entries). Ok top ∷ Ok lower ∷ []) c.in_ok-top.ensures.top) c.requires.several
     (merge_same stack c.ordinary-layers.ensures.each c.merge_keeps_the_tree.ensures c.requires.several (c.requires.sound c.in_ok-expect_clean.ensures.clean)
-    lower c.in_ok-rewritten.ensures.report.1 c.in_ok-done.ensures.lower)
+    lower c.in_ok-rewritten.ensures.report.1 c.in_ok-top.ensures.lower)
 
-pub returns-in_err-done-clause-outcome : goal.returns-in_err-done-clause-outcome
-returns-in_err-done-clause-outcome g c =
-    let out = err_from_is_err_and c.from_residual-in_err-done.result c.from_residual-in_err-done.ensures.1 in
-    rw (out.1, out.2) (c.in_err-done.ensures.fault c.args.found.items c.in_ok-expect_clean.ensures.clean)
+pub returns-in_err-top-clause-outcome : goal.returns-in_err-top-clause-outcome
+returns-in_err-top-clause-outcome g c =
+    let out = err_from_is_err_and c.from_residual-in_err-top.result c.from_residual-in_err-top.ensures.1 in
+    rw (out.1, out.2) (c.in_err-top.ensures.fault c.args.found.items c.in_ok-expect_clean.ensures.clean)
