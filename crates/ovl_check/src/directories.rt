@@ -15,7 +15,7 @@ use crate::marks::{attribute_is, has_attribute};
 use crate::places::mark_in;
 use ovl_board::Piece;
 use ovl_inode::{Inode, Mark, is_directory, overlay};
-use ovl_lookup::{DirView, OwnTurn, Stack, Trail};
+use ovl_lookup::{DirView, OwnDirectory, Stack, Trail};
 use ovl_manifest::Sheet;
 use ovl_names::{Name, Path};
 use std::alloc::{AllocError, Global};
@@ -61,10 +61,10 @@ pub(crate) fn directory_at<'p, 'a: 'p>(
 {
     // Each of them is a layer.
     let _layers = stack.layers();
-    let Some(own) = stack.own_turn(alloc, i, path)? else {
+    let Some(own) = stack.own_directory(alloc, i, path)? else {
         return Ok(None);
     };
-    let OwnTurn {
+    let OwnDirectory {
         row,
         turned,
         closed,

@@ -9,7 +9,7 @@ ghost use Rattle.ovl_engine.specs.FsckReports.{is_clean as clean_test};
 ghost use Rattle.ovl_engine.specs.declared.requests.Command.TheVariants.{Show, Fsck};
 ghost use Rattle.ovl_engine.specs.declared.faults.EngineFault.TheVariants.{Workers, Layers, DataLayers};
 ghost use Rattle.ovl_engine.specs.Requests.{request_of};
-ghost use Rattle.ovl_engine.specs.Refusals.{is_outside as outside_test, blob_limit, blob_bytes};
+ghost use Rattle.ovl_engine.specs.Refusals.{is_outside as outside_test, blob_limit, blob_bytes, blob_refusal};
 ghost use Rattle.ovl_engine.specs.Outcomes.{IsAccepted, IsRefusal, IsOutcome, IsRun, IsFailedWalk, MayRefuse, MayRefuseCheck, MayRefuseOwn};
 ghost use Rattle.ovl_engine.specs.Commands.{checks as checks_test, makes_layers, stays_sound, wants_lower as lower_test};
 ghost use Rattle.ovl_engine.specs.Kept.{KeepsTree, KeepsTreeOf, KeepsSoundness, HasSoundStack, IsRequestOf, after};
@@ -145,16 +145,18 @@ pub(crate) fn stack_for<R: Threads + Sync, M: Manifests + Drop>(
     if is_outside(LAYER_LIMIT, manifests.len()) {
         return Err(EngineFault::Layers);
     }
-    let bottom = usize::from(bottom);
-    if bottom >= manifests.len() {
+    if usize::from(bottom) >= manifests.len() {
         return Err(EngineFault::DataLayers);
     }
-    let stack = read_stack(rt, alloc, manifests.listed(alloc)?, bottom, workers)?;
-    if !blobs_in_order(blobs) {
-        return Err(EngineFault::BlobOrder);
-    }
-    if are_over_limit(blobs) {
-        return Err(EngineFault::BlobSize);
+    let stack = read_stack(
+        rt,
+        alloc,
+        manifests.listed(alloc)?,
+        usize::from(bottom),
+        workers,
+    )?;
+    if let Some(fault) = blob_fault(blobs) {
+        return Err(fault);
     }
     if wants_lower(what) && stack.ordinary() < 2 {
         return Err(EngineFault::NoLower);
@@ -253,6 +255,19 @@ fn wants_lower(what: Command) -> bool
 
 /// The most bytes that all blobs of a command have together.
 pub const BLOB_LIMIT: usize = 268_435_456;
+
+// What the blobs are refused for, if there is anything.
+fn blob_fault(blobs: &[Blob]) -> Option<EngineFault>
+    ensures { result ≡ blob_refusal (blob_views blobs.now) }
+{
+    if !blobs_in_order(blobs) {
+        return Some(EngineFault::BlobOrder);
+    }
+    if are_over_limit(blobs) {
+        return Some(EngineFault::BlobSize);
+    }
+    None
+}
 
 // Whether the blobs have more bytes in all than they may.
 fn are_over_limit(blobs: &[Blob]) -> bool

@@ -158,17 +158,11 @@ fn lines_from(
         let Some((name, look)) = directory.parcel.out.get(directory.told) else {
             continue;
         };
-        push_wanted(
-            alloc,
-            &mut lines,
-            first <= told,
-            directory.text.as_str(),
-            name.as_str(),
-            look,
-        )?;
+        let above = directory.text.as_str();
+        push_wanted(alloc, &mut lines, first <= told, above, name.as_str(), look)?;
+        let text = text_of(alloc, above, name.as_str())?;
         told += 1;
         directory.told += 1;
-        let text = text_of(alloc, directory.text.as_str(), name.as_str())?;
         open.push(directory)?;
         rest = enter(&mut open, rest, text)?;
     }

@@ -392,21 +392,15 @@ pub own-mark : (inode : Inode) (mark : Mark) → Some (mark_of inode) ≡ Some m
 own-mark inode mark same = sym (ap (λ o. unwrap_or o mark) same)
 
 module _ (layer : Entries) (path : PathNames) (name : PathName) (is : IsLayer layer) (own : OwnDirectory) (stands : IsOwnDirectory layer path own) where
-  -- nothing is there
-  pub own-missing : entries_under (child_path path name) layer ≡ [] → nothing_found (child_path own.next name) own.closed ≡ walk layer (child_path path name)
-  own-missing none =
-      (λ j. nothing_found (child_path (stands.next j) name) (stands.closed j))
-      ∙ sym (walk-child_end layer path name is None stands.directory (entry_at-under (child_path path name) layer ∙ ap (λ (entries : Entries). entry_at entries []) none) refl [])
-
   -- what is there, no directory and a directory
   pub own-file : (inode : Inode) → entry_at layer (child_path path name) ≡ Some inode → is_directory inode ≡ false
-      → walk_beyond (Some inode) own.next own.closed name [] ≡ walk layer (child_path path name)
+      → walk_beyond (Some inode) (unwrap_or own.turned path) own.closed name [] ≡ walk layer (child_path path name)
   own-file inode here file =
       (λ j. walk_beyond (Some inode) (stands.next j) (stands.closed j) name [])
       ∙ sym (walk-child_end layer path name is (Some inode) stands.directory here file [])
 
   pub own-entered : (inode : Inode) → entry_at layer (child_path path name) ≡ Some inode → is_directory inode ≡ true
-      → record { found = Some inode; next = entered_path (mark_of inode) own.next name; closed = entered_closed (mark_of inode) own.closed } ≡ walk layer (child_path path name)
+      → record { found = Some inode; next = entered_path (mark_of inode) (unwrap_or own.turned path) name; closed = entered_closed (mark_of inode) own.closed } ≡ walk layer (child_path path name)
   own-entered inode here directory =
       (λ j. record { found = Some inode; next = entered_path (mark_of inode) (stands.next j) name; closed = entered_closed (mark_of inode) (stands.closed j) })
       ∙ sym (walk-child_directory layer path name is inode here directory)

@@ -15,7 +15,6 @@ use Rattle.ovl_lookup.specs.declared.steps.Stop.{Stop}
 use Rattle.ovl_lookup.specs.declared.steps.Below.{Below}
 use Rattle.ovl_lookup.specs.declared.steps.Below.TheVariants.{Directory as DirectoryBelow, Other}
 use Rattle.ovl_lookup.specs.declared.steps.OwnDirectory.{OwnDirectory}
-use Rattle.ovl_lookup.specs.declared.steps.OwnTurn.{OwnTurn}
 use Rattle.ovl_lookup.specs.declared.steps.Step.{Step}
 use Rattle.ovl_lookup.specs.declared.steps.TrailStep.{TrailStep}
 use Rattle.ovl_lookup.specs.declared.steps.Arrival.{Arrival}
@@ -61,16 +60,8 @@ pub record IsDescent (layer : Entries) (path : PathNames) (descent : Descent) : 
   pub stops : IfSome (slice_get path descent.depth) (λ name. is_directory_at layer (child_path (take descent.depth path) name) ≡ false)
   pub stop : IsStop layer path descent.depth descent.stop
 
--- a directory of a layer at a path, and how its walk goes on
+-- a directory of a layer at a path, and how its walk goes on: by another path only where marks turn its own
 pub record IsOwnDirectory (layer : Entries) (path : PathNames) (own : OwnDirectory) : Type 0 where
-  pub inside : own.row < length layer
-  pub here : path_at layer own.row ≡ path
-  pub directory : is_directory_at layer path ≡ true
-  pub next : own.next ≡ (walk layer path).next
-  pub closed : own.closed ≡ (walk layer path).closed
-
--- the same, where the path that goes on is told only where marks turn it
-pub record IsOwnTurn (layer : Entries) (path : PathNames) (own : OwnTurn) : Type 0 where
   pub inside : own.row < length layer
   pub here : path_at layer own.row ≡ path
   pub directory : is_directory_at layer path ≡ true

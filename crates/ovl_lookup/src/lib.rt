@@ -15,6 +15,6 @@ mod views;
 
 pub use looks::Look;
 pub use stacks::{LAYER_LIMIT, Stack, StackFault};
-pub use steps::{Found, OwnDirectory, OwnTurn, Step, walk};
+pub use steps::{Found, OwnDirectory, Step, walk};
 pub use trails::Trail;
 pub use views::DirView;

@@ -2,13 +2,13 @@ ghost use Rattle.std.specs.Prelude.{◌≡◌, ◌≢◌, ◌<◌, ◌≤◌, �
 ghost use Rattle.std.specs.Option.{option_map};
 ghost use Rattle.std.specs.List.{All};
 ghost use Rattle.ovl_manifest.specs.Layers.{IsLayer, entry_at, is_directory_at, names_below};
-ghost use Rattle.ovl_lookup.specs.Passes.{IsOwnDirectory, IsOwnTurn};
+ghost use Rattle.ovl_lookup.specs.Passes.{IsOwnDirectory};
 ghost use Rattle.ovl_lookup.specs.Walk.{walk as the_walk};
 ghost use Rattle.ovl_lookup.specs.declared.stacks.StackFault.TheVariants.{Layers, Memory, DataCount};
 ghost use Rattle.ovl_lookup.specs.Stacks.{layer_limit, all_layers, stack_with};
 
-use crate::steps::{trail_in, turn_in};
-use crate::{OwnDirectory, OwnTurn, Step, Trail, walk};
+use crate::steps::directory_in;
+use crate::{OwnDirectory, Step, Trail, walk};
 use ovl_inode::Inode;
 use ovl_manifest::{Layer, Sheet};
 use ovl_names::{Name, Path};
@@ -193,7 +193,7 @@ impl Stack {
     /// The directory that layer `i` has at a path, with how its walk goes on, and `None` where it has none; `i` is below
     /// the number of layers. No name is copied. Fails only when out of memory. overlayfs.rst: "renaming directories",
     /// "whiteouts and opaque directories".
-    pub fn own_trail<'a>(
+    pub fn own_directory<'a>(
         &'a self,
         alloc: Global,
         i: usize,
@@ -204,23 +204,7 @@ impl Stack {
             (is_directory_at layer path.now ≡ false)
             (IsOwnDirectory layer path.now))) }
     {
-        trail_in(alloc, self.any_sheet(i), path)
-    }
-
-    /// The directory that [`own_trail`](Stack::own_trail) gives, with a trail only where marks turn its path; `i` is below
-    /// the number of layers. Fails only when out of memory.
-    pub fn own_turn<'a>(
-        &'a self,
-        alloc: Global,
-        i: usize,
-        path: &Path,
-    ) -> Result<Option<OwnTurn<'a>>, AllocError>
-        requires { i < length (all_layers self.now) }
-        ensures { IfSome (slice_get (all_layers self.now) i) (λ layer. IfOk result (λ found. MatchOption found
-            (is_directory_at layer path.now ≡ false)
-            (IsOwnTurn layer path.now))) }
-    {
-        turn_in(alloc, self.any_sheet(i), path)
+        directory_in(alloc, self.any_sheet(i), path)
     }
 }
 

@@ -4,7 +4,7 @@ ghost use Rattle.ovl_names.specs.Paths.{child_path};
 ghost use Rattle.ovl_inode.specs.Marks.{mark_of as the_mark};
 ghost use Rattle.ovl_manifest.specs.Layers.{entry_at, is_directory_at};
 ghost use Rattle.ovl_manifest.specs.Sheets.{path_at};
-ghost use Rattle.ovl_lookup.specs.Passes.{IsDescent, IsBelow, IsArrival, IsOwnDirectory, IsOwnTurn, IsMarked, step_of, entered_path, entered_closed};
+ghost use Rattle.ovl_lookup.specs.Passes.{IsDescent, IsBelow, IsArrival, IsOwnDirectory, IsMarked, step_of, entered_path, entered_closed};
 ghost use Rattle.ovl_lookup.specs.Walk.{walk as the_walk, walk_beyond, walk_to_file};
 
 use crate::trails::Trail;
@@ -236,17 +236,6 @@ fn trail_of_row<'a>(
 pub struct OwnDirectory<'a> {
     /// The number of its row in the layer's sheet.
     pub row: u32,
-    /// The path by which the layer below knows it.
-    pub next: Trail<'a>,
-    /// Whether the layers below are hidden there.
-    pub closed: bool,
-}
-
-/// A directory of one layer, and how its walk goes on, with no trail of its own path.
-#[derive(Debug, Drop)]
-pub struct OwnTurn<'a> {
-    /// The number of its row in the layer's sheet.
-    pub row: u32,
     /// The path by which the layer below knows it, where marks turn it from its own.
     pub turned: Option<Trail<'a>>,
     /// Whether the layers below are hidden there.
@@ -254,7 +243,7 @@ pub struct OwnTurn<'a> {
 }
 
 // The directory that a layer has at a path.
-pub(crate) fn trail_in<'a>(
+pub(crate) fn directory_in<'a>(
     alloc: Global,
     sheet: &'a Sheet,
     path: &Path,
@@ -262,28 +251,6 @@ pub(crate) fn trail_in<'a>(
     ensures { IfOk result (λ found. MatchOption found
         (is_directory_at sheet.now path.now ≡ false)
         (IsOwnDirectory sheet.now path.now)) }
-{
-    let Some(own) = turn_in(alloc, sheet, path)? else {
-        return Ok(None);
-    };
-    let OwnTurn {
-        row,
-        turned,
-        closed,
-    } = own;
-    let next = turned_or_own(alloc, sheet, turned, row, path.len())?;
-    Ok(Some(OwnDirectory { row, next, closed }))
-}
-
-// The same with a trail only where marks turn its path.
-pub(crate) fn turn_in<'a>(
-    alloc: Global,
-    sheet: &'a Sheet,
-    path: &Path,
-) -> Result<Option<OwnTurn<'a>>, AllocError>
-    ensures { IfOk result (λ found. MatchOption found
-        (is_directory_at sheet.now path.now ≡ false)
-        (IsOwnTurn sheet.now path.now)) }
 {
     let trail = Trail::of(alloc, &path.names())?;
     let Descent {
@@ -296,7 +263,7 @@ pub(crate) fn turn_in<'a>(
     if depth < trail.len() {
         return Ok(None);
     }
-    Ok(Some(OwnTurn {
+    Ok(Some(OwnDirectory {
         row,
         turned,
         closed,

@@ -1,5 +1,6 @@
 -- The text of a layer as it is written, piece by piece, for private clauses.
-use Rattle.std.specs.Prelude.{◌≡◌, ℕ, Bool, true, Option, Some, None, List, [], ◌∷◌, ◌++◌, codes, decimal}
+use Rattle.std.specs.Prelude.{◌≡◌, ℕ, ℤ, Bool, true, Option, Some, None, List, [], ◌∷◌, ◌++◌, codes, decimal}
+use Rattle.std.specs.Fmt.{signed_decimal}
 use Rattle.hex.specs.Hex.{encode_lower}
 use Rattle.json.specs.Print.{quoted}
 use Rattle.serde_json.specs.Written.{comma_if, compact_text}
@@ -22,6 +23,10 @@ group_text (Some blob) gid = codes "{\"blob\":" ++ (quoted (encode_lower blob) +
 abbrev pub device_text : Option (ℕ × ℕ) → List ℕ
 device_text None = []
 device_text (Some numbers) = codes ",\"major\":" ++ (decimal numbers.0 ++ (codes ",\"minor\":" ++ decimal numbers.1))
+
+-- the member that says the seconds of a time
+abbrev pub mtime_text : ℤ → List ℕ
+mtime_text seconds = codes ",\"mtime\":" ++ signed_decimal seconds
 
 -- the member that a version has between `mtime` and `path`
 abbrev pub nsec_text : Version → ℕ → List ℕ

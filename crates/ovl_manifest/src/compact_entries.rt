@@ -9,7 +9,7 @@ ghost use Rattle.ovl_inode.specs.Attributes.{all_before};
 ghost use Rattle.ovl_inode.specs.Sound.{is_sound_inode};
 ghost use Rattle.ovl_manifest.specs.Text.{attribute_members, entry_value};
 ghost use Rattle.ovl_manifest.specs.Versions.{states_nsec};
-ghost use Rattle.ovl_manifest.specs.Compact.{group_text, device_text, nsec_text, contents_text, IsKindOf, TakesAttribute};
+ghost use Rattle.ovl_manifest.specs.Compact.{group_text, device_text, mtime_text, nsec_text, contents_text, IsKindOf, TakesAttribute};
 
 use crate::compact_texts::Rest;
 use crate::fields::put_digits;
@@ -29,16 +29,13 @@ pub(crate) fn read_entry<'a>(
     ensures stated { IfSome result (λ entry. states_nsec version entry.1.nsec ≡ true) }
     ensures sound { IfSome result (λ entry. is_sound_inode entry.1 ≡ true) }
 {
-    let group = read_group(rest)?;
-    let (blob, gid) = group;
+    let (blob, gid) = read_group(rest)?;
     rest.take(",\"kind\":")?;
     let word = take_word(rest)?;
     let device = read_device(rest, word)?;
     rest.take(",\"mode\":")?;
     let mode = rest.take_natural(MODE_LIMIT as u64)?;
-    rest.take(",\"mtime\":")?;
-    let mtime = rest.take_integer()?;
-    let nsec = read_nsec(version, rest)?;
+    let (mtime, nsec) = read_time(version, rest)?;
     rest.take(",\"path\":")?;
     let path = rest.take_text(alloc)?;
     let kind = read_kind(alloc, rest, word, blob, device)?;
@@ -90,6 +87,17 @@ fn take_word<'a>(rest: &mut Rest<'a>) -> Option<&'a str>
         return Some("dir");
     }
     rest.take_string()
+}
+
+// The time of the last change: its seconds, and the nanoseconds past them.
+fn read_time(version: Version, rest: &mut Rest<'_>) -> Option<(i64, u32)>
+    ensures text { IfSome result (λ time. rest.old ≡ mtime_text time.0 ++ (nsec_text version time.1 ++ rest.new)) }
+    ensures stated { IfSome result (λ time. states_nsec version time.1 ≡ true) }
+{
+    rest.take(",\"mtime\":")?;
+    let seconds = rest.take_integer()?;
+    let nsec = read_nsec(version, rest)?;
+    Some((seconds, nsec))
 }
 
 // The nanoseconds past the second, where the version has them.

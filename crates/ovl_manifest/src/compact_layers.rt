@@ -172,8 +172,5 @@ fn add_beside(
     let Ok(()) = draft.enter(alloc, depth, name, inode) else {
         return None;
     };
-    match go_on(ends, depth, text.len()) {
-        Ok(()) => Some(()),
-        Err(_) => None,
-    }
+    go_on(ends, depth, text.len()).ok()
 }

@@ -56,12 +56,11 @@ merge-whole stack more = ap (λ (layers : List Entries). record stack { layers =
     by (one ∷ []) more = absurd (omega (arith, more))
     by (one ∷ other ∷ layers) more = refl
 
-pub merge-each : (inside stack : StackView) → inside ≡ stack → 1 < length inside.layers → All IsLayer inside.layers → All IsLayer (whole (merge_of stack)).layers
-merge-each inside stack is more each =
-    subst (λ (s : StackView). All IsLayer (whole (merge_of s)).layers) is (subst (λ (s : StackView). All IsLayer s.layers) (sym (merge-whole inside more)) each)
+pub merge-each : (stack : StackView) → 1 < length stack.layers → All IsLayer stack.layers → All IsLayer (whole (merge_of stack)).layers
+merge-each stack more each = subst (λ (s : StackView). All IsLayer s.layers) (sym (merge-whole stack more)) each
 
-pub merge-sound : (inside stack : StackView) → inside ≡ stack → 1 < length inside.layers → IsSoundStack stack → IsSoundStack (whole (merge_of stack))
-merge-sound inside stack is more sound = subst IsSoundStack (sym (merge-whole stack (subst (λ (s : StackView). 1 < length s.layers) is more))) sound
+pub merge-sound : (stack : StackView) → 1 < length stack.layers → IsSoundStack stack → IsSoundStack (whole (merge_of stack))
+merge-sound stack more sound = subst IsSoundStack (sym (merge-whole stack more)) sound
 
 module _ (m : Merge) (each : All IsLayer (whole m).layers) where
   -- the new upper layer is one

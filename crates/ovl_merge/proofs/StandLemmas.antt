@@ -182,7 +182,7 @@ pass-thing layer layered path name directory next is row inside place passing th
     shut = (walk layer path).closed
 
     own : OwnDirectory
-    own = record { row = directory; next = turned; closed = shut }
+    own = record { row = directory; turned = Some turned; closed = shut }
 
     stands : IsOwnDirectory layer path own
     stands = record { inside = is.inside; here = is.here; directory = is.directory; next = refl; closed = refl }

@@ -1,6 +1,6 @@
 -- What workers tell of names, put into slots, and the first of their stops.
 use Rattle.std.proofs.Common.{◌≡◌, ◌∙◌, ◌<◌, ◌≤◌, ◌⊎◌, ◌∷◌, ◌++◌, [], ℕ, List, Option, Some, None, Result, Ok, Err, Vec, Global, All, arith, inl, inr, length, get_or, replicate, set, sym, ap, subst, refl}
-use Rattle.std.specs.Prelude.{slice_get, Contains, IfSome, OnOk}
+use Rattle.std.specs.Prelude.{slice_get, unwrap_or, Contains, IfSome, OnOk}
 use Rattle.std.proofs.lemmas.Bool.{cases_eq}
 use Rattle.std.proofs.lemmas.List.{get_or-replicate, get_or-set_same, get_or-set_other, length-set, length-replicate}
 use Rattle.std.proofs.lemmas.List.Elements.{Contains-append_left, Contains-push, Contains-push_cases}
@@ -61,12 +61,17 @@ slots_more names slots told are is inside number held at =
       | inr other ↦ are number held (slice_get-get_or slots number None within ∙ ap Some (sym (get_or-set_other slots told.number number (Some told.held) None other) ∙ there))
     ]
 
+-- what is in a slot, if anything is told there
+slot_there : (slots : List (Option (Option Held))) (number : ℕ) (held : Option Held) (slot : Option (Option (Option Held))) → slice_get slots number ≡ slot → Some held ≡ unwrap_or slot None → slice_get slots number ≡ Some (Some held)
+slot_there slots number held None e is = let bad : Some held ≡ None = is in cc
+slot_there slots number held (Some own) e is = e ∙ ap Some (sym is)
+
 -- what is in the slot of a name is told of it
 pub told_there : (names : List (List ℕ)) (slots : Slots) (number : ℕ) (name : List ℕ) (found : Option (Option Held)) → AreSlotsOf names slots → number < length names → name ≡ get_or names number name
-    → IfSome found (λ held. slice_get slots.held.items number ≡ Some (Some held)) → IfSome found (IsHeldUnder name)
+    → found ≡ unwrap_or (slice_get slots.held.items number) None → IfSome found (IsHeldUnder name)
 told_there names slots number name None are inside is found = tt
 told_there names slots number name (Some held) are inside is found =
-    let its = are number held found in
+    let its = are number held (slot_there slots.held.items number held (slice_get slots.held.items number) refl found) in
     let same : Some its.0 ≡ Some name = sym its.1.0 ∙ slice_get_read names (length names) number name refl inside is in
     let one : its.0 ≡ name = cc in
     subst (λ n. IsHeldUnder n held) one its.1.1

@@ -1,4 +1,4 @@
-ghost use Rattle.std.specs.Prelude.{◌≡◌, ◌<◌, [], length, map, IfOk, MatchOption};
+ghost use Rattle.std.specs.Prelude.{◌≡◌, ◌<◌, [], length, map, unwrap_or, IfOk, MatchOption};
 ghost use Rattle.std.specs.List.{All};
 ghost use Rattle.ovl_names.specs.Paths.{child_path};
 ghost use Rattle.ovl_manifest.specs.Layers.{names_below};
@@ -42,10 +42,15 @@ impl<'a> Directory<'a> {
             (names_below (top_layer stack.now) path.now ≡ [])
             (IsVisited stack.now path.now)) }
     {
-        let Some(OwnDirectory { row, next, closed }) = own_directory(alloc, stack, path)? else {
+        let Some(own) = own_directory(alloc, stack, path)? else {
             return Ok(None);
         };
-        let below = view_below(alloc, stack, &next, closed)?;
+        let OwnDirectory {
+            row,
+            turned,
+            closed,
+        } = own;
+        let below = view_below(alloc, stack, path, turned, closed)?;
         Ok(Some(Directory {
             stack,
             path,
@@ -162,25 +167,31 @@ fn own_directory<'a>(
 {
     // A stack has a topmost layer.
     let _top = top_sheet(stack);
-    stack.own_trail(alloc, 0, path)
+    stack.own_directory(alloc, 0, path)
 }
 
-// The view of the layers below the topmost one at a path, unless they are hidden there.
+// The view of the layers below the topmost one at a path, or where marks turn that to, unless they are hidden there.
 fn view_below(
     alloc: Global,
     stack: &Stack,
-    next: &Trail<'_>,
+    path: &Path,
+    turned: Option<Trail<'_>>,
     closed: bool,
 ) -> Result<Option<DirView>, AllocError>
-    ensures { IfOk result (IsBelow stack.now next.now closed) }
+    ensures { IfOk result (IsBelow stack.now (unwrap_or turned.entry path.now) closed) }
 {
     // A stack has a topmost layer.
     let _top = top_sheet(stack);
     if closed {
         return Ok(None);
     }
-    let next = next.path(alloc)?;
-    DirView::of(alloc, stack, 1, &next)
+    match turned {
+        Some(next) => {
+            let next = next.path(alloc)?;
+            DirView::of(alloc, stack, 1, &next)
+        }
+        None => DirView::of(alloc, stack, 1, path),
+    }
 }
 
 // Whether this is what is shown of an inode that isn't a metacopy file.

@@ -1,5 +1,5 @@
 //! What several workers tell of the blobs of a list of names, each name by one of them, and how that is put in order.
-ghost use Rattle.std.specs.Prelude.{◌≡◌, ◌≤◌, ◌⊎◌, ℕ, List, IfOk, IfSome, MatchResult, All, Some, length, slice_get};
+ghost use Rattle.std.specs.Prelude.{◌≡◌, ◌≤◌, ◌⊎◌, ℕ, List, IfOk, IfSome, MatchResult, All, Some, None, length, slice_get, unwrap_or};
 ghost use Rattle.ovl_engine.specs.declared.faults.EngineFault.TheVariants.{Memory};
 ghost use Rattle.ovl_program.specs.declared.faults.ProgramFault.TheVariants.{Engine};
 ghost use Rattle.ovl_program.specs.declared.files.tellings.Stop.{Stop};
@@ -90,7 +90,7 @@ impl Slots {
 
     /// What is in the slot of this number, if anything is told there.
     pub fn get(&self, number: usize) -> Option<Option<Held>>
-        ensures { IfSome result (λ held. slice_get self.now.held.items number ≡ Some (Some held)) }
+        ensures { result ≡ unwrap_or (slice_get self.now.held.items number) None }
     {
         match self.held.get(number) {
             Some(slot) => *slot,

@@ -27,7 +27,7 @@ pub returns : goal.returns
 returns c =
     let stack = c.args.stack.now in
     let m = merge_of stack in
-    let each = merge-each stack stack refl c.requires.several c.ordinary-layers.ensures.each in
+    let each = merge-each stack c.requires.several c.ordinary-layers.ensures.each in
     let directory = c.args.directory.now in
     let is = c.requires.visited in
     let own : List PathName = put_names [] (own_names_along (two_layers m).layers directory.path) in

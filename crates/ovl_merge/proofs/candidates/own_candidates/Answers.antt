@@ -25,7 +25,7 @@ pub returns-in_default : goal.returns-in_default
 returns-in_default c =
     let stack = c.args.stack.now in
     let m = merge_of stack in
-    let each = merge-each stack stack refl c.requires.several c.ordinary-layers.ensures.each in
+    let each = merge-each stack c.requires.several c.ordinary-layers.ensures.each in
     let directory = c.args.directory.now in
     let told = candidates_told c.in_ok-upper.upper.items in
     let rows = rows-there Upper m.upper c.sheet.result.now (upper-sheet stack c.sheet.result.now c.sheet.ensures) told directory.upper directory.path (upper_onward m directory.path) c.requires.visited.upper c.in_ok-upper.ensures in
@@ -44,7 +44,7 @@ pub merged-requires : goal.merged-requires
 merged-requires c =
     let stack = c.args.stack.now in
     let m = merge_of stack in
-    let each = merge-each stack stack refl c.requires.several c.ordinary-layers.ensures.each in
+    let each = merge-each stack c.requires.several c.ordinary-layers.ensures.each in
     let directory = c.args.directory.now in
     let below = c.in-Some.below in
     let place = below-place m.lower (upper_onward m directory.path) below (subst (IsBelow m.lower (upper_onward m directory.path)) c.in-Some.is c.requires.visited.lower) in
@@ -61,7 +61,7 @@ pub returns : goal.returns
 returns c =
     let stack = c.args.stack.now in
     let m = merge_of stack in
-    let each = merge-each stack stack refl c.requires.several c.ordinary-layers.ensures.each in
+    let each = merge-each stack c.requires.several c.ordinary-layers.ensures.each in
     let directory = c.args.directory.now in
     let below = c.in-Some.below in
     let place = below-place m.lower (upper_onward m directory.path) below (subst (IsBelow m.lower (upper_onward m directory.path)) c.in-Some.is c.requires.visited.lower) in

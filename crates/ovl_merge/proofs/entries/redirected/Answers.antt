@@ -20,7 +20,7 @@ returns-in-Beside c =
     let stack = c.args.stack.now in
     let m = merge_of stack in
     let above = c.args.above.now in
-    let each = rest m (merge-each stack stack refl c.requires.several c.ordinary-layers.ensures.each) in
+    let each = rest m (merge-each stack c.requires.several c.ordinary-layers.ensures.each) in
     IfOk-weaker c.renamed.result _ _ (λ new h. λ path goes.
     (let found = reach-above stack each above.path (onward_at above.lower) (visited-reach stack above.path above c.requires.above) (child_path above.path c.args.name.now) path goes c.in-Beside.own.now
     (sym (ap (place_from (onward_at above.lower)) c.in-Beside.is) ∙ (c.requires.place ∙ goes)) in

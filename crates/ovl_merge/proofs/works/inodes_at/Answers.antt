@@ -23,6 +23,6 @@ returns-in-None c =
     let stack = c.args.stack.now in
     let m = merge_of stack in
     let dir = c.args.dir.now in
-    let each = merge-each stack stack refl c.requires c.ordinary-layers.ensures.each in
+    let each = merge-each stack c.requires c.ordinary-layers.ensures.each in
     let none : shows_own_directory m dir ≡ false = subst (λ (found : Option Directory). MatchOption found (shows_own_directory m dir ≡ false) (λ directory. IsVisited stack dir directory)) c.in-None.is c.in_ok-directory.ensures in
     c.new.ensures.items ∙ sym (no-entries m (upper m each) (lower m each) dir none)

@@ -8,5 +8,5 @@ use Rattle.ovl_merge.proofs.bases.Base.look.Goals as goal
 pub returns-in-Apart : goal.returns-in-Apart
 returns-in-Apart c =
     let stack = c.args.stack.now in
-    let each = rest (merge_of stack) (merge-each stack stack refl c.requires.several c.ordinary-layers.ensures.each) in
+    let each = rest (merge_of stack) (merge-each stack c.requires.several c.ordinary-layers.ensures.each) in
     sym (unreached-look stack each c.args._dir.now c.args.self.now c.requires.base (none-reached stack c.args._dir.now c.args.self.now c.requires.base c.in-Apart.is) c.args.name.now)

@@ -14,7 +14,7 @@ pub returns-in-Reached : goal.returns-in-Reached
 returns-in-Reached c =
     let stack = c.args.stack.now in
     let m = merge_of stack in
-    let each = rest m (merge-each stack stack refl c.requires.several c.ordinary-layers.ensures.each) in
+    let each = rest m (merge-each stack c.requires.several c.ordinary-layers.ensures.each) in
     let based = subst (IsBase stack c.args._dir.now) c.in-Reached.is c.requires.base in
     IfOk-weaker c.names.result _ _ (λ names are.
     view-kids stack each c.in-Reached.view.path c.in-Reached.view based.1 names.items are
@@ -24,5 +24,5 @@ pub returns-in-Apart : goal.returns-in-Apart
 returns-in-Apart c =
     let stack = c.args.stack.now in
     let m = merge_of stack in
-    let each = rest m (merge-each stack stack refl c.requires.several c.ordinary-layers.ensures.each) in
+    let each = rest m (merge-each stack c.requires.several c.ordinary-layers.ensures.each) in
     c.new.ensures.items ∙ unreached-names stack each c.args._dir.now c.args.self.now c.requires.base (none-reached stack c.args._dir.now c.args.self.now c.requires.base c.in-Apart.is)

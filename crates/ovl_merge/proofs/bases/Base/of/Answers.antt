@@ -16,7 +16,7 @@ pub returns-in_default : goal.returns-in_default
 returns-in_default c =
     let stack = c.args.stack.now in
     let m = merge_of stack in
-    let each = merge-each stack stack refl c.requires.several c.ordinary-layers.ensures.each in
+    let each = merge-each stack c.requires.several c.ordinary-layers.ensures.each in
     let none : reach m c.args._dir.now ≡ None = c.requires.reach ∙ ap (reach_from m.rest) (sym c.in_default.ensures) in
     (none, base-apart m (upper m each) (lower m each) c.args._dir.now c.requires.shown none)
 
@@ -32,7 +32,7 @@ pub returns-in-None : goal.returns-in-None
 returns-in-None c =
     let stack = c.args.stack.now in
     let m = merge_of stack in
-    let each = merge-each stack stack refl c.requires.several c.ordinary-layers.ensures.each in
+    let each = merge-each stack c.requires.several c.ordinary-layers.ensures.each in
     let next : PathNames = c.in-Some.next.now in
     let shown : shows_directory (from_layer 2 stack) next ≡ false = subst (λ (o : Option DirView). MatchOption o (shows_directory (from_layer 2 stack) next ≡ false) (λ view. IsViewOf stack 2 next view)) c.in-None.is c.in_ok-view.ensures in
     let none : reach m c.args._dir.now ≡ None = c.requires.reach ∙ (ap (reach_from m.rest) (sym c.in-Some.ensures) ∙ ap (λ (b : Bool). cond b (Some next) None) shown) in

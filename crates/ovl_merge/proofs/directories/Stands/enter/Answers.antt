@@ -21,7 +21,7 @@ pub returns-then-is_file : goal.returns-then-is_file
 returns-then-is_file c path are =
     let stack = c.args.stack.now in
     let m = merge_of stack in
-    let each = merge-each stack stack refl c.requires.several c.ordinary-layers.ensures.each in
+    let each = merge-each stack c.requires.several c.ordinary-layers.ensures.each in
     let sheet = upper-sheet stack c.sheet.result.now c.sheet.ensures in
     let passing = c.passing_in-passing in
     let passes : IsPassing m.upper (child_path path c.in_ok-name.name) are.next passing.result = subst (λ (layer : Entries). IsPassing layer (child_path path c.in_ok-name.name) are.next passing.result) (sym sheet)
@@ -40,7 +40,7 @@ pub returns : goal.returns
 returns c path are =
     let stack = c.args.stack.now in
     let m = merge_of stack in
-    let each = merge-each stack stack refl c.requires.several c.ordinary-layers.ensures.each in
+    let each = merge-each stack c.requires.several c.ordinary-layers.ensures.each in
     let sheet = upper-sheet stack c.sheet.result.now c.sheet.ensures in
     let passing = c.passing_in-passing in
     let passes : IsPassing m.upper (child_path path c.in_ok-name.name) are.next passing.result = subst (λ (layer : Entries). IsPassing layer (child_path path c.in_ok-name.name) are.next passing.result) (sym sheet)

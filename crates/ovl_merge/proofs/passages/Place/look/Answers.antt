@@ -14,7 +14,7 @@ pub returns-in-Beside : goal.returns-in-Beside
 returns-in-Beside c =
     let stack = c.args.stack.now in
     let above = c.args.above.now in
-    let each = rest (merge_of stack) (merge-each stack stack refl c.requires.several c.ordinary-layers.ensures.each) in
+    let each = rest (merge_of stack) (merge-each stack c.requires.several c.ordinary-layers.ensures.each) in
     IfOk-weaker c.look.result _ _ (λ shown is. λ path there. is
     ∙ beside-look stack each above.path above.base c.requires.above.base (onward_at above.lower) (visited-reach stack above.path above c.requires.above) c.in-Beside.name.now path
     (sym (ap (place_from (onward_at above.lower)) c.in-Beside.is) ∙ there)) c.look.ensures

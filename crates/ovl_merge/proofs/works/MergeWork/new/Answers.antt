@@ -9,4 +9,4 @@ returns-clause-tells c =
     let some : 0 < c.ordinary.result = c.ordinary.ensures.some in
     let more : c.ordinary.result ≡ 1 → ⊥ = c.if-ordinary-eq1.false in
     let several : 1 < c.ordinary.result = omega (arith, some, more) in
-    tells stack (merge-each stack stack refl (subst (λ (n : ℕ). 1 < n) c.ordinary.ensures.value several) c.ordinary.ensures.each)
+    tells stack (merge-each stack (subst (λ (n : ℕ). 1 < n) c.ordinary.ensures.value several) c.ordinary.ensures.each)

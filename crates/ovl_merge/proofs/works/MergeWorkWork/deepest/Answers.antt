@@ -11,4 +11,4 @@ pub returns-clause-lawful : goal.returns-clause-lawful
 returns-clause-lawful c =
     let stack = c.self.inside.stack.now in
     let m = merge_of stack in
-    rw (← c.self.view_is) (kids-lawful (merged_entry m) (candidate_names m) merge_depth (told m (merge-each stack stack refl c.self.invariant c.ordinary-layers.ensures.each)) merge_depth (omega arith))
+    rw (← c.self.view_is) (kids-lawful (merged_entry m) (candidate_names m) merge_depth (told m (merge-each stack c.self.invariant c.ordinary-layers.ensures.each)) merge_depth (omega arith))

@@ -9,7 +9,7 @@ use Rattle.ovl_lookup.specs.Passes.{IsDescent}
 use Rattle.ovl_lookup.specs.Walk.{turn, is_shut}
 use Rattle.ovl_lookup.proofs.LawsOfWalks.{walk-whole}
 use Rattle.ovl_lookup.proofs.DirViewLemmas.{short-descent}
-use Rattle.ovl_lookup.proofs.steps.turn_in.Goals as goal
+use Rattle.ovl_lookup.proofs.steps.directory_in.Goals as goal
 
 pub returns-then-depth-len : goal.returns-then-depth-len
 returns-then-depth-len c =
