@@ -157,10 +157,7 @@ fn add_beside(
     ensures entries { IfSome result (λ _. drafted draft.new ≡ drafted draft.old ++ (last_path draft.new, inode) ∷ []) }
 {
     let (depth, name) = place_beside(last, ends, text)?;
-    if depth >= version.depth() || text.len() > TEXT_LIMIT {
-        return None;
-    }
-    if has_escaped_name(&inode.attrs) {
+    if depth >= version.depth() || text.len() > TEXT_LIMIT || has_escaped_name(&inode.attrs) {
         return None;
     }
     let Ok(name) = Name::of(alloc, name) else {
@@ -172,5 +169,8 @@ fn add_beside(
     let Ok(()) = draft.enter(alloc, depth, name, inode) else {
         return None;
     };
-    go_on(ends, depth, text.len()).ok()
+    match go_on(ends, depth, text.len()) {
+        Ok(()) => Some(()),
+        Err(_) => None,
+    }
 }

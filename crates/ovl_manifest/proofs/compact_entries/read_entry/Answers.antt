@@ -1,4 +1,4 @@
-use Rattle.std.proofs.Common.{◌≡◌, ◌∙◌, ◌++◌, List, ℕ, ℤ, w64, SFits, sym, ap, subst, rules}
+use Rattle.std.proofs.Common.{◌≡◌, ◌∙◌, ◌++◌, List, ℕ, ℤ, w64, SFits, refl, sym, ap, subst, rules}
 use Rattle.std.proofs.lemmas.Int.{to_z-of_z}
 use Rattle.std.specs.Prelude.{codes, decimal}
 use Rattle.std.specs.Cow.{cow_str_bytes}
@@ -8,7 +8,7 @@ use Rattle.serde_json.specs.Data.{object}
 use Rattle.serde_json.specs.Written.{compact_text}
 use Rattle.ovl_inode.specs.declared.inodes.Inode.{Inode}
 use Rattle.ovl_manifest.specs.Text.{attribute_members, entry_value}
-use Rattle.ovl_manifest.specs.Compact.{group_text, device_text, nsec_text, contents_text}
+use Rattle.ovl_manifest.specs.Compact.{group_text, device_text, mtime_text, nsec_text, contents_text}
 use Rattle.ovl_manifest.proofs.CompactLemmas.{in_turn, pieces, entry_text, seconds_text}
 use Rattle.ovl_manifest.proofs.compact_entries.read_entry.Goals as goal
 
@@ -18,36 +18,35 @@ behind piece first next = first ∙ ap (λ (t : List ℕ). piece ++ t) next
 
 pub returns-then-sound-clause-text : goal.returns-then-sound-clause-text
 returns-then-sound-clause-text c = λ path spelled.
-    let blob = c.in_ok-group.group.0 in
-    let gid = c.in_ok-group.group.1 in
+    let blob = c.in_ok-blob.blob in
+    let gid = c.in_ok-blob.gid in
     let word : List ℕ = c.in_ok-word.word.now in
     let device = c.in_ok-device.device in
     let mode = c.in_ok-mode.mode in
     let seconds : ℤ = c.in_ok-mtime.mtime in
     let text : List ℕ = cow_str_bytes c.in_ok-path.path in
-    let nsec = c.in_ok-nsec.nsec in
+    let nsec = c.in_ok-mtime.nsec in
     let kind = c.in_ok-kind.kind in
     let uid = c.in_ok-uid.uid in
     let attrs = c.in_ok-attrs.attrs in
-    let rest : List ℕ = c.take-7.new.self in
+    let rest : List ℕ = c.take-6.new.self in
     let inode : Inode = record { kind = kind; mode = mode; uid = uid; gid = gid; mtime = seconds; nsec = nsec; attrs = attrs } in
     let taken : c.args.rest.now ≡ in_turn c.args.version blob word device inode (signed_decimal seconds) text rest =
-    behind (group_text blob gid) c.in_ok-group.ensures
+    behind (group_text blob gid) c.in_ok-blob.ensures
     (behind (codes ",\"kind\":") c.in_ok-take.ensures
     (behind (quoted word) c.in_ok-word.ensures
     (behind (device_text device) c.in_ok-device.ensures
     (behind (codes ",\"mode\":") c.in_ok-take-2.ensures
     (behind (decimal mode) c.in_ok-mode.ensures.text
-    (behind (codes ",\"mtime\":") c.in_ok-take-3.ensures
-    (behind (signed_decimal seconds) c.in_ok-mtime.ensures
-    (behind (nsec_text c.args.version nsec) c.in_ok-nsec.ensures.text
-    (behind (codes ",\"path\":") c.in_ok-take-4.ensures
+    (behind (mtime_text seconds) c.in_ok-mtime.ensures.text
+    (behind (nsec_text c.args.version nsec) refl
+    (behind (codes ",\"path\":") c.in_ok-take-3.ensures
     (behind (quoted text) c.in_ok-path.ensures
     (behind (contents_text kind) c.in_ok-kind.ensures.contents
-    (behind (codes ",\"uid\":") c.in_ok-take-5.ensures
+    (behind (codes ",\"uid\":") c.in_ok-take-4.ensures
     (behind (decimal uid) c.in_ok-uid.ensures.text
-    (behind (codes ",\"xattrs\":") c.in_ok-take-6.ensures
-    (behind (compact_text (object (attribute_members attrs))) c.in_ok-attrs.ensures c.in_ok-take-7.ensures))))))))))))))) in
+    (behind (codes ",\"xattrs\":") c.in_ok-take-5.ensures
+    (behind (compact_text (object (attribute_members attrs))) c.in_ok-attrs.ensures c.in_ok-take-6.ensures)))))))))))))) in
     let is = c.in_ok-kind.ensures.kind in
     let own : in_turn c.args.version blob word device inode (signed_decimal seconds) text rest ≡ pieces c.args.version path inode kind rest =
     λ j. in_turn c.args.version (sym is.same_blob j) (sym is.same_word j) (sym is.same_device j) inode (sym (seconds_text seconds) j) (sym spelled j) rest in
