@@ -1,7 +1,7 @@
 -- Hauls in one: two lists of which one first element after the other moves to a third, in order, and workers of two halves.
-use Rattle.std.proofs.Common.{◌≡◌, ◌⊎◌, inl, inr, ◌<◌, ℕ, length, Bool, true, false, ◌||◌, Option, Some, None, get_or, List, [], ◌∷◌, ◌++◌, map, take, drop, refl, sym, ap, ◌∙◌, subst, arith, IsPermutation, IsSorted, IfSome, append_assoc}
+use Rattle.std.proofs.Common.{◌≡◌, ◌⊎◌, inl, inr, ◌<◌, ℕ, length, Bool, true, false, ◌||◌, Option, Some, None, get_or, List, [], ◌∷◌, ◌++◌, map, refl, sym, ap, ◌∙◌, subst, arith, IsPermutation, IsSorted, IfSome, append_assoc}
 use Rattle.std.specs.Option.{option_or, option_to_list}
-use Rattle.std.proofs.lemmas.List.{map-append, take-append-drop}
+use Rattle.std.proofs.lemmas.List.{map-append}
 use Rattle.std.proofs.lemmas.List.Sorted.{IsPermutation-trans, IsPermutation-middle, IsPermutation-append_right}
 use Rattle.std.specs.Ordering.{nat_cmp, ordering_then, partial_ordering_then, is_some_and, is_lt}
 use Rattle.std.specs.declared.cmp.Ordering.{Ordering}

@@ -1,7 +1,6 @@
 -- What the numbers of a run say once all lanes are closed: nothing is left, and the parcels are in balance; and to a refused piece
 -- kids lead from the root.
-use Rattle.std.proofs.Common.{◌≡◌, ℕ, zero, suc, ◌+◌, ◌<◌, ◌≤◌, inl, inr, List, [], ◌∷◌, length, Option, Some, None, is_some, IfSome, true, false, Result, Ok, Err, IfErr, refl, sym, ap, ◌∙◌, subst, arith, Contains}
-use Rattle.std.proofs.lemmas.List.Sums.{sum_by-append}
+use Rattle.std.proofs.Common.{◌≡◌, ℕ, zero, suc, ◌+◌, ◌<◌, ◌≤◌, inl, inr, List, [], ◌∷◌, length, Option, Some, None, is_some, IfSome, true, Result, Ok, Err, IfErr, refl, sym, ap, ◌∙◌, subst, arith, Contains}
 use Rattle.ovl_board.specs.declared.pieces.Piece.{Piece}
 use Rattle.ovl_board.specs.declared.works.Parcel.{Parcel}
 use Rattle.ovl_board.specs.declared.assembly.BoardFault.{BoardFault}
@@ -9,7 +8,7 @@ use Rattle.ovl_board.specs.declared.assembly.BoardFault.TheVariants.{Double, Str
 use Rattle.ovl_board.specs.Pieces.{IsOneBelow, AreLawfulKids}
 use Rattle.ovl_board.specs.Walks.{Reached, start, next, ToKid}
 use Rattle.ovl_board.specs.Parcels.{ParcelView, parcel_view, parcel_views, own_view, AreOwn, pieces_of}
-use Rattle.ovl_board.specs.Balance.{IsBalanced, AllLawful, HasKid, kids_in, times}
+use Rattle.ovl_board.specs.Balance.{IsBalanced, AllLawful, HasKid, kids_in}
 use Rattle.ovl_board.specs.Assembly.{IsBoardFault, bare}
 use Rattle.ovl_board.specs.Laws.{BalancedHaveNoFault}
 use Rattle.ovl_board.proofs.LawsOfMembers.{In, In-map, In-map-cases, Contains-In, In-Contains, Every-All}
@@ -21,10 +20,10 @@ use Rattle.ovl_pool.specs.declared.workers.Worker.{Worker}
 use Rattle.ovl_pool.specs.declared.runs.RunCount.{RunCount}
 use Rattle.ovl_pool.specs.declared.runs.RunFault.{RunFault}
 use Rattle.ovl_pool.specs.declared.runs.RunFault.TheVariants.{Gate}
-use Rattle.ovl_pool.specs.Flows.{all_pushed, all_taken, each_one, indicator, refused_weight, accounted, delivered, below, AreCounted, AreSettled, AreTied, AreWithin, HaveRoot, HaveGone, CountsParcels}
+use Rattle.ovl_pool.specs.Flows.{all_pushed, all_taken, each_one, indicator, refused_weight, accounted, below, AreCounted, AreSettled, AreTied, AreWithin, HaveRoot, HaveGone, CountsParcels}
 use Rattle.ovl_pool.specs.Hauls.{IsOwnHaul}
 use Rattle.ovl_pool.specs.Runs.{MayBeRefused, IsFaultOf}
-use Rattle.ovl_pool.proofs.FlowLemmas.{length_delivered, gathered_balance, delivered_pieces, below_kids}
+use Rattle.ovl_pool.proofs.FlowLemmas.{length_delivered, delivered_pieces, below_kids}
 
 -- what the workers did from the start on
 pub gone_from : {O : Type 0} (root : Piece) (first ended : List Worker) (parcels : List (Parcel O)) → HaveRoot root first → AreTied first ended parcels → HaveGone root ended parcels

@@ -9,13 +9,13 @@ use Rattle.ovl_pool.specs.Flows.{IsTied, IsWithin, AreTied, AreWithin, AreCounte
 use Rattle.ovl_pool.specs.Hauls.{IsOwnHaul, IsClean, AreInOrder}
 use Rattle.ovl_pool.specs.Passes.{HasPasses, post_of}
 
--- a worker may begin: its passes are of these lanes, and its shares have parts and count nothing yet
+-- a worker may begin: each of its passes is one of the lane that it names, and its shares have parts and count nothing yet
 pub record IsWorkerStart {K D : Type 0} (thieves : List Thief) (worker : Worker) (shares : Shares K D) : Type 0 where
   pub passes : HasPasses thieves worker
   pub parts : (0 < shares.known.parts) × (0 < shares.delivered.parts)
   pub fresh : (shares.known.amount ≡ 0) × (shares.delivered.amount ≡ 0)
 
--- a worker ended, with what it brought and noted: the haul is the work's own, and beyond it the worker took, pushed and noted nothing
+-- a worker's end: its haul is the work's own, it took at least what that accounts for, and pushed only kids in it that were noted; where the haul is clean it took, pushed and noted just that
 pub record IsWorkerEnd {O S K D : Type 0} (seen : O → S) (kids : Piece → List Piece) (out : Piece → S) (may_refuse : Piece → Type 0) (thieves : List Thief) (worker : Worker) (shares : Shares K D) (ended : Worker) (brought : Haul O) (noted : Shares K D) : Type 0 where
   pub haul : IsOwnHaul seen kids out may_refuse brought
   pub passes : HasPasses thieves ended
@@ -26,13 +26,13 @@ pub record IsWorkerEnd {O S K D : Type 0} (seen : O → S) (kids : Piece → Lis
   pub tied : IsClean brought → IsTied worker ended brought.parcels.items
   pub counted : IsClean brought → AreCounted noted.known.amount noted.delivered.amount brought.parcels.items
 
--- a crew may begin: its passes are of these lanes, and its shares have a part for each worker and count nothing yet
+-- a crew may begin: so are the passes of its workers, and its shares have a part for each of them and count nothing yet
 pub record IsCrewStart {K D : Type 0} (thieves : List Thief) (workers : List Worker) (shares : Shares K D) : Type 0 where
   pub passes : All (HasPasses thieves) workers
   pub parts : (shares.known.parts ≡ length workers) × (shares.delivered.parts ≡ length workers)
   pub fresh : (shares.known.amount ≡ 0) × (shares.delivered.amount ≡ 0)
 
--- all workers of a crew ended, with what they brought and noted together; the parcels of a clean haul come in order
+-- the same of a crew whose workers all ended, and whose haul is in order where it is clean
 pub record IsCrewEnd {O S K D : Type 0} (seen : O → S) (kids : Piece → List Piece) (out : Piece → S) (may_refuse : Piece → Type 0) (thieves : List Thief) (workers ended : List Worker) (brought : Haul O) (noted : Shares K D) : Type 0 where
   pub haul : IsOwnHaul seen kids out may_refuse brought
   pub passes : All (HasPasses thieves) ended

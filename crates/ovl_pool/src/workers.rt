@@ -4,7 +4,7 @@ ghost use Rattle.ovl_board.specs.Parcels.{AreOwn, parcel_views};
 ghost use Rattle.ovl_pool.specs.declared.notes.Prospect.TheVariants.{End};
 ghost use Rattle.ovl_pool.specs.Crews.{IsWorkerStart, IsWorkerEnd};
 ghost use Rattle.ovl_pool.specs.Hauls.{IsOwnHaul, IsClean, AreInOrder};
-ghost use Rattle.ovl_pool.specs.Flows.{IsPushed, IsPushedOf, PushesKids, IsAdded, IsTied, IsWithin, KeepsPace, StaysWithin, AreCounted, lane_pushed, pushed, delivered, accounted, below, each_one};
+ghost use Rattle.ovl_pool.specs.Flows.{IsPushed, IsPushedOf, PushesKids, IsAdded, KeepsPace, StaysWithin, lane_pushed, pushed, delivered, accounted, below, each_one};
 ghost use Rattle.ovl_pool.specs.Passes.{HasPasses, ends_of, post_of};
 
 use crate::gates::Gate;

@@ -1,8 +1,7 @@
 use Rattle.std.proofs.Common.{rules, ◌≡◌, ◌++◌, ◌∷◌, [], ◌/◌, List, take, sym, ap, ◌∙◌, subst}
 use Rattle.std.proofs.lemmas.List.{take-append-drop}
 use Rattle.ovl_pool.specs.declared.workers.Worker.{Worker}
-use Rattle.ovl_pool.specs.Crews.{IsCrewStart, IsCrewEnd, AreSharesOfBoth}
-use Rattle.ovl_pool.specs.Hauls.{IsHaulOfBoth}
+use Rattle.ovl_pool.specs.Crews.{IsCrewStart, IsCrewEnd}
 use Rattle.ovl_pool.proofs.EndLemmas.{last_ended, both_ended, from_three}
 use Rattle.ovl_pool.proofs.crews.+crew.Goals as goal
 
