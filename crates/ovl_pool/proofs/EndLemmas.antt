@@ -1,6 +1,6 @@
 -- How workers' ends make crews' ends.
-use Rattle.std.proofs.Common.{◌≡◌, List, [], ◌∷◌, ◌++◌, length, length-append, map, Some, Result, Ok, Err, IfOk, refl, sym, ap, ◌∙◌, arith}
-use Rattle.std.proofs.lemmas.List.{map-append}
+use Rattle.std.proofs.Common.{◌≡◌, ℕ, List, [], ◌∷◌, ◌++◌, length, length-append, map, take, drop, Some, Result, Ok, Err, IfOk, refl, sym, ap, ◌∙◌, arith}
+use Rattle.std.proofs.lemmas.List.{map-append, take-append-drop}
 use Rattle.std.proofs.lemmas.List.Elements.{All-append, All-push, All-pop}
 use Rattle.ovl_board.specs.declared.pieces.Piece.{Piece}
 use Rattle.ovl_lanes.specs.declared.ends.Thief.{Thief}
@@ -32,23 +32,27 @@ module _ {O S K D : Type 0} (seen : O → S) (kids : Piece → List Piece) (out 
   -- both halves of a crew ended
   pub both_ended : (all first later ended more : List Worker) (a b both : Haul O) (noted beside every : Shares K D) → all ≡ first ++ later → IsCrewEnd seen kids out may_refuse thieves first ended a noted → IsCrewEnd seen kids out may_refuse thieves later more b beside
       → IsHaulOfBoth a b both → AreSharesOfBoth noted beside every → IsCrewEnd seen kids out may_refuse thieves all (ended ++ more) both every
-  both_ended all first later ended more a b both noted beside every parted left right haul shares =
+  both_ended all first later ended more a b both noted beside every halved left right haul shares =
       let clean_each : IsClean both → IsClean a × IsClean b = clean_both a b both haul.starved haul.refused in record {
         haul = haul_merged seen kids out may_refuse a b both left.haul right.haul haul.parcels haul.refused;
         passes = All-append (HasPasses thieves) ended more left.passes right.passes;
-        same = posts_joined all first later ended more parted left.same right.same;
+        same = posts_joined all first later ended more halved left.same right.same;
         parts = (
-          omega (arith, shares.parts.0, left.parts.0, right.parts.0, ap length parted, length-append first later),
-          omega (arith, shares.parts.1, left.parts.1, right.parts.1, ap length parted, length-append first later),
+          omega (arith, shares.parts.0, left.parts.0, right.parts.0, ap length halved, length-append first later),
+          omega (arith, shares.parts.1, left.parts.1, right.parts.1, ap length halved, length-append first later),
         );
-        within = halves_within all first later ended more a b both parted left.within right.within haul.parcels haul.refused;
-        foreknown = halves_foreknown all first later ended more noted.known.amount beside.known.amount every.known.amount parted left.foreknown right.foreknown shares.amounts.0;
+        within = halves_within all first later ended more a b both halved left.within right.within haul.parcels haul.refused;
+        foreknown = halves_foreknown all first later ended more noted.known.amount beside.known.amount every.known.amount halved left.foreknown right.foreknown shares.amounts.0;
         order = λ clean. let each = clean_each clean in haul.order (left.order each.0) (right.order each.1);
-        tied = λ clean. let each = clean_each clean in halves_tied all first later ended more a.parcels.items b.parcels.items both.parcels.items parted (left.tied each.0) (right.tied each.1) haul.parcels;
+        tied = λ clean. let each = clean_each clean in halves_tied all first later ended more a.parcels.items b.parcels.items both.parcels.items halved (left.tied each.0) (right.tied each.1) haul.parcels;
         counted = λ clean.
             let each = clean_each clean in
             counted_both a.parcels.items b.parcels.items both.parcels.items _ _ _ _ _ _ haul.parcels (left.counted each.0) (right.counted each.1) shares.amounts.0 shares.amounts.1;
       }
+
+-- a crew's first half and the rest of it
+pub parted : (all first later : List Worker) (n : ℕ) → first ≡ take n all → later ≡ drop n all → all ≡ first ++ later
+parted all first later n a b = sym (ap (λ l. l ++ later) a ∙ ap (λ l. take n all ++ l) b ∙ take-append-drop n all)
 
 -- what follows at Ok from three facts
 pub from_three : {T E : Type 0} (r : Result T E) (P Q R S : T → Type 0) → ((x : T) → P x → Q x → R x → S x) → IfOk r P → IfOk r Q → IfOk r R → IfOk r S

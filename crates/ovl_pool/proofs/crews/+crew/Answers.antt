@@ -1,8 +1,7 @@
-use Rattle.std.proofs.Common.{rules, ◌≡◌, ◌++◌, ◌∷◌, [], ◌/◌, List, take, sym, ap, ◌∙◌, subst}
-use Rattle.std.proofs.lemmas.List.{take-append-drop}
+use Rattle.std.proofs.Common.{rules, ◌≡◌, ◌++◌, ◌∷◌, [], ◌/◌, List, sym, subst}
 use Rattle.ovl_pool.specs.declared.workers.Worker.{Worker}
 use Rattle.ovl_pool.specs.Crews.{IsCrewStart, IsCrewEnd}
-use Rattle.ovl_pool.proofs.EndLemmas.{last_ended, both_ended, from_three}
+use Rattle.ovl_pool.proofs.EndLemmas.{last_ended, both_ended, parted, from_three}
 use Rattle.ovl_pool.proofs.crews.+crew.Goals as goal
 
 pub crew-returns : goal.crew-returns
@@ -31,10 +30,9 @@ halves-returns g t c =
     let after = c.in_ok-after.field-0 in
     let left : IsCrewEnd seen kids out may_refuse thieves first before.0.items before.1 before.2 = search rules in
     let right : IsCrewEnd seen kids out may_refuse thieves later after.0.items after.1 after.2 = search rules in
-    let parted : first ++ later ≡ all =
-    ap (λ l. l ++ later) c.in_ok-later.ensures.items ∙ ap (λ l. take (c.len.result / 2) all ++ l) c.in_ok-later.ensures.tail ∙ take-append-drop (c.len.result / 2) all in record {
+    let halved = parted all first later (c.len.result / 2) c.in_ok-later.ensures.items c.in_ok-later.ensures.tail in record {
       ended = from_three c.in_one.result _ _ _ _
           (λ r workers haul shares. subst (λ ws. IsCrewEnd seen kids out may_refuse thieves all ws r.1 r.2) (sym workers)
-          (both_ended seen kids out may_refuse thieves all first later before.0.items after.0.items before.1 after.1 r.1 before.2 after.2 r.2 (sym parted) left right haul shares))
+          (both_ended seen kids out may_refuse thieves all first later before.0.items after.0.items before.1 after.1 r.1 before.2 after.2 r.2 halved left right haul shares))
           c.in_one.ensures.workers c.in_one.ensures.haul c.in_one.ensures.shares;
     }
