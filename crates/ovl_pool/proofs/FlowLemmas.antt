@@ -1,5 +1,5 @@
 -- Pieces that are pushed and taken, weighed step by step.
-use Rattle.std.proofs.Common.{◌≡◌, ℕ, ◌+◌, ◌<◌, ◌≤◌, Option, Some, None, List, [], ◌∷◌, ◌++◌, length, get_or, set, refl, ap, ◌∙◌, arith, IsPermutation}
+use Rattle.std.proofs.Common.{◌≡◌, ℕ, ◌+◌, ◌<◌, ◌≤◌, Option, Some, None, List, [], ◌∷◌, ◌++◌, length, get_or, set, refl, ap, arith, IsPermutation}
 use Rattle.std.specs.List.{sum_by}
 use Rattle.std.specs.Option.{option_or}
 use Rattle.std.proofs.lemmas.List.Sums.{sum_by-cons, sum_by-append, sum_by_push, sum_by-set}
@@ -16,7 +16,7 @@ use Rattle.ovl_lanes.specs.Lanes.{account_of, stolen_by}
 use Rattle.ovl_pool.specs.declared.hauls.Haul.{Haul}
 use Rattle.ovl_pool.specs.declared.workers.Worker.{Worker}
 use Rattle.ovl_pool.specs.declared.workers.Other.{Other}
-use Rattle.ovl_pool.specs.Flows.{lane_pushed, lane_taken, stolen, pushed, taken, all_pushed, all_taken, delivered, below, refused_weight, accounted, each_one, indicator, IsPushed, IsPushedOf, PushesKids, IsTaken, IsUntouched, IsAdded, IsTied, IsWithin, AreTied, AreWithin, KeepsPace, StaysWithin, AreCounted, HaveNothing, HaveGone, AreUntouched, AreSettled}
+use Rattle.ovl_pool.specs.Flows.{lane_pushed, lane_taken, stolen, pushed, taken, all_pushed, all_taken, delivered, below, refused_weight, each_one, indicator, IsPushedOf, IsUntouched, IsTied, IsWithin, AreTied, AreWithin, AreCounted, HaveNothing, HaveGone, AreUntouched, AreSettled}
 use Rattle.ovl_pool.proofs.CrewLemmas.{IsApart}
 
 -- pieces that all weigh 1 weigh their number

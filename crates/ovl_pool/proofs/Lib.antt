@@ -1,4 +1,5 @@
 pub mod CrewLemmas
+pub mod EndLemmas
 pub mod FlowLemmas
 pub mod MergeLemmas
 pub mod ToldLemmas

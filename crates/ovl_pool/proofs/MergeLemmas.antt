@@ -1,7 +1,7 @@
 -- Hauls in one: two lists of which one first element after the other moves to a third, in order, and workers of two halves.
-use Rattle.std.proofs.Common.{◌≡◌, ◌⊎◌, inl, inr, ◌<◌, ℕ, length, Bool, true, false, ◌||◌, Option, Some, None, get_or, List, [], ◌∷◌, ◌++◌, map, take, drop, refl, sym, ap, ◌∙◌, subst, arith, IsPermutation, IsSorted, IfSome, append_assoc}
+use Rattle.std.proofs.Common.{◌≡◌, ◌⊎◌, inl, inr, ◌<◌, ℕ, length, Bool, true, false, ◌||◌, Option, Some, None, get_or, List, [], ◌∷◌, ◌++◌, map, refl, sym, ap, ◌∙◌, subst, arith, IsPermutation, IsSorted, IfSome, append_assoc}
 use Rattle.std.specs.Option.{option_or, option_to_list}
-use Rattle.std.proofs.lemmas.List.{map-append, take-append-drop}
+use Rattle.std.proofs.lemmas.List.{map-append}
 use Rattle.std.proofs.lemmas.List.Sorted.{IsPermutation-trans, IsPermutation-middle, IsPermutation-append_right}
 use Rattle.std.specs.Ordering.{nat_cmp, ordering_then, partial_ordering_then, is_some_and, is_lt}
 use Rattle.std.specs.declared.cmp.Ordering.{Ordering}
@@ -175,7 +175,6 @@ module _ {O : Type 0} where
       by (inr b) = let n = placed_next both second first other x up.1 up.0 b.0 front.0 in (subst (λ l. AreInOrder ((both ++ x ∷ []) ++ l)) (sym b.1) n.1, n.0)
 
 -- both halves of workers, each at its posts
-pub posts_joined : (all first second ended more : List Worker) (n : ℕ) → first ≡ take n all → second ≡ drop n all → map post_of ended ≡ map post_of first → map post_of more ≡ map post_of second → map post_of (ended ++ more) ≡ map post_of all
-posts_joined all first second ended more n a b c d =
-    map-append post_of ended more ∙ ap (λ l. l ++ map post_of more) c ∙ ap (λ l. map post_of first ++ l) d ∙ sym (map-append post_of first second)
-    ∙ ap (map post_of) (ap (λ l. l ++ second) a ∙ ap (λ l. take n all ++ l) b ∙ take-append-drop n all)
+pub posts_joined : (all first second ended more : List Worker) → all ≡ first ++ second → map post_of ended ≡ map post_of first → map post_of more ≡ map post_of second → map post_of (ended ++ more) ≡ map post_of all
+posts_joined all first second ended more e a b =
+    map-append post_of ended more ∙ ap (λ l. l ++ map post_of more) a ∙ ap (λ l. map post_of first ++ l) b ∙ sym (map-append post_of first second) ∙ ap (map post_of) (sym e)

@@ -1,7 +1,6 @@
 -- What the numbers of a run say once all lanes are closed: nothing is left, and the parcels are in balance; and to a refused piece
 -- kids lead from the root.
-use Rattle.std.proofs.Common.{◌≡◌, ℕ, zero, suc, ◌+◌, ◌<◌, ◌≤◌, inl, inr, List, [], ◌∷◌, length, Option, Some, None, is_some, IfSome, true, false, Result, Ok, Err, IfErr, refl, sym, ap, ◌∙◌, subst, arith, Contains}
-use Rattle.std.proofs.lemmas.List.Sums.{sum_by-append}
+use Rattle.std.proofs.Common.{◌≡◌, ℕ, zero, suc, ◌+◌, ◌<◌, ◌≤◌, inl, inr, List, [], ◌∷◌, length, Option, Some, None, is_some, IfSome, true, Result, Ok, Err, IfErr, refl, sym, ap, ◌∙◌, subst, arith, Contains}
 use Rattle.ovl_board.specs.declared.pieces.Piece.{Piece}
 use Rattle.ovl_board.specs.declared.works.Parcel.{Parcel}
 use Rattle.ovl_board.specs.declared.assembly.BoardFault.{BoardFault}
@@ -9,7 +8,7 @@ use Rattle.ovl_board.specs.declared.assembly.BoardFault.TheVariants.{Double, Str
 use Rattle.ovl_board.specs.Pieces.{IsOneBelow, AreLawfulKids}
 use Rattle.ovl_board.specs.Walks.{Reached, start, next, ToKid}
 use Rattle.ovl_board.specs.Parcels.{ParcelView, parcel_view, parcel_views, own_view, AreOwn, pieces_of}
-use Rattle.ovl_board.specs.Balance.{IsBalanced, AllLawful, HasKid, kids_in, times}
+use Rattle.ovl_board.specs.Balance.{IsBalanced, AllLawful, HasKid, kids_in}
 use Rattle.ovl_board.specs.Assembly.{IsBoardFault, bare}
 use Rattle.ovl_board.specs.Laws.{BalancedHaveNoFault}
 use Rattle.ovl_board.proofs.LawsOfMembers.{In, In-map, In-map-cases, Contains-In, In-Contains, Every-All}
@@ -18,15 +17,13 @@ use Rattle.ovl_board.proofs.LawsOfCounts.{mark_cases, mark_itself, In-times, tim
 use Rattle.ovl_board.proofs.LawsOfWalks.{reached_by}
 use Rattle.ovl_pool.specs.declared.hauls.Haul.{Haul}
 use Rattle.ovl_pool.specs.declared.workers.Worker.{Worker}
-use Rattle.ovl_lanes.specs.declared.seats.LaneFault.{LaneFault}
-use Rattle.ovl_lanes.specs.declared.seats.LaneFault.TheVariants.{Count}
 use Rattle.ovl_pool.specs.declared.runs.RunCount.{RunCount}
 use Rattle.ovl_pool.specs.declared.runs.RunFault.{RunFault}
-use Rattle.ovl_pool.specs.declared.runs.RunFault.TheVariants.{Workers}
-use Rattle.ovl_pool.specs.Flows.{all_pushed, all_taken, each_one, indicator, refused_weight, accounted, delivered, below, AreCounted, AreSettled, AreTied, AreWithin, HaveRoot, HaveGone, CountsParcels}
+use Rattle.ovl_pool.specs.declared.runs.RunFault.TheVariants.{Gate}
+use Rattle.ovl_pool.specs.Flows.{all_pushed, all_taken, each_one, indicator, refused_weight, accounted, below, AreCounted, AreSettled, AreTied, AreWithin, HaveRoot, HaveGone, CountsParcels}
 use Rattle.ovl_pool.specs.Hauls.{IsOwnHaul}
-use Rattle.ovl_pool.specs.Runs.{MayBeRefused, IsOutOfMemory}
-use Rattle.ovl_pool.proofs.FlowLemmas.{length_delivered, gathered_balance, delivered_pieces, below_kids}
+use Rattle.ovl_pool.specs.Runs.{MayBeRefused, IsFaultOf}
+use Rattle.ovl_pool.proofs.FlowLemmas.{length_delivered, delivered_pieces, below_kids}
 
 -- what the workers did from the start on
 pub gone_from : {O : Type 0} (root : Piece) (first ended : List Worker) (parcels : List (Parcel O)) → HaveRoot root first → AreTied first ended parcels → HaveGone root ended parcels
@@ -45,18 +42,12 @@ numbers root ended parcels known noted count gone counted knew delivered_so took
       omega (arith, g.1, counted.0, knew, whole),
     )
 
--- a run that met no fault
-pub none_if : (o : Option Piece) → false ≡ is_some o → o ≡ None
-none_if None e = refl
-none_if (Some p) e = absurd (cc)
-
-pub not_workers : {T : Type 0} (r : Result T RunFault) → IfErr r IsOutOfMemory → r ≡ Err Workers → ⊥
-not_workers (Ok x) want e = absurd (cc)
-not_workers (Err f) (inl memory) e = absurd (cc)
-not_workers (Err f) (inr board) e = absurd (cc)
-
-pub not_refused : {T : Type 0} (x : T) → ◌≡◌ {A = Result T LaneFault} (Ok x) (Err Count) → ⊥
-not_refused x e = absurd (cc)
+-- a run whose fault is the gate's was refused a piece
+pub was_refused : {T : Type 0} (r : Result T RunFault) (refused : Option Piece) → IfErr r (IsFaultOf refused) → r ≡ Err Gate → is_some refused ≡ true
+was_refused (Ok x) refused want e = absurd (cc)
+was_refused (Err f) refused (inl gate) e = gate.1
+was_refused (Err f) refused (inr (inl memory)) e = absurd (cc)
+was_refused (Err f) refused (inr (inr board)) e = absurd (cc)
 
 none_of : (left : List Piece) → length left ≡ 0 → left ≡ []
 none_of [] e = refl

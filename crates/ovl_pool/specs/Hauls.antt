@@ -1,5 +1,6 @@
 -- What workers bring.
-use Rattle.std.specs.Prelude.{◌≡◌, List, [], ◌∷◌, None, IfSome, false, AllPairs}
+use Rattle.std.specs.Prelude.{◌≡◌, ◌++◌, ◌||◌, List, [], ◌∷◌, None, IfSome, false, AllPairs, IsPermutation}
+use Rattle.std.specs.Option.{option_or}
 use Rattle.ovl_board.specs.declared.pieces.Piece.{Piece}
 use Rattle.ovl_board.specs.declared.works.Parcel.{Parcel}
 use Rattle.ovl_board.specs.Pieces.{IsBefore}
@@ -17,6 +18,13 @@ IsClean haul = (haul.starved ≡ false) × (haul.refused ≡ None)
 -- parcels come in the order of their pieces
 abbrev pub AreInOrder : {O : Type 0} → List (Parcel O) → Type 0
 AreInOrder {O} parcels = AllPairs (λ (a b : Parcel O). ¬ IsBefore b.piece a.piece) parcels
+
+-- both hauls in one, in the order of pieces where each of them is, with the first of two refused pieces
+pub record IsHaulOfBoth {O : Type 0} (first second both : Haul O) : Type 0 where
+  pub parcels : IsPermutation (first.parcels.items ++ second.parcels.items) both.parcels.items
+  pub order : AreInOrder first.parcels.items → AreInOrder second.parcels.items → AreInOrder both.parcels.items
+  pub refused : both.refused ≡ option_or first.refused second.refused
+  pub starved : both.starved ≡ (first.starved || second.starved)
 
 -- the first of these parcels, if there is one, doesn't come before that parcel
 abbrev pub IsAtFront : {O : Type 0} → Parcel O → List (Parcel O) → Type 0

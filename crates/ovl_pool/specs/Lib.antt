@@ -1,3 +1,4 @@
+pub mod Crews
 pub mod Flows
 pub mod Hauls
 pub mod Passes

@@ -1,5 +1,5 @@
 -- What the faults of a run say.
-use Rattle.std.specs.Prelude.{◌≡◌, ◌⊎◌, ℕ, List}
+use Rattle.std.specs.Prelude.{◌≡◌, ◌⊎◌, ℕ, List, Option, is_some, true}
 use Rattle.ovl_board.specs.declared.pieces.Piece.{Piece}
 use Rattle.ovl_board.specs.declared.assembly.BoardFault.TheVariants.{Memory as BoardMemory}
 use Rattle.ovl_board.specs.Walks.{Reached, ToKid}
@@ -28,6 +28,10 @@ IsBoardMemory Memory = Unit {0}
 -- out of memory, to assemble parcels or before that
 abbrev pub IsOutOfMemory : RunFault → Type 0
 IsOutOfMemory fault = (fault ≡ Memory) ⊎ (fault ≡ Board BoardMemory)
+
+-- a run that gave no walk was refused this piece, or it was out of memory
+abbrev pub IsFaultOf : Option Piece → RunFault → Type 0
+IsFaultOf refused fault = ((fault ≡ Gate) × (is_some refused ≡ true)) ⊎ IsOutOfMemory fault
 
 -- so many pieces were known, delivered and taken, and none is left
 abbrev pub CountsAll : ℕ → RunCount → Type 0

@@ -1,8 +1,7 @@
-ghost use Rattle.std.specs.Prelude.{◌≡◌, ◌<◌, ◌≤◌, ◌+◌, IfOk, All, map, vec_len};
+ghost use Rattle.std.specs.Prelude.{◌≡◌, ◌<◌, ◌++◌, IfOk, vec_len};
 ghost use Rattle.std.specs.Thread.{IsSync, IsSend};
-ghost use Rattle.ovl_pool.specs.Flows.{AreTied, AreWithin, AreCounted, all_pushed, each_one};
-ghost use Rattle.ovl_pool.specs.Hauls.{IsOwnHaul, IsClean, AreInOrder};
-ghost use Rattle.ovl_pool.specs.Passes.{HasPasses, post_of};
+ghost use Rattle.ovl_pool.specs.Crews.{IsCrewStart, IsCrewEnd, AreSharesOfBoth};
+ghost use Rattle.ovl_pool.specs.Hauls.{IsHaulOfBoth};
 
 use crate::gates::Gate;
 use crate::hauls::Haul;
@@ -37,19 +36,9 @@ pub(crate) fn crew<
 ) -> Result<(Vec<Worker>, Haul<W::Out>, Shares<K, D>), AllocError>
 where
     W::Out: Send,
-    requires passes { All (HasPasses thieves.now) workers.items }
-    requires parts { (shares.known.parts ≡ vec_len workers) × (shares.delivered.parts ≡ vec_len workers) }
-    requires fresh { (shares.known.amount ≡ 0) × (shares.delivered.amount ≡ 0) }
-    ensures haul { IfOk result (λ r.
-        IsOwnHaul W.seen (W.kids_of work.now) (W.out_of work.now) (G.may_refuse gate.now) r.1) }
-    ensures passes { IfOk result (λ r. All (HasPasses thieves.now) r.0.items) }
-    ensures same { IfOk result (λ r. map post_of r.0.items ≡ map post_of workers.items) }
-    ensures parts { IfOk result (λ r. (r.2.known.parts ≡ vec_len workers) × (r.2.delivered.parts ≡ vec_len workers)) }
-    ensures within { IfOk result (λ r. AreWithin workers.items r.0.items r.1) }
-    ensures foreknown { IfOk result (λ r. all_pushed each_one r.0.items ≤ all_pushed each_one workers.items + r.2.known.amount) }
-    ensures order { IfOk result (λ r. IsClean r.1 → AreInOrder r.1.parcels.items) }
-    ensures tied { IfOk result (λ r. IsClean r.1 → AreTied workers.items r.0.items r.1.parcels.items) }
-    ensures counted { IfOk result (λ r. IsClean r.1 → AreCounted r.2.known.amount r.2.delivered.amount r.1.parcels.items) }
+    requires begun { IsCrewStart thieves.now workers.items shares }
+    ensures ended { IfOk result (λ r. IsCrewEnd W.seen (W.kids_of work.now) (W.out_of work.now) (G.may_refuse gate.now)
+        thieves.now workers.items r.0.items r.1 r.2) }
 {
     if workers.len() > 1 {
         return halves(rt, alloc, work, gate, tally, thieves, workers, shares);
@@ -84,58 +73,40 @@ fn halves<
 where
     W::Out: Send,
     requires several { 1 < vec_len workers }
-    requires passes { All (HasPasses thieves.now) workers.items }
-    requires parts { (shares.known.parts ≡ vec_len workers) × (shares.delivered.parts ≡ vec_len workers) }
-    requires fresh { (shares.known.amount ≡ 0) × (shares.delivered.amount ≡ 0) }
-    ensures haul { IfOk result (λ r.
-        IsOwnHaul W.seen (W.kids_of work.now) (W.out_of work.now) (G.may_refuse gate.now) r.1) }
-    ensures passes { IfOk result (λ r. All (HasPasses thieves.now) r.0.items) }
-    ensures same { IfOk result (λ r. map post_of r.0.items ≡ map post_of workers.items) }
-    ensures parts { IfOk result (λ r. (r.2.known.parts ≡ vec_len workers) × (r.2.delivered.parts ≡ vec_len workers)) }
-    ensures within { IfOk result (λ r. AreWithin workers.items r.0.items r.1) }
-    ensures foreknown { IfOk result (λ r. all_pushed each_one r.0.items ≤ all_pushed each_one workers.items + r.2.known.amount) }
-    ensures order { IfOk result (λ r. IsClean r.1 → AreInOrder r.1.parcels.items) }
-    ensures tied { IfOk result (λ r. IsClean r.1 → AreTied workers.items r.0.items r.1.parcels.items) }
-    ensures counted { IfOk result (λ r. IsClean r.1 → AreCounted r.2.known.amount r.2.delivered.amount r.1.parcels.items) }
+    requires begun { IsCrewStart thieves.now workers.items shares }
+    ensures ended { IfOk result (λ r. IsCrewEnd W.seen (W.kids_of work.now) (W.out_of work.now) (G.may_refuse gate.now)
+        thieves.now workers.items r.0.items r.1 r.2) }
 {
-    let half = workers.len() / 2;
-    let later = workers.split_off(half)?;
+    let later = workers.split_off(workers.len() / 2)?;
     let latter = shares.split_off(later.len() as u64);
     let second = || -> Result<(Vec<Worker>, Haul<W::Out>, Shares<K, D>), AllocError>
         requires shared { IsSync R.row × IsSync W.row × IsSync G.row × IsSend W.Out.row }
-        requires passes { All (HasPasses thieves.now) later.items }
-        requires parts { (latter.known.parts ≡ vec_len later) × (latter.delivered.parts ≡ vec_len later) }
-        requires fresh { (latter.known.amount ≡ 0) × (latter.delivered.amount ≡ 0) }
-        ensures haul { IfOk result (λ r.
-            IsOwnHaul W.seen (W.kids_of work.entry.now) (W.out_of work.entry.now) (G.may_refuse gate.entry.now) r.1) }
-        ensures passes { IfOk result (λ r. All (HasPasses thieves.entry.now) r.0.items) }
-        ensures same { IfOk result (λ r. map post_of r.0.items ≡ map post_of later.items) }
-        ensures parts { IfOk result (λ r. (r.2.known.parts ≡ vec_len later) × (r.2.delivered.parts ≡ vec_len later)) }
-        ensures within { IfOk result (λ r. AreWithin later.items r.0.items r.1) }
-        ensures foreknown { IfOk result (λ r. all_pushed each_one r.0.items ≤ all_pushed each_one later.items + r.2.known.amount) }
-        ensures order { IfOk result (λ r. IsClean r.1 → AreInOrder r.1.parcels.items) }
-        ensures tied { IfOk result (λ r. IsClean r.1 → AreTied later.items r.0.items r.1.parcels.items) }
-        ensures counted { IfOk result (λ r. IsClean r.1 → AreCounted r.2.known.amount r.2.delivered.amount r.1.parcels.items) }
+        requires begun { IsCrewStart thieves.now later.items latter }
+        ensures ended { IfOk result (λ r. IsCrewEnd W.seen (W.kids_of work.entry.now) (W.out_of work.entry.now)
+            (G.may_refuse gate.entry.now) thieves.entry.now later.items r.0.items r.1 r.2) }
     { crew(rt, alloc, work, gate, tally, thieves, later, latter) };
     let first = || -> Result<(Vec<Worker>, Haul<W::Out>, Shares<K, D>), AllocError>
         requires shared { IsSync R.row × IsSync W.row × IsSync G.row × IsSend W.Out.row }
-        requires passes { All (HasPasses thieves.now) workers.items }
-        requires parts { (shares.known.parts ≡ vec_len workers) × (shares.delivered.parts ≡ vec_len workers) }
-        requires fresh { (shares.known.amount ≡ 0) × (shares.delivered.amount ≡ 0) }
-        ensures haul { IfOk result (λ r.
-            IsOwnHaul W.seen (W.kids_of work.entry.now) (W.out_of work.entry.now) (G.may_refuse gate.entry.now) r.1) }
-        ensures passes { IfOk result (λ r. All (HasPasses thieves.entry.now) r.0.items) }
-        ensures same { IfOk result (λ r. map post_of r.0.items ≡ map post_of workers.items) }
-        ensures parts { IfOk result (λ r. (r.2.known.parts ≡ vec_len workers) × (r.2.delivered.parts ≡ vec_len workers)) }
-        ensures within { IfOk result (λ r. AreWithin workers.items r.0.items r.1) }
-        ensures foreknown { IfOk result (λ r. all_pushed each_one r.0.items ≤ all_pushed each_one workers.items + r.2.known.amount) }
-        ensures order { IfOk result (λ r. IsClean r.1 → AreInOrder r.1.parcels.items) }
-        ensures tied { IfOk result (λ r. IsClean r.1 → AreTied workers.items r.0.items r.1.parcels.items) }
-        ensures counted { IfOk result (λ r. IsClean r.1 → AreCounted r.2.known.amount r.2.delivered.amount r.1.parcels.items) }
+        requires begun { IsCrewStart thieves.now workers.items shares }
+        ensures ended { IfOk result (λ r. IsCrewEnd W.seen (W.kids_of work.entry.now) (W.out_of work.entry.now)
+            (G.may_refuse gate.entry.now) thieves.entry.now workers.items r.0.items r.1 r.2) }
     { crew(rt, alloc, work, gate, tally, thieves, workers, shares) };
     let (after, before) = join(rt, second, first);
-    let (mut ended, haul, noted) = before?;
-    let (mut more, brought, beside) = after?;
+    in_one(alloc, before?, after?)
+}
+
+// What both halves brought and noted, in one.
+fn in_one<T: Drop, K: Ledger, D: Ledger>(
+    alloc: Global,
+    before: (Vec<Worker>, Haul<T>, Shares<K, D>),
+    after: (Vec<Worker>, Haul<T>, Shares<K, D>),
+) -> Result<(Vec<Worker>, Haul<T>, Shares<K, D>), AllocError>
+    ensures workers { IfOk result (λ r. r.0.items ≡ before.0.items ++ after.0.items) }
+    ensures haul { IfOk result (λ r. IsHaulOfBoth before.1 after.1 r.1) }
+    ensures shares { IfOk result (λ r. AreSharesOfBoth before.2 after.2 r.2) }
+{
+    let (mut ended, haul, noted) = before;
+    let (mut more, brought, beside) = after;
     ended.append(&mut more)?;
     Ok((ended, haul.with(alloc, brought)?, noted.with(beside)))
 }

@@ -1,6 +1,5 @@
-ghost use Rattle.std.specs.Prelude.{◌≡◌, ◌++◌, ◌||◌, None, IfOk, IsPermutation, [], false};
-ghost use Rattle.std.specs.Option.{option_or};
-ghost use Rattle.ovl_pool.specs.Hauls.{AreInOrder};
+ghost use Rattle.std.specs.Prelude.{◌≡◌, None, IfOk, IsPermutation, [], false};
+ghost use Rattle.ovl_pool.specs.Hauls.{AreInOrder, IsHaulOfBoth};
 
 use crate::merging::merged;
 use ovl_board::{Parcel, Piece, sort_parcels};
@@ -44,11 +43,7 @@ impl<T: Drop> Haul<T> {
 
     /// Both hauls in one, in the order of pieces where each of them is. Of two refused pieces it keeps the first.
     pub(crate) fn with(self, alloc: Global, other: Haul<T>) -> Result<Haul<T>, AllocError>
-        ensures parcels { IfOk result (λ both. IsPermutation (self.parcels.items ++ other.parcels.items) both.parcels.items) }
-        ensures order { IfOk result (λ both.
-            AreInOrder self.parcels.items → AreInOrder other.parcels.items → AreInOrder both.parcels.items) }
-        ensures refused { IfOk result (λ both. both.refused ≡ option_or self.refused other.refused) }
-        ensures starved { IfOk result (λ both. both.starved ≡ (self.starved || other.starved)) }
+        ensures { IfOk result (IsHaulOfBoth self other) }
     {
         let Haul {
             parcels,

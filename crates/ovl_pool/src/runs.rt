@@ -6,8 +6,9 @@ ghost use Rattle.ovl_pool.specs.declared.runs.RunFault.TheVariants.{Workers, Gat
 ghost use Rattle.ovl_board.specs.Balance.{IsBalanced, AllLawful};
 ghost use Rattle.ovl_board.specs.Assembly.{IsInOrder, bare};
 ghost use Rattle.ovl_pool.specs.Flows.{AreSettled, CountsParcels, all_pushed, all_taken, each_one};
+ghost use Rattle.ovl_pool.specs.Hauls.{IsClean};
 ghost use Rattle.ovl_pool.specs.Passes.{AreSeated};
-ghost use Rattle.ovl_pool.specs.Runs.{MayBeRefused, IsBoardMemory, IsOutOfMemory, CountsAll, no_lanes};
+ghost use Rattle.ovl_pool.specs.Runs.{MayBeRefused, IsBoardMemory, IsOutOfMemory, IsFaultOf, CountsAll, no_lanes};
 
 use crate::crews::crew;
 use crate::gates::Gate;
@@ -155,18 +156,7 @@ where
     let shares = Shares { known, delivered };
     let (ended, haul, shares) = crew(rt, alloc, work, gate, &tally, &thieves, crowd, shares)?;
     let count = counted(tally.into_inner(), shares, ended, thieves);
-    let Haul {
-        parcels,
-        refused,
-        starved,
-    } = haul;
-    if refused.is_some() {
-        return Err(RunFault::Gate);
-    }
-    if starved {
-        return Err(RunFault::Memory);
-    }
-    told(alloc, &root, parcels, count)
+    outcome(alloc, &root, haul, count)
 }
 
 // The numbers of the tally and of the lanes, once all workers ended: it puts the shares together, joins all passes to their
@@ -198,6 +188,37 @@ fn counted<K: Ledger, D: Ledger>(
         taken,
         left,
     }
+}
+
+// What came of a run: a fault where the gate refused a piece or a worker was out of memory, and else what is told of the
+// parcels.
+fn outcome<T: Drop>(
+    alloc: Global,
+    root: &Piece,
+    haul: Haul<T>,
+    count: RunCount,
+) -> Result<(Vec<Parcel<T>>, RunCount), RunFault>
+    requires lawful { AllLawful (bare haul.parcels.items) }
+    requires counted { IsClean haul → CountsParcels haul.parcels.items count }
+    requires left { IsClean haul
+        → (left : List Piece) × ((length left ≡ count.left) × IsBalanced root.now (bare haul.parcels.items) left) }
+    ensures order { IfOk result (λ done. IsInOrder root.now haul.parcels.items done.0.items) }
+    ensures balance { IfOk result (λ done. IsBalanced root.now (bare done.0.items) []) }
+    ensures counted { IfOk result (λ done. CountsAll (vec_len done.0) done.1) }
+    ensures fault { IfErr result (IsFaultOf haul.refused) }
+{
+    let Haul {
+        parcels,
+        refused,
+        starved,
+    } = haul;
+    if refused.is_some() {
+        return Err(RunFault::Gate);
+    }
+    if starved {
+        return Err(RunFault::Memory);
+    }
+    told(alloc, root, parcels, count)
 }
 
 // What came of a run that met no fault: the parcels in order, with the numbers of the run. Where fewer pieces were delivered

@@ -1,4 +1,5 @@
 ghost use Rattle.std.specs.Prelude.{◌≡◌, ◌≤◌, ◌+◌};
+ghost use Rattle.ovl_pool.specs.Crews.{AreSharesOfBoth};
 
 use std::sync::ledger::{Ledger, Share};
 
@@ -28,10 +29,7 @@ impl<K: Ledger, D: Ledger> Shares<K, D> {
 
     /// Both shares in one.
     pub(crate) fn with(self, other: Shares<K, D>) -> Shares<K, D>
-        ensures parts { (result.known.parts ≡ self.known.parts + other.known.parts)
-            × (result.delivered.parts ≡ self.delivered.parts + other.delivered.parts) }
-        ensures amounts { (result.known.amount ≡ self.known.amount + other.known.amount)
-            × (result.delivered.amount ≡ self.delivered.amount + other.delivered.amount) }
+        ensures { AreSharesOfBoth self other result }
     {
         let Shares {
             mut known,

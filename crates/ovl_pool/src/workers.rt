@@ -2,8 +2,9 @@ ghost use Rattle.std.specs.Prelude.{◌≡◌, ◌<◌, ◌≤◌, ◌+◌, ℕ,
 ghost use Rattle.ovl_board.specs.declared.pieces.Piece.{Piece};
 ghost use Rattle.ovl_board.specs.Parcels.{AreOwn, parcel_views};
 ghost use Rattle.ovl_pool.specs.declared.notes.Prospect.TheVariants.{End};
+ghost use Rattle.ovl_pool.specs.Crews.{IsWorkerStart, IsWorkerEnd};
 ghost use Rattle.ovl_pool.specs.Hauls.{IsOwnHaul, IsClean, AreInOrder};
-ghost use Rattle.ovl_pool.specs.Flows.{IsPushed, IsPushedOf, PushesKids, IsAdded, IsTied, IsWithin, KeepsPace, StaysWithin, AreCounted, lane_pushed, pushed, delivered, accounted, below, each_one};
+ghost use Rattle.ovl_pool.specs.Flows.{IsPushed, IsPushedOf, PushesKids, IsAdded, KeepsPace, StaysWithin, lane_pushed, pushed, delivered, accounted, below, each_one};
 ghost use Rattle.ovl_pool.specs.Passes.{HasPasses, ends_of, post_of};
 
 use crate::gates::Gate;
@@ -86,17 +87,9 @@ pub(crate) fn labor<W: Work, G: Gate, R: Wait, K: Ledger, D: Ledger>(
     worker: Worker,
     shares: Shares<K, D>,
 ) -> (Worker, Haul<W::Out>, Shares<K, D>)
-    requires passes { HasPasses thieves.now worker }
-    requires parts { (0 < shares.known.parts) × (0 < shares.delivered.parts) }
-    requires fresh { (shares.known.amount ≡ 0) × (shares.delivered.amount ≡ 0) }
-    ensures haul { IsOwnHaul W.seen (W.kids_of work.now) (W.out_of work.now) (G.may_refuse gate.now) result.1 }
-    ensures passes { HasPasses thieves.now result.0 }
-    ensures same { post_of result.0 ≡ post_of worker }
-    ensures parts { (result.2.known.parts ≡ shares.known.parts) × (result.2.delivered.parts ≡ shares.delivered.parts) }
-    ensures within { IsWithin worker result.0 result.1 }
-    ensures foreknown { pushed each_one result.0 ≤ pushed each_one worker + result.2.known.amount }
-    ensures tied { IsClean result.1 → IsTied worker result.0 result.1.parcels.items }
-    ensures counted { IsClean result.1 → AreCounted result.2.known.amount result.2.delivered.amount result.1.parcels.items }
+    requires begun { IsWorkerStart thieves.now worker shares }
+    ensures ended { IsWorkerEnd W.seen (W.kids_of work.now) (W.out_of work.now) (G.may_refuse gate.now) thieves.now
+        worker shares result.0 result.1 result.2 }
     ensures order { IsClean result.1 → AreInOrder result.1.parcels.items }
 {
     let (worker, haul, shares) = serve_all(rt, alloc, work, gate, tally, thieves, worker, shares);
@@ -115,17 +108,9 @@ fn serve_all<W: Work, G: Gate, R: Wait, K: Ledger, D: Ledger>(
     mut worker: Worker,
     shares: Shares<K, D>,
 ) -> (Worker, Haul<W::Out>, Shares<K, D>)
-    requires passes { HasPasses thieves.now worker }
-    requires parts { (0 < shares.known.parts) × (0 < shares.delivered.parts) }
-    requires fresh { (shares.known.amount ≡ 0) × (shares.delivered.amount ≡ 0) }
-    ensures haul { IsOwnHaul W.seen (W.kids_of work.now) (W.out_of work.now) (G.may_refuse gate.now) result.1 }
-    ensures passes { HasPasses thieves.now result.0 }
-    ensures same { post_of result.0 ≡ post_of worker }
-    ensures parts { (result.2.known.parts ≡ shares.known.parts) × (result.2.delivered.parts ≡ shares.delivered.parts) }
-    ensures within { IsWithin worker result.0 result.1 }
-    ensures foreknown { pushed each_one result.0 ≤ pushed each_one worker + result.2.known.amount }
-    ensures tied { IsClean result.1 → IsTied worker result.0 result.1.parcels.items }
-    ensures counted { IsClean result.1 → AreCounted result.2.known.amount result.2.delivered.amount result.1.parcels.items }
+    requires begun { IsWorkerStart thieves.now worker shares }
+    ensures ended { IsWorkerEnd W.seen (W.kids_of work.now) (W.out_of work.now) (G.may_refuse gate.now) thieves.now
+        worker shares result.0 result.1 result.2 }
 {
     let mut haul = Haul::empty(alloc);
     let mut notes = Notes::of(rt, tally, shares);

@@ -1,0 +1,60 @@
+-- How workers' ends make crews' ends.
+use Rattle.std.proofs.Common.{◌≡◌, ℕ, List, [], ◌∷◌, ◌++◌, length, length-append, map, take, drop, Some, Result, Ok, Err, IfOk, refl, sym, ap, ◌∙◌, arith}
+use Rattle.std.proofs.lemmas.List.{map-append, take-append-drop}
+use Rattle.std.proofs.lemmas.List.Elements.{All-append, All-push, All-pop}
+use Rattle.ovl_board.specs.declared.pieces.Piece.{Piece}
+use Rattle.ovl_lanes.specs.declared.ends.Thief.{Thief}
+use Rattle.ovl_pool.specs.declared.hauls.Haul.{Haul}
+use Rattle.ovl_pool.specs.declared.shares.Shares.{Shares}
+use Rattle.ovl_pool.specs.declared.workers.Worker.{Worker}
+use Rattle.ovl_pool.specs.Crews.{IsWorkerEnd, IsCrewStart, IsCrewEnd, AreSharesOfBoth}
+use Rattle.ovl_pool.specs.Hauls.{IsHaulOfBoth, IsClean, AreInOrder}
+use Rattle.ovl_pool.specs.Passes.{HasPasses, post_of}
+use Rattle.ovl_pool.proofs.FlowLemmas.{last_tied, last_within, last_foreknown, halves_tied, halves_within, halves_foreknown, counted_both}
+use Rattle.ovl_pool.proofs.MergeLemmas.{clean_both, haul_merged, posts_joined}
+
+module _ {O S K D : Type 0} (seen : O → S) (kids : Piece → List Piece) (out : Piece → S) (may_refuse : Piece → Type 0) (thieves : List Thief) where
+  -- one worker ended, the last of several, of whom the others did nothing
+  pub last_ended : (rest : List Worker) (w v : Worker) (shares : Shares K D) (brought : Haul O) (noted : Shares K D) → IsCrewStart thieves (rest ++ w ∷ []) shares → IsWorkerEnd seen kids out may_refuse thieves w shares v brought noted
+      → (IsClean brought → AreInOrder brought.parcels.items) → IsCrewEnd seen kids out may_refuse thieves (rest ++ w ∷ []) (rest ++ v ∷ []) brought noted
+  last_ended rest w v shares brought noted begun ended order = record {
+    haul = ended.haul;
+    passes = All-push (HasPasses thieves) rest v (All-pop (HasPasses thieves) (rest ++ w ∷ []) rest (Some w) refl begun.passes).0 ended.passes;
+    same = map-append post_of rest (v ∷ []) ∙ (ap (λ post. map post_of rest ++ post ∷ []) ended.same ∙ sym (map-append post_of rest (w ∷ [])));
+    parts = (ended.parts.0 ∙ begun.parts.0, ended.parts.1 ∙ begun.parts.1);
+    within = last_within rest w v brought ended.within;
+    foreknown = last_foreknown rest w v noted.known.amount ended.foreknown;
+    order = order;
+    tied = λ clean. last_tied rest w v brought.parcels.items (ended.tied clean);
+    counted = ended.counted;
+  }
+
+  -- both halves of a crew ended
+  pub both_ended : (all first later ended more : List Worker) (a b both : Haul O) (noted beside every : Shares K D) → all ≡ first ++ later → IsCrewEnd seen kids out may_refuse thieves first ended a noted → IsCrewEnd seen kids out may_refuse thieves later more b beside
+      → IsHaulOfBoth a b both → AreSharesOfBoth noted beside every → IsCrewEnd seen kids out may_refuse thieves all (ended ++ more) both every
+  both_ended all first later ended more a b both noted beside every halved left right haul shares =
+      let clean_each : IsClean both → IsClean a × IsClean b = clean_both a b both haul.starved haul.refused in record {
+        haul = haul_merged seen kids out may_refuse a b both left.haul right.haul haul.parcels haul.refused;
+        passes = All-append (HasPasses thieves) ended more left.passes right.passes;
+        same = posts_joined all first later ended more halved left.same right.same;
+        parts = (
+          omega (arith, shares.parts.0, left.parts.0, right.parts.0, ap length halved, length-append first later),
+          omega (arith, shares.parts.1, left.parts.1, right.parts.1, ap length halved, length-append first later),
+        );
+        within = halves_within all first later ended more a b both halved left.within right.within haul.parcels haul.refused;
+        foreknown = halves_foreknown all first later ended more noted.known.amount beside.known.amount every.known.amount halved left.foreknown right.foreknown shares.amounts.0;
+        order = λ clean. let each = clean_each clean in haul.order (left.order each.0) (right.order each.1);
+        tied = λ clean. let each = clean_each clean in halves_tied all first later ended more a.parcels.items b.parcels.items both.parcels.items halved (left.tied each.0) (right.tied each.1) haul.parcels;
+        counted = λ clean.
+            let each = clean_each clean in
+            counted_both a.parcels.items b.parcels.items both.parcels.items _ _ _ _ _ _ haul.parcels (left.counted each.0) (right.counted each.1) shares.amounts.0 shares.amounts.1;
+      }
+
+-- a crew's first half and the rest of it
+pub parted : (all first later : List Worker) (n : ℕ) → first ≡ take n all → later ≡ drop n all → all ≡ first ++ later
+parted all first later n a b = sym (ap (λ l. l ++ later) a ∙ ap (λ l. take n all ++ l) b ∙ take-append-drop n all)
+
+-- what follows at Ok from three facts
+pub from_three : {T E : Type 0} (r : Result T E) (P Q R S : T → Type 0) → ((x : T) → P x → Q x → R x → S x) → IfOk r P → IfOk r Q → IfOk r R → IfOk r S
+from_three (Ok x) P Q R S f p q h = f x p q h
+from_three (Err e) P Q R S f p q h = tt
