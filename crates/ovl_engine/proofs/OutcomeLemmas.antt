@@ -1,19 +1,17 @@
 -- What a run that fails is told as, and numbers within their limits.
-use Rattle.std.proofs.Common.{◌≡◌, ◌≢◌, ◌⊎◌, inl, inr, ℕ, ◌+◌, ◌-◌, ◌<◌, ◌≤◌, Bool, true, false, Option, Some, None, Result, Ok, Err, List, refl, ap, arith}
-use Rattle.std.specs.Prelude.{not, nat_lt, unwrap_or, if◌then◌else◌}
+use Rattle.std.proofs.Common.{◌≡◌, ◌≢◌, ◌⊎◌, inl, inr, ℕ, ◌+◌, ◌-◌, ◌<◌, ◌≤◌, true, Result, Ok, Err, List, refl, arith}
 use Rattle.ovl_lookup.specs.Stacks.{StackView}
 use Rattle.ovl_board.specs.declared.assembly.BoardFault.{BoardFault}
 use Rattle.ovl_board.specs.declared.assembly.BoardFault.TheVariants.{Double, Stranger, Missing, Memory as BoardMemory}
 use Rattle.ovl_pool.specs.declared.runs.RunFault.{RunFault}
 use Rattle.ovl_pool.specs.declared.runs.RunFault.TheVariants.{Workers, Gate, Board, Memory}
 use Rattle.ovl_pool.specs.Runs.{IsBoardMemory}
-use Rattle.ovl_check.specs.Blobs.{BlobView, are_in_order}
 use Rattle.ovl_check.specs.declared.findings.Finding.{Finding}
 use Rattle.ovl_engine.specs.declared.requests.Command.{Command}
 use Rattle.ovl_engine.specs.declared.requests.Answer.{Answer}
 use Rattle.ovl_engine.specs.declared.faults.EngineFault.{EngineFault}
 use Rattle.ovl_engine.specs.declared.faults.EngineFault.TheVariants.{Workers as NoWorkers, Layers, Layer, BlobOrder, BlobSize, NoLower, Faulty, LimitOut, Run, Memory as WantsMemory, DataLayers}
-use Rattle.ovl_engine.specs.Refusals.{failed_run, blob_limit, blob_bytes, blob_refusal}
+use Rattle.ovl_engine.specs.Refusals.{failed_run}
 use Rattle.ovl_engine.specs.Commands.{makes_layers}
 use Rattle.ovl_engine.specs.Outcomes.{IsFailedRun, IsFailedWalk, IsFailure, IsUnclean, IsRun}
 
@@ -106,12 +104,3 @@ not_beyond limit n some few (inr many) = omega arith
 pub not_refused : (limit n all bottom front back : ℕ) → n ≡ all → front ≡ n - bottom → back ≡ all - (n - bottom) → bottom < all → all ≤ limit → (front ≡ 0) ⊎ (limit < front + back) → ⊥
 not_refused limit n all bottom front back same ahead behind some few (inl none) = omega arith
 not_refused limit n all bottom front back same ahead behind some few (inr many) = omega arith
-
--- blobs are refused for their order or for their size
-pub blob-refused : (blobs : List BlobView) (fault : EngineFault) → Some fault ≡ blob_refusal blobs → (fault ≡ BlobOrder) ⊎ (fault ≡ BlobSize)
-blob-refused blobs fault = by (not (are_in_order blobs)) (nat_lt blob_limit (blob_bytes blobs))
-  where
-    by : (order size : Bool) → Some fault ≡ (if order then Some BlobOrder else if size then Some BlobSize else None) → (fault ≡ BlobOrder) ⊎ (fault ≡ BlobSize)
-    by true size is = inl (ap (λ (o : Option EngineFault). unwrap_or o fault) is)
-    by false true is = inr (ap (λ (o : Option EngineFault). unwrap_or o fault) is)
-    by false false is = let bad : Some fault ≡ None = is in cc

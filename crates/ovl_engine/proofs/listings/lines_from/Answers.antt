@@ -57,7 +57,7 @@ loop-directory-preserved c =
     let wanted = leb c.args.first number in
     let longer = string_bytes c.push_wanted-in-Some.new.report in
     let more : longer ≡ lines ++ cond wanted (look_line (string_bytes o.text ++ (codes "/" ++ escaped entry.0)) entry.1) [] =
-    c.in_ok-push_wanted-2.ensures ∙ (λ j. lines ++ cond wanted (look_line (c.as_str.ensures.value j ++ (codes "/" ++ escaped (c.as_str-in-Some.ensures.value j))) entry.1) []) in
+    c.in_ok-push_wanted-2.ensures ∙ (λ j. lines ++ cond wanted (look_line (c.as_str-above.ensures.value j ++ (codes "/" ++ escaped (c.as_str.ensures.value j))) entry.1) []) in
     let some : drop o.told out ≡ entry ∷ drop (o.told + 1) out =
     next_left out o.told entry (subst (λ entries. o.told < length entries) c.deref.ensures.value c.in-Some-get.ensures.lookup.3.0)
     (c.in-Some-get.ensures.lookup.1 ∙ ap (λ entries. get_or entries o.told entry) c.deref.ensures.value) in
@@ -73,7 +73,7 @@ loop-directory-preserved c =
           let opened = c.in_ok-rest-2.ensures.next next.0 next.1.0 next.1.1 in
           let o'' = opened.1.0 in
           let text : string_bytes o''.text ≡ string_bytes o.text ++ (codes "/" ++ escaped entry.0) =
-          opened.1.1.3 ∙ (c.in_ok-text.ensures ∙ (λ j. c.as_str-in-Some-2.ensures.value j ++ (codes "/" ++ escaped (c.as_str-in-Some-3.ensures.value j)))) in
+          opened.1.1.3 ∙ (c.in_ok-text.ensures ∙ (λ j. c.as_str-above.ensures.value j ++ (codes "/" ++ escaped (c.as_str-in-Some.ensures.value j)))) in
           subst (IsListing stack c.args.first longer (number + 1) c.enter-in-Some.new.opened.items) (sym opened.0)
           (subst (λ opens. IsListing stack c.args.first longer (number + 1) opens next.1.0) (sym (opened.1.1.0 ∙ ap (λ opens. opens ++ o'' ∷ []) c.in_ok-push.ensures.items))
           (listing-entered stack c.args.first tree.each lines number kept o l.rest.now h entry (drop (o.told + 1) out) some
