@@ -1,6 +1,6 @@
 -- From the parcels to the new layer.
-use Rattle.std.proofs.Common.{◌≡◌, ◌<◌, Bool, true, false, cond, Option, Some, List, [], length, refl, sym, ap, ◌∙◌, subst}
-use Rattle.std.specs.Prelude.{◌&&◌, All, Result, Ok, Err, IfOk, nat_le, slice_get, unwrap_or}
+use Rattle.std.proofs.Common.{◌≡◌, ◌<◌, Bool, true, false, cond, Some, List, [], length, refl, sym, ap, ◌∙◌, subst}
+use Rattle.std.specs.Prelude.{◌&&◌, All, Result, Ok, Err, IfOk, nat_le}
 use Rattle.std.specs.List.{list_all}
 use Rattle.std.specs.Option.{option_map}
 use Rattle.ovl_names.specs.Order.{ascends}
@@ -26,13 +26,12 @@ use Rattle.ovl_deref.proofs.DirectoryLemmas.{told}
 use Rattle.ovl_deref.proofs.LayerLemmas.{layer-but_limits}
 
 -- the root of the topmost layer, as the program comes to it
-pub root-there : (inside stack : StackView) → inside ≡ stack → (sheet : Entries) → slice_get inside.layers 0 ≡ Some sheet → (place : Entries) → place ≡ sheet
+pub root-there : (inside stack : StackView) → inside ≡ stack → (sheet : Entries) → sheet ≡ top_layer inside → (place : Entries) → place ≡ sheet
     → (own root : Inode) → entry_at place [] ≡ Some own → root ≡ own → entry_at (top_layer stack) [] ≡ Some root
 root-there inside stack is sheet there place at own root here same =
     ap (λ (s : StackView). entry_at (top_layer s) []) (sym is)
-    ∙ (ap (λ (found : Option Entries). entry_at (unwrap_or found []) []) there
-    ∙ (ap (λ (entries : Entries). entry_at entries []) (sym at)
-    ∙ (here ∙ ap (λ (i : Inode). Some i) (sym same))))
+    ∙ (ap (λ (entries : Entries). entry_at entries []) (sym (at ∙ there))
+    ∙ (here ∙ ap (λ (i : Inode). Some i) (sym same)))
 
 module _ (stack : StackView) (each : All IsLayer stack.layers) (some : 0 < length stack.layers) where
   -- the root stays

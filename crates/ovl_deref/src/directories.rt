@@ -4,7 +4,6 @@ ghost use Rattle.ovl_names.specs.Paths.{child_path};
 ghost use Rattle.ovl_inode.specs.Marks.{mark_of as the_mark};
 ghost use Rattle.ovl_manifest.specs.Layers.{entry_at};
 ghost use Rattle.ovl_manifest.specs.Sheets.{path_at};
-ghost use Rattle.ovl_lookup.specs.Merged.{look as the_look};
 ghost use Rattle.ovl_lookup.specs.DirViews.{IsViewOf};
 ghost use Rattle.ovl_lookup.specs.Sound.{is_moved as moved_test};
 ghost use Rattle.ovl_lookup.specs.Words.{top_layer, lower_layers};
@@ -16,7 +15,6 @@ ghost use Rattle.ovl_deref.specs.Visits.{IsOwnPlace, IsKid, named_at, shown_inod
 use crate::inodes::{filled, unfolded};
 use ovl_inode::{Inode, Mark};
 use ovl_lookup::{DirView, Found, Look, Stack};
-use ovl_manifest::Sheet;
 use ovl_names::{Name, Path};
 use std::alloc::{AllocError, Global};
 
@@ -51,7 +49,7 @@ enum OwnPlace {
 fn own_place(stack: &Stack, dir: &Path) -> OwnPlace
     ensures { IsOwnPlace (top_layer stack.now) dir.now result }
 {
-    let sheet = top_sheet(stack);
+    let sheet = stack.top();
     let mut row = sheet.root_number();
     for name in dir.names() {
         let Some(child) = sheet.child(row, name) else {
@@ -63,14 +61,6 @@ fn own_place(stack: &Stack, dir: &Path) -> OwnPlace
         row = child;
     }
     OwnPlace::Row(row)
-}
-
-fn top_sheet(stack: &Stack) -> &Sheet
-    ensures { result.now ≡ top_layer stack.now }
-{
-    // A stack has a topmost layer.
-    let _layers = stack.ordinary();
-    stack.sheet(0)
 }
 
 // Whether this is the mark of a moved directory.
@@ -128,7 +118,7 @@ fn own_inodes(
     requires { IsOwnPlace (top_layer stack.now) dir.now (Row row) }
     ensures { IfOk result (λ inodes. inodes.items ≡ the_inodes stack.now dir.now) }
 {
-    let sheet = top_sheet(stack);
+    let sheet = stack.top();
     let kids = sheet.kids(row);
     let mut view = None;
     let mut inodes = Vec::with_capacity(alloc, kids.len())?;
@@ -157,27 +147,15 @@ fn push_own(
 {
     // Each layer of a stack is one.
     let _layers = stack.ordinary();
-    let sheet = top_sheet(stack);
+    let sheet = stack.top();
     // The root alone has no name.
     let Some(name) = sheet.name(number) else {
         return Ok(());
     };
-    let entry = entry_of(sheet, number);
+    let entry = Found::in_row(sheet, number);
     let inode = dereferenced(alloc, stack, view, dir, name, &entry)?;
     inodes.push((name.copy(alloc)?, inode))?;
     Ok(())
-}
-
-// What a layer has in the row of a number.
-fn entry_of(sheet: &Sheet, number: u32) -> Found<'_>
-    requires { number < length sheet.now }
-    ensures value { entry_at sheet.now (path_at sheet.now number) ≡ Some result.inode.now }
-    ensures marked { result.mark.now ≡ the_mark result.inode.now }
-{
-    Found {
-        inode: sheet.inode(number),
-        mark: sheet.mark(number),
-    }
 }
 
 // What becomes of the entry at a name in a directory, by the view of that.
@@ -200,7 +178,10 @@ fn dereferenced(
     let _layers = stack.ordinary();
     match entry.mark {
         Mark::DirMoved(_) => unfolded(alloc, entry.inode),
-        Mark::Meta(_) => filled(alloc, entry.inode, &look_in(alloc, stack, view, dir, name)?),
+        Mark::Meta(_) => {
+            let look = DirView::look_kept(alloc, stack, view, dir, name)?;
+            filled(alloc, entry.inode, &look)
+        }
         Mark::Whiteout
         | Mark::DirOpaque
         | Mark::DirBad
@@ -208,30 +189,4 @@ fn dereferenced(
         | Mark::MetaBad
         | Mark::Leaf => entry.inode.copy(alloc),
     }
-}
-
-// What the stack shows at a name in a directory, by the view of that, which is made with the first name that is asked
-// for and kept for the others.
-fn look_in(
-    alloc: Global,
-    stack: &Stack,
-    view: &mut Option<DirView>,
-    dir: &Path,
-    name: &Name,
-) -> Result<Look, AllocError>
-    requires { IfSome view.old (IsViewOf stack.now 0 dir.now) }
-    ensures look { IfOk result (λ look. look ≡ the_look stack.now (child_path dir.now name.now)) }
-    ensures view { IfSome view.new (IsViewOf stack.now 0 dir.now) }
-{
-    // Each layer of a stack is one.
-    let _layers = stack.ordinary();
-    if let Some(made) = view.as_ref() {
-        return made.look(alloc, stack, name);
-    }
-    let Some(made) = DirView::of(alloc, stack, 0, dir)? else {
-        return Ok(Look::Nothing);
-    };
-    let look = made.look(alloc, stack, name)?;
-    *view = Some(made);
-    Ok(look)
 }

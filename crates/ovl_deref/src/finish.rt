@@ -30,6 +30,6 @@ pub fn finish_deref(
 {
     // Each layer of a stack is one.
     let _layers = work.stack.ordinary();
-    let root = work.stack.sheet(0).root().inode().copy(alloc)?;
+    let root = work.stack.top().root().inode().copy(alloc)?;
     layer_told(alloc, root, parcels)
 }

@@ -17,9 +17,8 @@ use Rattle.ovl_inode.specs.Marks.{mark_of, is_directory, is_whiteout, is_metacop
 use Rattle.ovl_inode.specs.declared.marks.Mark.TheVariants.{Meta}
 use Rattle.ovl_inode.specs.declared.marks.Redirect.TheVariants.{To, Beside}
 use Rattle.ovl_manifest.specs.Layers.{Entries, entry_at, is_directory_at, IsLayer, has_parent, Entry, name_below, names_below, is_within_limits}
-use Rattle.ovl_manifest.proofs.NodeLemmas.{name_eq-same, entry_at-under}
+use Rattle.ovl_manifest.proofs.NodeLemmas.{name_eq-same}
 use Rattle.ovl_manifest.specs.Sheets.{path_at, path_of}
-use Rattle.ovl_manifest.specs.LayerTrees.{entries_under}
 use Rattle.ovl_manifest.proofs.SheetLemmas.{none-past, entry_at-number}
 use Rattle.ovl_lookup.specs.Walk.{mark_at, origin_path, name_in_lower, is_closing, nothing_found, turn, is_shut, walk, walk_from, walk_beyond, natural_path, walk_to_file}
 use Rattle.ovl_lookup.specs.Passes.{entered_path, entered_closed, IsOwnDirectory}

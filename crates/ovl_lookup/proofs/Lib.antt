@@ -9,7 +9,6 @@ pub mod Longest
 pub mod Turns
 pub mod WalkFacts
 pub mod FoundLemmas
-pub mod KidLemmas
 pub mod ListLemmas
 pub mod Notation
 pub mod RowLemmas

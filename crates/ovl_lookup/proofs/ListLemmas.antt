@@ -1,10 +1,9 @@
 -- The merged tree as a list.
-use Rattle.std.proofs.Common.{◌≡◌, ℕ, zero, suc, ◌+◌, ◌-◌, ◌<◌, length, get_or, take, None, List, [], ◌∷◌, ◌++◌, refl, sym, ap, ◌∙◌, arith, append_assoc}
+use Rattle.std.proofs.Common.{◌≡◌, ℕ, zero, suc, ◌+◌, ◌-◌, ◌<◌, length, get_or, take, List, [], ◌∷◌, ◌++◌, refl, sym, ap, ◌∙◌, arith, append_assoc}
 use Rattle.std.specs.List.{flat_map}
-use Rattle.std.specs.Map.{lookup}
 use Rattle.std.proofs.lemmas.List.{append-nil, take_more, map-append}
 use Rattle.ovl_names.specs.Names.{PathName}
-use Rattle.ovl_names.specs.Paths.{PathNames, child_path, path_eq}
+use Rattle.ovl_names.specs.Paths.{PathNames, child_path}
 use Rattle.ovl_lookup.specs.declared.looks.Look.{Look}
 use Rattle.ovl_lookup.specs.Stacks.{StackView}
 use Rattle.ovl_lookup.specs.Merged.{look}
@@ -18,14 +17,6 @@ Looks = List (PathNames × Look)
 -- the list itself
 abbrev pub flat : List PathName → (PathName → Looks) → Looks
 flat names of = flat_map (λ name. looks_under name (of name)) names
-
-lookup-root-under : (own : PathName) (looks rest : Looks) → lookup (path_eq []) (looks_under own looks ++ rest) ≡ lookup (path_eq []) rest
-lookup-root-under own [] rest = refl
-lookup-root-under own (entry ∷ looks) rest = lookup-root-under own looks rest
-
-lookup-root : (names : List PathName) (of : PathName → Looks) → lookup (path_eq []) (flat names of) ≡ None
-lookup-root [] of = refl
-lookup-root (own ∷ names) of = lookup-root-under own (of own) (flat names of) ∙ lookup-root names of
 
 -- ---- the list, name by name
 

@@ -13,7 +13,7 @@ mod trails;
 mod view_looks;
 mod views;
 
-pub use looks::Look;
+pub use looks::{Look, is_well_formed_metacopy};
 pub use stacks::{LAYER_LIMIT, Stack, StackFault};
 pub use steps::{Found, OwnDirectory, Step, walk};
 pub use trails::Trail;

@@ -1,12 +1,11 @@
-ghost use Rattle.std.specs.Prelude.{◌≡◌, ◌≤◌, ◌++◌, [], length, IfOk, OnOk};
+ghost use Rattle.std.specs.Prelude.{◌≡◌, ◌≤◌, ◌++◌, length, IfOk, OnOk};
 ghost use Rattle.ovl_lookup.specs.Stacks.{from_layer};
 ghost use Rattle.ovl_lookup.specs.Merged.{AreKids, IsMerged};
-ghost use Rattle.ovl_lookup.specs.Passes.{own_names_along, put_names, kids_along, looks_from, looks_placed};
+ghost use Rattle.ovl_lookup.specs.Passes.{looks_from, looks_placed};
 
-use crate::{DirView, Look, Stack, walk};
+use crate::{DirView, Look, Stack};
 use ovl_names::{DEPTH_LIMIT, Name, Path};
 use std::alloc::{AllocError, Global};
-use std::collections::BTreeSet;
 
 impl Stack {
     /// The names that a directory has in the merged tree of the layers with index `from` and up, in order; none where
@@ -46,61 +45,17 @@ impl Stack {
     ) -> Result<(), AllocError>
         ensures { OnOk result (looks.new.items ≡ looks.old.items ++ looks_placed path.now (looks_from depth self.now path.now)) }
     {
+        let _ = &self.layers;
         if depth == 0 {
             return Ok(());
         }
         let look = self.look(alloc, 0, path)?;
         looks.push((path.copy(alloc)?, look))?;
-        let names = self.kids(alloc, path)?;
+        let names = self.names(alloc, 0, path)?;
         for name in &names {
             let child = path.child(alloc, name)?;
             self.push_looks(alloc, &child, depth - 1, looks)?;
         }
         Ok(())
     }
-
-    // The layers' own names below a path, along its walks, below which something is shown.
-    fn kids(&self, alloc: Global, path: &Path) -> Result<Vec<Name>, AllocError>
-        ensures { IfOk result (λ names. names.items ≡ kids_along self.now path.now) }
-    {
-        let mut names = Vec::new(alloc);
-        let found = self.own_names_along(alloc, path)?;
-        for name in found {
-            let child = path.child(alloc, &name)?;
-            let look = self.look(alloc, 0, &child)?;
-            if !look.is_nothing() {
-                names.push(name)?;
-            }
-        }
-        Ok(names)
-    }
-
-    // The layers' own names below a path, along its walks.
-    fn own_names_along(&self, alloc: Global, path: &Path) -> Result<BTreeSet<Name>, AllocError>
-        ensures { IfOk result (λ found. found.keys ≡ put_names [] (own_names_along self.now.layers path.now)) }
-    {
-        let mut found = BTreeSet::new(alloc);
-        let mut next = path.copy(alloc)?;
-        for i in 0..self.ordinary() {
-            let sheet = self.sheet(i);
-            let own = sheet.children(alloc, &next)?;
-            put_all(&mut found, own)?;
-            let step = walk(alloc, sheet, &next)?;
-            if step.closed {
-                return Ok(found);
-            }
-            next = step.next;
-        }
-        Ok(found)
-    }
-}
-
-// Puts the names among those of the set.
-fn put_all(found: &mut BTreeSet<Name>, names: Vec<Name>) -> Result<(), AllocError>
-    ensures { OnOk result (found.new.keys ≡ put_names found.old.keys names.items) }
-{
-    for name in names {
-        found.insert(name)?;
-    }
-    Ok(())
 }

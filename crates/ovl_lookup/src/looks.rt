@@ -1,4 +1,4 @@
-ghost use Rattle.std.specs.Prelude.{◌≡◌, ◌<◌, ◌≤◌, ◌∷◌, ◌&&◌, true, not, length, drop, slice_get, IfOk, IfSome};
+ghost use Rattle.std.specs.Prelude.{◌≡◌, ◌<◌, ◌≤◌, ◌∷◌, ◌&&◌, true, length, drop, slice_get, IfOk, IfSome};
 ghost use Rattle.std.specs.Option.{option_map};
 ghost use Rattle.std.specs.Cmp.{partial_equiv_from_equiv};
 ghost use Rattle.ovl_inode.specs.Marks.{mark_of as the_mark, is_metacopy_mark, is_regular, has_metacopy};
@@ -145,7 +145,7 @@ impl Stack {
         requires bare { (is_regular _inode.now && has_metacopy _inode.now) ≡ true }
         ensures { IfOk result (λ found. found ≡ the_data self.now.data_only (_inode.now ∷ found_on self.now i next.entry closed)) }
     {
-        if !is_meta(mark) {
+        if !is_well_formed_metacopy(mark) {
             return Ok(None);
         }
         let origin = place_of_data(mark);
@@ -180,7 +180,7 @@ impl Stack {
                 if is_data(found.inode) {
                     return Ok(Some(found.inode.copy(alloc)?));
                 }
-                if !is_meta(found.mark) {
+                if !is_well_formed_metacopy(found.mark) {
                     return Ok(None);
                 }
                 origin = place_of_data(found.mark);
@@ -207,7 +207,7 @@ impl Stack {
                 closed,
             } = self.followed(alloc, i, &next)?;
             if let Some(found) = found {
-                if !is_meta(found.mark) {
+                if !is_well_formed_metacopy(found.mark) {
                     return Ok(None);
                 }
                 told = place_of_data(found.mark);
@@ -317,8 +317,8 @@ pub(crate) fn lacks_contents(inode: &Inode) -> bool
     matches!(&inode.kind, Kind::File { .. }) && inode.attrs.get(overlay::METACOPY).is_some()
 }
 
-// Whether this is the mark of a metacopy file whose redirect is absent or well formed.
-pub(crate) fn is_meta(mark: &Mark) -> bool
+/// Whether this is the mark of a metacopy file whose redirect is absent or well formed.
+pub fn is_well_formed_metacopy(mark: &Mark) -> bool
     ensures { result ≡ is_metacopy_mark mark.now }
 {
     matches!(mark, Mark::Meta(_))

@@ -6,9 +6,10 @@ ghost use Rattle.ovl_lookup.specs.Passes.{IsOwnDirectory};
 ghost use Rattle.ovl_lookup.specs.Walk.{walk as the_walk};
 ghost use Rattle.ovl_lookup.specs.declared.stacks.StackFault.TheVariants.{Layers, Memory, DataCount};
 ghost use Rattle.ovl_lookup.specs.Stacks.{layer_limit, all_layers, stack_with};
+ghost use Rattle.ovl_lookup.specs.Words.{top_layer};
 
 use crate::steps::directory_in;
-use crate::{OwnDirectory, Step, Trail, walk};
+use crate::{OwnDirectory, Step, walk};
 use ovl_inode::Inode;
 use ovl_manifest::{Layer, Sheet};
 use ovl_names::{Name, Path};
@@ -142,6 +143,15 @@ impl Stack {
         ensures { slice_get self.now.layers i ≡ Some result.now }
     {
         &self.layers[i]
+    }
+
+    /// The sheet of the topmost layer.
+    pub fn top(&self) -> &Sheet
+        ensures value { result.now ≡ top_layer self.now }
+        ensures some { 0 < length self.now.layers }
+        ensures each { All IsLayer self.now.layers }
+    {
+        &self.layers[0]
     }
 
     /// The sheets of its layers, the topmost first, and those of its data-only ones.

@@ -53,6 +53,20 @@ pub struct Found<'a> {
     pub mark: &'a Mark,
 }
 
+impl<'a> Found<'a> {
+    /// What a layer has in the row of a number.
+    pub fn in_row(sheet: &'a Sheet, number: u32) -> Found<'a>
+        requires { number < length sheet.now }
+        ensures value { entry_at sheet.now (path_at sheet.now number) ≡ Some result.inode.now }
+        ensures marked { result.mark.now ≡ the_mark result.inode.now }
+    {
+        Found {
+            inode: sheet.inode(number),
+            mark: sheet.mark(number),
+        }
+    }
+}
+
 impl<'a> TrailStep<'a> {
     // The same, in an inode and a path of its own.
     pub(crate) fn copied(self, alloc: Global) -> Result<Step, AllocError>
@@ -95,7 +109,7 @@ pub(crate) fn follow<'a>(
     let next = turned_or_own(alloc, sheet, turned, row, depth)?;
     let Some(stop) = stop else {
         return Ok(TrailStep {
-            found: Some(found_in(sheet, row)),
+            found: Some(Found::in_row(sheet, row)),
             next,
             closed,
         });
@@ -114,19 +128,7 @@ pub(crate) fn follow<'a>(
             closed: true,
         });
     }
-    beyond(alloc, found_in(sheet, number), next, closed, stop.name)
-}
-
-// What a layer has in the row of a number.
-fn found_in(sheet: &Sheet, number: u32) -> Found<'_>
-    requires { number < length sheet.now }
-    ensures value { entry_at sheet.now (path_at sheet.now number) ≡ Some result.inode.now }
-    ensures marked { result.mark.now ≡ the_mark result.inode.now }
-{
-    Found {
-        inode: sheet.inode(number),
-        mark: sheet.mark(number),
-    }
+    beyond(alloc, Found::in_row(sheet, number), next, closed, stop.name)
 }
 
 // How far a path goes through directories of a layer: the row of the last of them, how many names lead to it, the path

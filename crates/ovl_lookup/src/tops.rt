@@ -1,4 +1,4 @@
-ghost use Rattle.std.specs.Prelude.{◌≡◌, [], ◌∷◌, ◌+◌, ◌<◌, ◌^◌, length, IfOk};
+ghost use Rattle.std.specs.Prelude.{[], ◌∷◌, ◌+◌, ◌<◌, ◌^◌, length, IfOk};
 ghost use Rattle.std.specs.List.{All};
 ghost use Rattle.ovl_lookup.specs.ViewPasses.{AreInOrder, AreTops, AreMerged, tops_told};
 ghost use Rattle.ovl_lookup.specs.DirViews.{IsPlaceOver, place_in, places_in};

@@ -1,22 +1,21 @@
-ghost use Rattle.std.specs.Prelude.{◌≡◌, ◌<◌, ◌++◌, [], ◌∷◌, if◌then◌else◌, None, Some, drop, length, not, slice_get, IfOk, IsSomeAnd, OnOk};
+ghost use Rattle.std.specs.Prelude.{◌≡◌, ◌<◌, ◌++◌, [], ◌∷◌, if◌then◌else◌, None, Some, drop, length, not, slice_get, IfOk, IfSome, IsSomeAnd, OnOk};
 ghost use Rattle.std.specs.List.{All};
 ghost use Rattle.ovl_names.specs.Paths.{child_path};
-ghost use Rattle.ovl_inode.specs.Marks.{is_metacopy_mark};
 ghost use Rattle.ovl_lookup.specs.Stacks.{from_layer};
 ghost use Rattle.ovl_lookup.specs.Trace.{things_found};
 ghost use Rattle.ovl_lookup.specs.Merged.{AreKids, look as the_look, shows as shows_there, shown_of, is_nothing as nothing_test};
 ghost use Rattle.ovl_lookup.specs.Passes.{data_below};
 ghost use Rattle.ovl_lookup.specs.Views.{entry_in, found_below};
 ghost use Rattle.ovl_lookup.specs.ViewPasses.{AreLooks};
-ghost use Rattle.ovl_lookup.specs.DirViews.{IsViewOver, IsPlaceOver, places_in};
+ghost use Rattle.ovl_lookup.specs.DirViews.{IsViewOver, IsViewOf, IsPlaceOver, places_in};
 
-use crate::looks::{is_meta, lacks_contents, metacopy_shown};
+use crate::looks::{is_well_formed_metacopy, lacks_contents, metacopy_shown};
 use crate::tops::tops_of;
 use crate::trails::Trail;
 use crate::views::{DirPlace, goes_on_at, goes_on_by};
 use crate::{DirView, Look, Stack};
-use ovl_inode::{Inode, Mark, is_data, is_whiteout, visible};
-use ovl_names::Name;
+use ovl_inode::{Inode, is_data, is_whiteout, visible};
+use ovl_names::{Name, Path};
 use std::alloc::{AllocError, Global};
 
 impl DirView {
@@ -28,6 +27,32 @@ impl DirView {
     {
         let _ = &stack.layers;
         look_in(alloc, stack, &self.places, name)
+    }
+
+    /// What the stack shows at a name in a directory, by the view of that, which is made with the first name that is
+    /// asked for and kept for the others. Fails only when out of memory.
+    pub fn look_kept(
+        alloc: Global,
+        stack: &Stack,
+        view: &mut Option<DirView>,
+        dir: &Path,
+        name: &Name,
+    ) -> Result<Look, AllocError>
+        requires { IfSome view.old (IsViewOf stack.now 0 dir.now) }
+        ensures look { IfOk result (λ look. look ≡ the_look stack.now (child_path dir.now name.now)) }
+        ensures view { IfSome view.new (IsViewOf stack.now 0 dir.now) }
+    {
+        // Each layer of a stack is one.
+        let _layers = stack.ordinary();
+        if let Some(made) = view.as_ref() {
+            return made.look(alloc, stack, name);
+        }
+        let Some(made) = DirView::of(alloc, stack, 0, dir)? else {
+            return Ok(Look::Nothing);
+        };
+        let look = made.look(alloc, stack, name)?;
+        *view = Some(made);
+        Ok(look)
     }
 
     /// Whether something is shown at a name in this directory; takes no memory.
@@ -191,7 +216,7 @@ fn data_in(
         if is_data(entry.inode) {
             return Ok(Some(entry.inode.copy(alloc)?));
         }
-        if !is_meta(entry.mark) {
+        if !is_well_formed_metacopy(entry.mark) {
             return Ok(None);
         }
         if let Some(origin) = goes_on_at(entry.mark) {

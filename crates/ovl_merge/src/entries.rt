@@ -3,7 +3,6 @@ ghost use Rattle.std.specs.Option.{option_map};
 ghost use Rattle.ovl_names.specs.Paths.{PathNames, child_path, path_text as text_of_path};
 ghost use Rattle.ovl_inode.specs.Inodes.{visible as the_visible};
 ghost use Rattle.ovl_inode.specs.Marks.{mark_of as the_mark, is_directory as directory_test};
-ghost use Rattle.ovl_lookup.specs.Merged.{look as the_look};
 ghost use Rattle.ovl_lookup.specs.DirViews.{IsViewOf};
 ghost use Rattle.ovl_merge.specs.Places.{merge_of, reach as the_reach};
 ghost use Rattle.ovl_merge.specs.MergeDown.{with_value as the_valued, redirected_from, with_contents as the_filled, new_whiteout as the_whiteout, merged_directory as the_directory, merged_metacopy as the_metacopy, kept_place as the_kept, has_data_alone as data_alone_test, merged_inode as the_inode, merged_entry};
@@ -14,9 +13,9 @@ ghost use Rattle.ovl_merge.specs.Passages.{IsPassage, first_in, place_from};
 use crate::bases::Base;
 use crate::candidates::Candidate;
 use crate::directories::Directory;
-use crate::passages::{Passage, Place, is_meta};
+use crate::passages::{Passage, Place};
 use ovl_inode::{Attrs, Inode, Kind, is_directory, overlay, visible};
-use ovl_lookup::{DirView, Found, Look, Stack};
+use ovl_lookup::{DirView, Found, Look, Stack, is_well_formed_metacopy};
 use ovl_names::{Name, Path};
 use std::alloc::{AllocError, Global};
 
@@ -106,7 +105,7 @@ fn merged_inode(
     if is_directory(found.inode) {
         return merged_directory(alloc, stack, above, name, passage, found);
     }
-    if is_meta(found.mark) {
+    if is_well_formed_metacopy(found.mark) {
         return merged_metacopy(alloc, stack, whole, above, name, passage, found);
     }
     shown_inode(alloc, found.inode)
@@ -184,7 +183,7 @@ fn merged_metacopy(
         let text = path_text(alloc, &kept)?;
         return with_value(copied, overlay::REDIRECT, text.as_bytes());
     }
-    let contents = look_in_whole(alloc, stack, whole, above, name)?;
+    let contents = DirView::look_kept(alloc, stack, whole, &above.path, name)?;
     with_contents(alloc, shown, &contents)
 }
 
@@ -213,32 +212,6 @@ fn has_data_alone(alloc: Global, stack: &Stack, place: &Path) -> Result<bool, Al
         return Ok(false);
     }
     Ok(stack.look(alloc, 2, place)?.is_nothing())
-}
-
-// What the whole stack shows at a name in a directory, by the view of that, which is made with the first
-// name that is asked for and kept for the others.
-fn look_in_whole(
-    alloc: Global,
-    stack: &Stack,
-    whole: &mut Option<DirView>,
-    above: &Directory,
-    name: &Name,
-) -> Result<Look, AllocError>
-    requires { IfSome whole.old (IsViewOf stack.now 0 above.now.path) }
-    ensures look { IfOk result (λ look. look ≡ the_look stack.now (child_path above.now.path name.now)) }
-    ensures whole { IfSome whole.new (IsViewOf stack.now 0 above.now.path) }
-{
-    // Each layer of a stack is one.
-    let _layers = stack.ordinary();
-    if let Some(view) = whole.as_ref() {
-        return view.look(alloc, stack, name);
-    }
-    let Some(view) = DirView::of(alloc, stack, 0, &above.path)? else {
-        return Ok(Look::Nothing);
-    };
-    let look = view.look(alloc, stack, name)?;
-    *whole = Some(view);
-    Ok(look)
 }
 
 // An entry `name` of a directory that goes on at a place: with no redirect where the reach of the directory has it by

@@ -38,9 +38,9 @@ impl MergeWork<'_> {
     pub fn end(&self, alloc: Global) -> Result<MergeEnd, AllocError>
         ensures { IfOk result (IsMergeEnd self.now) }
     {
-        // A stack has a topmost layer, and each of its layers is one.
+        // Each layer of a stack is one.
         let _layers = self.stack.ordinary();
-        let root = visible(alloc, self.stack.sheet(0).root().inode())?;
+        let root = visible(alloc, self.stack.top().root().inode())?;
         Ok(MergeEnd { root })
     }
 }

@@ -1,7 +1,7 @@
 ghost use Rattle.std.specs.Prelude.{◌≡◌, ◌≢◌, ◌<◌, Option, None, Some, length, IfOk, IfSome};
 ghost use Rattle.std.specs.Option.{option_map, option_and_then};
 ghost use Rattle.ovl_names.specs.Paths.{PathNames, child_path};
-ghost use Rattle.ovl_inode.specs.Marks.{mark_of as the_mark, is_directory as directory_test, is_metacopy as metacopy_test, is_metacopy_mark};
+ghost use Rattle.ovl_inode.specs.Marks.{mark_of as the_mark, is_directory as directory_test, is_metacopy as metacopy_test};
 ghost use Rattle.ovl_manifest.specs.Layers.{entry_at};
 ghost use Rattle.ovl_lookup.specs.Merged.{look as the_look};
 ghost use Rattle.ovl_merge.specs.Places.{merge_of, is_nothing_or, is_shown_regular as regular_look, reach as the_reach, goes_on_at};
@@ -13,8 +13,8 @@ ghost use Rattle.ovl_merge.specs.Passages.{IsPassage, IsPassed, IsMarked, IsPlac
 use crate::candidates::Candidate;
 use crate::directories::Directory;
 use crate::stands::{Onward, Passing, Stand, passing_at, passing_in};
-use ovl_inode::{Inode, Kind, Mark, is_directory};
-use ovl_lookup::{Found, Look, Stack, Step, walk};
+use ovl_inode::{Inode, Kind, is_directory};
+use ovl_lookup::{Found, Look, Stack, Step, is_well_formed_metacopy, walk};
 use ovl_manifest::Sheet;
 use ovl_names::{Name, Path};
 use std::alloc::{AllocError, Global};
@@ -284,7 +284,7 @@ fn goes_on(
         let shown = place.look(alloc, stack, above)?;
         return Ok(shown.is_shown_directory());
     }
-    if !is_meta(found.mark) {
+    if !is_well_formed_metacopy(found.mark) {
         return Ok(false);
     }
     if !is_nothing_or_metacopy(passed) {
@@ -308,7 +308,7 @@ fn is_nothing_or_metacopy(found: &Option<Found<'_>>) -> bool
     ensures { result ≡ is_nothing_or metacopy_test (told_in found.now) }
 {
     match found {
-        Some(found) => is_meta(found.mark),
+        Some(found) => is_well_formed_metacopy(found.mark),
         None => true,
     }
 }
@@ -321,11 +321,4 @@ fn is_shown_regular(look: &Look) -> bool
         Look::Shown(inode) | Look::Broken(inode) => matches!(&inode.kind, Kind::File { .. }),
         Look::Nothing => false,
     }
-}
-
-// Whether this is the mark of a metacopy file whose `redirect` is absent or well formed.
-pub(crate) fn is_meta(mark: &Mark) -> bool
-    ensures { result ≡ is_metacopy_mark mark.now }
-{
-    matches!(mark, Mark::Meta(_))
 }

@@ -122,9 +122,6 @@ named-row layer is number some inside None named =
     absurd (omega (arith, some, one-number layer is.in_order number 0 inside (some-rows layer is) root))
 named-row layer is number some inside (Some name) named = refl
 
-pub shorter : (path : PathNames) (name : PathName) → last_name path ≡ Some name → length (parent_path path) < length path
-shorter path name named = omega (arith, ap length (named-path path name named), length-append (parent_path path) (name ∷ []))
-
 -- the directory of a row
 pub parent-row : (layer : Entries) (number parent : ℕ) → IsSomeAnd (slice_get layer parent) (λ entry. entry.0 ≡ parent_path (path_at layer number)) → (parent < length layer) × (path_at layer parent ≡ parent_path (path_at layer number))
 parent-row layer number parent is = by (slice_get layer parent) refl is

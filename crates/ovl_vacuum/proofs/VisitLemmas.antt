@@ -22,9 +22,7 @@ use Rattle.ovl_manifest.proofs.SheetLemmas.{last_name-child}
 use Rattle.ovl_lookup.specs.declared.looks.Look.{Look}
 use Rattle.ovl_lookup.specs.declared.looks.Look.TheVariants.{Nothing, Shown, Broken}
 use Rattle.ovl_lookup.specs.declared.steps.Step.{Step}
-use Rattle.ovl_lookup.specs.declared.views.DirView.{DirView}
 use Rattle.ovl_lookup.specs.declared.steps.OwnDirectory.{OwnDirectory}
-use Rattle.ovl_lookup.specs.DirViews.{IsViewOf}
 use Rattle.ovl_lookup.specs.Passes.{IsOwnDirectory}
 use Rattle.ovl_lookup.specs.Walk.{walk}
 use Rattle.ovl_lookup.specs.Stacks.{StackView}
@@ -44,7 +42,7 @@ use Rattle.ovl_board.proofs.LawsOfMembers.{In}
 use Rattle.ovl_vacuum.specs.Vacuum.{may_be_idle, is_idle}
 use Rattle.ovl_vacuum.specs.Directories.{is_idle_at, IdleName, idle_name, piece_in, TellsIdle}
 use Rattle.ovl_vacuum.specs.declared.directories.Directory.{Directory}
-use Rattle.ovl_vacuum.specs.Visits.{IsBelow, IsVisited, is_metacopy}
+use Rattle.ovl_vacuum.specs.Visits.{IsVisited, is_metacopy}
 use Rattle.ovl_vacuum.proofs.DirectoryLemmas.{name-In, path-entry}
 
 -- ---- the topmost layer, and what lies below it at a path
@@ -52,11 +50,6 @@ use Rattle.ovl_vacuum.proofs.DirectoryLemmas.{name-In, path-entry}
 pub top-first : (layers data_only : List Entries) → 0 < length layers → slice_get (layers ++ data_only) 0 ≡ Some (unwrap_or (slice_get layers 0) [])
 top-first [] data_only some = absurd (omega arith)
 top-first (layer ∷ layers) data_only some = refl
-
-pub below-open : (stack : StackView) (next path : PathNames) (closed : Bool) → closed ≡ false → path ≡ next → (found : Option DirView)
-    → MatchOption found (shows_directory (lower_layers stack) path ≡ false) (IsViewOf stack 1 path) → IsBelow stack next closed found
-below-open stack next path closed opened same None none = λ j. opened j || not ((ap (shows_directory (lower_layers stack)) (sym same) ∙ none) j)
-below-open stack next path closed opened same (Some view) is = (opened, subst (λ (p : PathNames). IsViewOf stack 1 p view) same is)
 
 -- ---- what is no directory has nothing in it
 

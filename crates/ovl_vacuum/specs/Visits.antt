@@ -1,5 +1,5 @@
 -- What a visit of vacuum knows of its directory.
-use Rattle.std.specs.Prelude.{◌≡◌, ◌<◌, ◌||◌, Bool, true, false, not, Option, MatchOption, ⊤, length}
+use Rattle.std.specs.Prelude.{◌≡◌, ◌<◌, ◌||◌, Bool, true, false, not, Option, MatchOption, length}
 use Rattle.ovl_names.specs.Paths.{PathNames}
 use Rattle.ovl_inode.specs.declared.marks.Mark.{Mark}
 use Rattle.ovl_inode.specs.declared.marks.Mark.TheVariants.{Meta, MetaBad}
@@ -26,10 +26,6 @@ pub record IsVisited (stack : StackView) (path : PathNames) (directory : Directo
   pub here : path_at (top_layer stack) directory.row ≡ path
   pub holds : is_directory_at (top_layer stack) path ≡ true
   pub below : IsBelow stack (walk (top_layer stack) path).next (walk (top_layer stack) path).closed directory.below
-
--- the view of a directory in the merged tree, if there is one
-abbrev pub IsWhole : StackView → PathNames → Option DirView → Type 0
-IsWhole stack path found = MatchOption found ⊤ (IsViewOf stack 0 path)
 
 -- a metacopy file's, whatever its redirect says
 abbrev pub is_metacopy : Mark → Bool

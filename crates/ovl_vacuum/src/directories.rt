@@ -1,19 +1,18 @@
-ghost use Rattle.std.specs.Prelude.{◌≡◌, ◌<◌, [], length, map, unwrap_or, IfOk, MatchOption};
-ghost use Rattle.std.specs.List.{All};
+ghost use Rattle.std.specs.Prelude.{◌≡◌, ◌<◌, [], length, map, unwrap_or, IfOk, IfSome, MatchOption};
 ghost use Rattle.ovl_names.specs.Paths.{child_path};
 ghost use Rattle.ovl_manifest.specs.Layers.{names_below};
 ghost use Rattle.ovl_manifest.specs.Sheets.{path_at};
 ghost use Rattle.ovl_inode.specs.Inodes.{visible as visible_inode};
 ghost use Rattle.ovl_lookup.specs.declared.looks.Look.TheVariants.{Shown};
 ghost use Rattle.ovl_lookup.specs.Equal.{look_eq};
-ghost use Rattle.ovl_lookup.specs.Merged.{look as the_look};
+ghost use Rattle.ovl_lookup.specs.DirViews.{IsViewOf};
 ghost use Rattle.ovl_lookup.specs.Passes.{IsOwnDirectory};
 ghost use Rattle.ovl_lookup.specs.Words.{top_layer};
 ghost use Rattle.ovl_vacuum.specs.Vacuum.{may_be_idle as idle_mark};
 ghost use Rattle.ovl_vacuum.specs.Directories.{is_idle_at, idle_name, directory_piece, vacuum_kids};
-ghost use Rattle.ovl_vacuum.specs.Visits.{IsVisited, IsBelow, IsWhole, is_metacopy as metacopy_mark};
+ghost use Rattle.ovl_vacuum.specs.Visits.{IsVisited, IsBelow, is_metacopy as metacopy_mark};
 
-use crate::places::{path_in, top_sheet};
+use crate::places::path_in;
 use ovl_board::Piece;
 use ovl_inode::{Inode, Mark, is_directory, visible};
 use ovl_lookup::{DirView, Look, OwnDirectory, Stack, Trail};
@@ -64,7 +63,7 @@ impl<'a> Directory<'a> {
         requires { IsVisited self.now.stack.now self.now.path.now self.now }
         ensures { IfOk result (λ kids. kids.items ≡ vacuum_kids self.now.stack.now (directory_piece space self.now.path.now)) }
     {
-        let sheet = top_sheet(self.stack);
+        let sheet = self.stack.top();
         let rows = sheet.kids(self.row);
         let mut kids = Vec::new(alloc);
         for row in rows {
@@ -82,48 +81,36 @@ impl<'a> Directory<'a> {
         ensures { IfOk result (λ names. names.items
             ≡ map (idle_name self.now.stack.now self.now.path.now) (names_below (top_layer self.now.stack.now) self.now.path.now)) }
     {
-        let sheet = top_sheet(self.stack);
+        let sheet = self.stack.top();
         let rows = sheet.kids(self.row);
-        let whole = self.whole(alloc, rows)?;
+        // Its view in the merged tree, made where an entry needs it.
+        let mut whole = None;
         let mut names = Vec::with_capacity(alloc, rows.len())?;
         for row in rows {
             if let Some(name) = sheet.name(*row) {
-                let idle = self.is_idle(alloc, &whole, *row, name)?;
+                let idle = self.is_idle(alloc, &mut whole, *row, name)?;
                 names.push((name.copy(alloc)?, idle))?;
             }
         }
         Ok(names)
     }
 
-    // Its view in the merged tree, where one of these rows is that of a metacopy file.
-    fn whole(&self, alloc: Global, rows: &[u32]) -> Result<Option<DirView>, AllocError>
-        requires { All (λ row. row < length (top_layer self.now.stack.now)) rows.now }
-        ensures { IfOk result (IsWhole self.now.stack.now self.now.path.now) }
-    {
-        let sheet = top_sheet(self.stack);
-        for row in rows {
-            if is_metacopy(sheet.mark(*row)) {
-                return DirView::of(alloc, self.stack, 0, self.path);
-            }
-        }
-        Ok(None)
-    }
-
     // Whether the entry of a row in it, which has this name, is idle.
     fn is_idle(
         &self,
         alloc: Global,
-        whole: &Option<DirView>,
+        whole: &mut Option<DirView>,
         row: u32,
         name: &Name,
     ) -> Result<bool, AllocError>
         requires visited { IsVisited self.now.stack.now self.now.path.now self.now }
-        requires whole { IsWhole self.now.stack.now self.now.path.now whole.now }
+        requires whole { IfSome whole.old (IsViewOf self.now.stack.now 0 self.now.path.now) }
         requires inside { row < length (top_layer self.now.stack.now) }
         requires stands { path_at (top_layer self.now.stack.now) row ≡ child_path self.now.path.now name.now }
-        ensures { IfOk result (λ idle. idle ≡ is_idle_at self.now.stack.now (child_path self.now.path.now name.now)) }
+        ensures idle { IfOk result (λ idle. idle ≡ is_idle_at self.now.stack.now (child_path self.now.path.now name.now)) }
+        ensures whole { IfSome whole.new (IsViewOf self.now.stack.now 0 self.now.path.now) }
     {
-        let sheet = top_sheet(self.stack);
+        let sheet = self.stack.top();
         let Some(below) = &self.below else {
             return Ok(false);
         };
@@ -135,23 +122,9 @@ impl<'a> Directory<'a> {
             let look = below.look(alloc, self.stack, name)?;
             return is_visible(alloc, &look, sheet.inode(row));
         }
-        let shown = self.look(alloc, whole, name)?;
+        let shown = DirView::look_kept(alloc, self.stack, whole, self.path, name)?;
         let lower = below.look(alloc, self.stack, name)?;
         Ok(lower == shown)
-    }
-
-    // What the stack shows at a name in it.
-    fn look(&self, alloc: Global, whole: &Option<DirView>, name: &Name) -> Result<Look, AllocError>
-        requires { IsWhole self.now.stack.now self.now.path.now whole.now }
-        ensures { IfOk result (λ look. look ≡ the_look self.now.stack.now (child_path self.now.path.now name.now)) }
-    {
-        match whole {
-            Some(view) => view.look(alloc, self.stack, name),
-            None => {
-                let path = self.path.child(alloc, name)?;
-                self.stack.look(alloc, 0, &path)
-            }
-        }
     }
 }
 
@@ -166,7 +139,7 @@ fn own_directory<'a>(
         (IsOwnDirectory (top_layer stack.now) path.now)) }
 {
     // A stack has a topmost layer.
-    let _top = top_sheet(stack);
+    let _top = stack.top();
     stack.own_directory(alloc, 0, path)
 }
 
@@ -181,7 +154,7 @@ fn view_below(
     ensures { IfOk result (IsBelow stack.now (unwrap_or turned.entry path.now) closed) }
 {
     // A stack has a topmost layer.
-    let _top = top_sheet(stack);
+    let _top = stack.top();
     if closed {
         return Ok(None);
     }

@@ -7,7 +7,7 @@ ghost use Rattle.ovl_vacuum.specs.Directories.{names_seen, IsVacuumWalk};
 ghost use Rattle.ovl_vacuum.specs.Passes.{idle_flags, gone_flags, names_told, TellsBelow};
 ghost use Rattle.ovl_vacuum.specs.Vacuum.{vacuumed_layer, removed_paths};
 
-use crate::places::{directory_of, path_in, path_of, top_sheet};
+use crate::places::{directory_of, path_in, path_of};
 use crate::works::VacuumWork;
 use ovl_board::Parcel;
 use ovl_inode::{Inode, is_directory};
@@ -54,7 +54,7 @@ fn idle_rows(
     requires { IsVacuumWalk stack.now (parcel_views names_seen parcels.now) }
     ensures { IfOk result (λ idle. idle.items ≡ idle_flags stack.now) }
 {
-    let sheet = top_sheet(stack);
+    let sheet = stack.top();
     let mut idle = vec![in alloc; false; sheet.len() as usize]?;
     // The parcels are those of the directories, in the order of their rows.
     let mut place = 0;
@@ -74,7 +74,7 @@ fn tell_below(stack: &Stack, directory: u32, names: &[(Name, bool)], idle: &mut 
     requires count { length idle.old.items ≡ length (top_layer stack.now) }
     ensures { TellsBelow stack.now directory idle.old.items idle.new.items }
 {
-    let kids = top_sheet(stack).kids(directory);
+    let kids = stack.top().kids(directory);
     for place in 0..kids.len() {
         idle[kids[place] as usize] = names[place].1;
     }
@@ -85,7 +85,7 @@ fn gone_rows(stack: &Stack, idle: Vec<bool>) -> Vec<bool>
     requires { idle.items ≡ idle_flags stack.now }
     ensures { result.items ≡ gone_flags stack.now }
 {
-    let sheet = top_sheet(stack);
+    let sheet = stack.top();
     let mut gone = idle;
     let mut number = sheet.len();
     while number > 1 {
@@ -103,7 +103,7 @@ fn layer_left(alloc: Global, stack: &Stack, gone: &[bool]) -> Result<Layer, Allo
     requires { gone.now ≡ gone_flags stack.now }
     ensures { IfOk result (λ layer. layer ≡ vacuumed_layer (top_layer stack.now) (lower_layers stack.now)) }
 {
-    let sheet = top_sheet(stack);
+    let sheet = stack.top();
     let root = sheet.inode(0).copy(alloc)?;
     let mut builder = begun(alloc, root)?;
     // The path of a row's directory is kept for the next row.
@@ -155,7 +155,7 @@ fn paths_gone(alloc: Global, stack: &Stack, gone: &[bool]) -> Result<Vec<Path>, 
     requires { gone.now ≡ gone_flags stack.now }
     ensures { IfOk result (λ paths. paths.items ≡ removed_paths (top_layer stack.now) (lower_layers stack.now)) }
 {
-    let sheet = top_sheet(stack);
+    let sheet = stack.top();
     let mut paths = Vec::new(alloc);
     // The path of a row's directory is kept for the next row.
     let mut directory = 0;

@@ -1,25 +1,10 @@
 ghost use Rattle.std.specs.Prelude.{◌≡◌, ◌<◌, length, IfOk};
-ghost use Rattle.std.specs.List.{All};
-ghost use Rattle.ovl_manifest.specs.Layers.{IsLayer};
 ghost use Rattle.ovl_manifest.specs.Sheets.{path_at};
 ghost use Rattle.ovl_names.specs.Paths.{parent_path};
-ghost use Rattle.ovl_lookup.specs.Words.{top_layer};
 
-use ovl_lookup::Stack;
 use ovl_manifest::Sheet;
 use ovl_names::Path;
 use std::alloc::{AllocError, Global};
-
-// The sheet of the topmost layer.
-pub(crate) fn top_sheet(stack: &Stack) -> &Sheet
-    ensures value { result.now ≡ top_layer stack.now }
-    ensures some { 0 < length stack.now.layers }
-    ensures each { All IsLayer stack.now.layers }
-{
-    // A stack has a topmost layer.
-    let _layers = stack.ordinary();
-    stack.sheet(0)
-}
 
 // The number of the row of the directory that holds the entry of a row; the root's is its own.
 pub(crate) fn directory_of(sheet: &Sheet, number: u32) -> u32

@@ -9,7 +9,7 @@ use Rattle.ovl_deref.proofs.VisitLemmas.{rows-below, each-kid, rows-listed, kept
 use Rattle.ovl_deref.proofs.directories.own_inodes.Goals as goal
 
 pub kids-kids-requires : goal.kids-kids-requires
-kids-kids-requires c = omega (arith, ap length c.top_sheet-sheet.ensures, c.requires.1)
+kids-kids-requires c = omega (arith, ap length c.top-sheet.ensures.value, c.requires.1)
 
 pub push_own-requires-clause-kid : goal.push_own-requires-clause-kid
 push_own-requires-clause-kid c =
@@ -17,7 +17,7 @@ push_own-requires-clause-kid c =
     let dir : PathNames = c.args.dir.now in
     let kids : List ℕ = c.kids-kids.result.now in
     each-kid top dir kids (names_below top dir)
-    (rows-below c.top_sheet-sheet.result.now top c.top_sheet-sheet.ensures c.args.row dir c.requires.2 kids c.kids-kids.ensures.paths)
+    (rows-below c.top-sheet.result.now top c.top-sheet.ensures.value c.args.row dir c.requires.2 kids c.kids-kids.ensures.paths)
     c.loop-kid.kid-index 0 (omega arith)
 
 pub loop-kid-preserved : goal.loop-kid-preserved
@@ -35,4 +35,4 @@ returns c =
     c.loop-kid.invariant.listed
     ∙ (ap (filter_map (λ kid. named_at stack (path_at top kid))) (take_all c.loop-kid.kid-index kids (omega arith))
     ∙ rows-listed stack dir c.requires.0 kids
-    (rows-below c.top_sheet-sheet.result.now top c.top_sheet-sheet.ensures c.args.row dir c.requires.2 kids c.kids-kids.ensures.paths))
+    (rows-below c.top-sheet.result.now top c.top-sheet.ensures.value c.args.row dir c.requires.2 kids c.kids-kids.ensures.paths))

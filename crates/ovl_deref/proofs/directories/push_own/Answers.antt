@@ -14,12 +14,12 @@ pub returns-in_default-clause-inodes : goal.returns-in_default-clause-inodes
 returns-in_default-clause-inodes c =
     let stack = c.args.stack.now in
     let path : PathNames = path_at (top_layer stack) c.args.number in
-    let last : None ≡ last_name path = c.in_default.ensures ∙ ap (λ (l : Entries). last_name (path_at l c.args.number)) c.top_sheet-sheet.ensures in
+    let last : None ≡ last_name path = c.in_default.ensures ∙ ap (λ (l : Entries). last_name (path_at l c.args.number)) c.top-sheet.ensures.value in
     sym (append-nil c.args.inodes.now.items) ∙ ap (λ (more : List NamedInode). c.args.inodes.now.items ++ more) (none-named stack path last)
 
 pub dereferenced-requires-clause-entry : goal.dereferenced-requires-clause-entry
 dereferenced-requires-clause-entry c =
-    (row-entry c.top_sheet-sheet.result.now (top_layer c.args.stack.now) c.top_sheet-sheet.ensures c.args.dir.now c.args.number c.requires.kid c.in-Some.name.now c.entry_of-entry.result.inode.now c.in-Some.ensures c.entry_of-entry.ensures.value).2
+    (row-entry c.top-sheet.result.now (top_layer c.args.stack.now) c.top-sheet.ensures.value c.args.dir.now c.args.number c.requires.kid c.in-Some.name.now c.in_row-entry.result.inode.now c.in-Some.ensures c.in_row-entry.ensures.value).2
 
 pub returns-clause-inodes : goal.returns-clause-inodes
 returns-clause-inodes c =
@@ -27,10 +27,10 @@ returns-clause-inodes c =
     let top : Entries = top_layer stack in
     let path : PathNames = path_at top c.args.number in
     let name : PathName = c.in-Some.name.now in
-    let inode : Inode = c.entry_of-entry.result.inode.now in
+    let inode : Inode = c.in_row-entry.result.inode.now in
     let old : List NamedInode = c.args.inodes.now.items in
     let some : 0 < length stack.layers = subst (λ (n : ℕ). 0 < n) c.ordinary-layers.ensures.value c.ordinary-layers.ensures.some in
-    let is = row-entry c.top_sheet-sheet.result.now top c.top_sheet-sheet.ensures c.args.dir.now c.args.number c.requires.kid name inode c.in-Some.ensures c.entry_of-entry.ensures.value in
+    let is = row-entry c.top-sheet.result.now top c.top-sheet.ensures.value c.args.dir.now c.args.number c.requires.kid name inode c.in-Some.ensures c.in_row-entry.ensures.value in
     c.in_ok-push.ensures.items
     ∙ (ap (λ (own : PathName). old ++ (own, c.in_ok-inode.inode) ∷ []) c.in_ok-copy.ensures
     ∙ ap (λ (more : List NamedInode). old ++ more)

@@ -16,7 +16,7 @@ use Rattle.ovl_deref.proofs.finish.finish_deref.Goals as goal
 pub returns-clause-layer : goal.returns-clause-layer
 returns-clause-layer c =
     let stack = c.args.work.now in
-    let here = root-there c.work.inside.stack.now stack c.work.view_is _ c.sheet.ensures _ c.root.ensures.value _ c.in_ok-root.root c.inode.ensures c.in_ok-root.ensures in
+    let here = root-there c.work.inside.stack.now stack c.work.view_is _ c.top.ensures.value _ c.root.ensures.value _ c.in_ok-root.root c.inode.ensures c.in_ok-root.ensures in
     let walk : IsDerefWalk stack (parcel_views inodes_seen c.args.parcels.items) = c.requires in
     let tells : IsToldBy (new_at stack) c.in_ok-root.root (parcel_views inodes_seen c.args.parcels.items) =
     walk-tells stack
@@ -37,7 +37,7 @@ returns-clause-limit c sound out =
     let each = subst (λ (s : StackView). All IsLayer s.layers) c.work.view_is c.ordinary-layers.ensures.each in
     let deep = subst (λ (s : StackView). All IsLayer s.data_only) c.work.view_is c.ordinary-layers.ensures.data_only in
     let some = subst (λ (s : StackView). 0 < length s.layers) c.work.view_is (subst (λ (n : ℕ). 0 < n) c.ordinary-layers.ensures.value c.ordinary-layers.ensures.some) in
-    let here = root-there c.work.inside.stack.now stack c.work.view_is _ c.sheet.ensures _ c.root.ensures.value _ c.in_ok-root.root c.inode.ensures c.in_ok-root.ensures in
+    let here = root-there c.work.inside.stack.now stack c.work.view_is _ c.top.ensures.value _ c.root.ensures.value _ c.in_ok-root.root c.inode.ensures c.in_ok-root.ensures in
     let walk : IsDerefWalk stack (parcel_views inodes_seen c.args.parcels.items) = c.requires in
     let found = c.layer_told.ensures.limit out (new_at stack) (walk-tells stack each some c.in_ok-root.root (parcel_views inodes_seen c.args.parcels.items) here walk) in
     limit-passed stack each some deep sound found.0 found.1 found.2 found.3

@@ -25,8 +25,8 @@ returns-in_default-clause-value c =
     let path : PathNames = c.args.trail.now in
     let descent : Descent = c.in_ok-row.field-0 in
     let is = c.in_ok-row.ensures in
-    let here : Some c.found_in.result.inode.now ≡ entry_at layer (take descent.depth path) = sym c.found_in.ensures.value ∙ ap (entry_at layer) is.here in
-    walk-ends_whole layer path descent.depth (Some c.found_in.result.inode.now) c.in_ok-next.next descent.closed
+    let here : Some c.in_row.result.inode.now ≡ entry_at layer (take descent.depth path) = sym c.in_row.ensures.value ∙ ap (entry_at layer) is.here in
+    walk-ends_whole layer path descent.depth (Some c.in_row.result.inode.now) c.in_ok-next.next descent.closed
     (subst (IsStop layer path descent.depth) c.in_default.is is.stop) is.directory here (c.in_ok-next.ensures ∙ (ap (unwrap_or descent.turned) is.here ∙ is.turned)) is.shut
 
 pub returns-in_default-number-clause-value : goal.returns-in_default-number-clause-value
@@ -68,12 +68,12 @@ returns-clause-value c =
     let path : PathNames = c.args.trail.now in
     let descent : Descent = c.in_ok-row.field-0 in
     let name : PathName = c.in-Some.stop.name.now in
-    let inode : Inode = c.found_in-2.result.inode.now in
+    let inode : Inode = c.in_row-2.result.inode.now in
     let is = c.in_ok-row.ensures in
     let stop = subst (IsStop layer path descent.depth) c.in-Some.is is.stop in
     let at = name-read path descent.depth name stop.0 in
     let number = subst (IsNumberAt layer (child_path (take descent.depth path) name)) c.in-Some-number.is stop.2 in
-    let here : Some inode ≡ entry_at layer (child_path (take descent.depth path) name) = sym c.found_in-2.ensures.value ∙ ap (entry_at layer) number.1 in
+    let here : Some inode ≡ entry_at layer (child_path (take descent.depth path) name) = sym c.in_row-2.ensures.value ∙ ap (entry_at layer) number.1 in
     let last : length path ≤ descent.depth + 1 = grind (arith, nat_tests, c.if-len-depth.false, c.len.ensures) in
     subst (λ (s : Step). IfOk c.beyond.result (λ step. step_of step ≡ s))
     (ap (walk_beyond (Some inode) c.in_ok-next.next descent.closed name) (sym (drop_all (descent.depth + 1) path last))

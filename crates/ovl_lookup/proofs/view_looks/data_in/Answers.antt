@@ -48,8 +48,8 @@ returns-then-is_data c =
     ap (λ (found : Inode). Some found) c.in_ok-copy.ensures
     ∙ sym (sym c.loop-place.invariant ∙ own-data stack.data_only stack.layers c.loop-place.own.now (places_in stack places) k (place_in stack own) at inode mark is.inode is.mark (sym c.is_whiteout.ensures ∙ c.if-is_whiteout.false) (sym c.is_data.ensures ∙ c.if-is_data.true))
 
-pub returns-then-not-is_meta : goal.returns-then-not-is_meta
-returns-then-not-is_meta c =
+pub returns-then-not-is_well_formed_metacopy : goal.returns-then-not-is_well_formed_metacopy
+returns-then-not-is_well_formed_metacopy c =
     let stack : StackView = c.args.stack.now in
     let places : List DirPlace = c.args.places.now in
     let k = c.loop-place.place-index in
@@ -58,7 +58,7 @@ returns-then-not-is_meta c =
     let is = c.in-Some.ensures in
     let inode : Inode = c.in-Some.entry.inode.now in
     let mark : Mark = c.in-Some.entry.mark.now in
-    sym (sym c.loop-place.invariant ∙ other-data stack.data_only stack.layers c.loop-place.own.now (places_in stack places) k (place_in stack own) at inode mark is.inode is.mark (sym c.is_whiteout.ensures ∙ c.if-is_whiteout.false) (sym c.is_data.ensures ∙ c.if-is_data.false) (sym c.is_meta.ensures ∙ c.if-not-is_meta.true))
+    sym (sym c.loop-place.invariant ∙ other-data stack.data_only stack.layers c.loop-place.own.now (places_in stack places) k (place_in stack own) at inode mark is.inode is.mark (sym c.is_whiteout.ensures ∙ c.if-is_whiteout.false) (sym c.is_data.ensures ∙ c.if-is_data.false) (sym c.is_well_formed_metacopy.ensures ∙ c.if-not-is_well_formed_metacopy.true))
 
 pub overflow_add-place : goal.overflow_add-place
 overflow_add-place c =
@@ -82,9 +82,9 @@ returns-in-Some-goes_on_at c =
     let mark : Mark = c.in-Some.entry.mark.now in
     let origin : PathNames = c.in-Some-goes_on_at.origin.now in
     let from_root = things_found (drop (own.layer + 1) stack.layers) in
-    let onward = onward-data stack.data_only stack.layers c.loop-place.own.now (places_in stack places) k (place_in stack own) at inode mark is.inode is.mark (sym c.is_whiteout.ensures ∙ c.if-is_whiteout.false) (sym c.is_meta.ensures ∙ c.if-not-is_meta.false) in
+    let onward = onward-data stack.data_only stack.layers c.loop-place.own.now (places_in stack places) k (place_in stack own) at inode mark is.inode is.mark (sym c.is_whiteout.ensures ∙ c.if-is_whiteout.false) (sym c.is_well_formed_metacopy.ensures ∙ c.if-not-is_well_formed_metacopy.false) in
     let same = ap (λ (p : PathNames). data_below stack.data_only (Some origin) (from_root p)) (c.in_ok-trail.ensures ∙ c.names.ensures.value)
-    ∙ sym (sym c.loop-place.invariant ∙ (onward ∙ onward-placed stack.data_only mark (Some origin) _ _ (sym c.is_meta.ensures ∙ c.if-not-is_meta.false) (sym c.in-Some-goes_on_at.ensures) (on-path c.loop-place.own.now from_root (λ other. found_below stack.layers other (drop (k + 1) (places_in stack places))) mark origin (sym c.in-Some-goes_on_at.ensures)))) in
+    ∙ sym (sym c.loop-place.invariant ∙ (onward ∙ onward-placed stack.data_only mark (Some origin) _ _ (sym c.is_well_formed_metacopy.ensures ∙ c.if-not-is_well_formed_metacopy.false) (sym c.in-Some-goes_on_at.ensures) (on-path c.loop-place.own.now from_root (λ other. found_below stack.layers other (drop (k + 1) (places_in stack places))) mark origin (sym c.in-Some-goes_on_at.ensures)))) in
     subst (λ (wanted : Option Inode). IfOk c.data.result (λ found. found ≡ wanted)) same c.data.ensures
 
 pub returns-in_default-goes_on_by : goal.returns-in_default-goes_on_by
@@ -97,8 +97,8 @@ returns-in_default-goes_on_by c =
     let is = c.in-Some.ensures in
     let inode : Inode = c.in-Some.entry.inode.now in
     let mark : Mark = c.in-Some.entry.mark.now in
-    let onward = onward-data stack.data_only stack.layers c.loop-place.own.now (places_in stack places) k (place_in stack own) at inode mark is.inode is.mark (sym c.is_whiteout.ensures ∙ c.if-is_whiteout.false) (sym c.is_meta.ensures ∙ c.if-not-is_meta.false) in
-    sym (sym c.loop-place.invariant ∙ (onward ∙ onward-placed stack.data_only mark None _ _ (sym c.is_meta.ensures ∙ c.if-not-is_meta.false) (sym c.in_default-goes_on_at.ensures) (on-none c.loop-place.own.now (things_found (drop (own.layer + 1) stack.layers)) (λ other. found_below stack.layers other (drop (k + 1) (places_in stack places))) mark (sym c.in_default-goes_on_at.ensures) (sym c.in_default-goes_on_by.ensures))))
+    let onward = onward-data stack.data_only stack.layers c.loop-place.own.now (places_in stack places) k (place_in stack own) at inode mark is.inode is.mark (sym c.is_whiteout.ensures ∙ c.if-is_whiteout.false) (sym c.is_well_formed_metacopy.ensures ∙ c.if-not-is_well_formed_metacopy.false) in
+    sym (sym c.loop-place.invariant ∙ (onward ∙ onward-placed stack.data_only mark None _ _ (sym c.is_well_formed_metacopy.ensures ∙ c.if-not-is_well_formed_metacopy.false) (sym c.in_default-goes_on_at.ensures) (on-none c.loop-place.own.now (things_found (drop (own.layer + 1) stack.layers)) (λ other. found_below stack.layers other (drop (k + 1) (places_in stack places))) mark (sym c.in_default-goes_on_at.ensures) (sym c.in_default-goes_on_by.ensures))))
 
 pub loop-place-preserved : goal.loop-place-preserved
 loop-place-preserved c =
@@ -111,5 +111,5 @@ loop-place-preserved c =
     let inode : Inode = c.in-Some.entry.inode.now in
     let mark : Mark = c.in-Some.entry.mark.now in
     let other : PathName = c.in-Some-goes_on_by.other.now in
-    let onward = onward-data stack.data_only stack.layers c.loop-place.own.now (places_in stack places) k (place_in stack own) at inode mark is.inode is.mark (sym c.is_whiteout.ensures ∙ c.if-is_whiteout.false) (sym c.is_meta.ensures ∙ c.if-not-is_meta.false) in
-    sym (sym c.loop-place.invariant ∙ (onward ∙ onward-placed stack.data_only mark None _ _ (sym c.is_meta.ensures ∙ c.if-not-is_meta.false) (sym c.in_default-goes_on_at.ensures) (on-name c.loop-place.own.now (things_found (drop (own.layer + 1) stack.layers)) (λ name. found_below stack.layers name (drop (k + 1) (places_in stack places))) mark other (sym c.in-Some-goes_on_by.ensures))))
+    let onward = onward-data stack.data_only stack.layers c.loop-place.own.now (places_in stack places) k (place_in stack own) at inode mark is.inode is.mark (sym c.is_whiteout.ensures ∙ c.if-is_whiteout.false) (sym c.is_well_formed_metacopy.ensures ∙ c.if-not-is_well_formed_metacopy.false) in
+    sym (sym c.loop-place.invariant ∙ (onward ∙ onward-placed stack.data_only mark None _ _ (sym c.is_well_formed_metacopy.ensures ∙ c.if-not-is_well_formed_metacopy.false) (sym c.in_default-goes_on_at.ensures) (on-name c.loop-place.own.now (things_found (drop (own.layer + 1) stack.layers)) (λ name. found_below stack.layers name (drop (k + 1) (places_in stack places))) mark other (sym c.in-Some-goes_on_by.ensures))))

@@ -1,4 +1,4 @@
-use Rattle.std.proofs.Common.{◌≡◌, ◌<◌, None, length, refl, subst}
+use Rattle.std.proofs.Common.{◌≡◌, ◌<◌, None, length, subst}
 use Rattle.std.specs.Prelude.{IfSome}
 use Rattle.std.proofs.lemmas.Result.{IfOk-weaker}
 use Rattle.ovl_manifest.specs.Layers.{Entries}

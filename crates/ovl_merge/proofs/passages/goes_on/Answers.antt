@@ -18,20 +18,20 @@ returns-then-is_directory c path there =
     goes-directory m c.args.found.now.inode.now (told_in c.args.passed.now) path (sym c.if-is_directory.ensures) true c.if-not-is_nothing_or_directory.ensures c.is_shown_directory.result
     (c.is_shown_directory.ensures ∙ ap is_shown_directory (c.in_ok-shown.ensures path there))
 
-pub returns-then-not-is_meta : goal.returns-then-not-is_meta
-returns-then-not-is_meta c path there =
+pub returns-then-not-is_well_formed_metacopy : goal.returns-then-not-is_well_formed_metacopy
+returns-then-not-is_well_formed_metacopy c path there =
     let m = merge_of c.args.stack.now in
-    goes-file m c.args.found.now.inode.now (told_in c.args.passed.now) path (sym c.if-is_directory.ensures) false (c.if-not-is_meta.ensures ∙ ap is_metacopy_mark c.requires.marked)
+    goes-file m c.args.found.now.inode.now (told_in c.args.passed.now) path (sym c.if-is_directory.ensures) false (c.if-not-is_well_formed_metacopy.ensures ∙ ap is_metacopy_mark c.requires.marked)
     (is_nothing_or is_metacopy (told_in c.args.passed.now)) refl (is_shown_regular (look m.rest path)) refl
 
 pub returns-then-not-is_nothing_or_metacopy : goal.returns-then-not-is_nothing_or_metacopy
 returns-then-not-is_nothing_or_metacopy c path there =
     let m = merge_of c.args.stack.now in
-    goes-file m c.args.found.now.inode.now (told_in c.args.passed.now) path (sym c.if-is_directory.ensures) true (c.if-not-is_meta.ensures ∙ ap is_metacopy_mark c.requires.marked)
+    goes-file m c.args.found.now.inode.now (told_in c.args.passed.now) path (sym c.if-is_directory.ensures) true (c.if-not-is_well_formed_metacopy.ensures ∙ ap is_metacopy_mark c.requires.marked)
     false c.if-not-is_nothing_or_metacopy.ensures (is_shown_regular (look m.rest path)) refl
 
 pub returns : goal.returns
 returns c path there =
     let m = merge_of c.args.stack.now in
-    goes-file m c.args.found.now.inode.now (told_in c.args.passed.now) path (sym c.if-is_directory.ensures) true (c.if-not-is_meta.ensures ∙ ap is_metacopy_mark c.requires.marked)
+    goes-file m c.args.found.now.inode.now (told_in c.args.passed.now) path (sym c.if-is_directory.ensures) true (c.if-not-is_well_formed_metacopy.ensures ∙ ap is_metacopy_mark c.requires.marked)
     true c.if-not-is_nothing_or_metacopy.ensures c.is_shown_regular.result (c.is_shown_regular.ensures ∙ ap is_shown_regular (c.in_ok-shown-2.ensures path there))

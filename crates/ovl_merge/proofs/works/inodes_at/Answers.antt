@@ -1,4 +1,4 @@
-use Rattle.std.proofs.Common.{◌≡◌, ◌∙◌, false, Option, refl, sym, subst}
+use Rattle.std.proofs.Common.{◌≡◌, ◌∙◌, false, Option, sym, subst}
 use Rattle.std.specs.Prelude.{MatchOption, IfOk}
 use Rattle.ovl_names.specs.Paths.{PathNames}
 use Rattle.ovl_merge.specs.declared.directories.Directory.{Directory}

@@ -8,10 +8,10 @@ use Rattle.ovl_vacuum.proofs.VisitLemmas.{top-first, own-found}
 use Rattle.ovl_vacuum.proofs.directories.own_directory.Goals as goal
 
 pub own_directory-requires : goal.own_directory-requires
-own_directory-requires c = omega (arith, c.top_sheet-top.ensures.some, length-append c.args.stack.now.layers c.args.stack.now.data_only)
+own_directory-requires c = omega (arith, c.top-top.ensures.some, length-append c.args.stack.now.layers c.args.stack.now.data_only)
 
 pub returns : goal.returns
 returns c =
-    IfOk-weaker c.own_directory.result _ _ (λ found is. own-found (top_layer c.args.stack.now) (top-layer c.args.stack.now c.top_sheet-top.ensures.some c.top_sheet-top.ensures.each) c.args.path.now found is)
+    IfOk-weaker c.own_directory.result _ _ (λ found is. own-found (top_layer c.args.stack.now) (top-layer c.args.stack.now c.top-top.ensures.some c.top-top.ensures.each) c.args.path.now found is)
     (subst (λ (o : Option Entries). IfSome o (λ layer. IfOk c.own_directory.result (λ found. MatchOption found (is_directory_at layer c.args.path.now ≡ false) (IsOwnDirectory layer c.args.path.now))))
-    (top-first c.args.stack.now.layers c.args.stack.now.data_only c.top_sheet-top.ensures.some) c.own_directory.ensures)
+    (top-first c.args.stack.now.layers c.args.stack.now.data_only c.top-top.ensures.some) c.own_directory.ensures)

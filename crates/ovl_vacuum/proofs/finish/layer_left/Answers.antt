@@ -15,17 +15,17 @@ use Rattle.ovl_vacuum.proofs.finish.layer_left.Goals.{then-not-gone-number+in_ok
 
 pub unwrap-requires : goal.unwrap-requires
 unwrap-requires c =
-    let same = c.top_sheet-sheet.ensures.value in
+    let same = c.top-sheet.ensures.value in
     let inside : c.loop-number.number < length (top_layer c.args.stack.now) = omega (arith, c.loop-number-test.true, c.len-number-end.ensures.value, ap length same) in
-    named-row (top_layer c.args.stack.now) (top-layer c.args.stack.now c.top_sheet-sheet.ensures.some c.top_sheet-sheet.ensures.each) c.loop-number.number c.loop-number.invariant.some inside
+    named-row (top_layer c.args.stack.now) (top-layer c.args.stack.now c.top-sheet.ensures.some c.top-sheet.ensures.each) c.loop-number.number c.loop-number.invariant.some inside
     c.name.result (c.name.ensures ∙ (λ j. last_name (path_at (same j) c.loop-number.number)))
 
 pub loop-number-init : goal.loop-number-init
 loop-number-init c =
     let stack : StackView = c.args.stack.now in
-    let is = top-layer stack c.top_sheet-sheet.ensures.some c.top_sheet-sheet.ensures.each in
+    let is = top-layer stack c.top-sheet.ensures.some c.top-sheet.ensures.each in
     let at : entry_at (top_layer stack) (path_at (top_layer stack) 0) ≡ Some c.in_ok-root.root =
-    subst (λ (l : Entries). entry_at l (path_at l 0) ≡ Some c.inode.result.now) c.top_sheet-sheet.ensures.value c.inode.ensures ∙ ap (λ (i : Inode). Some i) (sym c.in_ok-root.ensures) in
+    subst (λ (l : Entries). entry_at l (path_at l 0) ≡ Some c.inode.result.now) c.top-sheet.ensures.value c.inode.ensures ∙ ap (λ (i : Inode). Some i) (sym c.in_ok-root.ensures) in
     record {
       some = omega arith;
       left = left-first stack is c.args.gone.now c.in_ok-builder.builder c.in_ok-root.root c.requires at c.in_ok-builder.ensures;
@@ -35,8 +35,8 @@ loop-number-init c =
 pub loop-number-preserved : goal.loop-number-preserved
 loop-number-preserved c =
     let stack : StackView = c.args.stack.now in
-    let is = top-layer stack c.top_sheet-sheet.ensures.some c.top_sheet-sheet.ensures.each in
-    let same = c.top_sheet-sheet.ensures.value in
+    let is = top-layer stack c.top-sheet.ensures.some c.top-sheet.ensures.each in
+    let same = c.top-sheet.ensures.value in
     let number : ℕ = c.loop-number.number in
     let inside : number < length (top_layer stack) = omega (arith, c.loop-number-test.true, c.len-number-end.ensures.value, ap length same) in
     elim c.if-not-gone-number.branch [
@@ -76,5 +76,5 @@ loop-number-preserved c =
 pub returns : goal.returns
 returns c =
     IfOk-weaker c.finish.result _ _
-    (λ layer e. left-all c.args.stack.now c.loop-number.number layer (omega (arith, c.loop-number-test.false, c.len-number-end.ensures.value, ap length c.top_sheet-sheet.ensures.value)) (e ∙ c.loop-number.invariant.left))
+    (λ layer e. left-all c.args.stack.now c.loop-number.number layer (omega (arith, c.loop-number-test.false, c.len-number-end.ensures.value, ap length c.top-sheet.ensures.value)) (e ∙ c.loop-number.invariant.left))
     c.finish.ensures

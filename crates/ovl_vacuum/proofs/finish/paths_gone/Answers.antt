@@ -12,13 +12,13 @@ loop-number-init c =
     let stack : StackView = c.args.stack.now in
     record {
       gone = c.new-paths.ensures.items;
-      above = c.root-above.ensures ∙ sym (root-first (top_layer stack) (top-layer stack c.top_sheet-sheet.ensures.some c.top_sheet-sheet.ensures.each));
+      above = c.root-above.ensures ∙ sym (root-first (top_layer stack) (top-layer stack c.top-sheet.ensures.some c.top-sheet.ensures.each));
     }
 
 pub loop-number-preserved : goal.loop-number-preserved
 loop-number-preserved c =
     let stack : StackView = c.args.stack.now in
-    let same = c.top_sheet-sheet.ensures.value in
+    let same = c.top-sheet.ensures.value in
     let number : ℕ = c.loop-number.number in
     let inside : number < length (top_layer stack) = omega (arith, c.loop-number-test.true, c.len-number-end.ensures.value, ap length same) in
     elim c.if-gone-number.branch [
@@ -44,4 +44,4 @@ loop-number-preserved c =
 
 pub returns : goal.returns
 returns c =
-    gone-all c.args.stack.now c.loop-number.number c.loop-number.paths.items (omega (arith, c.loop-number-test.false, c.len-number-end.ensures.value, ap length c.top_sheet-sheet.ensures.value)) c.loop-number.invariant.gone
+    gone-all c.args.stack.now c.loop-number.number c.loop-number.paths.items (omega (arith, c.loop-number-test.false, c.len-number-end.ensures.value, ap length c.top-sheet.ensures.value)) c.loop-number.invariant.gone

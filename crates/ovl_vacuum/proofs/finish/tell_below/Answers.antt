@@ -21,21 +21,21 @@ paths layer top kids directory same are = subst (λ (l : Entries). map (path_at 
 pub bounds-names-place : goal.bounds-names-place
 bounds-names-place c =
     names-inside c.args.stack.now c.args.directory c.kids-kids.result.now c.args.idle.now.items c.requires.count
-    (within c.top_sheet.result.now (top_layer c.args.stack.now) c.kids-kids.result.now c.top_sheet.ensures.value c.kids-kids.ensures.inside)
-    (paths c.top_sheet.result.now (top_layer c.args.stack.now) c.kids-kids.result.now c.args.directory c.top_sheet.ensures.value c.kids-kids.ensures.paths)
+    (within c.top.result.now (top_layer c.args.stack.now) c.kids-kids.result.now c.top.ensures.value c.kids-kids.ensures.inside)
+    (paths c.top.result.now (top_layer c.args.stack.now) c.kids-kids.result.now c.args.directory c.top.ensures.value c.kids-kids.ensures.paths)
     c.args.names.now c.loop-place.place c.requires.names (omega arith)
 
 pub loop-place-preserved : goal.loop-place-preserved
 loop-place-preserved c =
     subst (λ (entry : IdleName). ToldAmong c.args.stack.now c.kids-kids.result.now (c.loop-place.place + 1) c.args.idle.now.items (set c.loop-place.idle.items (get_or c.kids-kids.result.now c.loop-place.place 0) entry.1)) c.index-names-place.is
     (among-more c.args.stack.now c.args.directory c.kids-kids.result.now c.args.idle.now.items c.requires.count
-    (within c.top_sheet.result.now (top_layer c.args.stack.now) c.kids-kids.result.now c.top_sheet.ensures.value c.kids-kids.ensures.inside)
-    (paths c.top_sheet.result.now (top_layer c.args.stack.now) c.kids-kids.result.now c.args.directory c.top_sheet.ensures.value c.kids-kids.ensures.paths)
+    (within c.top.result.now (top_layer c.args.stack.now) c.kids-kids.result.now c.top.ensures.value c.kids-kids.ensures.inside)
+    (paths c.top.result.now (top_layer c.args.stack.now) c.kids-kids.result.now c.args.directory c.top.ensures.value c.kids-kids.ensures.paths)
     c.args.names.now c.loop-place.place c.index-names-place.result c.loop-place.idle.items c.requires.names (omega arith) c.index-names-place.is c.loop-place.invariant)
 
 pub returns : goal.returns
 returns c =
     among-all c.args.stack.now c.args.directory c.kids-kids.result.now c.args.idle.now.items c.requires.count
-    (within c.top_sheet.result.now (top_layer c.args.stack.now) c.kids-kids.result.now c.top_sheet.ensures.value c.kids-kids.ensures.inside)
-    (paths c.top_sheet.result.now (top_layer c.args.stack.now) c.kids-kids.result.now c.args.directory c.top_sheet.ensures.value c.kids-kids.ensures.paths)
-    (top-layer c.args.stack.now c.top_sheet.ensures.some c.top_sheet.ensures.each) c.requires.inside c.loop-place.place c.loop-place.idle.items (omega arith) c.loop-place.invariant
+    (within c.top.result.now (top_layer c.args.stack.now) c.kids-kids.result.now c.top.ensures.value c.kids-kids.ensures.inside)
+    (paths c.top.result.now (top_layer c.args.stack.now) c.kids-kids.result.now c.args.directory c.top.ensures.value c.kids-kids.ensures.paths)
+    (top-layer c.args.stack.now c.top.ensures.some c.top.ensures.each) c.requires.inside c.loop-place.place c.loop-place.idle.items (omega arith) c.loop-place.invariant

@@ -1,12 +1,15 @@
-use Rattle.std.proofs.Common.{◌≡◌, ◌<◌, ◌-◌, ◌++◌, append_assoc, List, [], ◌∷◌, take, sym, ◌∙◌, ap, arith}
-use Rattle.std.specs.List.{flat_map}
+use Rattle.std.proofs.Common.{◌≡◌, ◌<◌, ◌-◌, ◌++◌, append_assoc, List, [], ◌∷◌, take, sym, ◌∙◌, ap, subst, arith}
+use Rattle.std.specs.List.{flat_map, All}
 use Rattle.std.proofs.lemmas.List.{take_all}
 use Rattle.std.proofs.lemmas.Bool.Decides.{nat_tests}
 use Rattle.ovl_names.specs.Names.{PathName}
 use Rattle.ovl_names.specs.Paths.{PathNames, child_path}
+use Rattle.ovl_manifest.specs.Layers.{IsLayer}
 use Rattle.ovl_lookup.specs.declared.looks.Look.{Look}
+use Rattle.ovl_lookup.specs.Stacks.{StackView}
 use Rattle.ovl_lookup.specs.Passes.{looks_from, looks_under, looks_placed, kids_along}
 use Rattle.ovl_lookup.proofs.ListLemmas.{placed-more, placed-whole}
+use Rattle.ovl_lookup.proofs.LawsOfKids.{kids-unique}
 use Rattle.ovl_lookup.proofs.stacks.Stack.+push_looks.Goals as goal
 
 pub loop-name-preserved : goal.loop-name-preserved
@@ -29,7 +32,8 @@ returns t c =
     let of : PathName → List (PathNames × Look) = λ name. looks_from (c.args.depth - 1) c.args.self.now (child_path path name) in
     let some : 0 < c.args.depth = grind (arith, nat_tests) in
     let whole : take c.loop-name.name-index names ≡ names = take_all c.loop-name.name-index names c.loop-name-test.false in
-    let is : names ≡ kids_along c.args.self.now path = c.deref-name-items.ensures.value ∙ c.in_ok-names.ensures in
+    let each : All IsLayer c.args.self.now.layers = subst (λ (s : StackView). All IsLayer s.layers) c.self.view_is c.self.invariant.2 in
+    let is : names ≡ kids_along c.args.self.now path = c.deref-name-items.ensures.value ∙ kids-unique c.args.self.now each path c.in_ok-names.names.items c.in_ok-names.ensures in
     let rest : List (PathNames × Look) = looks_placed path (flat_map (λ name. looks_under name (of name)) names) in
     c.loop-name.invariant
     ∙ ((λ j. c.in_ok-push.ensures.items j ++ looks_placed path (flat_map (λ name. looks_under name (of name)) (whole j)))

@@ -11,17 +11,17 @@ use Rattle.ovl_lookup.proofs.LawsOfInodes.{bare_file}
 use Rattle.ovl_lookup.proofs.LawsOfFound.{data_of-metacopy, data_of-bad}
 use Rattle.ovl_lookup.proofs.stacks.Stack.data_of.Goals as goal
 
-pub returns-then-not-is_meta : goal.returns-then-not-is_meta
-returns-then-not-is_meta c =
+pub returns-then-not-is_well_formed_metacopy : goal.returns-then-not-is_well_formed_metacopy
+returns-then-not-is_well_formed_metacopy c =
     let bare = bare_file c.args._inode.now c.requires.bare in
-    sym (data_of-bad c.args.self.now.data_only c.args._inode.now (found_on c.args.self.now c.args.i c.args.next c.args.closed) (sym (ap is_metacopy_mark c.requires.marked) ∙ (sym c.is_meta.ensures ∙ c.if-not-is_meta.true)) bare.0 bare.1)
+    sym (data_of-bad c.args.self.now.data_only c.args._inode.now (found_on c.args.self.now c.args.i c.args.next c.args.closed) (sym (ap is_metacopy_mark c.requires.marked) ∙ (sym c.is_well_formed_metacopy.ensures ∙ c.if-not-is_well_formed_metacopy.true)) bare.0 bare.1)
 
 pub returns-then-closed : goal.returns-then-closed
 returns-then-closed c =
     let bare = bare_file c.args._inode.now c.requires.bare in
     let told = c.place_of_data-origin.ensures ∙ ap place_of_data c.requires.marked in
     let same = ap (λ b. data_of c.args.self.now.data_only (c.args._inode.now ∷ cond b [] (things_found (drop c.args.i c.args.self.now.layers) c.args.next))) c.if-closed.true
-    ∙ data_of-metacopy c.args.self.now.data_only c.args._inode.now [] (sym (ap is_metacopy_mark c.requires.marked) ∙ (sym c.is_meta.ensures ∙ c.if-not-is_meta.false)) bare.0 bare.1 in
+    ∙ data_of-metacopy c.args.self.now.data_only c.args._inode.now [] (sym (ap is_metacopy_mark c.requires.marked) ∙ (sym c.is_well_formed_metacopy.ensures ∙ c.if-not-is_well_formed_metacopy.false)) bare.0 bare.1 in
     subst (λ (wanted : Option Inode). IfOk c.data_at.result (λ f. f ≡ wanted)) (ap (data_at_place c.args.self.now.data_only) told ∙ sym same) c.data_at.ensures
 
 pub returns : goal.returns
@@ -30,5 +30,5 @@ returns c =
     let told = c.place_of_data-origin.ensures ∙ ap place_of_data c.requires.marked in
     let found : List Inode = things_found (drop c.args.i c.args.self.now.layers) c.args.next in
     let same = ap (λ b. data_of c.args.self.now.data_only (c.args._inode.now ∷ cond b [] found)) c.if-closed.false
-    ∙ data_of-metacopy c.args.self.now.data_only c.args._inode.now found (sym (ap is_metacopy_mark c.requires.marked) ∙ (sym c.is_meta.ensures ∙ c.if-not-is_meta.false)) bare.0 bare.1 in
+    ∙ data_of-metacopy c.args.self.now.data_only c.args._inode.now found (sym (ap is_metacopy_mark c.requires.marked) ∙ (sym c.is_well_formed_metacopy.ensures ∙ c.if-not-is_well_formed_metacopy.false)) bare.0 bare.1 in
     subst (λ (wanted : Option Inode). IfOk c.data.result (λ f. f ≡ wanted)) (ap (λ (p : Option PathNames). data_below c.args.self.now.data_only p found) told ∙ sym same) c.data.ensures

@@ -14,7 +14,7 @@ use Rattle.ovl_lookup.specs.Passes.{step_of}
 use Rattle.ovl_lookup.proofs.FoundLemmas.{found-first, found-closed, found-open, found-first_open, found-first_closed, place_below, place_below-metacopy, place_below-other, told-below}
 use Rattle.ovl_lookup.proofs.LawsOfPaths.{drop_past}
 use Rattle.ovl_lookup.proofs.stacks.Stack.data_place.Goals as goal
-use Rattle.ovl_lookup.proofs.stacks.Stack.data_place.Goals.{in-Some+else-not-is_meta, in_default}
+use Rattle.ovl_lookup.proofs.stacks.Stack.data_place.Goals.{in-Some+else-not-is_well_formed_metacopy, in_default}
 
 -- the inode that a walk found
 abbrev inode_of : Option Found → Option Inode
@@ -29,12 +29,12 @@ meta found own answer is marked says =
 place : (found : Option Found) (own : Found) (told : Option PathNames) → found ≡ Some own → IfSome found (λ own. own.mark.now ≡ mark_of own.inode.now) → told ≡ place_of_data own.mark.now → told ≡ place_of_data (mark_of own.inode.now)
 place found own told is marked says = says ∙ ap place_of_data (subst (λ (o : Option Found). IfSome o (λ own. own.mark.now ≡ mark_of own.inode.now)) is marked)
 
-pub returns-then-not-is_meta : goal.returns-then-not-is_meta
-returns-then-not-is_meta c =
+pub returns-then-not-is_well_formed_metacopy : goal.returns-then-not-is_well_formed_metacopy
+returns-then-not-is_well_formed_metacopy c =
     let layers : List Entries = c.args.self.now.layers in
     let told : Option PathNames = option_map (λ path. path.now) c.loop-i.told in
     let inside : c.loop-i.i < length layers = omega arith in
-    sym (place_below-other told c.in-Some.found.inode.now (cond c.in_ok-found.field-0.closed [] (things_found (drop (c.loop-i.i + 1) layers) c.in_ok-found.field-0.next)) (meta c.in_ok-found.field-0.found _ _ c.in-Some.is c.in_ok-found.ensures.marked (sym c.is_meta.ensures ∙ c.if-not-is_meta.true)))
+    sym (place_below-other told c.in-Some.found.inode.now (cond c.in_ok-found.field-0.closed [] (things_found (drop (c.loop-i.i + 1) layers) c.in_ok-found.field-0.next)) (meta c.in_ok-found.field-0.found _ _ c.in-Some.is c.in_ok-found.ensures.marked (sym c.is_well_formed_metacopy.ensures ∙ c.if-not-is_well_formed_metacopy.true)))
     ∙ (ap (place_below told) (sym (found-first layers c.loop-i.i c.loop-i.next (step_of c.in_ok-found.field-0) inside c.in_ok-found.ensures.value c.in-Some.found.inode.now (ap inode_of c.in-Some.is)))
     ∙ (c.loop-i.invariant ∙ told-below (things_found layers c.args.path.now)))
 
@@ -45,12 +45,12 @@ returns-then-closed c =
     let inside : c.loop-i.i < length layers = omega arith in
     subst (λ (wanted : Option PathNames). IfOk c.copied.result (λ copy. copy ≡ wanted))
     ((elim c.match-found.branch [
-      | in-Some+else-not-is_meta w ↦
+      | in-Some+else-not-is_well_formed_metacopy w ↦
           ap (option_map (λ path. path.now)) w.told-is
           ∙ (place c.in_ok-found.field-0.found _ _ w.in-Some.is c.in_ok-found.ensures.marked w.place_of_data-told.ensures
           ∙ sym (sym c.loop-i.invariant
           ∙ (ap (place_below told) (found-first_closed layers c.loop-i.i c.loop-i.next (step_of c.in_ok-found.field-0) inside c.in_ok-found.ensures.value w.in-Some.found.inode.now (ap inode_of w.in-Some.is) c.if-closed.true)
-          ∙ place_below-metacopy told w.in-Some.found.inode.now [] (meta c.in_ok-found.field-0.found _ _ w.in-Some.is c.in_ok-found.ensures.marked (sym w.is_meta.ensures ∙ w.if-not-is_meta.false)))))
+          ∙ place_below-metacopy told w.in-Some.found.inode.now [] (meta c.in_ok-found.field-0.found _ _ w.in-Some.is c.in_ok-found.ensures.marked (sym w.is_well_formed_metacopy.ensures ∙ w.if-not-is_well_formed_metacopy.false)))))
       | in_default w ↦
           ap (λ (o : Option (Bor Path)). option_map (λ path. path.now) o) w.told-is
           ∙ sym (sym c.loop-i.invariant
@@ -65,11 +65,11 @@ loop-i-preserved c =
     let inside : c.loop-i.i < length layers = omega arith in
     let rest : List Inode = things_found (drop (c.loop-i.i + 1) layers) c.in_ok-found.field-0.next in
     elim c.match-found.branch [
-      | in-Some+else-not-is_meta w ↦
+      | in-Some+else-not-is_well_formed_metacopy w ↦
           ap (λ (p : Option PathNames). place_below p rest) (ap (option_map (λ path. path.now)) w.told-is ∙ place c.in_ok-found.field-0.found _ _ w.in-Some.is c.in_ok-found.ensures.marked w.place_of_data-told.ensures)
           ∙ sym (sym c.loop-i.invariant
           ∙ (ap (place_below told) (found-first_open layers c.loop-i.i c.loop-i.next (step_of c.in_ok-found.field-0) inside c.in_ok-found.ensures.value w.in-Some.found.inode.now (ap inode_of w.in-Some.is) c.if-closed.false)
-          ∙ place_below-metacopy told w.in-Some.found.inode.now rest (meta c.in_ok-found.field-0.found _ _ w.in-Some.is c.in_ok-found.ensures.marked (sym w.is_meta.ensures ∙ w.if-not-is_meta.false))))
+          ∙ place_below-metacopy told w.in-Some.found.inode.now rest (meta c.in_ok-found.field-0.found _ _ w.in-Some.is c.in_ok-found.ensures.marked (sym w.is_well_formed_metacopy.ensures ∙ w.if-not-is_well_formed_metacopy.false))))
       | in_default w ↦
           ap (λ (o : Option (Bor Path)). place_below (option_map (λ path. path.now) o) rest) w.told-is
           ∙ sym (sym c.loop-i.invariant

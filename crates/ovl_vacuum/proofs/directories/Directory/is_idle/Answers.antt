@@ -19,28 +19,28 @@ use Rattle.ovl_vacuum.specs.Visits.{IsBelow, is_metacopy}
 use Rattle.ovl_vacuum.proofs.VisitLemmas.{row-inode, row-mark, hidden-busy, compared, shown-plain}
 use Rattle.ovl_vacuum.proofs.directories.Directory.is_idle.Goals as goal
 
-pub returns-in_default : goal.returns-in_default
-returns-in_default c =
+pub returns-in_default-clause-idle : goal.returns-in_default-clause-idle
+returns-in_default-clause-idle c =
     let stack : StackView = c.args.self.now.stack.now in
     let path : PathNames = c.args.self.now.path.now in
     let name : PathName = c.args.name.now in
     let top : Entries = top_layer stack in
-    let each = c.top_sheet-sheet.ensures.each in
-    let some = c.top_sheet-sheet.ensures.some in
+    let each = c.top-sheet.ensures.each in
+    let some = c.top-sheet.ensures.some in
     let found = entry-of_row top c.args.row (top-layer stack some each) c.requires.inside in
     let hidden = subst (IsBelow stack (walk top path).next (walk top path).closed) c.in_default.is c.requires.visited.below in
     sym (hidden-busy stack each some path name found.0 (row-inode top (top-layer stack some each) c.args.row c.requires.inside (child_path path name) c.requires.stands top refl found.0 found.1) hidden)
 
-pub returns-then-not-is_metacopy : goal.returns-then-not-is_metacopy
-returns-then-not-is_metacopy c =
+pub returns-then-not-is_metacopy-clause-idle : goal.returns-then-not-is_metacopy-clause-idle
+returns-then-not-is_metacopy-clause-idle c =
     let stack : StackView = c.args.self.now.stack.now in
     let path : PathNames = c.args.self.now.path.now in
     let name : PathName = c.args.name.now in
     let top : Entries = top_layer stack in
-    let each = c.top_sheet-sheet.ensures.each in
-    let some = c.top_sheet-sheet.ensures.some in
-    let sheet : Entries = c.top_sheet-sheet.result.now in
-    let same = c.top_sheet-sheet.ensures.value in
+    let each = c.top-sheet.ensures.each in
+    let some = c.top-sheet.ensures.some in
+    let sheet : Entries = c.top-sheet.result.now in
+    let same = c.top-sheet.ensures.value in
     let is = top-layer stack some each in
     let inode : Inode = c.inode.result.now in
     let here = row-inode top is c.args.row c.requires.inside (child_path path name) c.requires.stands sheet same inode c.inode.ensures in
@@ -56,19 +56,19 @@ returns-then-not-is_metacopy c =
     let inodes : inode ≡ row.0 = ap (λ (o : Option Inode). unwrap_or o inode) one in
     subst (λ (b : Bool). IfOk c.is_visible.result (λ idle. idle ≡ b)) (ap (λ (i : Inode). look_eq c.in_ok-look.look (Shown (visible i))) inodes ∙ told) c.is_visible.ensures
 
-pub returns : goal.returns
-returns c =
+pub returns-clause-idle : goal.returns-clause-idle
+returns-clause-idle c =
     let stack : StackView = c.args.self.now.stack.now in
     let path : PathNames = c.args.self.now.path.now in
     let name : PathName = c.args.name.now in
     let top : Entries = top_layer stack in
-    let each = c.top_sheet-sheet.ensures.each in
-    let some = c.top_sheet-sheet.ensures.some in
-    let sheet : Entries = c.top_sheet-sheet.result.now in
-    let same = c.top_sheet-sheet.ensures.value in
+    let each = c.top-sheet.ensures.each in
+    let some = c.top-sheet.ensures.some in
+    let sheet : Entries = c.top-sheet.result.now in
+    let same = c.top-sheet.ensures.value in
     let row = row-mark top (top-layer stack some each) c.args.row c.requires.inside (child_path path name) c.requires.stands sheet same c.mark-mark.result.now c.mark-mark.ensures in
     let plain : may_be_idle (mark_of row.0) ≡ true = ap may_be_idle (sym row.2) ∙ (sym c.may_be_idle.ensures ∙ c.if-not-may_be_idle.false) in
     let below = subst (IsBelow stack (walk top path).next (walk top path).closed) c.in-Some.is c.requires.visited.below in
     let looked : c.in_ok-lower.lower ≡ look (lower_layers stack) (child_path (walk top path).next name) =
     c.in_ok-lower.ensures ∙ (λ j. look (from_layer (below.1.starts j) stack) (child_path (below.1.stands j) name)) in
-    c.eq.ensures ∙ compared stack each some path name row.0 row.1 c.in_ok-lower.lower c.in_ok-shown.shown looked c.in_ok-shown.ensures below.0 plain
+    c.eq.ensures ∙ compared stack each some path name row.0 row.1 c.in_ok-lower.lower c.in_ok-shown.shown looked c.in_ok-shown.ensures.look below.0 plain

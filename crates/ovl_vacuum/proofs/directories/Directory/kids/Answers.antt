@@ -21,8 +21,8 @@ path_in-requires-clause-directory c =
     let top : Entries = top_layer stack in
     let rows : List ℕ = c.kids-rows.result.now in
     let i : ℕ = c.loop-row.row-index in
-    let same = c.top_sheet-sheet.ensures.value in
-    let paths = rows-paths c.top_sheet-sheet.result.now top same rows c.args.self.now.row path c.requires.here c.kids-rows.ensures.paths in
+    let same = c.top-sheet.ensures.value in
+    let paths = rows-paths c.top-sheet.result.now top same rows c.args.self.now.row path c.requires.here c.kids-rows.ensures.paths in
     sym ((λ j. parent_path (path_at (same j) (get_or rows i 0))) ∙ (ap parent_path (row-stands top path rows paths i c.loop-row-test.true) ∙ parent_path-child path (get_or (names_below top path) i [])))
 
 pub loop-row-preserved : goal.loop-row-preserved
@@ -32,15 +32,15 @@ loop-row-preserved c =
     let top : Entries = top_layer stack in
     let rows : List ℕ = c.kids-rows.result.now in
     let i : ℕ = c.loop-row.row-index in
-    let same = c.top_sheet-sheet.ensures.value in
-    let paths = rows-paths c.top_sheet-sheet.result.now top same rows c.args.self.now.row path c.requires.here c.kids-rows.ensures.paths in
+    let same = c.top-sheet.ensures.value in
+    let paths = rows-paths c.top-sheet.result.now top same rows c.args.self.now.row path c.requires.here c.kids-rows.ensures.paths in
     let names : List PathName = names_below top path in
     let name : PathName = get_or names i [] in
     let piece : Piece = directory_piece c.args.space path in
     let stands = row-stands top path rows paths i c.loop-row-test.true in
     let told : List PathName → List Piece = λ ns. map (piece_in piece) (filter (λ own. is_directory_at top (child_path path own)) ns) in
     let more = names-more top path rows paths i c.loop-row-test.true in
-    let directory = row-directory top (top-layer stack c.top_sheet-sheet.ensures.some c.top_sheet-sheet.ensures.each) (get_or rows i 0) (omega (arith, c.kids-rows.ensures.inside i 0 c.loop-row-test.true, ap length same)) (child_path path name) stands c.top_sheet-sheet.result.now same c.inode.result.now c.inode.ensures ∙ sym c.is_directory.ensures in
+    let directory = row-directory top (top-layer stack c.top-sheet.ensures.some c.top-sheet.ensures.each) (get_or rows i 0) (omega (arith, c.kids-rows.ensures.inside i 0 c.loop-row-test.true, ap length same)) (child_path path name) stands c.top-sheet.result.now same c.inode.result.now c.inode.ensures ∙ sym c.is_directory.ensures in
     elim c.if-is_directory.branch [
       | then-is_directory+in_ok-dir+in_ok-push w ↦
           ap (λ ks. ks.items) w.kids-is
@@ -58,7 +58,7 @@ returns c =
     let path : PathNames = c.args.self.now.path.now in
     let top : Entries = top_layer stack in
     let rows : List ℕ = c.kids-rows.result.now in
-    let same = c.top_sheet-sheet.ensures.value in
-    let paths = rows-paths c.top_sheet-sheet.result.now top same rows c.args.self.now.row path c.requires.here c.kids-rows.ensures.paths in
+    let same = c.top-sheet.ensures.value in
+    let paths = rows-paths c.top-sheet.result.now top same rows c.args.self.now.row path c.requires.here c.kids-rows.ensures.paths in
     c.loop-row.invariant
     ∙ ap (λ (ns : List PathName). map (piece_in (directory_piece c.args.space path)) (filter (λ own. is_directory_at top (child_path path own)) ns)) (names-all top path rows paths c.loop-row.row-index (omega arith))

@@ -3,7 +3,7 @@ use Rattle.ovl_names.specs.Paths.{PathNames}
 use Rattle.ovl_lookup.specs.Merged.{shows_directory}
 use Rattle.ovl_lookup.specs.DirViews.{IsSought}
 use Rattle.ovl_lookup.proofs.LawsOfLooks.{nothing-under}
-use Rattle.ovl_deref.proofs.directories.look_in.Goals as goal
+use Rattle.ovl_lookup.proofs.views.DirView.look_kept.Goals as goal
 
 pub returns-in_default-2-clause-look : goal.returns-in_default-2-clause-look
 returns-in_default-2-clause-look c =
