@@ -1,5 +1,5 @@
 -- Bytes and texts whose types say what they hold, and attributes in order.
-use Rattle.std.proofs.Common.{◌≡◌, ℕ, zero, suc, ◌+◌, ◌<◌, ◌≤◌, List, [], ◌∷◌, ◌++◌, Bool, true, false, IsTrue, refl, sym, ap, subst, ◌∙◌, le-ltb, Fits, w8, length, get_or, take, arith, Option, Some, None, set}
+use Rattle.std.proofs.Common.{◌≡◌, ℕ, zero, suc, ◌<◌, ◌≤◌, List, [], ◌∷◌, Bool, true, false, IsTrue, refl, sym, ap, subst, ◌∙◌, le-ltb, Fits, w8, length, get_or, take, arith, Option, Some, None, set}
 use Rattle.std.specs.Prelude.{◌==◌, unwrap_or, IfSome, slice_get, not, insert}
 use Rattle.std.specs.List.{list_all, list_any}
 use Rattle.std.specs.Str.{IsUtf8}
@@ -10,8 +10,6 @@ use Rattle.std.specs.declared.cmp.Ordering.{Ordering}
 use Rattle.std.specs.declared.cmp.Ordering.TheVariants.{Less, Equal, Greater}
 use Rattle.std.proofs.lemmas.Bool.{lt-ltb}
 use Rattle.std.specs.Option.{option_map}
-use Rattle.std.proofs.lemmas.List.{take_more}
-use Rattle.std.proofs.lemmas.List.Elements.{filter-append}
 use Rattle.std.proofs.Math.Dec.{eqb-suc-zero}
 use Rattle.std.proofs.Math.Facts.{Fits-lt-pow}
 use Rattle.std.proofs.lemmas.Map.Text.{is_eq-slice_cmp}
@@ -30,12 +28,6 @@ are_bytes-below (number ∷ numbers) range =
 
 pub are_bytes-from_range : (numbers : List ℕ) → ((i : ℕ) → Fits w8 (get_or numbers i 0)) → are_bytes numbers ≡ true
 are_bytes-from_range numbers range = are_bytes-below numbers (λ i. Fits-lt-pow {w = w8} {n = get_or numbers i 0} (range i))
-
--- the attributes that are shown, with one more
-pub visible_attributes-more : (attrs : Attributes) (i : ℕ) (attr : List ℕ × List ℕ) → i < length attrs → attr ≡ get_or attrs i attr → visible_attributes (take (i + 1) attrs) ≡ visible_attributes (take i attrs) ++ visible_attributes (attr ∷ [])
-visible_attributes-more attrs i attr inside is =
-    ap visible_attributes (take_more attrs i attr inside ∙ ap (λ (a : List ℕ × List ℕ). take i attrs ++ a ∷ []) (sym is))
-    ∙ filter-append (λ a. not (is_overlay_name a.0)) (take i attrs) (attr ∷ [])
 
 -- the attributes that are shown are attributes
 pub are_attributes-visible : (attrs : Attributes) → are_attributes attrs ≡ true → are_attributes (visible_attributes attrs) ≡ true

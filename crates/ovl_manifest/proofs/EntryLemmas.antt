@@ -1,12 +1,11 @@
 -- Entries that a manifest can state, and the limits of their paths.
-use Rattle.std.proofs.Common.{◌≡◌, ℕ, suc, ◌+◌, ◌*◌, ◌++◌, ◌<◌, ◌≤◌, ◌∙◌, subst, Ok, List, [], ◌∷◌, Bool, true, false, Option, Some, None, refl, sym, ap, length, length-append, length-take, map, take, get_or, arith, le-leb}
+use Rattle.std.proofs.Common.{◌≡◌, ℕ, suc, ◌+◌, ◌*◌, ◌++◌, ◌≤◌, ◌∙◌, subst, Ok, List, [], ◌∷◌, Bool, true, false, Option, Some, None, refl, sym, ap, length, length-append, length-take, map, take, arith, le-leb}
 use Rattle.std.specs.Prelude.{◌==◌, ◌&&◌, ◌↔◌, not, Result, Err, IfSome, IsTrue, nat_le, nat_lt, is_none, if◌then◌else◌}
 use Rattle.std.specs.Result.{result_err}
 use Rattle.std.specs.List.{starts_with}
 use Rattle.std.specs.Cmp.Lexicographic.{bytes_decides, pointwise_decides}
 use Rattle.std.proofs.lemmas.Bool.Decides.{nat_tests}
-use Rattle.std.proofs.lemmas.Grind.{flat_map-append}
-use Rattle.std.proofs.lemmas.List.{take_more, length-map}
+use Rattle.std.proofs.lemmas.List.{length-map}
 use Rattle.serde_json.specs.Data.{Data}
 use Rattle.ovl_names.specs.Names.{name_fault, is_name, name_eq, slash, name_limit}
 use Rattle.ovl_names.specs.declared.names.NameFault.TheVariants.{Empty, TooLong}
@@ -43,12 +42,6 @@ name_length name is = by (nat_lt name_limit (length name)) refl
     by : (b : Bool) → nat_lt name_limit (length name) ≡ b → length name ≤ name_limit
     by true e = never (length name == 0) (rw e at none)
     by false e = grind (arith, nat_tests)
-
-pub slashed-more : (names : PathNames) (k : ℕ) (d : List ℕ) → k < length names → length (slashed (take (k + 1) names)) ≡ length (slashed (take k names)) + (1 + length (get_or names k d))
-slashed-more names k d inside =
-    ap (λ (front : PathNames). length (slashed front)) (take_more names k d inside)
-    ∙ (ap length (flat_map-append (λ own. slash ∷ own) (take k names) (get_or names k d ∷ []))
-    ∙ (length-append (slashed (take k names)) (slashed (get_or names k d ∷ [])) ∙ omega (arith, length-append (get_or names k d) [])))
 
 pub limits : (path : PathNames) → length path ≤ depth_limit → nat_le (length (slashed path)) text_limit ≡ is_within_limits path
 limits [] shallow = refl
