@@ -67,12 +67,6 @@ on_way last directory begins =
     let same : directory ≡ take (length directory) last = (pointwise_decides bytes_decides directory (take (length directory) last)).0 begins in
     (sym same, omega (arith, ap length same, length-take (length directory) last))
 
--- it is taken where it has no fault
-pub entry-taken : (first : Entry) (before : Entries) (entry : Entry) → has_escaped_name entry.1.attrs ≡ false → comes_after (first ∷ before) entry.0 ≡ true → is_directory_at (first ∷ before) (parent_path entry.0) ≡ true → entry_after (first ∷ before) (Some entry) ≡ Ok ((first ∷ before) ++ entry ∷ [])
-entry-taken first before entry whole after parent =
-    let others : Entries = first ∷ before in
-    λ j. elim (if whole j then Some (Escaped (length others)) else if not (after j) then Some (Order (length others)) else if not (parent j) then Some (NoParent (length others)) else None) as (λ _. Result Entries LayerFault) [ Some fault ↦ Err fault | None ↦ Ok (others ++ entry ∷ []) ]
-
 -- ---- pairs, one after another
 
 pub stated_pair_statable : (pair : Entry) (entry : Option Entry) → entry ≡ stated_pair pair → IfSome entry (λ e. IsTrue (is_statable e))
