@@ -7,7 +7,7 @@ ghost use Rattle.ovl_board.specs.Assembly.{IsBoardFault, IsInOrder, IsLeast, IsA
 
 use crate::pieces::{Piece, copies};
 use crate::works::Parcel;
-use std::alloc::{AllocError, AllocFailed, Global};
+use std::alloc::{AllocError, Global};
 use thiserror::Error;
 
 /// Why parcels are no walk; where several hold, the first of them is given, with its least piece.

@@ -1,5 +1,5 @@
 -- The findings of a stack and its blobs are those by what is told of the blobs' contents.
-use Rattle.std.proofs.Common.{◌≡◌, ℕ, ◌+◌, Bool, true, false, not, Option, Some, None, List, [], ◌∷◌, ◌++◌, refl, sym, ap, ◌∙◌, map, filter, cond, zero, suc, All, arith}
+use Rattle.std.proofs.Common.{◌≡◌, ℕ, ◌+◌, Bool, true, false, not, Option, Some, None, List, [], ◌∷◌, ◌++◌, refl, sym, ap, ◌∙◌, map, filter, cond, All}
 use Rattle.std.specs.Prelude.{⊤, ◌&&◌, MatchOption, ◌==◌, length, is_none}
 use Rattle.std.specs.List.{flat_map}
 use Rattle.std.specs.Option.{option_map}
@@ -7,6 +7,7 @@ use Rattle.std.specs.Str.{bytes_eq}
 use Rattle.ovl_inode.specs.Kinds.{size_of, blob_of}
 use Rattle.ovl_manifest.specs.Layers.{Entries, Entry}
 use Rattle.ovl_lookup.specs.Stacks.{StackView}
+use Rattle.ovl_lookup.proofs.LawsOfPaths.{all-first, all-rest}
 use Rattle.ovl_check.specs.declared.contents.Content.{Content}
 use Rattle.ovl_check.specs.declared.findings.Code.{Code}
 use Rattle.ovl_check.specs.declared.findings.Code.TheVariants.{RedirectForm, RedirectLost, RedirectKind, RedirectDouble, RedirectOpen, DataMissing, DataSize, BlobMissing, BlobSize, BlobDigest, OrphanWhiteout, WhiteoutInOpaque, WhiteoutUnmarked, ImpureMissing, MarkIgnored}
@@ -107,18 +108,11 @@ findings-need blobs stack = from-layers blobs stack 0 stack.layers
 
 -- ---- what the layers name
 
--- what holds of each element holds of the first and of each later one
-all-first : {X : Type 0} (P : X → Type 0) (x : X) (xs : List X) → All P (x ∷ xs) → P x
-all-first P x xs each = each zero x (omega arith)
-
-all-later : {X : Type 0} (P : X → Type 0) (x : X) (xs : List X) → All P (x ∷ xs) → All P xs
-all-later P x xs each = λ k d inside. each (suc k) d (omega arith)
-
 flat_map-each : {X Y : Type 0} (f g : X → List Y) (P : X → Type 0) → ((x : X) → P x → f x ≡ g x) → (xs : List X) → All P xs → flat_map f xs ≡ flat_map g xs
 flat_map-each f g P same [] each = refl
 flat_map-each f g P same (x ∷ xs) each =
     ap (λ ys. ys ++ flat_map f xs) (same x (all-first P x xs each))
-    ∙ ap (λ ys. g x ++ ys) (flat_map-each f g P same xs (all-later P x xs each))
+    ∙ ap (λ ys. g x ++ ys) (flat_map-each f g P same xs (all-rest P x xs each))
 
 module _ (contents others : List Content) where
   abbrev AgreeAt : Option (List ℕ) → Type 0
@@ -169,14 +163,14 @@ module _ (contents others : List Content) where
   named-data stack i (layer ∷ layers) each =
       let below : StackView = record stack { layers = [] } in
       ap (λ found. found ++ data_findings_of_contents_from contents stack (i + 1) layers) (named-layer is_blob_fault i layer below (all-first AgreeIn layer layers each))
-      ∙ ap (λ found. findings_of_contents_in is_blob_fault others i layer below ++ found) (named-data stack (i + 1) layers (all-later AgreeIn layer layers each))
+      ∙ ap (λ found. findings_of_contents_in is_blob_fault others i layer below ++ found) (named-data stack (i + 1) layers (all-rest AgreeIn layer layers each))
 
   named-layers : (stack : StackView) (i : ℕ) (layers : List Entries) → TellsOfLayers contents others (layers ++ stack.data_only) → findings_of_contents_from contents stack i layers ≡ findings_of_contents_from others stack i layers
   named-layers stack i [] each = named-data stack i stack.data_only each
   named-layers stack i (layer ∷ layers) each =
       let below : StackView = record stack { layers = layers } in
       ap (λ found. found ++ findings_of_contents_from contents stack (i + 1) layers) (named-layer any_code i layer below (all-first AgreeIn layer (layers ++ stack.data_only) each))
-      ∙ ap (λ found. findings_of_contents_in any_code others i layer below ++ found) (named-layers stack (i + 1) layers (all-later AgreeIn layer (layers ++ stack.data_only) each))
+      ∙ ap (λ found. findings_of_contents_in any_code others i layer below ++ found) (named-layers stack (i + 1) layers (all-rest AgreeIn layer (layers ++ stack.data_only) each))
 
 pub findings-need-named : FindingsNeedNamed
 findings-need-named contents others stack agree = named-layers contents others stack 0 stack.layers agree

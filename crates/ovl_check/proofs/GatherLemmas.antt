@@ -25,7 +25,7 @@ use Rattle.ovl_lookup.specs.Merged.{look, is_nothing, data_of, place_of_data, da
 use Rattle.ovl_lookup.specs.Sound.{data_at}
 use Rattle.ovl_lookup.proofs.LawsOfWalks.{walk-whole, walk-stop}
 use Rattle.ovl_lookup.proofs.LawsOfPaths.{parent_path-child, length-child}
-use Rattle.ovl_lookup.proofs.LawsOfInodes.{metacopy-file, bare_file}
+use Rattle.ovl_lookup.proofs.LawsOfInodes.{metacopy-file, bare_file, directory-no_whiteout, is_directory_mark}
 use Rattle.ovl_lookup.proofs.LawsOfFound.{data_of-metacopy}
 use Rattle.ovl_check.specs.declared.contents.Content.{Content}
 use Rattle.ovl_check.specs.declared.directories.Directory.{Directory}
@@ -39,7 +39,7 @@ use Rattle.ovl_check.specs.Conditions.{has_origin_at, is_opaque, is_in_opaque, i
 use Rattle.ovl_check.specs.Contents.{find_content}
 use Rattle.ovl_check.specs.Facts.{IsGathered, AreFacts, next_of, old_place, data_size, data_size_on, whiteout_in, whiteout_at, kind_at, blob_found, blob_named, is_whiteout_mark}
 use Rattle.ovl_check.proofs.HeldLemmas.{names_below-none, origin-children}
-use Rattle.ovl_check.proofs.MarkLemmas.{is_directory_mark, directory-stays, whiteout-marked, directory-marked}
+use Rattle.ovl_check.proofs.MarkLemmas.{whiteout-marked, directory-marked}
 
 -- the mark of what lies in a directory is that of its inode
 pub mark-child : (layer : Entries) (directory : PathNames) (name : PathName) (inode : Inode) → entry_at layer (child_path directory name) ≡ Some inode → mark_at layer (child_path directory name) ≡ Some (mark_of inode)
@@ -93,7 +93,7 @@ module _ (layer : Entries) (directory : Directory) (is : IsGathered layer direct
 
   directory-whiteout : is_whiteout inode ≡ is_whiteout_mark mark
   directory-whiteout = elim own_mark [
-    | inl plain ↦ directory-stays inode is.kind ∙ sym (ap is_whiteout_mark plain)
+    | inl plain ↦ directory-no_whiteout inode is.kind ∙ sym (ap is_whiteout_mark plain)
     | inr own ↦ whiteout-marked inode ∙ sym (ap is_whiteout_mark own)
   ]
 

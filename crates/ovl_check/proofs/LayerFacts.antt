@@ -1,17 +1,18 @@
 -- A layer of a stack: its entries one by one, and the directories in a directory.
-use Rattle.std.proofs.Common.{◌≡◌, ℕ, zero, suc, ◌≤◌, ◌<◌, arith, ◌⊎◌, inl, inr, Bool, true, false, cond, Option, Some, None, List, [], ◌∷◌, map, length, refl, sym, ap, ◌∙◌, subst}
+use Rattle.std.proofs.Common.{◌≡◌, ℕ, zero, suc, ◌≤◌, ◌<◌, arith, ◌⊎◌, inl, inr, Bool, true, false, Option, Some, None, List, [], ◌∷◌, map, length, refl, sym, ap, ◌∙◌, subst}
 use Rattle.std.specs.Prelude.{filter, slice_get, unwrap_or, All}
 use Rattle.std.specs.List.{cons_option}
 use Rattle.std.specs.Ordering.{ordering_then}
-use Rattle.std.specs.Cmp.Lexicographic.{nat_list_cmp_total, bytes_decides}
+use Rattle.std.specs.Cmp.Lexicographic.{nat_list_cmp_total}
 use Rattle.std.proofs.lemmas.Cmp.{tied_itself, nat_cmp_total}
 use Rattle.std.specs.declared.cmp.Ordering.TheVariants.{Less}
-use Rattle.ovl_names.specs.Names.{PathName, name_eq, name_cmp}
+use Rattle.ovl_names.specs.Names.{PathName, name_cmp}
 use Rattle.ovl_names.specs.Paths.{PathNames, child_path, path_cmp, depth_limit}
 use Rattle.ovl_manifest.specs.Layers.{Entries, Entry, IsLayer, entry_cmp, is_directory_at, name_below, names_below}
 use Rattle.ovl_lookup.specs.Stacks.{all_layers}
 use Rattle.ovl_lookup.proofs.LawsOfWalks.{directory-limited}
 use Rattle.ovl_lookup.proofs.LawsOfPaths.{all-first, all-rest}
+use Rattle.ovl_lookup.proofs.LawsOfKids.{below-path}
 use Rattle.ovl_board.specs.declared.pieces.Piece.{Piece}
 use Rattle.ovl_board.specs.Pieces.{IsBefore, IsOneBelow, HasLawfulKids}
 use Rattle.ovl_board.proofs.LawsOfPieces.{siblings, fork_before}
@@ -36,17 +37,6 @@ cons_cases : {X : Type 0} (x : X) (o : Option X) (xs : List X) → In x (cons_op
 cons_cases x None xs h = inr h
 cons_cases x (Some y) xs (inl e) = inl (ap Some (sym e))
 cons_cases x (Some y) xs (inr h) = inr h
-
-below-path : (directory path : PathNames) (name : PathName) → name_below directory path ≡ Some name → path ≡ child_path directory name
-below-path [] [] name is = let bad : None ≡ Some name = is in cc
-below-path [] (own ∷ []) name is = ap (λ (o : Option PathName). elim o as (λ _. PathNames) [ Some n ↦ n ∷ [] | None ↦ [] ]) is
-below-path [] (own ∷ other ∷ names) name is = let bad : None ≡ Some name = is in cc
-below-path (first ∷ directory) [] name is = let bad : None ≡ Some name = is in cc
-below-path (first ∷ directory) (own ∷ names) name is = by (below-path directory names name) (name_eq first own) refl is
-  where
-    by : (name_below directory names ≡ Some name → names ≡ child_path directory name) → (b : Bool) → name_eq first own ≡ b → cond b (name_below directory names) None ≡ Some name → own ∷ names ≡ child_path (first ∷ directory) name
-    by later true e is = (λ j. sym ((bytes_decides first own).0 e) j ∷ later is j)
-    by later false e is = let bad : None ≡ Some name = is in cc
 
 pub below-In : (layer : Entries) (directory : PathNames) (name : PathName) → In name (names_below layer directory) → (entry : Entry) × (In entry layer × (entry.0 ≡ child_path directory name))
 below-In [] directory name h = absurd h

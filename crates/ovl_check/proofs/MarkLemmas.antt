@@ -1,24 +1,15 @@
 -- What the mark of an inode says of its kind.
 use Rattle.std.proofs.Common.{◌≡◌, ℕ, Bool, true, false, cond, Option, Some, None, List, refl, sym}
-use Rattle.std.specs.Prelude.{◌&&◌, ◌==◌}
+use Rattle.std.specs.Prelude.{◌&&◌}
 use Rattle.ovl_inode.specs.declared.inodes.Inode.{Inode}
-use Rattle.ovl_inode.specs.declared.inodes.Kind.{Kind}
-use Rattle.ovl_inode.specs.declared.inodes.Kind.TheVariants.{Dir, File, Char}
 use Rattle.ovl_inode.specs.declared.marks.Mark.{Mark}
 use Rattle.ovl_inode.specs.declared.marks.Mark.TheVariants.{Whiteout, DirOpaque, DirMoved, DirBad, DirPlain, Meta, MetaBad, Leaf}
 use Rattle.ovl_inode.specs.declared.marks.Redirect.{Redirect}
-use Rattle.ovl_inode.specs.Attributes.{attribute, redirect_name, whiteout_name}
+use Rattle.ovl_inode.specs.Attributes.{attribute, redirect_name}
 use Rattle.ovl_inode.specs.Redirects.{read_redirect}
-use Rattle.ovl_inode.specs.Marks.{mark_of, is_whiteout, is_directory, is_regular, has_attribute, has_opaque, has_metacopy, redirect_reading, directory_mark, metacopy_mark}
+use Rattle.ovl_inode.specs.Marks.{mark_of, is_whiteout, is_directory, is_regular, has_opaque, has_metacopy, redirect_reading, directory_mark, metacopy_mark}
+use Rattle.ovl_lookup.proofs.LawsOfInodes.{directory-no_whiteout, is_directory_mark}
 use Rattle.ovl_check.specs.Facts.{is_whiteout_mark}
-
--- a directory's mark
-abbrev pub is_directory_mark : Mark → Bool
-is_directory_mark DirOpaque = true
-is_directory_mark (DirMoved redirect) = true
-is_directory_mark DirBad = true
-is_directory_mark DirPlain = true
-is_directory_mark _ = false
 
 -- however its `redirect` reads
 module _ (inode : Inode) (test : Mark → Bool) (b : Bool) where
@@ -44,14 +35,6 @@ module _ (inode : Inode) (test : Mark → Bool) (b : Bool) where
       by None e = rw (e, redirect_reading) (meta None)
       by (Some value) e = said value e (read_redirect value) refl
 
--- a directory is no whiteout
-pub directory-stays : (inode : Inode) → is_directory inode ≡ true → is_whiteout inode ≡ false
-directory-stays inode is = by inode.kind is
-  where
-    by : (kind : Kind) → elim kind as (λ _. Bool) [ Dir ↦ true | _ ↦ false ] ≡ true → elim kind as (λ _. Bool) [ Char major minor ↦ major == 0 && minor == 0 | File size blob ↦ size == 0 && has_attribute inode whiteout_name | _ ↦ false ] ≡ false
-    by Dir is = refl
-    by _ is = let bad : false ≡ true = is in cc
-
 module _ (inode : Inode) where
   abbrev by_tests : Bool → Bool → Bool → Bool → Mark
   by_tests whiteout directory opaque file =
@@ -71,7 +54,7 @@ module _ (inode : Inode) where
       by false false o false = refl
 
   pub directory-marked : is_directory_mark (mark_of inode) ≡ is_directory inode
-  directory-marked = by (is_whiteout inode) (is_directory inode) (has_opaque inode) (is_regular inode && has_metacopy inode) (directory-stays inode)
+  directory-marked = by (is_whiteout inode) (is_directory inode) (has_opaque inode) (is_regular inode && has_metacopy inode) (directory-no_whiteout inode)
     where
       by : (w d o f : Bool) → (d ≡ true → w ≡ false) → is_directory_mark (by_tests w d o f) ≡ d
       by true true o f stays = let bad : true ≡ false = stays refl in cc

@@ -8,7 +8,7 @@ use Rattle.std.proofs.Math.Bool.{or-true}
 use Rattle.std.proofs.lemmas.Cmp.{tied_itself, nat_cmp_total}
 use Rattle.std.specs.Cmp.Lexicographic.{nat_list_cmp_total, lists_total}
 use Rattle.ovl_names.specs.Names.{PathName}
-use Rattle.ovl_names.specs.Paths.{PathNames, child_path, parent_path, path_eq, path_cmp}
+use Rattle.ovl_names.specs.Paths.{PathNames, child_path, path_eq, path_cmp}
 use Rattle.ovl_names.proofs.Ascending.{both, not_true, is_lt-Less}
 use Rattle.ovl_inode.specs.declared.inodes.Inode.{Inode}
 use Rattle.ovl_inode.specs.declared.marks.Mark.{Mark}
@@ -21,8 +21,7 @@ use Rattle.ovl_manifest.specs.Layers.{Entries, Entry, IsLayer, entry_at, entry_c
 use Rattle.ovl_lookup.specs.Stacks.{all_layers}
 use Rattle.ovl_lookup.specs.Walk.{walk, mark_at}
 use Rattle.ovl_lookup.specs.Sound.{is_moved, goes_on_there, redirect_is_double}
-use Rattle.ovl_lookup.proofs.LawsOfWalks.{directory-above, names_below-has}
-use Rattle.ovl_lookup.proofs.LawsOfPaths.{parent_path-child, length-child}
+use Rattle.ovl_lookup.proofs.LawsOfWalks.{directory-above, names_below-has, parent-directory}
 use Rattle.ovl_board.specs.declared.pieces.Piece.{Piece}
 use Rattle.ovl_board.specs.Pieces.{IsBefore}
 use Rattle.ovl_board.specs.Walks.{Reached, start, next, ToKid}
@@ -111,11 +110,6 @@ moved-directory layer (name ∷ names) inode here is =
     ∙ moved_cases (is_whiteout inode) (is_directory inode) (has_opaque inode) (is_regular inode && has_metacopy inode)
     (directory_mark (redirect_reading inode)) (metacopy_mark (redirect_reading inode)) (metacopy_mark-still inode)
     (sym (ap (λ (o : Option Inode). is_moved (elim o as (λ _. Option Mark) [ Some n ↦ Some (mark_of n) | None ↦ None ])) here) ∙ is)
-
-parent-directory : (layer : Entries) (d : PathNames) (name : PathName) → has_parent layer (child_path d name) ≡ true → is_directory_at layer d ≡ true
-parent-directory layer d name is =
-    sym (ap (is_directory_at layer) (parent_path-child d name))
-    ∙ (sym (ap (λ b. b || is_directory_at layer (parent_path (child_path d name))) (length-child d name)) ∙ is)
 
 module _ (work : CheckView) (each : All IsLayer (all_layers work.stack)) (i : ℕ) (is_layer : IsLayer (layer_at work.stack i)) where
   abbrev layer : Entries

@@ -92,9 +92,6 @@ FindingBefore a b = finding_cmp a b ≡ Less
 same_number : (n : ℕ) → nat_cmp n n ≡ Equal
 same_number n = tied_itself nat_cmp_total n
 
-same_place : (path : PathNames) → path_cmp path path ≡ Equal
-same_place path = tied_itself (lists_total nat_list_cmp_total) path
-
 Rises-weaker : {X : Type 0} (P Q : X → X → Type 0) → ((a b : X) → P a b → Q a b) → (xs : List X) → Rises P xs → Rises Q xs
 Rises-weaker P Q f [] up = tt
 Rises-weaker P Q f (x ∷ xs) up = ((λ y h. f x y (up.0 y h)), Rises-weaker P Q f xs up.1)
@@ -105,7 +102,7 @@ codes-map i path (code ∷ codes) up = (
   (λ f h.
       let other = In-map-cases (finding i path) f codes h in
       subst (FindingBefore (finding i path code)) (sym other.1.1)
-      (λ j. ordering_then (same_number i j) (ordering_then (same_place path j) (up.0 other.0 other.1.0 j)))),
+      (λ j. ordering_then (same_number i j) (ordering_then (tied_itself (lists_total nat_list_cmp_total) path j) (up.0 other.0 other.1.0 j)))),
   codes-map i path codes up.1,
 )
 

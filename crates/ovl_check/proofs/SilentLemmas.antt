@@ -2,6 +2,7 @@
 use Rattle.std.proofs.Common.{◌≡◌, ◌∙◌, ℕ, Bool, true, false, cond, Option, List, [], ◌∷◌, length, refl, sym, ap, arith, eqb-true}
 use Rattle.std.specs.Prelude.{◌&&◌, ◌==◌, not, codes, filter, Some}
 use Rattle.std.proofs.Math.Bool.{and-false}
+use Rattle.ovl_names.proofs.Ascending.{both, not_true}
 use Rattle.ovl_inode.specs.declared.inodes.Inode.{Inode}
 use Rattle.ovl_inode.specs.declared.marks.Mark.{Mark}
 use Rattle.ovl_inode.specs.declared.marks.Mark.TheVariants.{Leaf, DirPlain, DirMoved, Whiteout, Meta}
@@ -19,14 +20,6 @@ use Rattle.ovl_check.specs.declared.facts.NamedBlob.TheVariants.{Unnamed, Missin
 use Rattle.ovl_check.specs.declared.facts.Facts.{Facts}
 use Rattle.ovl_check.specs.Codes.{all_codes, blob_codes, is_blob_fault}
 use Rattle.ovl_check.specs.Facts.{tells, is_lost, is_of_wrong_kind, is_open, lacks_data, has_data_of_other_size, is_missing, is_of_other_length, is_wrong, is_orphan, is_in_opaque, is_unmarked, mark_says_nothing, is_quiet_mark, is_other, is_right, has_quiet_mark, is_bare, is_silent}
-
-both : {a b : Bool} → (a && b) ≡ true → (a ≡ true) × (b ≡ true)
-both {a = true} e = (refl, e)
-both {a = false} e = let bad : false ≡ true = e in cc
-
-is-false : (b : Bool) → not b ≡ true → b ≡ false
-is-false false e = refl
-is-false true e = let bad : false ≡ true = e in cc
 
 empty : {X : Type 0} (xs : List X) → (length xs == 0) ≡ true → xs ≡ []
 empty [] e = refl
@@ -54,7 +47,7 @@ right-length (Found long wrong) size e = ap not (both {a = long == size} {b = no
 right-bytes : (blob : NamedBlob) (size : ℕ) → is_right blob size ≡ true → is_wrong blob ≡ false
 right-bytes Unnamed size e = refl
 right-bytes Missing size e = refl
-right-bytes (Found long wrong) size e = is-false wrong (both {a = long == size} {b = not wrong} e).1
+right-bytes (Found long wrong) size e = not_true wrong (both {a = long == size} {b = not wrong} e).1
 
 -- a test that only those pass that pass another
 filter-only : {X : Type 0} (test own : X → Bool) (xs : List X) → ((x : X) → own x ≡ false → test x ≡ false) → filter test xs ≡ filter test (filter own xs)
@@ -108,7 +101,7 @@ module _ (facts : Facts) (bare : is_bare facts ≡ true) where
   other-untold WhiteoutInOpaque e = ap is_in_opaque kind
   other-untold WhiteoutUnmarked e = ap (λ k. is_unmarked k inode) kind ∙ and-false (is_regular inode)
   other-untold ImpureMissing e =
-      ap (λ b. (is_directory inode && not (attribute_is inode impure_name (codes "y"))) && b) (is-false facts.holds_origin three.1)
+      ap (λ b. (is_directory inode && not (attribute_is inode impure_name (codes "y"))) && b) (not_true facts.holds_origin three.1)
       ∙ and-false (is_directory inode && not (attribute_is inode impure_name (codes "y")))
   other-untold MarkIgnored e = nothing-ignored facts.is_root inode facts.mark.now (empty inode.attrs one.0)
 

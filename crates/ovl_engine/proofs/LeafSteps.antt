@@ -3,7 +3,7 @@ use Rattle.std.proofs.Common.{◌≡◌, ℕ, ◌+◌, ◌-◌, ◌<◌, ◌≤�
 use Rattle.std.specs.List.{flat_map}
 use Rattle.std.proofs.lemmas.List.{drop-append-le, drop_all}
 use Rattle.std.proofs.lemmas.List.Concat.{flat_map-append}
-use Rattle.std.proofs.lemmas.List.Elements.{All-nil, All-push}
+use Rattle.std.proofs.lemmas.List.Elements.{All-push}
 use Rattle.ovl_lookup.specs.Merged.{is_shown_directory}
 use Rattle.ovl_engine.specs.Directories.{NamedLook}
 use Rattle.ovl_engine.specs.Listings.{TellsLeaves, name_line}
@@ -12,15 +12,6 @@ abbrev IsLeaf : NamedLook → Type 0
 IsLeaf entry = is_shown_directory entry.1 ≡ false
 
 module _ (first : ℕ) (above : List ℕ) (entries : List NamedLook) (told : ℕ) (lines : List ℕ) where
-  pub leaves-none : TellsLeaves first above entries entries told told lines lines
-  leaves-none = record {
-    leaves = [];
-    all = refl;
-    are = All-nil IsLeaf;
-    counted = omega arith;
-    written = sym (ap (λ l. lines ++ flat_map (name_line above) l) (drop_all {X = NamedLook} (first - told) [] (omega arith)) ∙ append-nil lines);
-  }
-
   abbrev line : NamedLook → List ℕ
   line entry = name_line above entry
 

@@ -1,4 +1,4 @@
-ghost use Rattle.std.specs.Prelude.{◌≡◌, ◌↔◌, ◌<◌, ◌≤◌, true, false, Err, IfOk, IfErr, OnOk, [], List, length, nat_lt, nat_le};
+ghost use Rattle.std.specs.Prelude.{◌≡◌, ◌↔◌, ◌<◌, ◌≤◌, true, false, Err, IfOk, IfErr, OnOk, List, length, nat_lt, nat_le};
 ghost use Rattle.ovl_lookup.specs.Stacks.{layer_limit};
 ghost use Rattle.ovl_board.specs.Machine.{worker_limit};
 ghost use Rattle.ovl_lookup.specs.Sound.{IsSoundStack};

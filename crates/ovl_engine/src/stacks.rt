@@ -1,4 +1,4 @@
-ghost use Rattle.std.specs.Prelude.{◌≡◌, ◌+◌, ◌-◌, ◌*◌, ◌^◌, ◌<◌, ◌≤◌, None, Ok, IfOk, IfErr, MatchResult, length, map};
+ghost use Rattle.std.specs.Prelude.{◌≡◌, ◌+◌, ◌-◌, ◌^◌, ◌<◌, ◌≤◌, None, Ok, IfOk, IfErr, MatchResult, length, map};
 ghost use Rattle.std.specs.Thread.{IsSync, IsSend};
 ghost use Rattle.ovl_lookup.specs.Stacks.{layer_limit, stack_with};
 ghost use Rattle.ovl_engine.specs.Refusals.{layers_from, stated_layers, first_unread, IsUnread};

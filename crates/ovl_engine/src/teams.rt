@@ -1,4 +1,4 @@
-ghost use Rattle.std.specs.Prelude.{◌<◌, ◌≤◌, [], MatchResult};
+ghost use Rattle.std.specs.Prelude.{◌<◌, ◌≤◌, MatchResult};
 ghost use Rattle.ovl_board.specs.Machine.{worker_limit};
 ghost use Rattle.ovl_board.specs.Parcels.{IsPlain, parcel_views};
 ghost use Rattle.ovl_pool.specs.Runs.{MayBeRefused};

@@ -1,5 +1,5 @@
 -- Bytes and texts whose types say what they hold, and attributes in order.
-use Rattle.std.proofs.Common.{◌≡◌, ℕ, zero, suc, ◌+◌, ◌<◌, ◌≤◌, List, [], ◌∷◌, ◌++◌, Bool, true, false, IsTrue, refl, sym, ap, subst, ◌∙◌, le-ltb, Fits, w8, length, get_or, take, arith, Option, Some, None, set}
+use Rattle.std.proofs.Common.{◌≡◌, ℕ, zero, suc, ◌<◌, ◌≤◌, List, [], ◌∷◌, true, false, IsTrue, refl, sym, ap, subst, ◌∙◌, le-ltb, Fits, w8, length, get_or, take, arith, Option, Some, None, set}
 use Rattle.std.specs.Prelude.{◌==◌, unwrap_or, IfSome, slice_get, not, insert}
 use Rattle.std.specs.List.{list_all, list_any}
 use Rattle.std.specs.Str.{IsUtf8}
@@ -9,16 +9,15 @@ use Rattle.std.specs.Cmp.Lexicographic.{nat_list_cmp_total, bytes_decides}
 use Rattle.std.specs.declared.cmp.Ordering.{Ordering}
 use Rattle.std.specs.declared.cmp.Ordering.TheVariants.{Less, Equal, Greater}
 use Rattle.std.proofs.lemmas.Bool.{lt-ltb}
+use Rattle.std.proofs.lemmas.Cmp.{tied_itself}
 use Rattle.std.specs.Option.{option_map}
-use Rattle.std.proofs.lemmas.List.{take_more}
-use Rattle.std.proofs.lemmas.List.Elements.{filter-append}
 use Rattle.std.proofs.Math.Dec.{eqb-suc-zero}
 use Rattle.std.proofs.Math.Facts.{Fits-lt-pow}
 use Rattle.std.proofs.lemmas.Map.Text.{is_eq-slice_cmp}
 use Rattle.std.proofs.lemmas.Str.{is_utf8-from_IsUtf8}
 use Rattle.ovl_names.specs.Names.{name_cmp}
 use Rattle.ovl_names.specs.Order.{ascends}
-use Rattle.ovl_names.proofs.Ascending.{both, list_all-before, reversed, is_lt-Less, list_all-filter, ascends-filter}
+use Rattle.ovl_names.proofs.Ascending.{both, list_all-get, list_all-before, reversed, is_lt-Less, list_all-filter, ascends-filter}
 use Rattle.ovl_inode.specs.Bytes.{are_bytes}
 use Rattle.ovl_inode.specs.Attributes.{Attributes, attribute_fault, is_attribute_name, is_attribute, is_overlay_name, are_attributes, all_before, attribute_cmp, visible_attributes, with_attribute}
 
@@ -30,12 +29,6 @@ are_bytes-below (number ∷ numbers) range =
 
 pub are_bytes-from_range : (numbers : List ℕ) → ((i : ℕ) → Fits w8 (get_or numbers i 0)) → are_bytes numbers ≡ true
 are_bytes-from_range numbers range = are_bytes-below numbers (λ i. Fits-lt-pow {w = w8} {n = get_or numbers i 0} (range i))
-
--- the attributes that are shown, with one more
-pub visible_attributes-more : (attrs : Attributes) (i : ℕ) (attr : List ℕ × List ℕ) → i < length attrs → attr ≡ get_or attrs i attr → visible_attributes (take (i + 1) attrs) ≡ visible_attributes (take i attrs) ++ visible_attributes (attr ∷ [])
-visible_attributes-more attrs i attr inside is =
-    ap visible_attributes (take_more attrs i attr inside ∙ ap (λ (a : List ℕ × List ℕ). take i attrs ++ a ∷ []) (sym is))
-    ∙ filter-append (λ a. not (is_overlay_name a.0)) (take i attrs) (attr ∷ [])
 
 -- the attributes that are shown are attributes
 pub are_attributes-visible : (attrs : Attributes) → are_attributes attrs ≡ true → are_attributes (visible_attributes attrs) ≡ true
@@ -51,14 +44,6 @@ attribute_order = record {
   congr = λ x y z. nat_list_cmp_total.congr x.0 y.0 z.0;
 }
 
-name_cmp-same : (name : List ℕ) → name_cmp name name ≡ Equal
-name_cmp-same name = by (name_cmp name name) (nat_list_cmp_total.antisymm name name)
-  where
-    by : (o : Ordering) → o ≡ ordering_reverse o → o ≡ Equal
-    by Less e = let bad : Less ≡ Greater = e in cc
-    by Equal e = refl
-    by Greater e = let bad : Greater ≡ Less = e in cc
-
 -- a name that another comes after
 after-Greater : (name own : List ℕ) → name_cmp name own ≡ Greater → is_lt (name_cmp own name) ≡ true
 after-Greater name own e = ap is_lt (nat_list_cmp_total.antisymm own name ∙ ap ordering_reverse e)
@@ -67,11 +52,6 @@ after-Greater name own e = ap is_lt (nat_list_cmp_total.antisymm own name ∙ ap
 Some_injective : {X : Type 0} {x y : X} → Some x ≡ Some y → x ≡ y
 Some_injective {X} {x} {y} e = ap (λ o. unwrap_or o x) e
 
-list_all-at : {X : Type 0} (test : X → Bool) (xs : List X) (place : ℕ) (x : X) → list_all test xs ≡ true → slice_get xs place ≡ Some x → test x ≡ true
-list_all-at test [] place x all at = let bad : None ≡ Some x = at in cc
-list_all-at test (first ∷ xs) zero x all at = ap test (sym (Some_injective at)) ∙ (both {a = test first} {b = list_all test xs} all).0
-list_all-at test (first ∷ xs) (suc place) x all at = list_all-at test xs place x (both {a = test first} {b = list_all test xs} all).1 at
-
 -- all names before a place come before a name, where the last of them does
 pub list_all-take : (attrs : Attributes) (place : ℕ) (last : List ℕ × List ℕ) (name : List ℕ) → ascends attribute_cmp attrs ≡ true → slice_get attrs place ≡ Some last → is_lt (name_cmp last.0 name) ≡ true → all_before (take (suc place) attrs) name ≡ true
 list_all-take [] place last name up at before = let bad : None ≡ Some last = at in cc
@@ -79,7 +59,7 @@ list_all-take (attr ∷ attrs) zero last name up at before =
     rw (ap (λ (a : List ℕ × List ℕ). is_lt (name_cmp a.0 name)) (Some_injective at) ∙ before) refl
 list_all-take (attr ∷ attrs) (suc place) last name up at before =
     let parts = both {a = list_all (λ later. is_lt (attribute_cmp attr later)) attrs} {b = ascends attribute_cmp attrs} up in
-    let first : is_lt (name_cmp attr.0 last.0) ≡ true = list_all-at (λ later. is_lt (attribute_cmp attr later)) attrs place last parts.0 at in
+    let first : is_lt (name_cmp attr.0 last.0) ≡ true = list_all-get (λ later. is_lt (attribute_cmp attr later)) attrs place last parts.0 at in
     let through : is_lt (name_cmp attr.0 name) ≡ true = ap is_lt (nat_list_cmp_total.trans attr.0 last.0 name (is_lt-Less (name_cmp attr.0 last.0) first) (is_lt-Less (name_cmp last.0 name) before)) in
     rw through (list_all-take attrs place last name parts.1 at before)
 
@@ -89,7 +69,7 @@ all_before-own [] place own up at = let bad : None ≡ Some own = at in cc
 all_before-own (attr ∷ attrs) zero own up at = refl
 all_before-own (attr ∷ attrs) (suc place) own up at =
     let parts = both {a = list_all (λ later. is_lt (attribute_cmp attr later)) attrs} {b = ascends attribute_cmp attrs} up in
-    rw (list_all-at (λ later. is_lt (attribute_cmp attr later)) attrs place own parts.0 at) (all_before-own attrs place own parts.1 at)
+    rw (list_all-get (λ later. is_lt (attribute_cmp attr later)) attrs place own parts.0 at) (all_before-own attrs place own parts.1 at)
 
 -- names of which neither comes before the other are one
 pub name_cmp-Equal : (name own : List ℕ) → name_cmp name own ≡ Equal → name ≡ own
@@ -100,7 +80,7 @@ pub with_attribute-replaced : (attrs : Attributes) (place : ℕ) (own : List ℕ
 with_attribute-replaced [] place own value before at = let bad : None ≡ Some own = at in cc
 with_attribute-replaced (attr ∷ attrs) zero own value before at =
     let same : attr ≡ own = Some_injective at in
-    subst (λ (a : List ℕ × List ℕ). with_attribute (attr ∷ attrs) a.0 value ≡ set (attr ∷ attrs) 0 (a.0, value)) same (rw (name_cmp-same attr.0) refl)
+    subst (λ (a : List ℕ × List ℕ). with_attribute (attr ∷ attrs) a.0 value ≡ set (attr ∷ attrs) 0 (a.0, value)) same (rw (tied_itself nat_list_cmp_total attr.0) refl)
 with_attribute-replaced (attr ∷ attrs) (suc place) own value before at =
     let parts = both {a = is_lt (name_cmp attr.0 own.0)} {b = list_all (λ a. is_lt (name_cmp a.0 own.0)) (take place attrs)} before in
     rw (reversed nat_list_cmp_total attr.0 own.0 parts.0) (ap (λ rest. attr ∷ rest) (with_attribute-replaced attrs place own value parts.1 at))

@@ -8,11 +8,10 @@ use Rattle.std.proofs.lemmas.Simd.{zip2_splat, chunk-drop, length-chunk, pick_l_
 use lib.Lanes.{chunk, top, zip2, sel_l}
 use Rattle.hex.specs.Hex.{decode_pairs, decode_sized, hex_digit_value, pair_value}
 use Rattle.hex.proofs.Pairs.{cons_byte, decode_pairs-ok_pair, decode_sized-pairs}
+use Rattle.ovl_names.proofs.Ascending.{both}
 use Rattle.ovl_inode.specs.Hexadecimal.{is_lower_digit}
 use Rattle.ovl_inode.specs.DigitLanes.{lane_value, pair_byte, spell, block_bytes}
-
-abbrev at_most : ℕ → ℕ → ℕ
-at_most a b = cond (leb a b) 255 0
+use Rattle.ovl_inode.proofs.DigitLaneLemmas.{at_most}
 
 abbrev less : ℕ → ℕ → ℕ
 less a b = (a + (256 - b)) % 256
@@ -32,10 +31,6 @@ values-picked v long =
     ap (λ (l : List ℕ). sel_l (map (top 7) l) (zip2 less v (replicate 16 48)) (zip2 less v (replicate 16 87))) (zip2_splat at_most v 16 57 long)
     ∙ (ap₂ (λ (a b : List ℕ). sel_l (map (top 7) (map (λ x. at_most x 57) v)) a b) (zip2_splat less v 16 48 long) (zip2_splat less v 16 87 long)
     ∙ picked v)
-
-pub both : {a b : Bool} → (a && b) ≡ true → (a ≡ true) × (b ≡ true)
-both {a = true} e = (refl, e)
-both {a = false} e = let bad : false ≡ true = e in cc
 
 -- a test of all numbers below another
 abbrev pub below : ℕ → (ℕ → Bool) → Bool

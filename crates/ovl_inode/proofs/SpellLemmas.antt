@@ -12,11 +12,10 @@ use lib.Lanes.{top, zip2, sel_l}
 use lib.ListN.{get_or}
 use Rattle.hex.specs.Hex.{encode_lower, encode_with, lower_digits}
 use Rattle.hex.proofs.HexLemmas.{IsAscii-encode_with}
+use Rattle.ovl_names.proofs.Ascending.{both}
 use Rattle.ovl_inode.specs.DigitLanes.{lane_digit}
-use Rattle.ovl_inode.proofs.PairLemmas.{both, below-at}
-
-abbrev at_most : ℕ → ℕ → ℕ
-at_most a b = cond (leb a b) 255 0
+use Rattle.ovl_inode.proofs.DigitLaneLemmas.{at_most}
+use Rattle.ovl_inode.proofs.PairLemmas.{below-at}
 
 abbrev sum_in_lane : ℕ → ℕ → ℕ
 sum_in_lane a b = (a + b) % 256

@@ -1,10 +1,10 @@
 -- The items of an array and the members of an object, one after another.
-use Rattle.std.proofs.Common.{◌≡◌, ℕ, zero, suc, ◌-◌, ◌<◌, ◌≤◌, List, [], ◌∷◌, length, Bool, true, false, Option, Some, None, option_map, option_and_then, refl, sym, ap, ◌∙◌, subst, arith}
+use Rattle.std.proofs.Common.{◌≡◌, ℕ, zero, suc, ◌-◌, ◌<◌, ◌≤◌, List, [], ◌∷◌, length, true, false, Option, Some, None, option_map, option_and_then, refl, sym, ap, ◌∙◌, arith}
 use Rattle.std.specs.Prelude.{is_some, IsSomeAnd}
 use Rattle.json.specs.Token.{Token}
 use Rattle.json.specs.Json as json
 use Rattle.json.specs.Json.{Parse, parse_map, after_end_array, read_key, items_step, members_step, items, members, value, if_last}
-use Rattle.json.proofs.Grammar.{left, left_some, left_none, left-parse_map, Takes, items_end, items_fail, items_more, members_end, members_fail, members_no_key, members_more, value_is, value-begin_array, value-begin_object, skip_value-shorter, read_key-shorter, after_end_array-shorter}
+use Rattle.json.proofs.Grammar.{left, Takes, items_end, items_fail, items_more, members_end, members_fail, members_no_key, members_more, value-begin_array, value-begin_object, skip_value-shorter, read_key-shorter}
 use Rattle.serde_json.specs.Data.{Data, array, object, Items, no_items, item, Members, no_members, put}
 use Rattle.json.specs.Lex.{tokens}
 use Rattle.serde_json.specs.Read.{of_json, of_items, of_members, converted, read, max_depth}
@@ -81,17 +81,6 @@ pub record IsRead (depth : ℕ) (ts : List Token) : Type 0 where
   pub is : of_json json ≡ Some datum
   pub read : read_value depth ts ≡ Some (datum, rest)
   pub shorter : length rest < length ts
-
-is_read : (depth : ℕ) (ts : List Token) (o : Option (json.Json × List Token)) → value depth ts ≡ o → is_some (converted of_json o) ≡ true → IsRead depth ts
-is_read depth ts None e some = let bad : false ≡ true = some in cc
-is_read depth ts (Some q) e some = by (of_json q.0) refl
-  where
-    by : (d : Option Data) → of_json q.0 ≡ d → IsRead depth ts
-    by None none = let bad : false ≡ true = rw none at some in cc
-    by (Some d) is = record { json = q.0; datum = d; rest = q.1; parsed = e; is = is; read = ap (converted of_json) e ∙ ap (option_map (λ b. (b, q.1))) is; shorter = skip_value-shorter depth ts q.1 (ap left e) }
-
-pub stands : (depth : ℕ) (ts : List Token) → is_some (read_value depth ts) ≡ true → IsRead depth ts
-stands depth ts some = is_read depth ts (value depth ts) refl some
 
 -- ---- a turn
 

@@ -1,5 +1,5 @@
 -- Objects that are kept, beside the data that they stand for.
-use Rattle.std.proofs.Common.{◌≡◌, ℕ, suc, ◌<◌, ◌≤◌, List, [], ◌∷◌, length, Bool, true, false, Option, Some, None, option_map, Ordering, Less, Equal, Greater, is_eq, cond, nat_cmp, option_and_then, refl, sym, ap, ◌∙◌, arith, le-leb, Bor}
+use Rattle.std.proofs.Common.{◌≡◌, ℕ, suc, ◌<◌, ◌≤◌, List, [], ◌∷◌, length, true, false, Option, Some, None, option_map, Ordering, Less, Equal, Greater, is_eq, cond, nat_cmp, option_and_then, refl, sym, ap, ◌∙◌, arith, le-leb, Bor}
 use Rattle.std.specs.Prelude.{⊤, is_some, IsSomeAnd, nat_le, if◌then◌else◌}
 use Rattle.std.proofs.lemmas.Bool.Decides.{nat_tests}
 use Rattle.std.specs.Cmp.Lexicographic.{slice_cmp}

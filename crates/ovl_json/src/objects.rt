@@ -1,8 +1,8 @@
 ghost use Rattle.std.specs.Prelude.{◌≡◌, true, Some, IfOk, IsSomeAnd, is_some};
-ghost use Rattle.std.specs.Option.{option_map, option_and_then};
+ghost use Rattle.std.specs.Option.{option_map};
 ghost use Rattle.serde_json.specs.Data.{object, no_members};
 ghost use Rattle.serde_json.specs.Events.{members_len};
-ghost use Rattle.serde_json.specs.Find.{get, as_str, as_number, as_u64, as_i64, as_object, as_array};
+ghost use Rattle.serde_json.specs.Find.{get, as_str, as_number, as_object, as_array};
 ghost use Rattle.serde_json.specs.View.{number_view};
 ghost use Rattle.ovl_json.specs.Kept.{kept, text_kept, texts_kept, object_kept};
 ghost use Rattle.ovl_json.specs.Reading.{read_value, read_members as members_read};

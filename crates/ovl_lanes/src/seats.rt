@@ -1,4 +1,4 @@
-ghost use Rattle.std.specs.Prelude.{◌≡◌, ◌↔◌, ◌⊎◌, ◌<◌, ◌+◌, length, List, All, Err, IfOk, vec_len};
+ghost use Rattle.std.specs.Prelude.{◌≡◌, ◌↔◌, ◌⊎◌, ◌<◌, length, List, All, Err, IfOk, vec_len};
 ghost use Rattle.ovl_board.specs.Machine.{worker_limit};
 ghost use Rattle.ovl_board.specs.declared.pieces.Piece.{Piece};
 ghost use Rattle.ovl_lanes.specs.declared.seats.LaneFault.TheVariants.{Count, Memory};

@@ -55,7 +55,7 @@ module _ (layer : Entries) (directory : PathNames) (kids : List ℕ) (paths : ma
 
 -- ---- the names directly below a path of a layer, in order
 
-below-path : (directory path : PathNames) (name : PathName) → name_below directory path ≡ Some name → path ≡ child_path directory name
+pub below-path : (directory path : PathNames) (name : PathName) → name_below directory path ≡ Some name → path ≡ child_path directory name
 below-path [] [] name is = let bad : None ≡ Some name = is in cc
 below-path [] (own ∷ []) name is = ap (λ (o : Option PathName). elim o as (λ _. PathNames) [ Some n ↦ n ∷ [] | None ↦ [] ]) is
 below-path [] (own ∷ other ∷ names) name is = let bad : None ≡ Some name = is in cc
@@ -409,7 +409,7 @@ shows-root stack each some = shows-found stack [] ∙ starts-any (things_found s
     by [] each some = absurd (omega arith)
     by (layer ∷ layers) each some = root-found layer layers (all-first IsLayer layer layers each)
 
-no-name : (names : List PathName) → ((name : PathName) → list_any (name_eq name) names ≡ true → ⊥) → names ≡ []
+pub no-name : (names : List PathName) → ((name : PathName) → list_any (name_eq name) names ≡ true → ⊥) → names ≡ []
 no-name [] none = refl
 no-name (name ∷ names) none = absurd (none name (ap (λ b. b || list_any (name_eq name) names) ((bytes_decides name name).1 refl)))
 

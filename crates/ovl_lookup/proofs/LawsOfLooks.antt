@@ -245,7 +245,7 @@ file-walked data_only inode turned shut name layers file = by (is_whiteout inode
 
 -- ---- below what is no directory nothing is shown
 
-directory-shows : (shown : Look) → is_shown_directory shown ≡ true → not (is_nothing shown) ≡ true
+pub directory-shows : (shown : Look) → is_shown_directory shown ≡ true → not (is_nothing shown) ≡ true
 directory-shows Nothing is = is
 directory-shows (Shown inode) is = refl
 directory-shows (Broken inode) is = refl

@@ -330,7 +330,7 @@ same-walk one other path is_one is_other same = by (walk-end one path is_one)
         ∙ ap (walk other) b.whole))
 
 -- an entry stands in a directory of its layer
-parent-directory : (layer : Entries) (path : PathNames) (name : PathName) → has_parent layer (child_path path name) ≡ true → is_directory_at layer path ≡ true
+pub parent-directory : (layer : Entries) (path : PathNames) (name : PathName) → has_parent layer (child_path path name) ≡ true → is_directory_at layer path ≡ true
 parent-directory layer path name has =
     ap (is_directory_at layer) (sym (parent_path-child path name))
     ∙ (ap (λ b. b || is_directory_at layer (parent_path (child_path path name))) (sym (length-child path name)) ∙ has)

@@ -22,7 +22,7 @@ use Rattle.ovl_manifest.specs.declared.versions.Version.{Version}
 use Rattle.ovl_manifest.specs.declared.versions.Version.TheVariants.{One, Two}
 use Rattle.ovl_manifest.proofs.OpenLemmas.{path_cmp-under}
 use Rattle.ovl_manifest.proofs.LayerLemmas.{path_order, path_cmp-same, in_parent, after-some}
-use Rattle.ovl_manifest.proofs.ReadLemmas.{taken, counted}
+use Rattle.ovl_manifest.proofs.ReadLemmas.{entry-taken, counted}
 use Rattle.ovl_manifest.proofs.EntryLemmas.{one_taken}
 use Rattle.ovl_manifest.proofs.StatedLemmas.{entries-stated}
 
@@ -114,7 +114,7 @@ next-taken (first ∷ others) entry more is =
     let before : Entries = first ∷ others in
     let comes = after before entry more is in
     let some = after-some first.0 entry.0 (both {a = is_lt (path_cmp first.0 entry.0)} {b = comes_after others entry.0} comes).0 in
-    taken first others entry (unescaped before entry more is) comes (parent before entry more is some)
+    entry-taken first others entry (unescaped before entry more is) comes (parent before entry more is some)
 
 all-taken : (before rest : Entries) → IsLayer (before ++ rest) → entries_after before (map (λ entry. Some entry) rest) ≡ Ok (before ++ rest)
 all-taken before [] is = ap (λ (es : Entries). Ok es) (sym (append-nil before))

@@ -262,13 +262,6 @@ attributes-more (first ∷ attrs) attr some = ap (λ (t : List ℕ). attribute_t
     behind [] = ap (λ (t : List ℕ). 44 ∷ t) (append-nil (attribute_text attr))
     behind (next ∷ attrs) = ap (λ (t : List ℕ). 44 ∷ (attribute_text next ++ t)) (behind attrs) ∙ ap (λ (t : List ℕ). 44 ∷ t) (sym (append_assoc (attribute_text next) (attributes_text true attrs) (44 ∷ attribute_text attr)))
 
--- one attribute more, behind others or first
-pub attributes-next : (attrs : Attributes) (attr : List ℕ × List ℕ) → attributes_text false (attrs ++ attr ∷ []) ≡ attributes_text false attrs ++ (comma_if (nat_lt 0 (length attrs)) ++ attribute_text attr)
-attributes-next [] attr = append-nil (attribute_text attr)
-attributes-next (first ∷ attrs) attr =
-    let some : nat_lt 0 (length (first ∷ attrs)) ≡ true = grind (arith, nat_tests) in
-    attributes-more (first ∷ attrs) attr (omega arith) ∙ ap (λ (b : Bool). attributes_text false (first ∷ attrs) ++ (comma_if b ++ attribute_text attr)) (sym some)
-
 -- the same in front of what follows
 pub attributes-onto : (attrs : Attributes) (attr : List ℕ × List ℕ) (rest : List ℕ) → 0 < length attrs → attributes_text false attrs ++ 44 ∷ (attribute_text attr ++ rest) ≡ attributes_text false (attrs ++ attr ∷ []) ++ rest
 attributes-onto attrs attr rest some =

@@ -1,12 +1,11 @@
 -- Entries that a manifest can state, and the limits of their paths.
-use Rattle.std.proofs.Common.{◌≡◌, ℕ, suc, ◌+◌, ◌*◌, ◌++◌, ◌<◌, ◌≤◌, ◌∙◌, subst, Ok, List, [], ◌∷◌, Bool, true, false, Option, Some, None, refl, sym, ap, length, length-append, length-take, map, take, get_or, arith, le-leb}
+use Rattle.std.proofs.Common.{◌≡◌, ℕ, suc, ◌+◌, ◌*◌, ◌++◌, ◌≤◌, ◌∙◌, subst, Ok, List, [], ◌∷◌, Bool, true, false, Option, Some, None, refl, sym, ap, length, length-append, length-take, map, take, arith, le-leb}
 use Rattle.std.specs.Prelude.{◌==◌, ◌&&◌, ◌↔◌, not, Result, Err, IfSome, IsTrue, nat_le, nat_lt, is_none, if◌then◌else◌}
 use Rattle.std.specs.Result.{result_err}
 use Rattle.std.specs.List.{starts_with}
 use Rattle.std.specs.Cmp.Lexicographic.{bytes_decides, pointwise_decides}
 use Rattle.std.proofs.lemmas.Bool.Decides.{nat_tests}
-use Rattle.std.proofs.lemmas.Grind.{flat_map-append}
-use Rattle.std.proofs.lemmas.List.{take_more, length-map}
+use Rattle.std.proofs.lemmas.List.{length-map}
 use Rattle.serde_json.specs.Data.{Data}
 use Rattle.ovl_names.specs.Names.{name_fault, is_name, name_eq, slash, name_limit}
 use Rattle.ovl_names.specs.declared.names.NameFault.TheVariants.{Empty, TooLong}
@@ -44,12 +43,6 @@ name_length name is = by (nat_lt name_limit (length name)) refl
     by true e = never (length name == 0) (rw e at none)
     by false e = grind (arith, nat_tests)
 
-pub slashed-more : (names : PathNames) (k : ℕ) (d : List ℕ) → k < length names → length (slashed (take (k + 1) names)) ≡ length (slashed (take k names)) + (1 + length (get_or names k d))
-slashed-more names k d inside =
-    ap (λ (front : PathNames). length (slashed front)) (take_more names k d inside)
-    ∙ (ap length (flat_map-append (λ own. slash ∷ own) (take k names) (get_or names k d ∷ []))
-    ∙ (length-append (slashed (take k names)) (slashed (get_or names k d ∷ [])) ∙ omega (arith, length-append (get_or names k d) [])))
-
 pub limits : (path : PathNames) → length path ≤ depth_limit → nat_le (length (slashed path)) text_limit ≡ is_within_limits path
 limits [] shallow = refl
 limits (name ∷ path) shallow = rw (le-leb (length (name ∷ path)) depth_limit shallow) refl
@@ -73,12 +66,6 @@ pub on_way : (last directory : PathNames) → starts_with name_eq last directory
 on_way last directory begins =
     let same : directory ≡ take (length directory) last = (pointwise_decides bytes_decides directory (take (length directory) last)).0 begins in
     (sym same, omega (arith, ap length same, length-take (length directory) last))
-
--- it is taken where it has no fault
-pub entry-taken : (first : Entry) (before : Entries) (entry : Entry) → has_escaped_name entry.1.attrs ≡ false → comes_after (first ∷ before) entry.0 ≡ true → is_directory_at (first ∷ before) (parent_path entry.0) ≡ true → entry_after (first ∷ before) (Some entry) ≡ Ok ((first ∷ before) ++ entry ∷ [])
-entry-taken first before entry whole after parent =
-    let others : Entries = first ∷ before in
-    λ j. elim (if whole j then Some (Escaped (length others)) else if not (after j) then Some (Order (length others)) else if not (parent j) then Some (NoParent (length others)) else None) as (λ _. Result Entries LayerFault) [ Some fault ↦ Err fault | None ↦ Ok (others ++ entry ∷ []) ]
 
 -- ---- pairs, one after another
 

@@ -2,6 +2,7 @@
 use Rattle.std.proofs.Common.{◌≡◌, ℕ, ◌+◌, ◌-◌, ◌<◌, ◌≤◌, length, take, Bool, true, false, Option, Some, None, [], ◌∷◌, ◌++◌, refl, sym, ap, ◌∙◌, subst, arith, le-leb, length-append, get_or}
 use Rattle.std.proofs.Math.Seq.{take-length}
 use Rattle.std.proofs.Common.{length-take-le}
+use Rattle.std.proofs.lemmas.Cmp.{tied_itself}
 use Rattle.std.proofs.lemmas.List.{take_more}
 use Rattle.ovl_inode.specs.Marks.{is_directory}
 use Rattle.std.specs.Prelude.{◌&&◌, ◌||◌, not}
@@ -22,7 +23,6 @@ use Rattle.ovl_inode.specs.Sound.{is_sound_inode}
 use Rattle.ovl_manifest.specs.Layers.{Entry, Entries, entry_cmp, entry_at, is_directory_at, has_parent, is_within_limits, entry_limit, IsLayer}
 use Rattle.ovl_manifest.specs.Manifest.{comes_after}
 use Rattle.ovl_manifest.proofs.NodeLemmas.{name_eq-cmp}
-use Rattle.ovl_manifest.proofs.OpenLemmas.{path_cmp-under}
 
 pub path_order : IsTotalOrder path_cmp
 path_order = lists_total nat_list_cmp_total
@@ -53,8 +53,7 @@ comes_after-last front last path inode up = by (is_lt (path_cmp last path)) refl
 -- ---- the directory of an entry after the last
 
 pub path_cmp-same : (path : PathNames) → path_cmp path path ≡ Equal
-path_cmp-same [] = refl
-path_cmp-same (name ∷ path) = path_cmp-under name path path ∙ path_cmp-same path
+path_cmp-same path = tied_itself path_order path
 
 -- of two paths, neither of which the last may come before
 at_most : (one other : PathNames) → is_lt (path_cmp one other) ≡ true → is_lt (path_cmp other one) ≡ false

@@ -4,7 +4,7 @@ use Rattle.std.specs.Prelude.{is_some, IfSome, IsTrue, IsSomeAnd, IfOk, if◌the
 use Rattle.std.specs.Option.{option_map}
 use Rattle.json.specs.Token.{Token}
 use Rattle.json.specs.Json.{parse_map}
-use Rattle.serde_json.specs.Data.{Num, Data, null, boolean, number, string, array, object, Items, no_items, item, Members, put}
+use Rattle.serde_json.specs.Data.{Num, Data, object, Items, no_items, item, Members, put}
 use Rattle.serde_json.specs.Events.{items_len}
 use Rattle.serde_json.specs.Find.{get, get_member, as_number, as_u64, as_array}
 use Rattle.json.specs.Lex.{tokens}
@@ -21,7 +21,7 @@ use Rattle.ovl_manifest.specs.Fields.{has_exactly, entry_of}
 use Rattle.ovl_manifest.specs.Versions.{version_of}
 use Rattle.ovl_manifest.specs.Manifest.{is_whole, entry_after, entries_after, layer_of_entries, stated_entries, is_statable, layer_of_fields, layer_of_value, read_layer, IsFaultOf}
 use Rattle.ovl_manifest.specs.Drafts.{draft_entries, IsDraft}
-use Rattle.ovl_manifest.specs.Lists.{listed, outline_of, outline, entry_on, entries_on, made, IsProgress, IsProgressOf, Tells, TellsLast}
+use Rattle.ovl_manifest.specs.Lists.{listed, outline_of, outline, entry_on, entries_on, made, IsProgress, IsProgressOf, Tells}
 use Rattle.ovl_manifest.specs.declared.versions.Version.{Version}
 use Rattle.ovl_manifest.specs.declared.drafts.Draft.{Draft}
 use Rattle.ovl_manifest.specs.declared.lists.Progress.{Progress}
@@ -55,10 +55,6 @@ told-one version count result value None = refl
 told-one version count result value (Some own) =
     let same : count + suc (items_len own.0) ≡ count + 1 + items_len own.0 = omega arith in
     λ j. Some (entries_on-one result (entry_of version value) (stated_entries version own.0) j, same j, own.1)
-
-pub told-some : (version : Version) (count : ℕ) (result : Result Entries LayerFault) (read : Option (Items × List Token)) → is_some (told version count result read) ≡ is_some read
-told-some version count result None = refl
-told-some version count result (Some own) = refl
 
 stated-count : (version : Version) (items : Items) → length (stated_entries version items) ≡ items_len items
 stated-count version no_items = refl
@@ -161,27 +157,9 @@ progress-told before entry (Err fault) progress count adds is same = fault-told 
 
 -- ---- a list, and what is none
 
-pub as_list : (version : Version) (read : Option (Items × List Token)) (rest : List Token) (own : Result Draft LayerFault)
-    → IsSomeAnd read (λ o. (o.1 ≡ rest) × Tells own (layer_of_entries (stated_entries version o.0))) → IsSomeAnd (parse_map array read) (λ o. (o.1 ≡ rest) × TellsLast version (as_array o.0) (Some own))
-as_list version None rest own is = is
-as_list version (Some o) rest own is = is
-
 pub some-list : {A B : Type 0} (made : A → B) (read : Option (A × List Token)) → is_some (parse_map made read) ≡ true → is_some read ≡ true
 some-list made None some = some
 some-list made (Some o) some = refl
-
-pub as_object : (version : Version) (read : Option (Members × List Token)) (rest : List Token) (own : Option (Result Draft LayerFault))
-    → IsSomeAnd read (λ o. o.1 ≡ rest) → IsSomeAnd (parse_map object read) (λ o. (o.1 ≡ rest) × TellsLast version (as_array o.0) own)
-as_object version None rest own is = is
-as_object version (Some o) rest own is = (is, tt)
-
-pub plain-none : (version : Version) (value : Data) (own : Option (Result Draft LayerFault)) → kept value ≡ null → TellsLast version (as_array value) own
-plain-none version null own is = tt
-plain-none version (boolean b) own is = tt
-plain-none version (number n) own is = tt
-plain-none version (string text) own is = tt
-plain-none version (array items) own is = let bad : array no_items ≡ null = is in cc
-plain-none version (object found) own is = tt
 
 -- ---- the outline
 
@@ -242,10 +220,6 @@ item_stated version (Some o) rest (Some value) entry is e = (is.0, e ∙ entry-o
 abbrev pub Adds : Entries → Option Entry → Result Draft LayerFault → Type 0
 Adds before entry more = MatchResult more (λ draft. (entry_after before entry ≡ Ok (draft_entries draft)) × IsDraft draft) (λ fault. IsFaultOf (entry_after before entry) fault)
 
-pub started : (entry : Option Entry) (more : Result Draft LayerFault) → MatchResult more (λ draft. (entry_after [] entry ≡ Ok (draft_entries draft)) × IsDraft draft) (λ fault. entry_after [] entry ≡ Err fault) → Adds [] entry more
-started entry (Ok draft) is = is
-started entry (Err fault) is = is_told_of (entry_after [] entry) fault is
-
 pub progress-ok : (before : Entries) (entry : Option Entry) (more : Result Draft LayerFault) (result : Result Progress Unread) (count : ℕ) → Adds before entry more → IfOk result (λ progress. IsProgressOf more progress) → length before ≡ count
     → IfOk result (λ progress. IsProgress progress (count + 1) × (made progress ≡ entry_after before entry))
 progress-ok before entry more (Ok progress) count adds is same = progress-told before entry more progress count adds is same
@@ -262,11 +236,6 @@ pub item-made : (version : Version) (read : Option (Data × List Token)) (rest :
 item-made version None rest entry before (Ok progress) count is made = is
 item-made version (Some o) rest entry before (Ok progress) count is made = (is.0, made.1 ∙ ap (entry_on before) is.1)
 item-made version read rest entry before (Err fault) count is made = made
-
--- after a fault items are passed
-pub item-passed : (version : Version) (read : Option (Data × List Token)) (rest : List Token) (fault : LayerFault) → IsSomeAnd read (λ o. o.1 ≡ rest) → IsSomeAnd read (λ o. (o.1 ≡ rest) × (made (Refused fault) ≡ entry_on (Err fault) (entry_of version o.0)))
-item-passed version None rest fault is = is
-item-passed version (Some o) rest fault is = (is, refl)
 
 -- the layer of a text is that of its list, or its fault
 pub layer_stated : (text : List ℕ) (version : Version) (result : Result Entries LayerFault) → IsUtf8 text → IsSomeAnd (read text) (λ value. outline value ≡ Ok version)
@@ -293,15 +262,6 @@ fault_stated text fault utf8 is = by (read text) refl is
     by : (o : Option Data) → read text ≡ o → IsSomeAnd o (λ value. IsFaultOf (layer_of_value value) fault) → IsFaultOf (read_layer text) fault
     by None e all = absurd all
     by (Some value) e all = subst (λ (stated : Result Entries LayerFault). IsFaultOf stated fault) (sym (text_read text value utf8 e)) all
-
--- and there is a list
-pub has_list : (read : Option Data) (version : Version) → IsSomeAnd read (λ value. outline value ≡ Ok version) → is_some (option_and_then listed read) ≡ true
-has_list None version is = absurd is
-has_list (Some value) version is = by (listed value) (outline_lists value version is)
-  where
-    by : (o : Option Items) → IsSomeAnd o (λ items. layer_of_value value ≡ layer_of_entries (stated_entries version items)) → is_some o ≡ true
-    by None lists = absurd lists
-    by (Some items) lists = refl
 
 -- a draft that is told is one
 pub told-draft : (listing : Option Items) (version : Version) (draft : Draft) → IsSomeAnd listing (λ items. Tells (Ok draft) (layer_of_entries (stated_entries version items))) → IsDraft draft
@@ -338,44 +298,6 @@ outline_stated text own rest result some is one = by (read text) refl some
     by : (o : Option Data) → read text ≡ o → is_some o ≡ true → IsSomeAnd o (λ value. MatchResult result (λ version. outline value ≡ Ok version) (λ fault. IsFaultOf (layer_of_value value) fault))
     by None e none = let bad : false ≡ true = none in cc
     by (Some value) e _ = tells-outline value result (one ∙ outlined-kept own value (at value (read_value max_depth (tokens text)) (read_is text value e) is))
-
--- the value of a text that has a list
-pub text-some : (text : List ℕ) → is_some (option_and_then listed (read text)) ≡ true → is_some (read_value max_depth (tokens text)) ≡ true
-text-some text some = by (read text) refl some
-  where
-    by : (o : Option Data) → read text ≡ o → is_some (option_and_then listed o) ≡ true → is_some (read_value max_depth (tokens text)) ≡ true
-    by None e none = let bad : false ≡ true = none in cc
-    by (Some value) e one = ap is_some (read_is text value e)
-
-pub text-read : (text : List ℕ) → is_some (read text) ≡ true → is_some (read_value max_depth (tokens text)) ≡ true
-text-read text some = by (read text) refl some
-  where
-    by : (o : Option Data) → read text ≡ o → is_some o ≡ true → is_some (read_value max_depth (tokens text)) ≡ true
-    by None e none = let bad : false ≡ true = none in cc
-    by (Some value) e one = ap is_some (read_is text value e)
-
--- the last list of the members of a text is its list
-pub last_list : (version : Version) (text : List ℕ) (own : Result Draft LayerFault) (members : Option (Members × List Token)) → read_value max_depth (tokens text) ≡ parse_map object members → is_some (option_and_then listed (read text)) ≡ true
-    → IsSomeAnd members (λ o. TellsLast version (listed (object o.0)) (Some own)) → IsSomeAnd (option_and_then listed (read text)) (λ items. Tells own (layer_of_entries (stated_entries version items)))
-last_list version text own members opened some last = by (read text) refl some
-  where
-    lists : (value : Data) (items : Option Items) → is_some items ≡ true → TellsLast version items (Some own) → IsSomeAnd items (λ o. Tells own (layer_of_entries (stated_entries version o)))
-    lists value None none is = let bad : false ≡ true = none in cc
-    lists value (Some items) one is = is
-
-    same : (value : Data) (o : Option (Members × List Token)) → IsSomeAnd o (λ q. TellsLast version (listed (object q.0)) (Some own)) → Some (value, []) ≡ parse_map object o → TellsLast version (listed value) (Some own)
-    same value None last e = absurd last
-    same value (Some q) last e =
-        let both : ◌≡◌ {A = Option (Data × List Token)} (Some (value, [])) (Some (object q.0, q.1)) = e in
-        subst (λ d. TellsLast version (listed d) (Some own)) (sym (ap (λ o. first value o) both)) last
-      where
-        first : Data → Option (Data × List Token) → Data
-        first d None = d
-        first d (Some p) = p.0
-
-    by : (o : Option Data) → read text ≡ o → is_some (option_and_then listed o) ≡ true → IsSomeAnd (option_and_then listed o) (λ items. Tells own (layer_of_entries (stated_entries version items)))
-    by None e none = let bad : false ≡ true = none in cc
-    by (Some value) e one = lists value (listed value) one (same value members last (sym (read_is text value e) ∙ opened))
 
 -- ---- members of the manifest
 

@@ -1,5 +1,5 @@
 -- The entries at and under one node of a layer's tree.
-use Rattle.std.proofs.Common.{◌≡◌, ℕ, zero, suc, ◌+◌, ◌<◌, length, get_or, take, drop, append_assoc, add-one, drop-cons, Ok, Err, Bool, true, false, cond, Some, None, List, [], ◌∷◌, ◌++◌, refl, sym, ap, ◌∙◌, subst, arith, inl, inr}
+use Rattle.std.proofs.Common.{◌≡◌, ℕ, zero, suc, ◌+◌, ◌<◌, length, get_or, take, append_assoc, add-one, Ok, Err, Bool, true, false, cond, Some, None, List, [], ◌∷◌, ◌++◌, refl, sym, ap, ◌∙◌, subst, arith, inl, inr}
 use Rattle.std.specs.Prelude.{not, slice_get, unwrap_or}
 use Rattle.std.specs.List.{list_all, cons_option}
 use Rattle.std.specs.List.Sorted.{IsNonDecreasingBy, IsBinarySearchResult}
@@ -77,13 +77,6 @@ entry_at-in ((first ∷ names, inode) ∷ entries) name path = by (entry_at-in e
     by : entry_at entries (name ∷ path) ≡ entry_at (entries_in name entries) path → (b : Bool) → name_eq name first ≡ b → entry_at ((first ∷ names, inode) ∷ entries) (name ∷ path) ≡ entry_at (entries_in name ((first ∷ names, inode) ∷ entries)) path
     by later true e = rw e (ap (λ rest. cond (path_eq path names) (Some inode) rest) later)
     by later false e = rw e later
-
--- the names from a place on, and the first of them
-pub drop-next : (names : PathNames) (i : ℕ) (name : PathName) → i < length names → name ≡ get_or names i name → drop i names ≡ name ∷ drop (i + 1) names
-drop-next names i name inside is = rw add-one (drop-cons names i name inside ∙ ap (λ n. n ∷ drop (suc i) names) (sym is))
-
-pub entries_under-next : (entries : Entries) (names : PathNames) (i : ℕ) (name : PathName) → i < length names → name ≡ get_or names i name → entries_under (drop i names) entries ≡ entries_under (drop (i + 1) names) (entries_in name entries)
-entries_under-next entries names i name inside is = ap (λ (path : PathNames). entries_under path entries) (drop-next names i name inside is)
 
 pub entries_under-nothing : (path : PathNames) → entries_under path [] ≡ []
 entries_under-nothing [] = refl

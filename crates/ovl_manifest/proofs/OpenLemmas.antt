@@ -2,10 +2,11 @@
 use Rattle.std.proofs.Common.{◌≡◌, ℕ, zero, suc, ◌+◌, ◌-◌, ◌<◌, ◌≤◌, length, get_or, set, take, Bool, true, false, Some, None, List, [], ◌∷◌, ◌++◌, map, refl, sym, ap, ◌∙◌, subst, append_assoc, arith, length-append}
 use Rattle.std.specs.Prelude.{◌&&◌}
 use Rattle.std.specs.List.{list_all}
-use Rattle.std.specs.Ordering.{is_lt, is_eq}
-use Rattle.std.specs.Cmp.Lexicographic.{bytes_decides}
+use Rattle.std.specs.Ordering.{is_lt}
+use Rattle.std.specs.Cmp.Lexicographic.{bytes_decides, nat_list_cmp_total}
 use Rattle.std.specs.declared.cmp.Ordering.{Ordering}
 use Rattle.std.specs.declared.cmp.Ordering.TheVariants.{Less, Equal, Greater}
+use Rattle.std.proofs.lemmas.Cmp.{tied_itself}
 use Rattle.std.proofs.lemmas.List.{append-nil, map-append, take_more, take_more_set, take_all, length-set, length-map}
 use Rattle.std.proofs.lemmas.List.Elements.{filter_map-append}
 use Rattle.std.proofs.Math.Seq.{take-append_seam}
@@ -17,20 +18,12 @@ use Rattle.ovl_inode.specs.declared.inodes.Inode.{Inode}
 use Rattle.ovl_manifest.specs.Layers.{Entry, Entries, entry_cmp, entry_at}
 use Rattle.ovl_manifest.specs.LayerTrees.{NodeView, node_cmp, under, entries_from, entries_of_nodes, entry_in, entries_in, placed, grown}
 use Rattle.ovl_manifest.specs.Drafts.{entries_of_open, inode_on_way}
-use Rattle.ovl_manifest.proofs.NodeLemmas.{name_eq-cmp, name_eq-same, entries_in-under_same, entry_at-in, placed-root, entries_of_nodes-append}
+use Rattle.ovl_manifest.proofs.NodeLemmas.{name_eq-same, entries_in-under_same, entry_at-in, placed-root, entries_of_nodes-append}
 
 -- ---- order under a name
 
-pub name_cmp-same : (name : PathName) → name_cmp name name ≡ Equal
-name_cmp-same name = by (name_cmp name name) refl
-  where
-    by : (o : Ordering) → name_cmp name name ≡ o → name_cmp name name ≡ Equal
-    by Less e = let bad : is_eq Less ≡ true = sym (name_eq-cmp name name Less e) ∙ name_eq-same name in cc
-    by Equal e = e
-    by Greater e = let bad : is_eq Greater ≡ true = sym (name_eq-cmp name name Greater e) ∙ name_eq-same name in cc
-
 pub path_cmp-under : (name : PathName) (one other : PathNames) → path_cmp (name ∷ one) (name ∷ other) ≡ path_cmp one other
-path_cmp-under name one other = rw (name_cmp-same name) refl
+path_cmp-under name one other = rw (tied_itself nat_list_cmp_total name) refl
 
 list_all-under : (name : PathName) (entry : Entry) (entries : Entries) → list_all (λ later. is_lt (entry_cmp (name ∷ entry.0, entry.1) later)) (under name entries) ≡ list_all (λ later. is_lt (entry_cmp entry later)) entries
 list_all-under name entry [] = refl
@@ -180,8 +173,8 @@ earlier name (first ∷ names, inode) before = by (name_eq name first) refl
         same = (bytes_decides name first).0 e
 
         never : (names : PathNames) → is_lt (path_cmp (first ∷ names) (name ∷ [])) ≡ true → ⊥
-        never [] before = let bad : false ≡ true = rw (ap (λ (n : PathName). name_cmp first n) same ∙ name_cmp-same first) at before in cc
-        never (next ∷ names) before = let bad : false ≡ true = rw (ap (λ (n : PathName). name_cmp first n) same ∙ name_cmp-same first) at before in cc
+        never [] before = let bad : false ≡ true = rw (ap (λ (n : PathName). name_cmp first n) same ∙ tied_itself nat_list_cmp_total first) at before in cc
+        never (next ∷ names) before = let bad : false ≡ true = rw (ap (λ (n : PathName). name_cmp first n) same ∙ tied_itself nat_list_cmp_total first) at before in cc
     by false e = rw e refl
 
 pub nothing_earlier : (name : PathName) (entries : Entries) → list_all (λ entry. is_lt (path_cmp entry.0 (name ∷ []))) entries ≡ true → entries_in name entries ≡ []

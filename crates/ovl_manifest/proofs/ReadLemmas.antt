@@ -108,8 +108,9 @@ stated version value entry is =
 
 -- ---- one more entry
 
-pub taken : (first : Entry) (before : Entries) (entry : Entry) → has_escaped_name entry.1.attrs ≡ false → comes_after (first ∷ before) entry.0 ≡ true → is_directory_at (first ∷ before) (parent_path entry.0) ≡ true → entry_after (first ∷ before) (Some entry) ≡ Ok ((first ∷ before) ++ entry ∷ [])
-taken first before entry unescaped after parent = rw (none, entry_after) refl
+-- it is taken where it has no fault
+pub entry-taken : (first : Entry) (before : Entries) (entry : Entry) → has_escaped_name entry.1.attrs ≡ false → comes_after (first ∷ before) entry.0 ≡ true → is_directory_at (first ∷ before) (parent_path entry.0) ≡ true → entry_after (first ∷ before) (Some entry) ≡ Ok ((first ∷ before) ++ entry ∷ [])
+entry-taken first before entry unescaped after parent = rw (none, entry_after) refl
   where
     others : Entries
     others = first ∷ before

@@ -1,5 +1,5 @@
 //! The entries of a text that is JSON, of which one at a time is held as a value.
-ghost use Rattle.std.specs.Prelude.{◌≡◌, ◌+◌, ◌<◌, true, Ok, IfOk, IfSome, IsSomeAnd, IsTrue, is_some, MatchResult, [], length, option_and_then};
+ghost use Rattle.std.specs.Prelude.{◌≡◌, ◌+◌, ◌<◌, true, Ok, IfOk, IfSome, IsSomeAnd, IsTrue, is_some, MatchResult, length, option_and_then};
 ghost use Rattle.serde_json.specs.Data.{object, no_members};
 ghost use Rattle.serde_json.specs.Find.{as_array};
 ghost use Rattle.serde_json.specs.Read.{read};

@@ -1,5 +1,5 @@
 -- What two texts have in common at their ends, by bytes and by names, and how lists of names are to each other from there.
-use Rattle.std.proofs.Common.{◌≡◌, ◌≢◌, ◌⊎◌, inl, inr, ℕ, zero, suc, ◌<◌, ◌≤◌, ◌+◌, ◌-◌, List, [], ◌∷◌, ◌++◌, true, false, Bool, Option, Some, None, MatchBool, MatchOption, refl, sym, ap, subst, ◌∙◌, length, take, drop, get_or, reverse, append_assoc, length-append, length-drop, length-take, take-append-drop, take_all, drop-drop, drop-cons, get_or-drop, arith}
+use Rattle.std.proofs.Common.{◌≡◌, ◌≢◌, ℕ, zero, suc, ◌<◌, ◌≤◌, ◌+◌, ◌-◌, List, [], ◌∷◌, ◌++◌, true, false, Bool, Option, Some, None, MatchBool, MatchOption, refl, sym, ap, subst, ◌∙◌, length, take, drop, get_or, reverse, append_assoc, length-append, length-drop, length-take, take-append-drop, take_all, drop-drop, drop-cons, get_or-drop, arith}
 use Rattle.std.specs.Prelude.{position, slice_range, nat_eq, nat_lt, ◌==◌, cond}
 use Rattle.std.specs.List.{ends_with, position_or_len}
 use Rattle.std.specs.Ordering.{ordering_then, is_ne}
@@ -16,7 +16,7 @@ use Rattle.std.proofs.lemmas.List.Sums.{fails_before_first, passes_at_first}
 use Rattle.std.proofs.lemmas.Slice.Eq.{ends_is}
 use Rattle.ovl_names.specs.Names.{PathName, slash, is_name, name_cmp}
 use Rattle.ovl_names.specs.Paths.{PathNames, text_names, parts_between, has_names, path_cmp}
-use Rattle.ovl_names.specs.Ends.{OrdersEnds, LosesEnd, LeavesEnds, HasCommonEnd, IsCommonNames}
+use Rattle.ovl_names.specs.Ends.{OrdersEnds, LosesEnd, HasCommonEnd, IsCommonNames}
 use Rattle.ovl_names.proofs.Ascending.{both, list_all-front}
 use Rattle.ovl_names.proofs.PathTexts.{text_names-some, parts-across, empty_is_none, absurd_of}
 
@@ -233,23 +233,3 @@ apart-orders all others own their above their_above name their_name lost is thei
     ∙ ((λ j. path_cmp (reverse (front ++ is j)) (reverse (other_front ++ their_is j)))
     ∙ ((λ j. path_cmp (reversed-last front above name j) (reversed-last other_front their_above their_name j))
     ∙ then-apart (name_cmp name their_name) (path_cmp (reverse (front ++ above)) (reverse (other_front ++ their_above))) (path_cmp (reverse (front ++ all)) (reverse (other_front ++ others))) ne))
-
--- ---- numbers
-
--- how many names are left of a list, where the shorter one has none left
-pub left-length : (own other own_left other_left : PathNames) → LosesEnd own other own_left other_left → (own_left ≡ []) ⊎ (other_left ≡ []) → length own - length other ≡ length own_left
-left-length own other own_left other_left lost (inl none) =
-    omega (arith, ap length lost.1, ap length lost.2, length-append own_left lost.0, length-append other_left lost.0, ap length none)
-left-length own other own_left other_left lost (inr none) =
-    omega (arith, ap length lost.1, ap length lost.2, length-append own_left lost.0, length-append other_left lost.0, ap length none)
-
-pub other-left-length : (own other own_left other_left : PathNames) → LosesEnd own other own_left other_left → (own_left ≡ []) ⊎ (other_left ≡ []) → length other - length own ≡ length other_left
-other-left-length own other own_left other_left lost (inl none) =
-    omega (arith, ap length lost.1, ap length lost.2, length-append own_left lost.0, length-append other_left lost.0, ap length none)
-other-left-length own other own_left other_left lost (inr none) =
-    omega (arith, ap length lost.1, ap length lost.2, length-append own_left lost.0, length-append other_left lost.0, ap length none)
-
-pub apart-leaves : (own other : PathNames) (order : Ordering) → is_ne order ≡ true → LeavesEnds own other own other order
-apart-leaves own other Less ne = (refl, refl)
-apart-leaves own other Equal ne = let bad : false ≡ true = ne in cc
-apart-leaves own other Greater ne = (refl, refl)

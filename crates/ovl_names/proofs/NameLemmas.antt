@@ -2,19 +2,18 @@
 use Rattle.std.proofs.Common.{◌≡◌, ℕ, ◌<◌, List, [], ◌∷◌, ◌++◌, Bool, true, false, Option, Some, None, refl, sym, ap, ◌∙◌, lit<, length, take, drop, arith}
 use Rattle.std.proofs.lemmas.Bool.{eqb-true}
 use Rattle.std.proofs.lemmas.Bool.Decides.{nat_tests}
-use Rattle.std.specs.Prelude.{◌==◌, nat_eq, nat_lt, ◌||◌, is_some, is_none, if◌then◌else◌}
+use Rattle.std.specs.Prelude.{◌==◌, nat_eq, nat_lt, ◌||◌, is_some, if◌then◌else◌}
 use Rattle.std.specs.List.{list_any}
-use Rattle.std.specs.Str.{IsUtf8, is_utf8}
+use Rattle.std.specs.Str.{IsUtf8}
 use Rattle.std.proofs.lemmas.Str.{is_utf8-from_IsUtf8, encode_ascii}
 use Rattle.std.proofs.lemmas.List.Folds.{list_all-append}
 use lib.Utf8.{encode}
 use Rattle.ovl_names.specs.Names.{name_fault, is_name, slash}
 use Rattle.ovl_names.specs.Paths.{PathNames, path_fault, text_parts, parts_between, has_names, depth_limit, text_limit}
-use Rattle.ovl_names.specs.declared.names.NameFault.{NameFault}
 use Rattle.ovl_names.specs.declared.paths.PathFault.{PathFault}
 use Rattle.ovl_names.specs.declared.paths.PathFault.TheVariants.{NotAbsolute, EmptyPart, BadPart, TooDeep, TooLong}
 use Rattle.std.proofs.lemmas.List.{take-append-drop}
-use Rattle.ovl_names.proofs.Ascending.{both, list_all-front}
+use Rattle.ovl_names.proofs.Ascending.{list_all-front}
 
 -- a text without a fault is a name
 pub is_name-from_fault : (bytes : List ℕ) → name_fault bytes ≡ None → IsUtf8 bytes → is_name bytes ≡ true
@@ -41,29 +40,6 @@ path_fault-relative depth (byte ∷ bytes) bare = by (nat_eq 47 byte) refl
 pub text_parts-rest : (rest : List ℕ) → 0 < length rest → text_parts (slash ∷ rest) ≡ parts_between rest
 text_parts-rest [] some = absurd (omega arith)
 text_parts-rest (byte ∷ bytes) some = refl
-
--- a name is not empty, and has no fault
-pub no_fault-name : (part : List ℕ) → is_name part ≡ true → ((length part == 0) ≡ false) × (is_some (name_fault part) ≡ false)
-no_fault-name part is = (by_length (length part == 0) refl, by_fault (name_fault part) refl)
-  where
-    clean : is_none (name_fault part) ≡ true
-    clean = (both {a = is_none (name_fault part)} {b = is_utf8 part} is).0
-
-    by_length : (b : Bool) → (length part == 0) ≡ b → b ≡ false
-    by_length true e = let bad : false ≡ true = rw e at clean in cc
-    by_length false e = refl
-
-    by_fault : (o : Option NameFault) → name_fault part ≡ o → is_some o ≡ false
-    by_fault None e = refl
-    by_fault (Some fault) e = let bad : false ≡ true = rw e at clean in cc
-
-no_fault-names : (parts : PathNames) → has_names parts ≡ true → (list_any (λ part. length part == 0) parts ≡ false) × (list_any (λ part. is_some (name_fault part)) parts ≡ false)
-no_fault-names [] named = (refl, refl)
-no_fault-names (part ∷ parts) named =
-    let split = both {a = is_name part} {b = has_names parts} named in
-    let own = no_fault-name part split.0 in
-    let others = no_fault-names parts split.1 in
-    (rw (own.0, others.0) refl, rw (own.1, others.1) refl)
 
 neither : (a b : Bool) → (a || b) ≡ false → b ≡ false
 neither true b none = cc

@@ -1,6 +1,6 @@
 -- What comes of a line, by what comes of its parts.
 use Rattle.std.proofs.Common.{◌≡◌, ◌<◌, ◌≤◌, ◌⊎◌, Bool, true, false, cond, ℕ, [], refl, Option, None, Some, Result, Ok, Err, List, IfErr, IfNone, IfOk, MatchResult, inl, inr, length, take, sym, ap, subst, arith, String, Vec, Global, string_bytes}
-use Rattle.std.specs.Io.KnownBytes.{Appends, Keeps}
+use Rattle.std.specs.Io.KnownBytes.{Appends}
 use Rattle.std.proofs.lemmas.List.{length-map}
 use Rattle.ovl_manifest.specs.Layers.{Entries}
 use Rattle.ovl_manifest.specs.Text.{manifest_text}
@@ -127,8 +127,3 @@ few_coming request (Err fault) is = tt
 pub few_coming_over : (request : Request) (answered : Result Answer EngineFault) → IsComingOver request answered → IfOk answered (λ answer. length answer.layers.items ≤ 255)
 few_coming_over request (Ok answer) is = few_layers _ _ _ answer is.1.is
 few_coming_over request (Err fault) is = tt
-
--- a writer that isn't written to
-pub stays : (before : Option (List ℕ)) → Keeps before before
-stays None = tt
-stays (Some bytes) = refl

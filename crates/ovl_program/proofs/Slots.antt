@@ -1,8 +1,8 @@
 -- What workers tell of names, put into slots, and the first of their stops.
-use Rattle.std.proofs.Common.{◌≡◌, ◌∙◌, ◌<◌, ◌≤◌, ◌⊎◌, ◌∷◌, ◌++◌, [], ℕ, List, Option, Some, None, Result, Ok, Err, Vec, Global, All, arith, inl, inr, length, get_or, replicate, set, sym, ap, subst, refl}
+use Rattle.std.proofs.Common.{◌≡◌, ◌∙◌, ◌<◌, ◌≤◌, ◌⊎◌, ◌∷◌, ◌++◌, [], ℕ, List, Option, Some, None, Result, Ok, Err, Vec, Global, All, arith, inl, inr, length, get_or, set, sym, ap, subst, refl}
 use Rattle.std.specs.Prelude.{slice_get, unwrap_or, Contains, IfSome, OnOk}
 use Rattle.std.proofs.lemmas.Bool.{cases_eq}
-use Rattle.std.proofs.lemmas.List.{get_or-replicate, get_or-set_same, get_or-set_other, length-set, length-replicate}
+use Rattle.std.proofs.lemmas.List.{get_or-set_same, get_or-set_other, length-set}
 use Rattle.std.proofs.lemmas.List.Elements.{Contains-append_left, Contains-push, Contains-push_cases}
 use Rattle.std.proofs.lemmas.Option.{get_or_from_slice_get, slice_get-get_or, slice_get_read, slice_get_within}
 use Rattle.ovl_check.specs.declared.contents.Content.{Content}
@@ -38,13 +38,6 @@ held_told name content held same is =
     (is.0, ap Some (ap (λ n. content_held n held) (sym (its_name name content is.0 is.1)) ∙ same) ∙ is.1)
 
 -- ---- slots
-
--- no slot is filled
-pub slots_empty : (names : List (List ℕ)) (n : ℕ) → AreHeldOf names (replicate n None)
-slots_empty names n number held at =
-    let within : number < n = subst (λ k. number < k) (length-replicate n None) (slice_get_within (replicate n None) number (Some held) at) in
-    let there : None ≡ Some held = sym (get_or-replicate n number None None within) ∙ get_or_from_slice_get (replicate n None) number (Some held) None at in
-    cc
 
 -- one more is
 pub slots_more : (names : List (List ℕ)) (slots : List (Option (Option Held))) (told : Told) → AreHeldOf names slots → IsToldAmong names told → told.number < length slots
@@ -85,10 +78,6 @@ Share = Result (Vec Told Global) Stop
 abbrev pub FirstOf : List Share → Option Stop → Type 0
 FirstOf shares None = (other : Stop) → Contains shares (Err other) → ⊥
 FirstOf shares (Some stop) = IsFirstStop shares stop
-
--- of no shares there is none
-pub first_of_none : FirstOf [] None
-first_of_none other inside = omega (arith, inside.1)
 
 module _ (shares : List Share) where
   pub first_told : (told : Vec Told Global) (first : Option Stop) → FirstOf shares first → FirstOf (shares ++ Ok told ∷ []) first

@@ -3,7 +3,7 @@
 use crate::board::root_of;
 use crate::samples::{MOVED, stack_of};
 use ovl_board::plain_walk;
-use ovl_check::{Blob, Content};
+use ovl_check::Content;
 use ovl_engine::{
     Command, CommandFault, Contents, EngineFault, ShowWork, command, command_of, command_over,
     finish_show, named_blobs, report_of, report_of_walk,

@@ -15,7 +15,7 @@ use ovl_board::Parcel;
 use ovl_inode::{Inode, is_directory};
 use ovl_manifest::{Layer, LayerBuilder, LayerFault, from_entries};
 use ovl_names::{Name, Path};
-use std::alloc::{AllocError, Global};
+use std::alloc::Global;
 use std::vec::IntoIter;
 
 /// The layer with this root that the parcels tell, which are the plain walk over its directories from `/` of space 0.

@@ -1,12 +1,12 @@
-use Rattle.std.proofs.Common.{◌≡◌, ◌<◌, ◌≤◌, true, Some, None, length, refl, ap, sym, ◌∙◌, subst, arith}
+use Rattle.std.proofs.Common.{◌≡◌, ◌<◌, true, Some, None, refl, ap, sym, ◌∙◌, subst, arith}
 use Rattle.std.specs.Prelude.{is_some, IsSomeAnd}
 use Rattle.json.specs.Json.{read_key}
 use Rattle.serde_json.specs.Data.{Members, no_members, object, put}
 use Rattle.serde_json.specs.Events.{members_len}
 use Rattle.ovl_json.specs.Kept.{kept, members_kept, member_limit, object_kept}
-use Rattle.ovl_json.specs.Reading.{read_value, read_members}
+use Rattle.ovl_json.specs.Reading.{read_members}
 use Rattle.ovl_json.specs.Views.{member_view, members_view}
-use Rattle.ovl_json.proofs.Turns.{IsMember, member_turn, member_end}
+use Rattle.ovl_json.proofs.Turns.{member_turn, member_end}
 use Rattle.ovl_json.proofs.ViewLemmas.{one_more_member, too_many, few_kept, count_kept}
 use Rattle.ovl_json.proofs.objects.read_members.Goals as goal
 

@@ -1,11 +1,11 @@
-use Rattle.std.proofs.Common.{◌≡◌, ◌<◌, true, Some, None, length, refl, ap, sym, ◌∙◌, subst, arith}
-use Rattle.std.specs.Prelude.{is_some, IsSomeAnd}
+use Rattle.std.proofs.Common.{◌≡◌, true, Some, None, refl, ap, sym, ◌∙◌, arith}
+use Rattle.std.specs.Prelude.{is_some}
 use Rattle.json.specs.Json.{read_key}
 use Rattle.serde_json.specs.Data.{no_members, put}
 use Rattle.ovl_json.specs.Kept.{text_kept}
-use Rattle.ovl_json.specs.Reading.{read_value, read_members}
+use Rattle.ovl_json.specs.Reading.{read_members}
 use Rattle.ovl_json.specs.Views.{text_view, texts_view}
-use Rattle.ovl_json.proofs.Turns.{IsMember, member_turn, member_end}
+use Rattle.ovl_json.proofs.Turns.{member_turn, member_end}
 use Rattle.ovl_json.proofs.ViewLemmas.{one_more_text}
 use Rattle.ovl_json.proofs.objects.read_texts.Goals as goal
 

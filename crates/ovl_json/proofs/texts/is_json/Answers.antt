@@ -3,10 +3,8 @@ use Rattle.std.specs.Prelude.{Result, Ok, Err, IfOk, ◌&&◌, is_some, Bool}
 use Rattle.std.specs.List.{list_all}
 use Rattle.std.specs.declared.alloc.AllocError.{AllocError}
 use Rattle.json.specs.Lex.{tokens}
-use Rattle.json.specs.Json.{value}
-use Rattle.serde_json.specs.Read.{read, max_depth}
+use Rattle.serde_json.specs.Read.{read}
 use Rattle.ovl_json.specs.Numbers.{is_readable}
-use Rattle.ovl_json.specs.Reading.{alone}
 use Rattle.ovl_json.proofs.NumberLemmas.{is_text, is_no_text}
 use Rattle.ovl_json.proofs.texts.is_json.Goals as goal
 

@@ -5,7 +5,7 @@ use Rattle.ovl_inode.specs.Sound.{is_sound_inode}
 use Rattle.ovl_manifest.specs.Layers.{Entries, is_directory_at, is_within_limits}
 use Rattle.ovl_manifest.specs.Drafts.{draft_entries}
 use Rattle.ovl_manifest.proofs.SheetLemmas.{parent_path-child}
-use Rattle.ovl_manifest.proofs.EntryLemmas.{entry-taken}
+use Rattle.ovl_manifest.proofs.ReadLemmas.{entry-taken}
 use Rattle.ovl_manifest.proofs.entries.add_on_way.Goals as goal
 
 pub enter_child-requires-clause-entry : goal.enter_child-requires-clause-entry
