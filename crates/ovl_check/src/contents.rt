@@ -59,10 +59,3 @@ pub(crate) fn content_named(contents: &ByName<'_, Content>, inode: &Inode) -> Na
         None => NamedBlob::Missing,
     }
 }
-
-/// Whether the names of the contents ascend strictly.
-pub fn contents_in_order(contents: &[Content]) -> bool
-    ensures { result ≡ contents_ascend contents.now }
-{
-    in_order(contents)
-}

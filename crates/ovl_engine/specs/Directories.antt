@@ -58,10 +58,6 @@ show_root = record { space = 0; dir = [] }
 abbrev pub IsShowWalk : StackView → List (ParcelView (List NamedLook)) → Type 0
 IsShowWalk stack parcels = IsPlain (show_kids stack) (show_out stack) show_root parcels
 
--- what is seen of the entries that a directory puts out
-abbrev pub looks_seen : Vec NamedLook Global → List NamedLook
-looks_seen looks = looks.items
-
 -- lists of entries are plain data
 pub looks_set : IsSet (List NamedLook)
 looks_set = Coded-set (hlevel codes)

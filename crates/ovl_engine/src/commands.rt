@@ -148,13 +148,7 @@ pub(crate) fn stack_for<R: Threads + Sync, M: Manifests + Drop>(
     if usize::from(bottom) >= manifests.len() {
         return Err(EngineFault::DataLayers);
     }
-    let stack = read_stack(
-        rt,
-        alloc,
-        manifests.listed(alloc)?,
-        usize::from(bottom),
-        workers,
-    )?;
+    let stack = read_stack(rt, alloc, manifests.listed(alloc)?, bottom, workers)?;
     if let Some(fault) = blob_fault(blobs) {
         return Err(fault);
     }

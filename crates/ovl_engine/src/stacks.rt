@@ -17,7 +17,7 @@ pub(crate) fn read_stack<R: Threads + Sync, M: AsSlice<u8> + Send + Drop>(
     rt: &R,
     alloc: Global,
     manifests: Vec<M>,
-    bottom: usize,
+    bottom: u16,
     workers: usize,
 ) -> Result<Stack, EngineFault>
     requires number { 0 < workers }
@@ -28,7 +28,7 @@ pub(crate) fn read_stack<R: Threads + Sync, M: AsSlice<u8> + Send + Drop>(
     ensures count { IfOk result (λ stack. length stack.layers ≡ length manifests.items - bottom) }
     ensures unread { IfErr result (λ fault. IsUnread (layers_from 0 (map M.items manifests.items)) fault) }
 {
-    let ordinary = manifests.len() - bottom;
+    let ordinary = manifests.len() - usize::from(bottom);
     let share = manifests.len().div_ceil(workers);
     let mut layers = read_layers(rt, alloc, 0, manifests, share)?;
     let data_only = layers.split_off(ordinary)?;
