@@ -1,24 +1,22 @@
 -- The directories of the merged tree: their names are the only ones, and their kids are lawful.
 use Rattle.std.proofs.Common.{◌≡◌, ◌*◌, ◌≤◌, inl, inr, Bool, true, false, cond, List, [], ◌∷◌, length, map, refl, sym, ap, ◌∙◌, subst, arith, length-append}
-use Rattle.std.specs.Prelude.{◌||◌, filter, not}
-use Rattle.std.specs.List.{list_any, list_all, All}
+use Rattle.std.specs.Prelude.{filter}
+use Rattle.std.specs.List.{list_all, All}
 use Rattle.std.specs.Ordering.{is_lt}
-use Rattle.std.specs.Cmp.Lexicographic.{nat_list_cmp_total, bytes_decides}
+use Rattle.std.specs.Cmp.Lexicographic.{nat_list_cmp_total}
 use Rattle.std.proofs.lemmas.Cmp.{tied_itself, nat_cmp_total}
 use Rattle.std.proofs.lemmas.List.Elements.{All-head, All-tail}
-use Rattle.ovl_names.specs.Names.{PathName, name_eq, name_cmp}
+use Rattle.ovl_names.specs.Names.{PathName, name_cmp}
 use Rattle.ovl_names.specs.Paths.{PathNames, child_path, depth_limit}
 use Rattle.ovl_names.specs.Order.{ascends}
 use Rattle.ovl_names.proofs.Ascending.{both, is_lt-Less}
 use Rattle.ovl_manifest.specs.Layers.{IsLayer}
-use Rattle.ovl_lookup.specs.declared.looks.Look.{Look}
-use Rattle.ovl_lookup.specs.declared.looks.Look.TheVariants.{Nothing, Shown, Broken}
 use Rattle.ovl_lookup.specs.Stacks.{StackView}
-use Rattle.ovl_lookup.specs.Merged.{look, shows, shows_directory, is_nothing, is_shown_directory}
+use Rattle.ovl_lookup.specs.Merged.{look, shows, shows_directory, is_shown_directory}
 use Rattle.ovl_lookup.specs.Passes.{kids_along}
 use Rattle.ovl_lookup.specs.ViewPasses.{AreLooks}
-use Rattle.ovl_lookup.proofs.LawsOfKids.{kids-ascend, kids-same, are-kids, kids-unique, none-along}
-use Rattle.ovl_lookup.proofs.LawsOfLooks.{shows-limited}
+use Rattle.ovl_lookup.proofs.LawsOfKids.{kids-ascend, kids-same, are-kids, kids-unique, no-name, none-along}
+use Rattle.ovl_lookup.proofs.LawsOfLooks.{directory-shows, shows-limited}
 use Rattle.ovl_board.specs.declared.pieces.Piece.{Piece}
 use Rattle.ovl_board.specs.Pieces.{IsBefore, IsOneBelow, HasLawfulKids}
 use Rattle.ovl_board.proofs.LawsOfMembers.{In, Rises, All-Every, AllPairs-Rises}
@@ -27,12 +25,8 @@ use Rattle.ovl_engine.specs.Directories.{HasAllNames, NamedLook, named_look, loo
 
 -- ---- directories without names
 
-no_names : (names : List PathName) → ((name : PathName) → list_any (name_eq name) names ≡ true → ⊥) → names ≡ []
-no_names [] none = refl
-no_names (name ∷ names) none = absurd (none name (ap (λ b. b || list_any (name_eq name) names) ((bytes_decides name name).1 refl)))
-
 no_kids : (stack : StackView) → All IsLayer stack.layers → (path : PathNames) → ((name : PathName) → shows stack (child_path path name) ≡ true → ⊥) → kids_along stack path ≡ []
-no_kids stack each path none = no_names (kids_along stack path) (λ name has. none name (sym (kids-same stack each path name) ∙ has))
+no_kids stack each path none = no-name (kids_along stack path) (λ name has. none name (sym (kids-same stack each path name) ∙ has))
 
 -- the deepest paths have none, and what isn't shown as a directory has none
 pub none_deepest : (stack : StackView) → All IsLayer stack.layers → (path : PathNames) → length path ≡ depth_limit * length stack.layers → kids_along stack path ≡ []
@@ -67,11 +61,6 @@ pub all_names : (stack : StackView) → All IsLayer stack.layers → HasAllNames
 all_names stack each dir = are-kids stack each dir (map (λ (entry : NamedLook). entry.0) (looks_in stack dir)) (names_named stack dir (kids_along stack dir))
 
 -- ---- the kids of a piece
-
-directory_shows : (shown : Look) → is_shown_directory shown ≡ true → not (is_nothing shown) ≡ true
-directory_shows Nothing is = let bad : false ≡ true = is in cc
-directory_shows (Shown inode) is = refl
-directory_shows (Broken inode) is = refl
 
 siblings_before : (piece : Piece) (one other : PathName) → is_lt (name_cmp one other) ≡ true → IsBefore (piece_in piece one) (piece_in piece other)
 siblings_before piece one other before =
@@ -129,5 +118,5 @@ kids_lawful stack each = record {
   shallow = λ p. All-Every (λ (kid : Piece). length kid.dir ≤ show_depth stack) (show_kids stack p) (λ q h.
       let kid = is_kid stack p q (kids_along stack p.dir) h in
       subst (λ (d : PathNames). length d ≤ depth_limit * length stack.layers) (sym (ap (λ (r : Piece). r.dir) kid.1.0))
-      (shows-limited stack each (child_path p.dir kid.0) (directory_shows (look stack (child_path p.dir kid.0)) kid.1.1)));
+      (shows-limited stack each (child_path p.dir kid.0) (directory-shows (look stack (child_path p.dir kid.0)) kid.1.1)));
 }
