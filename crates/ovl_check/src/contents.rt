@@ -1,11 +1,11 @@
 ghost use Rattle.std.specs.Prelude.{◌≡◌, ◌↔◌, true, IsTrue, Contains};
 ghost use Rattle.ovl_names.specs.Order.{ascends};
 ghost use Rattle.ovl_check.specs.Blobs.{blob_views, digest_cmp};
-ghost use Rattle.ovl_check.specs.Contents.{contents_of, contents_ascend};
+ghost use Rattle.ovl_check.specs.Contents.{contents_of};
 ghost use Rattle.ovl_check.specs.Facts.{blob_named as the_blob_named};
 
 use crate::facts::NamedBlob;
-use crate::named::{ByName, in_order};
+use crate::named::ByName;
 use crate::sources::HeldBlobs;
 use ovl_inode::{Digest, Inode, blob_of};
 
