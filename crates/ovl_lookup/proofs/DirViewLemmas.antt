@@ -25,7 +25,8 @@ use Rattle.ovl_lookup.specs.Walk.{walk, walk_beyond, turn, is_shut, mark_at}
 use Rattle.ovl_lookup.specs.Passes.{IsDescent, IsNumberAt, IsArrival}
 use Rattle.ovl_lookup.specs.Stacks.{StackView}
 use Rattle.ovl_lookup.specs.Views.{Reached, reached, is_reached, entry_in, entered, below_entry, reached_below}
-use Rattle.ovl_lookup.specs.DirViews.{path_on, name_on, IsEntryIn, place_below, place_in, places_in, IsPlaceOver}
+use Rattle.ovl_lookup.specs.Onwards.{path_on, name_on}
+use Rattle.ovl_lookup.specs.DirViews.{IsEntryIn, place_below, place_in, places_in, IsPlaceOver}
 use Rattle.ovl_lookup.proofs.ViewSteps.{arrives-directory, below-directory}
 use Rattle.ovl_lookup.proofs.WalkFacts.{cut, drop-head, stopped, walk-ends}
 use Rattle.ovl_lookup.proofs.ViewLemmas.{NothingAt, FileAt, past}

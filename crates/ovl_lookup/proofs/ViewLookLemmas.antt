@@ -25,7 +25,8 @@ use Rattle.ovl_lookup.specs.Merged.{data_of, shown_of, is_nothing, without_blob,
 use Rattle.ovl_lookup.specs.Passes.{data_below, shown_with}
 use Rattle.ovl_lookup.specs.Views.{Reached, entry_in, below_entry, found_below}
 use Rattle.ovl_lookup.specs.ViewPasses.{First, AreTops, top_told, tops_told, look_from_top, looks_from_tops}
-use Rattle.ovl_lookup.specs.DirViews.{place_in, places_in, path_on}
+use Rattle.ovl_lookup.specs.Onwards.{path_on}
+use Rattle.ovl_lookup.specs.DirViews.{place_in, places_in}
 use Rattle.ovl_lookup.proofs.LawsOfInodes.{bare_file}
 use Rattle.ovl_lookup.proofs.LawsOfFound.{data_of-metacopy, data_of-bad, data_below-metacopy, data_below-data, data_below-other, shown_of-full, any_found, shown-any}
 use Rattle.ovl_lookup.proofs.WalkFacts.{take-rest}

@@ -3,9 +3,6 @@ use Rattle.std.specs.Prelude.{◌≡◌, ℕ, ◌<◌, ◌≤◌, ◌++◌, Bool
 use Rattle.std.specs.List.{All}
 use Rattle.ovl_names.specs.Names.{PathName}
 use Rattle.ovl_names.specs.Paths.{PathNames, child_path}
-use Rattle.ovl_inode.specs.declared.marks.Mark.{Mark}
-use Rattle.ovl_inode.specs.declared.marks.Mark.TheVariants.{DirMoved, DirPlain, Meta}
-use Rattle.ovl_inode.specs.declared.marks.Redirect.TheVariants.{To, Beside}
 use Rattle.ovl_inode.specs.Marks.{mark_of}
 use Rattle.ovl_manifest.specs.Sheets.{path_at}
 use Rattle.ovl_lookup.specs.declared.views.DirPlace.{DirPlace}
@@ -71,19 +68,6 @@ pub record IsEntryIn (stack : StackView) (name : PathName) (place : DirPlace) (e
 -- the place of the directory that an entry of a place is
 abbrev pub place_below : DirPlace → PlaceEntry → DirPlace
 place_below place entry = record { layer = place.layer; row = entry.row }
-
--- where the layers below go on below an entry of this mark: at a path from the root, or beside it by a name
-abbrev pub path_on : Mark → Option PathNames
-path_on (DirMoved (To origin)) = Some origin
-path_on (Meta (Some (To origin))) = Some origin
-path_on _ = None
-
-abbrev pub name_on : Mark → PathName → Option PathName
-name_on DirPlain name = Some name
-name_on (DirMoved (Beside own)) name = Some own
-name_on (Meta None) name = Some name
-name_on (Meta (Some (Beside own))) name = Some own
-name_on _ name = None
 
 -- the view of a directory of the layers from one on, and none where they show no directory there
 abbrev pub IsSought : StackView → ℕ → PathNames → Option DirView → Type 0

@@ -8,6 +8,7 @@ pub mod Sound
 pub mod Words
 pub mod Views
 pub mod ViewPasses
+pub mod Onwards
 pub mod DirViews
 pub mod Laws
 pub mod Equal

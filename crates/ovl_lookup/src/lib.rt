@@ -4,6 +4,7 @@
 pub mod laws;
 mod lists;
 mod looks;
+mod onward;
 mod stacks;
 mod steps;
 mod tops;
@@ -14,6 +15,7 @@ mod view_looks;
 mod views;
 
 pub use looks::{Look, is_well_formed_metacopy};
+pub use onward::Onward;
 pub use stacks::{LAYER_LIMIT, Stack, StackFault};
 pub use steps::{Found, OwnDirectory, Step, walk};
 pub use trails::Trail;

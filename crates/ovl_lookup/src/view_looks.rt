@@ -12,8 +12,8 @@ ghost use Rattle.ovl_lookup.specs.DirViews.{IsViewOver, IsViewOf, IsPlaceOver, p
 use crate::looks::{is_well_formed_metacopy, lacks_contents, metacopy_shown};
 use crate::tops::tops_of;
 use crate::trails::Trail;
-use crate::views::{DirPlace, goes_on_at, goes_on_by};
-use crate::{DirView, Look, Stack};
+use crate::views::DirPlace;
+use crate::{DirView, Look, Onward, Stack};
 use ovl_inode::{Inode, is_data, is_whiteout, visible};
 use ovl_names::{Name, Path};
 use std::alloc::{AllocError, Global};
@@ -219,14 +219,14 @@ fn data_in(
         if !is_well_formed_metacopy(entry.mark) {
             return Ok(None);
         }
-        if let Some(origin) = goes_on_at(entry.mark) {
-            let trail = Trail::of(alloc, &origin.names())?;
-            return stack.data(alloc, place.layer + 1, trail, Some(origin));
+        match Onward::of(entry.mark, own) {
+            Onward::At(origin) => {
+                let trail = Trail::of(alloc, &origin.names())?;
+                return stack.data(alloc, place.layer + 1, trail, Some(origin));
+            }
+            Onward::Beside(other) => own = other,
+            Onward::Nowhere => return Ok(None),
         }
-        let Some(other) = goes_on_by(entry.mark, own) else {
-            return Ok(None);
-        };
-        own = other;
     }
     Ok(None)
 }

@@ -1,16 +1,15 @@
 ghost use Rattle.std.specs.Prelude.{◌≡◌, ◌≤◌, false, None, drop, length, IfOk, OnOk, MatchOption};
-ghost use Rattle.std.specs.Option.{option_map};
 ghost use Rattle.std.specs.List.{All};
 ghost use Rattle.ovl_names.specs.Paths.{child_path};
 ghost use Rattle.ovl_lookup.specs.Stacks.{from_layer};
 ghost use Rattle.ovl_lookup.specs.Merged.{shows_directory};
 ghost use Rattle.ovl_lookup.specs.Views.{reached, entry_in, reached_below};
-ghost use Rattle.ovl_lookup.specs.DirViews.{path_on, name_on, IsViewOver, IsViewOf, IsPlaceOver, IsEntryIn, AddsPlaces, place_in, places_in};
+ghost use Rattle.ovl_lookup.specs.DirViews.{IsViewOver, IsViewOf, IsPlaceOver, IsEntryIn, AddsPlaces, place_in, places_in};
 
-use crate::Stack;
 use crate::steps::{Arrival, arrive};
 use crate::trails::Trail;
-use ovl_inode::{Inode, Mark, Redirect, is_directory};
+use crate::{Onward, Stack};
+use ovl_inode::{Inode, Mark, is_directory};
 use ovl_names::{Name, Path};
 use std::alloc::{AllocError, Global};
 
@@ -170,49 +169,13 @@ fn push_below(
             layer: place.layer,
             row: entry.row,
         })?;
-        if let Some(origin) = goes_on_at(entry.mark) {
-            return push_reached(alloc, stack, place.layer + 1, origin, below);
+        match Onward::of(entry.mark, own) {
+            Onward::At(origin) => {
+                return push_reached(alloc, stack, place.layer + 1, origin, below);
+            }
+            Onward::Beside(other) => own = other,
+            Onward::Nowhere => return Ok(()),
         }
-        let Some(other) = goes_on_by(entry.mark, own) else {
-            return Ok(());
-        };
-        own = other;
     }
     Ok(())
-}
-
-// The path from the root at which the layers below go on below an entry of this mark, where it has an absolute redirect.
-pub(crate) fn goes_on_at(mark: &Mark) -> Option<&Path>
-    ensures { option_map (λ path. path.now) result ≡ path_on mark.now }
-{
-    match mark {
-        Mark::DirMoved(Redirect::To(origin)) => Some(origin),
-        Mark::Meta(Some(Redirect::To(origin))) => Some(origin),
-        Mark::DirMoved(Redirect::Beside(_))
-        | Mark::Meta(Some(Redirect::Beside(_)) | None)
-        | Mark::Whiteout
-        | Mark::DirOpaque
-        | Mark::DirBad
-        | Mark::DirPlain
-        | Mark::MetaBad
-        | Mark::Leaf => None,
-    }
-}
-
-// The name by which they know it in the same directory, where it hides nothing.
-pub(crate) fn goes_on_by<'a>(mark: &'a Mark, name: &'a Name) -> Option<&'a Name>
-    ensures { option_map (λ own. own.now) result ≡ name_on mark.now name.now }
-{
-    match mark {
-        Mark::DirMoved(Redirect::Beside(own)) => Some(own),
-        Mark::Meta(Some(Redirect::Beside(own))) => Some(own),
-        Mark::DirPlain | Mark::Meta(None) => Some(name),
-        Mark::DirMoved(Redirect::To(_))
-        | Mark::Meta(Some(Redirect::To(_)))
-        | Mark::Whiteout
-        | Mark::DirOpaque
-        | Mark::DirBad
-        | Mark::MetaBad
-        | Mark::Leaf => None,
-    }
 }

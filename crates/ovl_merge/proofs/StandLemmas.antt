@@ -17,6 +17,9 @@ use Rattle.ovl_manifest.proofs.NodeLemmas.{entry_at-under}
 use Rattle.ovl_lookup.specs.declared.steps.Found.{Found}
 use Rattle.ovl_lookup.specs.declared.steps.OwnDirectory.{OwnDirectory}
 use Rattle.ovl_lookup.specs.declared.steps.Step.{Step}
+use Rattle.ovl_lookup.specs.declared.onward.Onward.{Onward}
+use Rattle.ovl_lookup.specs.declared.onward.Onward.TheVariants.{Beside, At, Nowhere}
+use Rattle.ovl_lookup.specs.Onwards.{IsOnward, path_on, name_on as marked_name, path_told, name_told}
 use Rattle.ovl_lookup.specs.Stacks.{StackView}
 use Rattle.ovl_lookup.specs.Walk.{walk, walk_beyond, walk_to_file, nothing_found}
 use Rattle.ovl_lookup.specs.Passes.{IsOwnDirectory, entered_path, entered_closed}
@@ -25,7 +28,7 @@ use Rattle.ovl_lookup.proofs.LawsOfWalks.{directory_found, walk-whole, walk-chil
 use Rattle.ovl_merge.specs.declared.stands.Stand.{Stand}
 use Rattle.ovl_merge.specs.declared.stands.Passing.{Passing}
 use Rattle.ovl_merge.specs.Places.{merge_of, passes}
-use Rattle.ovl_merge.specs.Stands.{IsInside, IsPast, StandsAt, IsStand, IsOver, IsRowAt, IsThing, IsPassing, onward_on, step_onward, past_onward, name_on, onward_by, onward_to}
+use Rattle.ovl_merge.specs.Stands.{IsInside, IsPast, StandsAt, IsStand, IsOver, IsRowAt, IsThing, IsPassing, onward_on, step_onward, past_onward, name_on, onward_to}
 use Rattle.ovl_merge.specs.Reckoned.{IsBelow}
 use Rattle.ovl_merge.proofs.VisitLemmas.{lower-layer}
 
@@ -94,6 +97,23 @@ root-stands layer is row inside here =
 marked-whiteout : (inode : Inode) → is_whiteout inode ≡ true → mark_of inode ≡ Whiteout
 marked-whiteout inode white =
     ap (λ (b : Bool). cond b Whiteout (cond (is_directory inode && has_opaque inode) DirOpaque (cond (is_directory inode) (directory_mark (redirect_reading inode)) (cond (is_regular inode && has_metacopy inode) (metacopy_mark (redirect_reading inode)) Leaf)))) white
+
+-- where a walk goes on at a thing of this mark and name
+abbrev onward_among : Option PathNames → Option PathName → Option PathNames → Option PathNames
+onward_among (Some path) own next = Some path
+onward_among None (Some own) next = name_on next own
+onward_among None None next = None
+
+abbrev onward_by : Mark → Option PathNames → PathName → Option PathNames
+onward_by mark next name = onward_among (path_on mark) (marked_name mark name) next
+
+onward-told : (mark : Mark) (name : PathName) (onward : Onward) → IsOnward mark name onward → (next : Option PathNames) → onward_to next onward ≡ onward_by mark next name
+onward-told mark name onward is next = by onward ∙ (λ j. onward_among (is.at j) (is.by j) next)
+  where
+    by : (o : Onward) → onward_to next o ≡ onward_among (path_told o) (name_told o) next
+    by (Beside own) = refl
+    by (At path) = refl
+    by Nowhere = refl
 
 module _ (next : PathNames) (name : PathName) where
   -- where the walk of a directory goes on
@@ -191,7 +211,7 @@ pass-thing layer layered path name directory next is row inside place passing th
     here = ap (entry_at layer) (sym place) ∙ thing.here
 
     known : onward_to next passing.onward ≡ onward_by (mark_of inode) (onward_on turned shut) name
-    known = thing.onward next ∙ ap (λ (o : Option PathNames). onward_by (mark_of inode) o name) is.onward
+    known = onward-told (mark_of inode) name passing.onward thing.onward next ∙ ap (λ (o : Option PathNames). onward_by (mark_of inode) o name) is.onward
 
     file : is_directory inode ≡ false → (step : Step) → step ≡ walk layer (child_path path name) → cond (is_whiteout inode) None (Some inode) ≡ step.found → passes is_directory step.found ≡ false → onward_by (mark_of inode) (onward_on turned shut) name ≡ step_onward step
         → IsPassing layer (child_path path name) next passing

@@ -4,18 +4,16 @@ use Rattle.std.specs.Option.{option_map}
 use Rattle.ovl_names.specs.Names.{PathName}
 use Rattle.ovl_names.specs.Paths.{PathNames, child_path}
 use Rattle.ovl_inode.specs.declared.inodes.Inode.{Inode}
-use Rattle.ovl_inode.specs.declared.marks.Mark.{Mark}
-use Rattle.ovl_inode.specs.declared.marks.Mark.TheVariants.{DirMoved, DirPlain, Meta}
-use Rattle.ovl_inode.specs.declared.marks.Redirect.TheVariants.{To, Beside as ByName}
 use Rattle.ovl_inode.specs.Marks.{mark_of, is_directory, is_whiteout}
 use Rattle.ovl_manifest.specs.Layers.{Entries, entry_at, is_directory_at}
 use Rattle.ovl_manifest.specs.Sheets.{path_at}
+use Rattle.ovl_lookup.specs.declared.onward.Onward.{Onward}
+use Rattle.ovl_lookup.specs.declared.onward.Onward.TheVariants.{Beside, At, Nowhere}
 use Rattle.ovl_lookup.specs.declared.steps.Step.{Step}
+use Rattle.ovl_lookup.specs.Onwards.{IsOnward}
 use Rattle.ovl_lookup.specs.Walk.{walk}
 use Rattle.ovl_merge.specs.declared.stands.Stand.{Stand}
 use Rattle.ovl_merge.specs.declared.stands.Passing.{Passing}
-use Rattle.ovl_merge.specs.declared.stands.Onward.{Onward}
-use Rattle.ovl_merge.specs.declared.stands.Onward.TheVariants.{Beside, At, Nowhere}
 use Rattle.ovl_merge.specs.Places.{passes}
 
 -- ---- where a walk goes on
@@ -36,16 +34,6 @@ abbrev pub onward_to : Option PathNames → Onward → Option PathNames
 onward_to next (Beside name) = name_on next name.now
 onward_to next (At path) = Some path.now
 onward_to next Nowhere = None
-
--- at a thing of this mark and name
-abbrev pub onward_by : Mark → Option PathNames → PathName → Option PathNames
-onward_by (DirMoved (To origin)) next name = Some origin
-onward_by (Meta (Some (To origin))) next name = Some origin
-onward_by (DirMoved (ByName own)) next name = name_on next own
-onward_by (Meta (Some (ByName own))) next name = name_on next own
-onward_by DirPlain next name = name_on next name
-onward_by (Meta None) next name = name_on next name
-onward_by _ next name = None
 
 -- ---- where the walk of a directory's path stands
 
@@ -92,7 +80,7 @@ pub record IsThing (layer : Entries) (row : ℕ) (name : PathName) (passing : Pa
   pub found : option_map (λ found. found.inode.now) passing.found ≡ (if is_whiteout inode then None else Some inode)
   pub marked : IfSome passing.found (λ found. found.mark.now ≡ mark_of found.inode.now)
   pub directory : passing.row ≡ (if is_directory inode then Some row else None)
-  pub onward : (next : Option PathNames) → onward_to next passing.onward ≡ onward_by (mark_of inode) next name
+  pub onward : IsOnward (mark_of inode) name passing.onward
 
 -- the walk of a path, by where the layer below knows the directory above
 pub record IsPassing (layer : Entries) (path : PathNames) (next : Option PathNames) (passing : Passing) : Type 0 where

@@ -7,8 +7,8 @@ ghost use Rattle.ovl_merge.specs.Stands.{onward_to};
 ghost use Rattle.ovl_merge.specs.Reckoned.{AreStands, IsVisited, IsBelow, is_inside_at, onward_at};
 
 use crate::bases::Base;
-use crate::stands::{Onward, Stand, passing_in};
-use ovl_lookup::Stack;
+use crate::stands::{Stand, passing_in};
+use ovl_lookup::{Onward, Stack};
 use ovl_names::{Name, Path};
 use std::alloc::{AllocError, Global};
 

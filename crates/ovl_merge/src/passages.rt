@@ -12,9 +12,9 @@ ghost use Rattle.ovl_merge.specs.Passages.{IsPassage, IsPassed, IsMarked, IsPlac
 
 use crate::candidates::Candidate;
 use crate::directories::Directory;
-use crate::stands::{Onward, Passing, Stand, passing_at, passing_in};
+use crate::stands::{Passing, Stand, passing_at, passing_in};
 use ovl_inode::{Inode, Kind, is_directory};
-use ovl_lookup::{Found, Look, Stack, Step, is_well_formed_metacopy, walk};
+use ovl_lookup::{Found, Look, Onward, Stack, Step, is_well_formed_metacopy, walk};
 use ovl_manifest::Sheet;
 use ovl_names::{Name, Path};
 use std::alloc::{AllocError, Global};

@@ -1,10 +1,10 @@
 ghost use Rattle.std.specs.Prelude.{◌≡◌, ℕ, ◌<◌, ◌&&◌, [], Option, None, Some, length, is_some, is_none, IfOk, IfSome};
 ghost use Rattle.std.specs.Option.{option_map};
 ghost use Rattle.ovl_names.specs.Paths.{PathNames, child_path};
-ghost use Rattle.ovl_merge.specs.Stands.{IsOver, IsStand, StandsAt, IsRowAt, IsThing, IsPassing, name_on, onward_to, onward_by};
+ghost use Rattle.ovl_merge.specs.Stands.{IsOver, IsStand, StandsAt, IsRowAt, IsThing, IsPassing, name_on, onward_to};
 
-use ovl_inode::{Mark, Redirect, is_directory};
-use ovl_lookup::Found;
+use ovl_inode::{Mark, is_directory};
+use ovl_lookup::{Found, Onward};
 use ovl_manifest::Sheet;
 use ovl_names::{Name, Path};
 use std::alloc::{AllocError, Global};
@@ -25,17 +25,6 @@ pub(crate) struct Passing<'a> {
     // The number of its row, if that is a directory.
     pub(crate) row: Option<u32>,
     pub(crate) onward: Onward<'a>,
-}
-
-// Where a walk goes on in the layer below.
-#[derive(Drop)]
-pub(crate) enum Onward<'a> {
-    // By this name in the directory as which that layer knows the one above.
-    Beside(&'a Name),
-    // At this path from the root.
-    At(&'a Path),
-    // No further.
-    Nowhere,
 }
 
 impl Stand {
@@ -201,7 +190,7 @@ fn thing_at<'a>(sheet: &'a Sheet, row: u32, name: &'a Name) -> Passing<'a>
     ensures { IsThing sheet.now row name.now result }
 {
     let (inode, mark) = (sheet.inode(row), sheet.mark(row));
-    let onward = onward_at(mark, name);
+    let onward = Onward::of(mark, name);
     if matches!(mark, Mark::Whiteout) {
         return Passing {
             found: None,
@@ -221,24 +210,5 @@ fn thing_at<'a>(sheet: &'a Sheet, row: u32, name: &'a Name) -> Passing<'a>
         found,
         row: Some(row),
         onward,
-    }
-}
-
-// Where a walk goes on at a thing of this mark and name. overlayfs.rst: "whiteouts and opaque directories", "renaming
-// directories", "Metadata only copy up".
-fn onward_at<'a>(mark: &'a Mark, name: &'a Name) -> Onward<'a>
-    ensures { (next : Option PathNames) → onward_to next result ≡ onward_by mark.now next name.now }
-{
-    match mark {
-        Mark::DirMoved(Redirect::To(origin)) | Mark::Meta(Some(Redirect::To(origin))) => {
-            Onward::At(origin)
-        }
-        Mark::DirMoved(Redirect::Beside(own)) | Mark::Meta(Some(Redirect::Beside(own))) => {
-            Onward::Beside(own)
-        }
-        Mark::DirPlain | Mark::Meta(None) => Onward::Beside(name),
-        Mark::Whiteout | Mark::DirOpaque | Mark::DirBad | Mark::MetaBad | Mark::Leaf => {
-            Onward::Nowhere
-        }
     }
 }

@@ -70,8 +70,8 @@ data-requires c =
     let inside = layer-inside c.args.stack.now (place_read c.args.places.now c.loop-place.place-index) (over-read c.args.stack.now c.args.places.now c.loop-place.place-index c.requires c.loop-place-test.true) in
     omega (arith, inside)
 
-pub returns-in-Some-goes_on_at : goal.returns-in-Some-goes_on_at
-returns-in-Some-goes_on_at c =
+pub returns-in-At : goal.returns-in-At
+returns-in-At c =
     let stack : StackView = c.args.stack.now in
     let places : List DirPlace = c.args.places.now in
     let k = c.loop-place.place-index in
@@ -80,15 +80,15 @@ returns-in-Some-goes_on_at c =
     let is = c.in-Some.ensures in
     let inode : Inode = c.in-Some.entry.inode.now in
     let mark : Mark = c.in-Some.entry.mark.now in
-    let origin : PathNames = c.in-Some-goes_on_at.origin.now in
+    let origin : PathNames = c.in-At.origin.now in
     let from_root = things_found (drop (own.layer + 1) stack.layers) in
     let onward = onward-data stack.data_only stack.layers c.loop-place.own.now (places_in stack places) k (place_in stack own) at inode mark is.inode is.mark (sym c.is_whiteout.ensures ∙ c.if-is_whiteout.false) (sym c.is_well_formed_metacopy.ensures ∙ c.if-not-is_well_formed_metacopy.false) in
-    let same = ap (λ (p : PathNames). data_below stack.data_only (Some origin) (from_root p)) (c.in_ok-trail.ensures ∙ c.names.ensures.value)
-    ∙ sym (sym c.loop-place.invariant ∙ (onward ∙ onward-placed stack.data_only mark (Some origin) _ _ (sym c.is_well_formed_metacopy.ensures ∙ c.if-not-is_well_formed_metacopy.false) (sym c.in-Some-goes_on_at.ensures) (on-path c.loop-place.own.now from_root (λ other. found_below stack.layers other (drop (k + 1) (places_in stack places))) mark origin (sym c.in-Some-goes_on_at.ensures)))) in
+    let same = ap (λ (p : PathNames). data_below stack.data_only (Some origin) (from_root p)) (c.in_ok-trail-in-At.ensures ∙ c.names.ensures.value)
+    ∙ sym (sym c.loop-place.invariant ∙ (onward ∙ onward-placed stack.data_only mark (Some origin) _ _ (sym c.is_well_formed_metacopy.ensures ∙ c.if-not-is_well_formed_metacopy.false) (sym c.in-At.ensures.at) (on-path c.loop-place.own.now from_root (λ other. found_below stack.layers other (drop (k + 1) (places_in stack places))) mark origin (sym c.in-At.ensures.at)))) in
     subst (λ (wanted : Option Inode). IfOk c.data.result (λ found. found ≡ wanted)) same c.data.ensures
 
-pub returns-in_default-goes_on_by : goal.returns-in_default-goes_on_by
-returns-in_default-goes_on_by c =
+pub returns-in-Nowhere : goal.returns-in-Nowhere
+returns-in-Nowhere c =
     let stack : StackView = c.args.stack.now in
     let places : List DirPlace = c.args.places.now in
     let k = c.loop-place.place-index in
@@ -98,7 +98,7 @@ returns-in_default-goes_on_by c =
     let inode : Inode = c.in-Some.entry.inode.now in
     let mark : Mark = c.in-Some.entry.mark.now in
     let onward = onward-data stack.data_only stack.layers c.loop-place.own.now (places_in stack places) k (place_in stack own) at inode mark is.inode is.mark (sym c.is_whiteout.ensures ∙ c.if-is_whiteout.false) (sym c.is_well_formed_metacopy.ensures ∙ c.if-not-is_well_formed_metacopy.false) in
-    sym (sym c.loop-place.invariant ∙ (onward ∙ onward-placed stack.data_only mark None _ _ (sym c.is_well_formed_metacopy.ensures ∙ c.if-not-is_well_formed_metacopy.false) (sym c.in_default-goes_on_at.ensures) (on-none c.loop-place.own.now (things_found (drop (own.layer + 1) stack.layers)) (λ other. found_below stack.layers other (drop (k + 1) (places_in stack places))) mark (sym c.in_default-goes_on_at.ensures) (sym c.in_default-goes_on_by.ensures))))
+    sym (sym c.loop-place.invariant ∙ (onward ∙ onward-placed stack.data_only mark None _ _ (sym c.is_well_formed_metacopy.ensures ∙ c.if-not-is_well_formed_metacopy.false) (sym c.in-Nowhere.ensures.at) (on-none c.loop-place.own.now (things_found (drop (own.layer + 1) stack.layers)) (λ other. found_below stack.layers other (drop (k + 1) (places_in stack places))) mark (sym c.in-Nowhere.ensures.at) (sym c.in-Nowhere.ensures.by))))
 
 pub loop-place-preserved : goal.loop-place-preserved
 loop-place-preserved c =
@@ -110,6 +110,6 @@ loop-place-preserved c =
     let is = c.in-Some.ensures in
     let inode : Inode = c.in-Some.entry.inode.now in
     let mark : Mark = c.in-Some.entry.mark.now in
-    let other : PathName = c.in-Some-goes_on_by.other.now in
+    let other : PathName = c.in-Beside.other.now in
     let onward = onward-data stack.data_only stack.layers c.loop-place.own.now (places_in stack places) k (place_in stack own) at inode mark is.inode is.mark (sym c.is_whiteout.ensures ∙ c.if-is_whiteout.false) (sym c.is_well_formed_metacopy.ensures ∙ c.if-not-is_well_formed_metacopy.false) in
-    sym (sym c.loop-place.invariant ∙ (onward ∙ onward-placed stack.data_only mark None _ _ (sym c.is_well_formed_metacopy.ensures ∙ c.if-not-is_well_formed_metacopy.false) (sym c.in_default-goes_on_at.ensures) (on-name c.loop-place.own.now (things_found (drop (own.layer + 1) stack.layers)) (λ name. found_below stack.layers name (drop (k + 1) (places_in stack places))) mark other (sym c.in-Some-goes_on_by.ensures))))
+    sym (sym c.loop-place.invariant ∙ (onward ∙ onward-placed stack.data_only mark None _ _ (sym c.is_well_formed_metacopy.ensures ∙ c.if-not-is_well_formed_metacopy.false) (sym c.in-Beside.ensures.at) (on-name c.loop-place.own.now (things_found (drop (own.layer + 1) stack.layers)) (λ name. found_below stack.layers name (drop (k + 1) (places_in stack places))) mark other (sym c.in-Beside.ensures.by))))

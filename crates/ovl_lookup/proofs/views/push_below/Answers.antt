@@ -50,8 +50,8 @@ push_reached-requires c =
     let inside = layer-inside c.args.stack.now (place_read c.args.places.now c.loop-place.place-index) (over-read c.args.stack.now c.args.places.now c.loop-place.place-index c.requires c.loop-place-test.true) in
     omega (arith, inside)
 
-pub returns-in-Some-goes_on_at : goal.returns-in-Some-goes_on_at
-returns-in-Some-goes_on_at c =
+pub returns-in-At : goal.returns-in-At
+returns-in-At c =
     let stack : StackView = c.args.stack.now in
     let places : List DirPlace = c.args.places.now in
     let name : PathName = c.loop-place.own.now in
@@ -61,16 +61,16 @@ returns-in-Some-goes_on_at c =
     let pushes = c.in_ok-push.ensures.items in
     let over = over-below stack name places c.loop-place.place-index own at c.in-Some.entry c.in-Some.ensures c.args.below.now.items c.loop-place.below.items c.push.new.self.items pushes c.loop-place.invariant.over in
     let step = below-step stack name places c.loop-place.place-index own at c.in-Some.entry c.in-Some.ensures (sym c.is_directory.ensures ∙ c.if-not-is_directory.false) c.args.below.now.items c.loop-place.below.items c.push.new.self.items in
-    let origin : PathNames = c.in-Some-goes_on_at.origin.now in
+    let origin : PathNames = c.in-At.origin.now in
     let rest : List Reached = reached (drop (own.layer + 1) stack.layers) (own.layer + 1) origin in
     on_ok_weaker c.push_reached.result
     (λ adds. record {
-      places = adds.places ∙ step rest more pushes (on-path name _ _ c.in-Some.entry.mark.now origin (sym c.in-Some-goes_on_at.ensures)) c.loop-place.invariant.places;
+      places = adds.places ∙ step rest more pushes (on-path name _ _ c.in-Some.entry.mark.now origin (sym c.in-At.ensures.at)) c.loop-place.invariant.places;
       over = λ all. adds.over (over all);
     }) c.push_reached.ensures
 
-pub returns-in_default-goes_on_by : goal.returns-in_default-goes_on_by
-returns-in_default-goes_on_by c =
+pub returns-in-Nowhere : goal.returns-in-Nowhere
+returns-in-Nowhere c =
     let stack : StackView = c.args.stack.now in
     let places : List DirPlace = c.args.places.now in
     let name : PathName = c.loop-place.own.now in
@@ -83,7 +83,7 @@ returns-in_default-goes_on_by c =
     record {
       places =
           sym (append-nil (places_in stack c.push.new.self.items))
-          ∙ step [] more pushes (on-none name _ _ c.in-Some.entry.mark.now (sym c.in_default-goes_on_at.ensures) (sym c.in_default-goes_on_by.ensures)) c.loop-place.invariant.places;
+          ∙ step [] more pushes (on-none name _ _ c.in-Some.entry.mark.now (sym c.in-Nowhere.ensures.at) (sym c.in-Nowhere.ensures.by)) c.loop-place.invariant.places;
       over = over;
     }
 
@@ -98,9 +98,9 @@ loop-place-preserved c =
     let pushes = c.in_ok-push.ensures.items in
     let over = over-below stack name places c.loop-place.place-index own at c.in-Some.entry c.in-Some.ensures c.args.below.now.items c.loop-place.below.items c.push.new.self.items pushes c.loop-place.invariant.over in
     let step = below-step stack name places c.loop-place.place-index own at c.in-Some.entry c.in-Some.ensures (sym c.is_directory.ensures ∙ c.if-not-is_directory.false) c.args.below.now.items c.loop-place.below.items c.push.new.self.items in
-    let other : PathName = c.in-Some-goes_on_by.other.now in
+    let other : PathName = c.in-Beside.other.now in
     let rest : List Reached = reached_below stack.layers other (drop (c.loop-place.place-index + 1) (places_in stack places)) in
     record {
-      places = step rest more pushes (on-name name _ _ c.in-Some.entry.mark.now other (sym c.in-Some-goes_on_by.ensures)) c.loop-place.invariant.places;
+      places = step rest more pushes (on-name name _ _ c.in-Some.entry.mark.now other (sym c.in-Beside.ensures.by)) c.loop-place.invariant.places;
       over = over;
     }

@@ -1,0 +1,35 @@
+-- Where walks go on in the layer below one that has an entry.
+use Rattle.std.specs.Prelude.{◌≡◌, Option, Some, None}
+use Rattle.ovl_names.specs.Names.{PathName}
+use Rattle.ovl_names.specs.Paths.{PathNames}
+use Rattle.ovl_inode.specs.declared.marks.Mark.{Mark}
+use Rattle.ovl_inode.specs.declared.marks.Mark.TheVariants.{DirMoved, DirPlain, Meta}
+use Rattle.ovl_inode.specs.declared.marks.Redirect.TheVariants.{To, Beside as ByName}
+use Rattle.ovl_lookup.specs.declared.onward.Onward.{Onward}
+use Rattle.ovl_lookup.specs.declared.onward.Onward.TheVariants.{Beside, At}
+
+-- below an entry of this mark: at a path from the root, or beside it by a name
+abbrev pub path_on : Mark → Option PathNames
+path_on (DirMoved (To origin)) = Some origin
+path_on (Meta (Some (To origin))) = Some origin
+path_on _ = None
+
+abbrev pub name_on : Mark → PathName → Option PathName
+name_on DirPlain name = Some name
+name_on (DirMoved (ByName own)) name = Some own
+name_on (Meta None) name = Some name
+name_on (Meta (Some (ByName own))) name = Some own
+name_on _ name = None
+
+-- the same as the program tells it
+abbrev pub path_told : Onward → Option PathNames
+path_told (At path) = Some path.now
+path_told _ = None
+
+abbrev pub name_told : Onward → Option PathName
+name_told (Beside name) = Some name.now
+name_told _ = None
+
+pub record IsOnward (mark : Mark) (name : PathName) (onward : Onward) : Type 0 where
+  pub at : path_told onward ≡ path_on mark
+  pub by : name_told onward ≡ name_on mark name
