@@ -1,5 +1,5 @@
 -- Entries that a manifest can state, and the limits of their paths.
-use Rattle.std.proofs.Common.{◌≡◌, ℕ, suc, ◌+◌, ◌*◌, ◌++◌, ◌≤◌, ◌∙◌, subst, Ok, List, [], ◌∷◌, Bool, true, false, Option, Some, None, refl, sym, ap, length, length-append, length-take, map, take, arith, le-leb}
+use Rattle.std.proofs.Common.{◌≡◌, ℕ, suc, ◌*◌, ◌++◌, ◌≤◌, ◌∙◌, subst, Ok, List, [], ◌∷◌, Bool, true, false, Option, Some, None, refl, sym, ap, length, length-append, length-take, map, take, arith, le-leb}
 use Rattle.std.specs.Prelude.{◌==◌, ◌&&◌, ◌↔◌, not, Result, Err, IfSome, IsTrue, nat_le, nat_lt, is_none, if◌then◌else◌}
 use Rattle.std.specs.Result.{result_err}
 use Rattle.std.specs.List.{starts_with}
