@@ -1,6 +1,6 @@
 -- Texts that have `/` between names: what they are to their names.
-use Rattle.std.proofs.Common.{◌≡◌, ◌≢◌, ℕ, suc, ◌<◌, ◌≤◌, ◌+◌, List, [], ◌∷◌, ◌++◌, Bool, true, false, Option, Some, None, refl, sym, ap, ◌∙◌, lit<, length, take, drop, get_or, append_assoc, add-one, drop-cons, length-append, length-drop, get_or-drop, take_all, min, ◌-◌, zero, arith}
-use Rattle.std.specs.Prelude.{cond, codes, ◌==◌, nat_lt, ◌&&◌, ◌||◌, is_some, is_none, unwrap_or, if◌then◌else◌}
+use Rattle.std.proofs.Common.{◌≡◌, ◌≢◌, ℕ, suc, ◌<◌, ◌≤◌, ◌+◌, List, [], ◌∷◌, ◌++◌, Bool, true, false, Option, Some, None, refl, sym, ap, ◌∙◌, lit<, length, take, drop, get_or, append_assoc, add-one, drop-cons, length-append, length-drop, take_all, min, ◌-◌, zero, arith}
+use Rattle.std.specs.Prelude.{cond, codes, ◌==◌, nat_lt, ◌&&◌, ◌||◌, is_some, is_none, if◌then◌else◌}
 use Rattle.std.specs.declared.cmp.Ordering.{Ordering}
 use Rattle.std.specs.declared.cmp.Ordering.TheVariants.{Less, Equal, Greater}
 use Rattle.std.specs.Ordering.{nat_cmp, ordering_then}
@@ -9,7 +9,9 @@ use Rattle.std.specs.List.{list_any, list_all, starts_with, flat_map, onto_first
 use Rattle.std.specs.Str.{bytes_eq, is_utf8, IsUtf8}
 use Rattle.std.proofs.lemmas.Bool.{eqb-true, eq-eqb}
 use Rattle.std.proofs.lemmas.List.Splits.{length-slice_split, slice_split_first, join_with_byte-slice_split}
-use Rattle.std.proofs.lemmas.List.{take-append-drop, take-append-le}
+use Rattle.std.specs.String.Boundary.{IsSplitPoint}
+use Rattle.std.proofs.Math.Seq.{get_or-append_seam}
+use Rattle.std.proofs.lemmas.List.{take-append-drop, take-append-le, append-nil}
 use Rattle.std.proofs.lemmas.List.Folds.{list_all-append}
 use Rattle.std.proofs.lemmas.List.Sums.{fails_before_first, passes_at_first}
 use Rattle.std.proofs.lemmas.Str.{IsUtf8-take, IsUtf8-drop, IsCharBoundary-before_ascii, IsCharBoundary-after_ascii, IsUtf8-past_char, encode_ascii, is_utf8-from_IsUtf8}
@@ -22,7 +24,7 @@ use Rattle.std.proofs.lemmas.Slice.Eq.{bytes_eq-Decides, slice_eq-Decides}
 use Rattle.ovl_names.specs.declared.names.NameFault.{NameFault}
 use Rattle.ovl_names.specs.declared.names.NameFault.TheVariants.{Empty, TooLong, Dot, Slash, Nul}
 use Rattle.ovl_names.specs.Names.{name_limit, name_fault, is_name, name_eq, name_cmp, slash, dot, dot_dot}
-use Rattle.ovl_names.specs.Paths.{PathNames, text_names, parts_between, has_names, path_cmp, path_eq, parent_path}
+use Rattle.ovl_names.specs.Paths.{PathNames, path_text, text_names, joined_text, parts_between, has_names, path_cmp, path_eq, parent_path}
 use Rattle.ovl_names.specs.Escapes.{escaped, escaped_byte, shown_path}
 use Rattle.ovl_names.proofs.Ascending.{both}
 
@@ -353,18 +355,75 @@ text_cmp-end n xs ys end = by (drop n xs) (drop n ys) (length-drop n xs) (length
     by (x ∷ own) [] a b = nat_cmp_is (length xs) (length ys) Greater (omega arith)
     by (x ∷ own) (y ∷ others) a b = absurd (omega arith)
 
--- the names above the last of a text, where a separator is looked for from the end
-pub text_names-up : (bs : List ℕ) (r : Option ℕ) → MatchOption r ((i : ℕ) → i < length bs → get_or bs i 0 ≢ 47) (λ k. (k < length bs) × (get_or bs k 0 ≡ 47) × ((i : ℕ) → k < i → i < length bs → get_or bs i 0 ≢ 47)) → has_names (text_names bs) ≡ true
-    → text_names (take (unwrap_or r 0) bs) ≡ parent_path (text_names bs)
-text_names-up [] None found named = refl
-text_names-up (byte ∷ bytes) None found named = rw (one_part (byte ∷ bytes) (lacks slash (byte ∷ bytes) found)) refl
-text_names-up bs (Some k) found named = sym (ap parent_path cut ∙ parent_path-child (text_names (take k bs)) (drop (k + 1) bs))
-  where
-    apart : bs ≡ take k bs ++ slash ∷ drop (k + 1) bs
-    apart = sym (take-append-drop k bs) ∙ ap (λ rest. take k bs ++ rest) (rw add-one (drop-cons bs k 0 found.0 ∙ ap (λ byte. byte ∷ drop (suc k) bs) found.1))
+-- ---- texts one behind the other
 
-    cut : text_names bs ≡ text_names (take k bs) ++ drop (k + 1) bs ∷ []
-    cut = text_names-last bs (take k bs) (drop (k + 1) bs) apart (lacks slash (drop (k + 1) bs) (λ i l. rw (get_or-drop (k + 1) bs i 0) (found.2 (k + 1 + i) (omega arith) (omega (arith, length-drop (k + 1) bs))))) named
+-- the text of a path, as that of its names
+pub path_text-names : (text : List ℕ) → path_text (text_names text) ≡ slash ∷ text
+path_text-names [] = refl
+path_text-names (x ∷ xs) = by (parts_between (x ∷ xs)) (some_part (x ∷ xs)) (parts-text (x ∷ xs))
+  where
+    parts-text : (text : List ℕ) → flat_map (λ own. slash ∷ own) (parts_between text) ≡ slash ∷ text
+    parts-text [] = refl
+    parts-text (y ∷ ys) = each (parts_between ys) (some_part ys) (parts-text ys) (y == slash) refl
+      where
+        each : (parts : PathNames) → 0 < length parts → flat_map (λ own. slash ∷ own) parts ≡ slash ∷ ys → (b : Bool) → (y == slash) ≡ b → flat_map (λ own. slash ∷ own) (cond b ([] ∷ parts) (onto_first y parts)) ≡ slash ∷ (y ∷ ys)
+        each [] some later b e = absurd (omega arith)
+        each (part ∷ parts) some later true e = rw (eqb-true y slash e, later) refl
+        each (part ∷ parts) some later false e = let tail : part ++ flat_map (λ own. slash ∷ own) parts ≡ ys = cc in ap (λ (rest : List ℕ). slash ∷ y ∷ rest) tail
+
+    by : (parts : PathNames) → 0 < length parts → flat_map (λ own. slash ∷ own) parts ≡ slash ∷ (x ∷ xs) → path_text parts ≡ slash ∷ (x ∷ xs)
+    by [] some all = absurd (omega arith)
+    by (part ∷ parts) some all = all
+
+pub text_names-joined : (above below : List ℕ) → 0 < length below → text_names (joined_text above below) ≡ text_names above ++ text_names below
+text_names-joined [] below some = refl
+text_names-joined (x ∷ xs) below some = text_names-across (x ∷ xs) below (omega arith) some
+
+-- a text that has one name more than another
+pub path_text-child : (above name : List ℕ) (path : PathNames) → text_names above ≡ path → is_name name ≡ true → path_text (path ++ name ∷ []) ≡ slash ∷ joined_text above name
+path_text-child above name path same is = by name is (text_names-name name is)
+  where
+    by : (name : List ℕ) → is_name name ≡ true → text_names name ≡ name ∷ [] → path_text (path ++ name ∷ []) ≡ slash ∷ joined_text above name
+    by [] is alone = let bad : is_name [] ≡ true = is in cc
+    by (x ∷ xs) is alone =
+        let names : text_names (joined_text above (x ∷ xs)) ≡ path ++ (x ∷ xs) ∷ [] = text_names-joined above (x ∷ xs) (omega arith) ∙ (λ j. same j ++ alone j) in
+        ap path_text (sym names) ∙ path_text-names (joined_text above (x ∷ xs))
+
+-- the text of these names
+pub text_names-written : (names : PathNames) → has_names names ≡ true → text_names (join_with_byte slash names) ≡ names
+text_names-written [] named = refl
+text_names-written (name ∷ []) named = text_names-name name (both {a = is_name name} {b = true} named).0
+text_names-written (name ∷ next ∷ names) named = by name (join_with_byte slash (next ∷ names)) (both {a = is_name name} {b = has_names (next ∷ names)} named).0 (text_names-written (next ∷ names) (both {a = is_name name} {b = has_names (next ∷ names)} named).1)
+  where
+    by : (name text : List ℕ) → is_name name ≡ true → text_names text ≡ next ∷ names → text_names (name ++ slash ∷ text) ≡ name ∷ next ∷ names
+    by [] text is later = let bad : is_name [] ≡ true = is in cc (empty_is_none)
+    by (x ∷ xs) [] is later = cc
+    by (x ∷ xs) (y ∷ ys) is later = text_names-across (x ∷ xs) (y ∷ ys) (omega arith) (omega arith) ∙ (λ j. text_names-name (x ∷ xs) is j ++ later j)
+
+-- a text whose names are the first of another's is what that begins with, and it may be cut there
+pub front-text : (text front : List ℕ) (count : ℕ) → has_names (text_names text) ≡ true → text_names front ≡ take count (text_names text) → (take (length front) text ≡ front) × IsSplitPoint text (length front)
+front-text text front count named first = by front (drop count (text_names text)) first (take-append-drop count (text_names text)) below
+  where
+    below : has_names (drop count (text_names text)) ≡ true
+    below = (both {a = has_names (take count (text_names text))} {b = has_names (drop count (text_names text))} (sym (list_all-append is_name (take count (text_names text)) (drop count (text_names text))) ∙ (ap has_names (take-append-drop count (text_names text)) ∙ named))).1
+
+    whole : (front : List ℕ) → front ≡ text → (take (length front) text ≡ front) × IsSplitPoint text (length front)
+    whole front same = rw same (take_all (length text) text (omega arith), (omega arith, λ some less. absurd (omega arith)))
+
+    cut : (front rest : List ℕ) → text ≡ front ++ slash ∷ rest → (take (length front) text ≡ front) × IsSplitPoint text (length front)
+    cut front rest apart = rw apart (
+      take-append-le (length front) front (slash ∷ rest) (omega arith) ∙ take_all (length front) front (omega arith),
+      (omega (arith, length-append front (slash ∷ rest)), λ some less high. absurd (omega (arith, high, get_or-append_seam front slash rest 0))),
+    )
+
+    by : (front : List ℕ) (rest : PathNames) → text_names front ≡ take count (text_names text) → take count (text_names text) ++ rest ≡ text_names text → has_names rest ≡ true → (take (length front) text ≡ front) × IsSplitPoint text (length front)
+    by [] rest first split below = (refl, (omega arith, λ some less. absurd (omega arith)))
+    by (x ∷ xs) [] first split below = whole (x ∷ xs) (text_names-same (x ∷ xs) text (first ∙ (sym (append-nil (take count (text_names text))) ∙ split)))
+    by (x ∷ xs) (name ∷ names) first split below = cut (x ∷ xs) (join_with_byte slash (name ∷ names)) (text_names-same text ((x ∷ xs) ++ slash ∷ join_with_byte slash (name ∷ names)) (sym split ∙ ((λ j. sym first j ++ sym (text_names-written (name ∷ names) below) j) ∙ sym (across (join_with_byte slash (name ∷ names)) (text_names-written (name ∷ names) below)))))
+      where
+        across : (text : List ℕ) → text_names text ≡ name ∷ names → text_names ((x ∷ xs) ++ slash ∷ text) ≡ text_names (x ∷ xs) ++ text_names text
+        across [] later = cc
+        across (y ∷ ys) later = text_names-across (x ∷ xs) (y ∷ ys) (omega arith) (omega arith)
 
 -- ---- what a text may be
 

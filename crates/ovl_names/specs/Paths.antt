@@ -61,6 +61,11 @@ abbrev pub text_names : List ℕ → PathNames
 text_names [] = []
 text_names (byte ∷ bytes) = parts_between (byte ∷ bytes)
 
+-- the text of the names of two texts, one behind the other
+abbrev pub joined_text : List ℕ → List ℕ → List ℕ
+joined_text [] below = below
+joined_text (byte ∷ bytes) below = byte ∷ bytes ++ slash ∷ below
+
 -- the parts of a path's text: none at `/`, else what stands between the separators after the first
 abbrev pub text_parts : List ℕ → List (List ℕ)
 text_parts text = if bytes_eq text (slash ∷ []) then [] else parts_between (drop 1 text)

@@ -1,4 +1,4 @@
-ghost use Rattle.std.specs.Prelude.{◌≡◌, ◌∷◌, ◌++◌, [], ◌↔◌, drop, length, IsTrue, MatchOption};
+ghost use Rattle.std.specs.Prelude.{◌≡◌, ◌∷◌, ◌++◌, [], ◌↔◌, take, drop, length, IsTrue, MatchOption};
 ghost use Rattle.std.specs.Cmp.{partial_equiv_from_equiv};
 ghost use Rattle.std.specs.Cmp.Lexicographic.{nat_list_eq_equiv, lists_equiv};
 ghost use Rattle.std.specs.Iterator.{YieldsFirstRef, item_count};
@@ -96,6 +96,19 @@ impl<'a> Names<'a> {
         for _ in 0..count {
             if names.next().is_none() {
                 break;
+            }
+        }
+        names
+    }
+
+    /// The first `count` names, and all of them where there are no more.
+    pub fn first(&self, count: usize) -> Names<'a>
+        ensures { result ≡ take count self.now }
+    {
+        let mut names = self.rest();
+        for _ in count..self.len {
+            if let Some((_, above)) = names.split_last() {
+                names = above;
             }
         }
         names

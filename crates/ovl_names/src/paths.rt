@@ -1,4 +1,4 @@
-ghost use Rattle.std.specs.Prelude.{◌≡◌, ◌↔◌, ◌<◌, ◌≤◌, ◌+◌, ◌==◌, Some, None, is_some, IsTrue, IfOk, OnErr, MatchResult, [], ◌∷◌, ◌++◌, if◌then◌else◌, length, take, nat_lt, string_bytes, string_len, string_capacity};
+ghost use Rattle.std.specs.Prelude.{◌≡◌, ◌↔◌, ◌<◌, ◌==◌, Some, None, is_some, IsTrue, IfOk, OnErr, MatchResult, [], ◌∷◌, ◌++◌, if◌then◌else◌, length, take, nat_lt, string_bytes, string_capacity};
 ghost use Rattle.std.specs.Ordering.{nat_cmp};
 ghost use Rattle.std.specs.declared.cmp.Ordering.TheVariants.{Less, Greater};
 ghost use Rattle.std.specs.Cmp.{partial_equiv_from_equiv, po};
@@ -7,7 +7,7 @@ ghost use Rattle.std.proofs.Common.{refl};
 ghost use Rattle.std.specs.List.{list_any};
 ghost use Rattle.ovl_names.specs.Names.{name_cmp, name_fault, slash};
 ghost use Rattle.ovl_names.specs.declared.paths.PathFault.TheVariants.{Memory};
-ghost use Rattle.ovl_names.specs.Paths.{child_path, parent_path, parent_of, path_eq, path_cmp, path_fault, path_refusal, text_parts, text_names, parts_between, has_names, depth_limit, text_limit};
+ghost use Rattle.ovl_names.specs.Paths.{child_path, parent_of, path_eq, path_cmp, path_text, path_fault, path_refusal, text_parts, text_names, joined_text, parts_between, has_names, depth_limit, text_limit};
 ghost use Rattle.ovl_names.specs.Escapes.{shown_path};
 
 use crate::names::{Name, first_name_fault};
@@ -174,14 +174,9 @@ impl Path {
     pub fn joined(&self, alloc: Global, names: &Names<'_>) -> Result<Path, AllocError>
         ensures { IfOk result (λ path. path ≡ self.now ++ names.now) }
     {
-        let below = names.text();
-        let room = self
-            .text
-            .len()
-            .saturating_add(below.len())
-            .saturating_add(1);
-        let mut text = String::with_capacity(alloc, room)?;
-        text.push_str(self.text.as_str())?;
+        let (above, below) = (self.text.as_str(), names.text());
+        let mut text = String::with_capacity(alloc, joined_len(above, below))?;
+        text.push_str(above)?;
         append(&mut text, below)?;
         Ok(Path {
             text,
@@ -210,18 +205,22 @@ impl Path {
     }
 
     /// Goes up to the directory of the first `depth` names, and down to its entry `name`; fails, with nothing changed,
-    /// only when out of memory.
+    /// only when out of memory, and never where the path's text gets no longer.
     pub fn go_to(&mut self, depth: usize, name: &Name) -> Result<(), AllocError>
-        ensures { MatchResult result
+        ensures there { MatchResult result
             (λ _. self.new ≡ child_path (take depth self.old) name.now)
             (λ _. self.new ≡ self.old) }
+        ensures refused { OnErr result
+            (length (path_text self.old) < length (path_text (child_path (take depth self.old) name.now))) }
     {
         let name = name.as_str();
-        self.text.reserve(name.len() + 1)?;
-        for _ in depth..self.len {
-            go_up(&mut self.text);
-        }
-        self.len = depth.min(self.len) + 1;
+        let names = self.names().first(depth);
+        let (above, len) = (names.text(), names.len());
+        let end = above.len();
+        let wanted = joined_len(above, name);
+        self.text.reserve(wanted.saturating_sub(self.text.len()))?;
+        self.text.truncate(end);
+        self.len = len + 1;
         append(&mut self.text, name)?;
         Ok(())
     }
@@ -247,34 +246,35 @@ impl Path {
     }
 }
 
+// The bytes of two texts of names, one behind the other.
+fn joined_len(above: &str, below: &str) -> usize
+    ensures { result ≡ length (joined_text above.now below.now) }
+{
+    if above.is_empty() {
+        below.len()
+    } else {
+        above.len() + 1 + below.len()
+    }
+}
+
 // Appends names to a text of names; fails, with nothing changed, only when out of memory, and never where there is room
-// for them and a separator.
+// for them.
 fn append(text: &mut String, names: &str) -> Result<(), AllocError>
     ensures names { MatchResult result
         (λ _. text_names (string_bytes text.new) ≡ text_names (string_bytes text.old) ++ text_names names.now)
         (λ _. string_bytes text.new ≡ string_bytes text.old) }
-    ensures full { OnErr result (string_capacity text.old < string_len text.old + length names.now + 1) }
+    ensures full { OnErr result
+        (string_capacity text.old < length (joined_text (string_bytes text.old) names.now)) }
 {
     if names.is_empty() {
         return Ok(());
     }
-    text.reserve(names.len() + 1)?;
+    text.reserve(joined_len(text.as_str(), names) - text.len())?;
     if !text.is_empty() {
         text.push('/')?;
     }
     text.push_str(names)?;
     Ok(())
-}
-
-// Drops the last name of a text of names, if it has one.
-fn go_up(text: &mut String)
-    requires { IsTrue (has_names (text_names (string_bytes text.old))) }
-    ensures names { text_names (string_bytes text.new) ≡ parent_path (text_names (string_bytes text.old)) }
-    ensures len { string_len text.new ≤ string_len text.old }
-    ensures capacity { string_capacity text.new ≡ string_capacity text.old }
-{
-    let end = text.as_str().rfind('/').unwrap_or(0);
-    text.truncate(end);
 }
 
 // The first fault of the text that has `/` before these parts, in the order of `PathFault`.

@@ -24,7 +24,7 @@ spelled c = ap (λ (above : PathNames). child_path above c.args.name) (c.in_ok-c
 
 -- which is the last path then
 ended : (c : goal.In_ok-push) → c.go_to.new.self ≡ child_path (take c.args.depth c.args.self.now.last) c.args.name
-ended c = c.in_ok-go_to.ensures ∙ ap (λ (last : PathNames). child_path (take c.args.depth last) c.args.name) c.in_ok-close.ensures.last
+ended c = c.in_ok-go_to.ensures.there ∙ ap (λ (last : PathNames). child_path (take c.args.depth last) c.args.name) c.in_ok-close.ensures.last
 
 pub returns-clause-entries : goal.returns-clause-entries
 returns-clause-entries c =

@@ -1,52 +1,58 @@
-use Rattle.std.proofs.Common.{◌≡◌, ◌≤◌, ◌<◌, ◌-◌, Bool, false, ◌∙◌, ◌++◌, ◌∷◌, [], List, ℕ, true, length, length-append, length-take, take, take_all, string_bytes, refl, sym, ap, arith}
-use Rattle.std.specs.Prelude.{nat_lt}
-use Rattle.std.proofs.lemmas.Bool.Decides.{nat_tests}
-use Rattle.ovl_names.specs.Paths.{PathNames, text_names, has_names}
+use Rattle.std.proofs.Common.{◌≡◌, ◌<◌, ◌∙◌, ◌++◌, ◌∷◌, [], List, ℕ, length, length-append, length-take, take, string_bytes, Ok, Err, sym, ap, arith}
+use Rattle.std.specs.Prelude.{Result, OnErr}
+use Rattle.ovl_names.specs.Names.{slash}
+use Rattle.ovl_names.specs.Paths.{PathNames, path_text, text_names, joined_text, has_names}
 use Rattle.ovl_names.proofs.NameLemmas.{has_names-child, has_names-take}
-use Rattle.ovl_names.proofs.PathTexts.{few_names, text_names-name}
+use Rattle.ovl_names.proofs.PathTexts.{few_names, text_names-name, front-text, path_text-names, path_text-child}
 use Rattle.ovl_names.proofs.paths.Path.go_to.Goals.{In_ok-append}
 use Rattle.ovl_names.proofs.paths.Path.go_to.Goals as goal
 
--- the first `depth` names, where one is dropped for each number from `depth` on
-first_names : (path : PathNames) (depth at : ℕ) → length path ≤ at → (depth ≤ length path → at ≤ length path) → (length path ≤ depth → at ≡ depth) → take (length path - (at - depth)) path ≡ take depth path
-first_names path depth at past up still = by (nat_lt depth (length path)) refl
-  where
-    by : (b : Bool) → nat_lt depth (length path) ≡ b → take (length path - (at - depth)) path ≡ take depth path
-    by true e =
-        let below : depth < length path = grind (arith, nat_tests) in
-        let end : at ≤ length path = up (omega arith) in
-        ap (λ n. take n path) (omega arith)
-    by false e =
-        let above : length path ≤ depth = grind (arith, nat_tests) in
-        let end : at ≡ depth = still above in
-        take_all (length path - (at - depth)) path (omega arith) ∙ sym (take_all depth path above)
+pub truncate-requires : goal.truncate-requires
+truncate-requires c =
+    let above : text_names c.text-above.result.now ≡ take c.args.depth (text_names (string_bytes c.self.inside.text)) = c.text-above.ensures.value ∙ (c.first-names.ensures ∙ ap (take c.args.depth) (c.names.ensures.value ∙ sym c.self.view_is)) in
+    λ less. rw c.in_ok-reserve.ensures.bytes (front-text (string_bytes c.self.inside.text) c.text-above.result.now c.args.depth c.self.invariant.1 above).1
+
+-- the names of the text above the new name
+above_names : (c : In_ok-append) → text_names c.text-above.result.now ≡ take c.args.depth (text_names (string_bytes c.self.inside.text))
+above_names c = c.text-above.ensures.value ∙ (c.first-names.ensures ∙ ap (take c.args.depth) (c.names.ensures.value ∙ sym c.self.view_is))
 
 appended : (c : In_ok-append) → text_names (string_bytes c.append.new.text) ≡ take c.args.depth (text_names (string_bytes c.self.inside.text)) ++ c.args.name.now ∷ []
 appended c =
-    let path : PathNames = text_names (string_bytes c.reserve.new.self) in
-    let same : path ≡ text_names (string_bytes c.self.inside.text) = ap (λ (text : List ℕ). text_names text) c.in_ok-reserve.ensures.bytes in
-    let end : c.self.inside.len ≡ length path = c.self.invariant.0 ∙ ap length (sym same) in
-    let cut : take (length path - (c.loop.counter - c.args.depth)) path ≡ take c.args.depth path = first_names path c.args.depth c.loop.counter (omega arith) (λ low. omega (arith, c.loop.auto.counter-end)) (λ high. c.loop.invariant.still (omega arith)) in
+    let cut : string_bytes c.truncate.new.self ≡ c.text-above.result.now = c.truncate.ensures.bytes ∙ (ap (take (length c.text-above.result.now)) c.in_ok-reserve.ensures.bytes ∙ (front-text (string_bytes c.self.inside.text) c.text-above.result.now c.args.depth c.self.invariant.1 (above_names c)).0) in
     c.in_ok-append.ensures.names
-    ∙ (λ j. (c.loop.invariant.names ∙ (cut ∙ ap (take c.args.depth) same)) j ++ (ap text_names c.as_str-name.ensures.value ∙ text_names-name c.args.name.now c.as_str-name.ensures.name) j)
+    ∙ (λ j. (ap text_names cut ∙ above_names c) j ++ (ap text_names c.as_str-name.ensures.value ∙ text_names-name c.args.name.now c.as_str-name.ensures.name) j)
 
-pub go_up-requires : goal.go_up-requires
-go_up-requires c =
-    let path : PathNames = text_names (string_bytes c.reserve.new.self) in
-    let named : has_names path ≡ true = ap (λ (text : List ℕ). has_names (text_names text)) c.in_ok-reserve.ensures.bytes ∙ c.self.invariant.1 in
-    ap has_names c.loop.invariant.names ∙ has_names-take (length path - (c.loop.counter - c.args.depth)) path named
+len_above : (c : In_ok-append) → c.len-len.result ≡ length (take c.args.depth (text_names (string_bytes c.self.inside.text)))
+len_above c = c.len-len.ensures ∙ ap length (c.first-names.ensures ∙ ap (take c.args.depth) (c.names.ensures.value ∙ sym c.self.view_is))
 
 pub overflow_add-self : goal.overflow_add-self
 overflow_add-self c =
+    let path : PathNames = text_names (string_bytes c.self.inside.text) in
     let few = few_names (string_bytes c.self.inside.text) c.self.invariant.1 in
-    omega (arith, few, c.min.ensures, c.loop.invariant.len, c.self.invariant.0, c.self.inside.text.bytes.ok.0, c.self.inside.text.bytes.ok.1, c.self.inside.text.bytes.small)
+    let len : c.len-len.result ≡ length (take c.args.depth path) = c.len-len.ensures ∙ ap length (c.first-names.ensures ∙ ap (take c.args.depth) (c.names.ensures.value ∙ sym c.self.view_is)) in
+    omega (arith, few, len, length-take c.args.depth path, c.self.invariant.0, c.self.inside.text.bytes.ok.0, c.self.inside.text.bytes.ok.1, c.self.inside.text.bytes.small)
 
 pub invariant_of-self-2 : goal.invariant_of-self-2
 invariant_of-self-2 c =
     let path : PathNames = text_names (string_bytes c.self.inside.text) in (
-      omega (arith, c.self.invariant.0, c.min.ensures, c.loop.invariant.len, ap length (appended c), length-append (take c.args.depth path) (c.args.name.now ∷ []), length-take c.args.depth path),
+      omega (arith, len_above c, ap length (appended c), length-append (take c.args.depth path) (c.args.name.now ∷ [])),
       ap has_names (appended c) ∙ has_names-child (take c.args.depth path) c.args.name.now (has_names-take c.args.depth path c.self.invariant.1) c.as_str-name.ensures.name,
     )
 
-pub returns : goal.returns
-returns c = appended c ∙ ap (λ (path : PathNames). take c.args.depth path ++ c.args.name.now ∷ []) c.self.view_is
+pub returns-clause-there : goal.returns-clause-there
+returns-clause-there c = appended c ∙ ap (λ (path : PathNames). take c.args.depth path ++ c.args.name.now ∷ []) c.self.view_is
+
+on_err : {T E P : Type 0} (result : Result T E) → P → OnErr result P
+on_err (Ok there) fact = tt
+on_err (Err fault) fact = fact
+
+pub returns-in_err-reserve-clause-refused : goal.returns-in_err-reserve-clause-refused
+returns-in_err-reserve-clause-refused c =
+    let path : PathNames = c.args.self.now in
+    let above : text_names c.text-above.result.now ≡ take c.args.depth path = c.text-above.ensures.value ∙ (c.first-names.ensures ∙ ap (take c.args.depth) c.names.ensures.value) in
+    let named = c.as_str-name.ensures.name in
+    let there : length (path_text (take c.args.depth path ++ c.args.name.now ∷ [])) ≡ length (slash ∷ joined_text c.text-above.result.now c.args.name.now) = ap length (path_text-child c.text-above.result.now c.args.name.now (take c.args.depth path) above named) in
+    let here : length (path_text path) ≡ length (slash ∷ string_bytes c.self.inside.text) = ap (λ (names : PathNames). length (path_text names)) (sym c.self.view_is) ∙ ap length (path_text-names (string_bytes c.self.inside.text)) in
+    let wanted : c.joined_len-wanted.result ≡ length (joined_text c.text-above.result.now c.args.name.now) = c.joined_len-wanted.ensures ∙ ap (λ (name : List ℕ). length (joined_text c.text-above.result.now name)) c.as_str-name.ensures.value in
+    let longer : length (path_text path) < length (path_text (take c.args.depth path ++ c.args.name.now ∷ [])) = omega (arith, there, here, wanted, c.in_err-reserve.ensures.full, c.saturating_sub.ensures, c.len.ensures, c.self.inside.text.bytes.ok.0) in
+    on_err c.from_residual.result longer
