@@ -212,7 +212,10 @@ pub place-read : (stack : StackView) (places : List DirPlace) (k : ℕ) → k < 
 place-read stack places k inside =
     slice_get-map (place_in stack) places k ∙ ap (option_map (place_in stack)) (slice_get-get_or places k (record { layer = 0; row = 0 }) inside)
 
-module _ (stack : StackView) (name : PathName) (places : List DirPlace) (k : ℕ) (own : DirPlace) (at : slice_get (places_in stack places) k ≡ Some (place_in stack own)) where
+module _ (stack : StackView) (name : PathName) (places : List DirPlace) (k : ℕ) (inside : k < length places) where
+  abbrev own : DirPlace
+  own = place_read places k
+
   abbrev left : ℕ → List Reached
   left n = drop n (places_in stack places)
 
@@ -249,19 +252,22 @@ module _ (stack : StackView) (name : PathName) (places : List DirPlace) (k : ℕ
   below-step entry is holds old so_far new rest more pushes onward same =
       pushed stack old so_far new (place_below own entry) rest more pushes
       ((λ j. places_in stack so_far ++ entered-there entry is j ∷ sym onward j)
-      ∙ (ap (λ (ps : List Reached). places_in stack so_far ++ ps) (sym (below-directory stack.layers name (places_in stack places) k (place_in stack own) at entry.inode.now entry.mark.now is.inode holds (sym is.mark)))
+      ∙ (ap (λ (ps : List Reached). places_in stack so_far ++ ps) (sym (below-directory stack.layers name (places_in stack places) k (place_in stack own) (place-read stack places k inside) entry.inode.now entry.mark.now is.inode holds (sym is.mark)))
       ∙ same))
 
 -- the layer of a place is one of the stack
-pub layer-inside : (stack : StackView) (place : DirPlace) → IsPlaceOver stack place → place.layer < length stack.layers
+layer-inside : (stack : StackView) (place : DirPlace) → IsPlaceOver stack place → place.layer < length stack.layers
 layer-inside stack place over = by (slice_get stack.layers place.layer) refl over
   where
     by : (o : Option Entries) → slice_get stack.layers place.layer ≡ o → IsSomeAnd o (λ layer. place.row < length layer) → place.layer < length stack.layers
     by None e over = absurd over
     by (Some layer) e over = slice_get_within stack.layers place.layer layer e
 
-pub over-read : (stack : StackView) (places : List DirPlace) (k : ℕ) → All (IsPlaceOver stack) places → k < length places → IsPlaceOver stack (place_read places k)
+over-read : (stack : StackView) (places : List DirPlace) (k : ℕ) → All (IsPlaceOver stack) places → k < length places → IsPlaceOver stack (place_read places k)
 over-read stack places k all inside = all k (record { layer = 0; row = 0 }) inside
+
+pub layer-read : (stack : StackView) (places : List DirPlace) (k : ℕ) → All (IsPlaceOver stack) places → k < length places → (place_read places k).layer < length stack.layers
+layer-read stack places k all inside = layer-inside stack (place_read places k) (over-read stack places k all inside)
 
 -- a view has a place exactly where a directory is shown
 pub no-places : (stack : StackView) (places : List DirPlace) (more : List Reached) → places_in stack places ≡ more → length places ≡ 0 → is_reached more ≡ false

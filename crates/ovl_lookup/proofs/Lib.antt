@@ -20,6 +20,7 @@ pub mod TopLemmas
 pub mod DirViewLemmas
 pub mod ViewSteps
 pub mod ViewLookLemmas
+mod PlaceReads
 mod Rows
 mod TrailLemmas
 mod TrailNameLemmas

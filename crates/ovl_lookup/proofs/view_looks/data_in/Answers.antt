@@ -8,66 +8,37 @@ use Rattle.ovl_lookup.specs.Stacks.{StackView}
 use Rattle.ovl_lookup.specs.Trace.{things_found}
 use Rattle.ovl_lookup.specs.Passes.{data_below}
 use Rattle.ovl_lookup.specs.Views.{found_below}
-use Rattle.ovl_lookup.specs.DirViews.{place_in, places_in}
-use Rattle.ovl_lookup.proofs.ViewSteps.{found-none}
-use Rattle.ovl_lookup.proofs.DirViewLemmas.{place_read, place-read, over-read, layer-inside, on-path, on-name, on-none}
-use Rattle.ovl_lookup.proofs.ViewLookLemmas.{onward-placed, whiteout-data, own-data, other-data, onward-data}
+use Rattle.ovl_lookup.specs.DirViews.{places_in}
+use Rattle.ovl_lookup.proofs.DirViewLemmas.{place_read, layer-read, on-path, on-name, on-none}
+use Rattle.ovl_lookup.proofs.ViewLookLemmas.{onward-placed}
+use Rattle.ovl_lookup.proofs.PlaceReads.{none-found, whiteout-holds, data-holds, other-holds, metacopy-holds}
 use Rattle.ovl_lookup.proofs.view_looks.data_in.Goals as goal
 
 pub loop-place-preserved-in_default : goal.loop-place-preserved-in_default
 loop-place-preserved-in_default c =
-    let stack : StackView = c.args.stack.now in
-    let places : List DirPlace = c.args.places.now in
-    let k = c.loop-place.place-index in
-    let own : DirPlace = place_read places k in
-    let at = place-read stack places k c.loop-place-test.true in
-    ap (data_below stack.data_only None) (sym (found-none stack.layers c.loop-place.own.now (places_in stack places) k (place_in stack own) at c.in_default.ensures)) ∙ c.loop-place.invariant
+    ap (data_below c.args.stack.now.data_only None) (sym (none-found c.args.stack.now c.loop-place.own.now c.args.places.now c.loop-place.place-index c.loop-place-test.true c.in_default.ensures)) ∙ c.loop-place.invariant
 
 pub returns-then-is_whiteout : goal.returns-then-is_whiteout
 returns-then-is_whiteout c =
-    let stack : StackView = c.args.stack.now in
-    let places : List DirPlace = c.args.places.now in
-    let k = c.loop-place.place-index in
-    let own : DirPlace = place_read places k in
-    let at = place-read stack places k c.loop-place-test.true in
-    let is = c.in-Some.ensures in
-    let inode : Inode = c.in-Some.entry.inode.now in
-    let mark : Mark = c.in-Some.entry.mark.now in
-    sym (sym c.loop-place.invariant ∙ whiteout-data stack.data_only stack.layers c.loop-place.own.now (places_in stack places) k (place_in stack own) at inode mark is.inode is.mark (sym c.is_whiteout.ensures ∙ c.if-is_whiteout.true))
+    sym (sym c.loop-place.invariant ∙ whiteout-holds c.args.stack.now c.loop-place.own.now c.args.places.now c.loop-place.place-index c.loop-place-test.true c.in-Some.entry c.in-Some.ensures (sym c.is_whiteout.ensures ∙ c.if-is_whiteout.true))
 
 pub returns-then-is_data : goal.returns-then-is_data
 returns-then-is_data c =
-    let stack : StackView = c.args.stack.now in
-    let places : List DirPlace = c.args.places.now in
-    let k = c.loop-place.place-index in
-    let own : DirPlace = place_read places k in
-    let at = place-read stack places k c.loop-place-test.true in
-    let is = c.in-Some.ensures in
-    let inode : Inode = c.in-Some.entry.inode.now in
-    let mark : Mark = c.in-Some.entry.mark.now in
     ap (λ (found : Inode). Some found) c.in_ok-copy.ensures
-    ∙ sym (sym c.loop-place.invariant ∙ own-data stack.data_only stack.layers c.loop-place.own.now (places_in stack places) k (place_in stack own) at inode mark is.inode is.mark (sym c.is_whiteout.ensures ∙ c.if-is_whiteout.false) (sym c.is_data.ensures ∙ c.if-is_data.true))
+    ∙ sym (sym c.loop-place.invariant ∙ data-holds c.args.stack.now c.loop-place.own.now c.args.places.now c.loop-place.place-index c.loop-place-test.true c.in-Some.entry c.in-Some.ensures (sym c.is_whiteout.ensures ∙ c.if-is_whiteout.false) (sym c.is_data.ensures ∙ c.if-is_data.true))
 
 pub returns-then-not-is_well_formed_metacopy : goal.returns-then-not-is_well_formed_metacopy
 returns-then-not-is_well_formed_metacopy c =
-    let stack : StackView = c.args.stack.now in
-    let places : List DirPlace = c.args.places.now in
-    let k = c.loop-place.place-index in
-    let own : DirPlace = place_read places k in
-    let at = place-read stack places k c.loop-place-test.true in
-    let is = c.in-Some.ensures in
-    let inode : Inode = c.in-Some.entry.inode.now in
-    let mark : Mark = c.in-Some.entry.mark.now in
-    sym (sym c.loop-place.invariant ∙ other-data stack.data_only stack.layers c.loop-place.own.now (places_in stack places) k (place_in stack own) at inode mark is.inode is.mark (sym c.is_whiteout.ensures ∙ c.if-is_whiteout.false) (sym c.is_data.ensures ∙ c.if-is_data.false) (sym c.is_well_formed_metacopy.ensures ∙ c.if-not-is_well_formed_metacopy.true))
+    sym (sym c.loop-place.invariant ∙ other-holds c.args.stack.now c.loop-place.own.now c.args.places.now c.loop-place.place-index c.loop-place-test.true c.in-Some.entry c.in-Some.ensures (sym c.is_whiteout.ensures ∙ c.if-is_whiteout.false) (sym c.is_data.ensures ∙ c.if-is_data.false) (sym c.is_well_formed_metacopy.ensures ∙ c.if-not-is_well_formed_metacopy.true))
 
 pub overflow_add-place : goal.overflow_add-place
 overflow_add-place c =
-    let inside = layer-inside c.args.stack.now (place_read c.args.places.now c.loop-place.place-index) (over-read c.args.stack.now c.args.places.now c.loop-place.place-index c.requires c.loop-place-test.true) in
+    let inside = layer-read c.args.stack.now c.args.places.now c.loop-place.place-index c.requires c.loop-place-test.true in
     omega (arith, inside, ap (λ (s : StackView). length s.layers) c.stack.view_is, c.stack.invariant.1)
 
 pub data-requires : goal.data-requires
 data-requires c =
-    let inside = layer-inside c.args.stack.now (place_read c.args.places.now c.loop-place.place-index) (over-read c.args.stack.now c.args.places.now c.loop-place.place-index c.requires c.loop-place-test.true) in
+    let inside = layer-read c.args.stack.now c.args.places.now c.loop-place.place-index c.requires c.loop-place-test.true in
     omega (arith, inside)
 
 pub returns-in-At : goal.returns-in-At
@@ -76,13 +47,10 @@ returns-in-At c =
     let places : List DirPlace = c.args.places.now in
     let k = c.loop-place.place-index in
     let own : DirPlace = place_read places k in
-    let at = place-read stack places k c.loop-place-test.true in
-    let is = c.in-Some.ensures in
-    let inode : Inode = c.in-Some.entry.inode.now in
     let mark : Mark = c.in-Some.entry.mark.now in
     let origin : PathNames = c.in-At.origin.now in
     let from_root = things_found (drop (own.layer + 1) stack.layers) in
-    let onward = onward-data stack.data_only stack.layers c.loop-place.own.now (places_in stack places) k (place_in stack own) at inode mark is.inode is.mark (sym c.is_whiteout.ensures ∙ c.if-is_whiteout.false) (sym c.is_well_formed_metacopy.ensures ∙ c.if-not-is_well_formed_metacopy.false) in
+    let onward = metacopy-holds c.args.stack.now c.loop-place.own.now c.args.places.now c.loop-place.place-index c.loop-place-test.true c.in-Some.entry c.in-Some.ensures (sym c.is_whiteout.ensures ∙ c.if-is_whiteout.false) (sym c.is_well_formed_metacopy.ensures ∙ c.if-not-is_well_formed_metacopy.false) in
     let same = ap (λ (p : PathNames). data_below stack.data_only (Some origin) (from_root p)) (c.in_ok-trail-in-At.ensures ∙ c.names.ensures.value)
     ∙ sym (sym c.loop-place.invariant ∙ (onward ∙ onward-placed stack.data_only mark (Some origin) _ _ (sym c.is_well_formed_metacopy.ensures ∙ c.if-not-is_well_formed_metacopy.false) (sym c.in-At.ensures.at) (on-path c.loop-place.own.now from_root (λ other. found_below stack.layers other (drop (k + 1) (places_in stack places))) mark origin (sym c.in-At.ensures.at)))) in
     subst (λ (wanted : Option Inode). IfOk c.data.result (λ found. found ≡ wanted)) same c.data.ensures
@@ -93,11 +61,8 @@ returns-in-Nowhere c =
     let places : List DirPlace = c.args.places.now in
     let k = c.loop-place.place-index in
     let own : DirPlace = place_read places k in
-    let at = place-read stack places k c.loop-place-test.true in
-    let is = c.in-Some.ensures in
-    let inode : Inode = c.in-Some.entry.inode.now in
     let mark : Mark = c.in-Some.entry.mark.now in
-    let onward = onward-data stack.data_only stack.layers c.loop-place.own.now (places_in stack places) k (place_in stack own) at inode mark is.inode is.mark (sym c.is_whiteout.ensures ∙ c.if-is_whiteout.false) (sym c.is_well_formed_metacopy.ensures ∙ c.if-not-is_well_formed_metacopy.false) in
+    let onward = metacopy-holds c.args.stack.now c.loop-place.own.now c.args.places.now c.loop-place.place-index c.loop-place-test.true c.in-Some.entry c.in-Some.ensures (sym c.is_whiteout.ensures ∙ c.if-is_whiteout.false) (sym c.is_well_formed_metacopy.ensures ∙ c.if-not-is_well_formed_metacopy.false) in
     sym (sym c.loop-place.invariant ∙ (onward ∙ onward-placed stack.data_only mark None _ _ (sym c.is_well_formed_metacopy.ensures ∙ c.if-not-is_well_formed_metacopy.false) (sym c.in-Nowhere.ensures.at) (on-none c.loop-place.own.now (things_found (drop (own.layer + 1) stack.layers)) (λ other. found_below stack.layers other (drop (k + 1) (places_in stack places))) mark (sym c.in-Nowhere.ensures.at) (sym c.in-Nowhere.ensures.by))))
 
 pub loop-place-preserved : goal.loop-place-preserved
@@ -106,10 +71,7 @@ loop-place-preserved c =
     let places : List DirPlace = c.args.places.now in
     let k = c.loop-place.place-index in
     let own : DirPlace = place_read places k in
-    let at = place-read stack places k c.loop-place-test.true in
-    let is = c.in-Some.ensures in
-    let inode : Inode = c.in-Some.entry.inode.now in
     let mark : Mark = c.in-Some.entry.mark.now in
     let other : PathName = c.in-Beside.other.now in
-    let onward = onward-data stack.data_only stack.layers c.loop-place.own.now (places_in stack places) k (place_in stack own) at inode mark is.inode is.mark (sym c.is_whiteout.ensures ∙ c.if-is_whiteout.false) (sym c.is_well_formed_metacopy.ensures ∙ c.if-not-is_well_formed_metacopy.false) in
+    let onward = metacopy-holds c.args.stack.now c.loop-place.own.now c.args.places.now c.loop-place.place-index c.loop-place-test.true c.in-Some.entry c.in-Some.ensures (sym c.is_whiteout.ensures ∙ c.if-is_whiteout.false) (sym c.is_well_formed_metacopy.ensures ∙ c.if-not-is_well_formed_metacopy.false) in
     sym (sym c.loop-place.invariant ∙ (onward ∙ onward-placed stack.data_only mark None _ _ (sym c.is_well_formed_metacopy.ensures ∙ c.if-not-is_well_formed_metacopy.false) (sym c.in-Beside.ensures.at) (on-name c.loop-place.own.now (things_found (drop (own.layer + 1) stack.layers)) (λ name. found_below stack.layers name (drop (k + 1) (places_in stack places))) mark other (sym c.in-Beside.ensures.by))))

@@ -6,19 +6,15 @@ use Rattle.ovl_lookup.specs.Stacks.{StackView}
 use Rattle.ovl_lookup.specs.Merged.{shown_of}
 use Rattle.ovl_lookup.specs.Views.{Reached, found_below, entry_in}
 use Rattle.ovl_lookup.specs.DirViews.{place_in, places_in}
-use Rattle.ovl_lookup.proofs.ViewSteps.{found-none, drop-here}
+use Rattle.ovl_lookup.proofs.ViewSteps.{drop-here}
 use Rattle.ovl_lookup.proofs.DirViewLemmas.{place_read, place-read}
 use Rattle.ovl_lookup.proofs.ViewLookLemmas.{slice-places}
+use Rattle.ovl_lookup.proofs.PlaceReads.{none-found}
 use Rattle.ovl_lookup.proofs.view_looks.look_in.Goals as goal
 
 pub loop-i-preserved : goal.loop-i-preserved
 loop-i-preserved c =
-    let stack : StackView = c.args.stack.now in
-    let places : List DirPlace = c.args.places.now in
-    let k = c.loop-i.i in
-    let own : DirPlace = place_read places k in
-    let at = place-read stack places k c.loop-i-test.true in
-    sym (found-none stack.layers c.args.name.now (places_in stack places) k (place_in stack own) at c.in_default.ensures) ∙ c.loop-i.invariant
+    sym (none-found c.args.stack.now c.args.name.now c.args.places.now c.loop-i.i c.loop-i-test.true c.in_default.ensures) ∙ c.loop-i.invariant
 
 pub look_at-requires-clause-first : goal.look_at-requires-clause-first
 look_at-requires-clause-first c =

@@ -6,21 +6,17 @@ use Rattle.ovl_lookup.specs.declared.views.DirPlace.{DirPlace}
 use Rattle.ovl_lookup.specs.Stacks.{StackView}
 use Rattle.std.proofs.lemmas.Result.{on_ok_weaker}
 use Rattle.ovl_lookup.specs.Views.{Reached, reached, reached_below}
-use Rattle.ovl_lookup.specs.DirViews.{place_in, places_in}
-use Rattle.ovl_lookup.proofs.ViewSteps.{below-none, below-file}
-use Rattle.ovl_lookup.proofs.DirViewLemmas.{place_read, place-read, over-read, layer-inside, below-step, over-below, on-path, on-name, on-none}
+use Rattle.ovl_lookup.specs.DirViews.{places_in}
+use Rattle.ovl_lookup.proofs.PlaceReads.{none-reached, file-reached}
+use Rattle.ovl_lookup.proofs.DirViewLemmas.{place_read, layer-read, below-step, over-below, on-path, on-name, on-none}
 use Rattle.ovl_lookup.proofs.views.push_below.Goals as goal
 
 pub loop-place-preserved-in_default : goal.loop-place-preserved-in_default
 loop-place-preserved-in_default c =
     let stack : StackView = c.args.stack.now in
-    let places : List DirPlace = c.args.places.now in
-    let k = c.loop-place.place-index in
-    let own : DirPlace = place_read places k in
-    let at = place-read stack places k c.loop-place-test.true in
     record {
       places =
-          ap (λ (ps : List Reached). places_in stack c.loop-place.below.items ++ ps) (sym (below-none stack.layers c.loop-place.own.now (places_in stack places) k (place_in stack own) at c.in_default.ensures))
+          ap (λ (ps : List Reached). places_in stack c.loop-place.below.items ++ ps) (sym (none-reached stack c.loop-place.own.now c.args.places.now c.loop-place.place-index c.loop-place-test.true c.in_default.ensures))
           ∙ c.loop-place.invariant.places;
       over = c.loop-place.invariant.over;
     }
@@ -28,26 +24,22 @@ loop-place-preserved-in_default c =
 pub returns-then-not-is_directory : goal.returns-then-not-is_directory
 returns-then-not-is_directory c =
     let stack : StackView = c.args.stack.now in
-    let places : List DirPlace = c.args.places.now in
-    let k = c.loop-place.place-index in
-    let own : DirPlace = place_read places k in
-    let at = place-read stack places k c.loop-place-test.true in
     record {
       places =
           sym (append-nil (places_in stack c.loop-place.below.items))
-          ∙ (ap (λ (ps : List Reached). places_in stack c.loop-place.below.items ++ ps) (sym (below-file stack.layers c.loop-place.own.now (places_in stack places) k (place_in stack own) at c.in-Some.entry.inode.now c.in-Some.ensures.inode (sym c.is_directory.ensures ∙ c.if-not-is_directory.true)))
+          ∙ (ap (λ (ps : List Reached). places_in stack c.loop-place.below.items ++ ps) (sym (file-reached stack c.loop-place.own.now c.args.places.now c.loop-place.place-index c.loop-place-test.true c.in-Some.entry c.in-Some.ensures (sym c.is_directory.ensures ∙ c.if-not-is_directory.true)))
           ∙ c.loop-place.invariant.places);
       over = c.loop-place.invariant.over;
     }
 
 pub overflow_add-place : goal.overflow_add-place
 overflow_add-place c =
-    let inside = layer-inside c.args.stack.now (place_read c.args.places.now c.loop-place.place-index) (over-read c.args.stack.now c.args.places.now c.loop-place.place-index c.requires c.loop-place-test.true) in
+    let inside = layer-read c.args.stack.now c.args.places.now c.loop-place.place-index c.requires c.loop-place-test.true in
     omega (arith, inside, ap (λ (s : StackView). length s.layers) c.stack.view_is, c.stack.invariant.1)
 
 pub push_reached-requires : goal.push_reached-requires
 push_reached-requires c =
-    let inside = layer-inside c.args.stack.now (place_read c.args.places.now c.loop-place.place-index) (over-read c.args.stack.now c.args.places.now c.loop-place.place-index c.requires c.loop-place-test.true) in
+    let inside = layer-read c.args.stack.now c.args.places.now c.loop-place.place-index c.requires c.loop-place-test.true in
     omega (arith, inside)
 
 pub returns-in-At : goal.returns-in-At
@@ -55,14 +47,12 @@ returns-in-At c =
     let stack : StackView = c.args.stack.now in
     let places : List DirPlace = c.args.places.now in
     let name : PathName = c.loop-place.own.now in
-    let own : DirPlace = place_read places c.loop-place.place-index in
-    let at = place-read stack places c.loop-place.place-index c.loop-place-test.true in
     let more : List Reached = reached_below stack.layers c.args.name.now (places_in stack places) in
     let pushes = c.in_ok-push.ensures.items in
-    let over = over-below stack name places c.loop-place.place-index own at c.in-Some.entry c.in-Some.ensures c.args.below.now.items c.loop-place.below.items c.push.new.self.items pushes c.loop-place.invariant.over in
-    let step = below-step stack name places c.loop-place.place-index own at c.in-Some.entry c.in-Some.ensures (sym c.is_directory.ensures ∙ c.if-not-is_directory.false) c.args.below.now.items c.loop-place.below.items c.push.new.self.items in
+    let over = over-below stack name places c.loop-place.place-index c.loop-place-test.true c.in-Some.entry c.in-Some.ensures c.args.below.now.items c.loop-place.below.items c.push.new.self.items pushes c.loop-place.invariant.over in
+    let step = below-step stack name places c.loop-place.place-index c.loop-place-test.true c.in-Some.entry c.in-Some.ensures (sym c.is_directory.ensures ∙ c.if-not-is_directory.false) c.args.below.now.items c.loop-place.below.items c.push.new.self.items in
     let origin : PathNames = c.in-At.origin.now in
-    let rest : List Reached = reached (drop (own.layer + 1) stack.layers) (own.layer + 1) origin in
+    let rest : List Reached = let own : DirPlace = place_read places c.loop-place.place-index in reached (drop (own.layer + 1) stack.layers) (own.layer + 1) origin in
     on_ok_weaker c.push_reached.result
     (λ adds. record {
       places = adds.places ∙ step rest more pushes (on-path name _ _ c.in-Some.entry.mark.now origin (sym c.in-At.ensures.at)) c.loop-place.invariant.places;
@@ -74,12 +64,10 @@ returns-in-Nowhere c =
     let stack : StackView = c.args.stack.now in
     let places : List DirPlace = c.args.places.now in
     let name : PathName = c.loop-place.own.now in
-    let own : DirPlace = place_read places c.loop-place.place-index in
-    let at = place-read stack places c.loop-place.place-index c.loop-place-test.true in
     let more : List Reached = reached_below stack.layers c.args.name.now (places_in stack places) in
     let pushes = c.in_ok-push.ensures.items in
-    let over = over-below stack name places c.loop-place.place-index own at c.in-Some.entry c.in-Some.ensures c.args.below.now.items c.loop-place.below.items c.push.new.self.items pushes c.loop-place.invariant.over in
-    let step = below-step stack name places c.loop-place.place-index own at c.in-Some.entry c.in-Some.ensures (sym c.is_directory.ensures ∙ c.if-not-is_directory.false) c.args.below.now.items c.loop-place.below.items c.push.new.self.items in
+    let over = over-below stack name places c.loop-place.place-index c.loop-place-test.true c.in-Some.entry c.in-Some.ensures c.args.below.now.items c.loop-place.below.items c.push.new.self.items pushes c.loop-place.invariant.over in
+    let step = below-step stack name places c.loop-place.place-index c.loop-place-test.true c.in-Some.entry c.in-Some.ensures (sym c.is_directory.ensures ∙ c.if-not-is_directory.false) c.args.below.now.items c.loop-place.below.items c.push.new.self.items in
     record {
       places =
           sym (append-nil (places_in stack c.push.new.self.items))
@@ -92,12 +80,10 @@ loop-place-preserved c =
     let stack : StackView = c.args.stack.now in
     let places : List DirPlace = c.args.places.now in
     let name : PathName = c.loop-place.own.now in
-    let own : DirPlace = place_read places c.loop-place.place-index in
-    let at = place-read stack places c.loop-place.place-index c.loop-place-test.true in
     let more : List Reached = reached_below stack.layers c.args.name.now (places_in stack places) in
     let pushes = c.in_ok-push.ensures.items in
-    let over = over-below stack name places c.loop-place.place-index own at c.in-Some.entry c.in-Some.ensures c.args.below.now.items c.loop-place.below.items c.push.new.self.items pushes c.loop-place.invariant.over in
-    let step = below-step stack name places c.loop-place.place-index own at c.in-Some.entry c.in-Some.ensures (sym c.is_directory.ensures ∙ c.if-not-is_directory.false) c.args.below.now.items c.loop-place.below.items c.push.new.self.items in
+    let over = over-below stack name places c.loop-place.place-index c.loop-place-test.true c.in-Some.entry c.in-Some.ensures c.args.below.now.items c.loop-place.below.items c.push.new.self.items pushes c.loop-place.invariant.over in
+    let step = below-step stack name places c.loop-place.place-index c.loop-place-test.true c.in-Some.entry c.in-Some.ensures (sym c.is_directory.ensures ∙ c.if-not-is_directory.false) c.args.below.now.items c.loop-place.below.items c.push.new.self.items in
     let other : PathName = c.in-Beside.other.now in
     let rest : List Reached = reached_below stack.layers other (drop (c.loop-place.place-index + 1) (places_in stack places)) in
     record {

@@ -1,0 +1,64 @@
+-- What is found from a place on, by what stands at a name there; the place is read from a list by its number.
+use Rattle.std.proofs.Common.{◌≡◌, ℕ, ◌+◌, ◌<◌, length, true, false, Some, None, List, [], drop}
+use Rattle.std.specs.Prelude.{slice_get, not}
+use Rattle.ovl_names.specs.Names.{PathName}
+use Rattle.ovl_inode.specs.declared.inodes.Inode.{Inode}
+use Rattle.ovl_inode.specs.Marks.{is_directory, is_whiteout, is_data, is_metacopy_mark}
+use Rattle.ovl_lookup.specs.declared.looks.Look.TheVariants.{Nothing}
+use Rattle.ovl_lookup.specs.declared.views.DirPlace.{DirPlace}
+use Rattle.ovl_lookup.specs.declared.views.PlaceEntry.{PlaceEntry}
+use Rattle.ovl_lookup.specs.Stacks.{StackView}
+use Rattle.ovl_lookup.specs.Trace.{things_found}
+use Rattle.ovl_lookup.specs.Merged.{shown_of, is_nothing, place_of_data}
+use Rattle.ovl_lookup.specs.Passes.{data_below}
+use Rattle.ovl_lookup.specs.Views.{Reached, entry_in, below_entry, found_below, reached_below}
+use Rattle.ovl_lookup.specs.DirViews.{IsEntryIn, place_in, places_in}
+use Rattle.ovl_lookup.proofs.ViewSteps.{below-none, below-file, found-none}
+use Rattle.ovl_lookup.proofs.DirViewLemmas.{place_read, place-read}
+use Rattle.ovl_lookup.proofs.ViewLookLemmas.{whiteout-shows, entry-shows, whiteout-data, own-data, other-data, onward-data}
+
+module _ (stack : StackView) (name : PathName) (places : List DirPlace) (k : ℕ) (inside : k < length places) where
+  abbrev own : DirPlace
+  own = place_read places k
+
+  at : slice_get (places_in stack places) k ≡ Some (place_in stack own)
+  at = place-read stack places k inside
+
+  abbrev found_from : ℕ → List Inode
+  found_from n = found_below stack.layers name (drop n (places_in stack places))
+
+  abbrev reached_from : ℕ → List Reached
+  reached_from n = reached_below stack.layers name (drop n (places_in stack places))
+
+  -- nothing stands there
+  pub none-found : entry_in stack.layers name (place_in stack own) ≡ None → found_from k ≡ found_from (k + 1)
+  none-found none = found-none stack.layers name (places_in stack places) k (place_in stack own) at none
+
+  pub none-reached : entry_in stack.layers name (place_in stack own) ≡ None → reached_from k ≡ reached_from (k + 1)
+  none-reached none = below-none stack.layers name (places_in stack places) k (place_in stack own) at none
+
+  -- this entry stands there
+  module _ (entry : PlaceEntry) (is : IsEntryIn stack name own entry) where
+    pub file-reached : is_directory entry.inode.now ≡ false → reached_from k ≡ []
+    file-reached file = below-file stack.layers name (places_in stack places) k (place_in stack own) at entry.inode.now is.inode file
+
+    pub whiteout-shown : is_whiteout entry.inode.now ≡ true → shown_of stack.data_only (found_from k) ≡ Nothing
+    whiteout-shown white = whiteout-shows stack.data_only stack.layers name (places_in stack places) k (place_in stack own) at entry.inode.now entry.mark.now is.inode is.mark white
+
+    pub entry-shown : is_whiteout entry.inode.now ≡ false → not (is_nothing (shown_of stack.data_only (found_from k))) ≡ true
+    entry-shown white = entry-shows stack.data_only stack.layers name (places_in stack places) k (place_in stack own) at entry.inode.now entry.mark.now is.inode is.mark white
+
+    -- the data
+    pub whiteout-holds : is_whiteout entry.inode.now ≡ true → data_below stack.data_only None (found_from k) ≡ None
+    whiteout-holds white = whiteout-data stack.data_only stack.layers name (places_in stack places) k (place_in stack own) at entry.inode.now entry.mark.now is.inode is.mark white
+
+    pub data-holds : is_whiteout entry.inode.now ≡ false → is_data entry.inode.now ≡ true → data_below stack.data_only None (found_from k) ≡ Some entry.inode.now
+    data-holds white holds = own-data stack.data_only stack.layers name (places_in stack places) k (place_in stack own) at entry.inode.now entry.mark.now is.inode is.mark white holds
+
+    pub other-holds : is_whiteout entry.inode.now ≡ false → is_data entry.inode.now ≡ false → is_metacopy_mark entry.mark.now ≡ false → data_below stack.data_only None (found_from k) ≡ None
+    other-holds white bare meta = other-data stack.data_only stack.layers name (places_in stack places) k (place_in stack own) at entry.inode.now entry.mark.now is.inode is.mark white bare meta
+
+    pub metacopy-holds : is_whiteout entry.inode.now ≡ false → is_metacopy_mark entry.mark.now ≡ true
+        → data_below stack.data_only None (found_from k)
+        ≡ data_below stack.data_only (place_of_data entry.mark.now) (below_entry entry.mark.now name (things_found (drop (own.layer + 1) stack.layers)) (λ other. found_below stack.layers other (drop (k + 1) (places_in stack places))))
+    metacopy-holds white meta = onward-data stack.data_only stack.layers name (places_in stack places) k (place_in stack own) at entry.inode.now entry.mark.now is.inode is.mark white meta
