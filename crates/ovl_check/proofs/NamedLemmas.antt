@@ -15,8 +15,8 @@ use Rattle.std.proofs.lemmas.List.Sorted.{searchable_from_sorted}
 use Rattle.ovl_names.proofs.Ascending.{ascends-next, is_lt-Less}
 use Rattle.ovl_manifest.proofs.NodeLemmas.{name_eq-cmp}
 use Rattle.ovl_board.proofs.LawsOfMembers.{In, Every, Rises, AllPairs-Rises, Rises-from_adjacent, get_or-In, place}
-use Rattle.ovl_check.specs.Blobs.{digest_cmp, by_name}
-use Rattle.ovl_check.specs.Named.{names_ascend, element_named, IsStart}
+use Rattle.ovl_check.specs.Blobs.{digest_cmp}
+use Rattle.ovl_check.specs.Named.{by_name, names_ascend, element_named, IsStart}
 use Rattle.ovl_check.proofs.Ascent.{Rises-ascends, ascends-Rises, less_never}
 use Rattle.ovl_check.proofs.ListFacts.{filter-after, filter-before, find-filter}
 

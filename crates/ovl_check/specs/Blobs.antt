@@ -27,15 +27,12 @@ blob_view blob = record { name = blob.name; bytes = blob.bytes.items }
 abbrev pub blob_views : List Blob → List BlobView
 blob_views blobs = map blob_view blobs
 
--- digests are ordered as bytes, and what has one for its name by that
+-- digests are ordered as bytes, and blobs by their names
 abbrev pub digest_cmp : List ℕ → List ℕ → Ordering
 digest_cmp = slice_cmp nat_cmp
 
-abbrev pub by_name : {X : Type 0} → (X → List ℕ) → X → X → Ordering
-by_name name one other = digest_cmp (name one) (name other)
-
 abbrev pub blob_cmp : BlobView → BlobView → Ordering
-blob_cmp = by_name (λ (blob : BlobView). blob.name)
+blob_cmp one other = digest_cmp one.name other.name
 
 -- the names ascend strictly
 abbrev pub are_in_order : List BlobView → Bool

@@ -11,7 +11,7 @@ use Rattle.ovl_check.specs.declared.findings.Code.{Code}
 use Rattle.ovl_check.specs.declared.findings.Code.TheVariants.{BlobMissing, BlobSize, BlobDigest}
 use Rattle.ovl_check.specs.declared.findings.Finding.{Finding}
 use Rattle.ovl_check.specs.Codes.{all_codes, is_blob_fault}
-use Rattle.ovl_check.specs.Blobs.{BlobView, is_wrong, by_name}
+use Rattle.ovl_check.specs.Blobs.{BlobView, is_wrong, digest_cmp}
 use Rattle.std.specs.declared.cmp.Ordering.{Ordering}
 use Rattle.ovl_names.specs.Order.{ascends}
 use Rattle.ovl_check.specs.Conditions.{holds}
@@ -26,7 +26,7 @@ contents_of blobs = map content_of blobs
 
 -- the names ascend strictly
 abbrev pub content_cmp : Content → Content → Ordering
-content_cmp = by_name (λ (content : Content). content.name)
+content_cmp one other = digest_cmp one.name other.name
 
 abbrev pub contents_ascend : List Content → Bool
 contents_ascend contents = ascends content_cmp contents

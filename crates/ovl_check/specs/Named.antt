@@ -4,7 +4,12 @@ use Rattle.std.specs.List.{find}
 use Rattle.std.specs.List.Sorted.{IsPartitionPoint}
 use Rattle.std.specs.Str.{bytes_eq}
 use Rattle.ovl_names.specs.Order.{ascends}
-use Rattle.ovl_check.specs.Blobs.{by_name}
+use Rattle.std.specs.declared.cmp.Ordering.{Ordering}
+use Rattle.ovl_check.specs.Blobs.{digest_cmp}
+
+-- elements are ordered by their names
+abbrev pub by_name : {X : Type 0} → (X → List ℕ) → X → X → Ordering
+by_name name one other = digest_cmp (name one) (name other)
 
 -- the names ascend strictly
 abbrev pub names_ascend : {X : Type 0} → (X → List ℕ) → List X → Bool
