@@ -30,6 +30,7 @@ _AFTER = "after.show"
 _IMAGE = "image"
 _SHOWN = f"{_IMAGE}.show"
 _REPORT = "report"
+_FOR_PACK = (stacks.BLOBS, stacks.CONFIG, stacks.SHOWN_LINKS)
 _TOOL = Path(__file__).resolve().parents[1] / "layers.py"
 
 
@@ -211,10 +212,11 @@ class _Doing:
 
     def pack(self, layers: Sequence[str]) -> None:
         """See `_Steps`."""
+        blobs, config, links = (self._path(f"{_STACK}/{name}") for name in _FOR_PACK)
         with _timed("pack") as words:
             pack(PackOptions(
-                [self._path(layer) for layer in layers], self._path(f"{_STACK}/{stacks.BLOBS}"), self._image,
-                tag=self._name, config=self._path(f"{_STACK}/{stacks.CONFIG}"), compress=self._options.compress,
+                [self._path(layer) for layer in layers], blobs, self._image, tag=self._name, config=config,
+                compress=self._options.compress, links=links,
             ))
             words.append(counted(len(layers), "layer", "layers"))
         with _timed("the new image, read again") as words:
@@ -316,10 +318,10 @@ class _Telling:
     def pack(self, layers: Sequence[str]) -> None:
         """See `_Steps`."""
         paths, out = [self._path(layer) for layer in layers], self._options.out
-        blobs, config = (self._path(f"{_STACK}/{name}") for name in (stacks.BLOBS, stacks.CONFIG))
+        blobs, config, links = (self._path(f"{_STACK}/{name}") for name in _FOR_PACK)
         self._add_tool(
-            "pack", *paths, "--blobs", blobs, "--config", config, "--out", out, "--compress", self._options.compress,
-            *_given("--tag", self._name),
+            "pack", *paths, "--blobs", blobs, "--config", config, "--links", links, "--out", out,
+            "--compress", self._options.compress, *_given("--tag", self._name),
         )
         self._add_tool("unpack", out, "--out", self._path(_AGAIN), "--digests-only", *self._marks)
         again = [self._path(layer) for layer in stacks.layer_paths(_AGAIN, len(layers))]

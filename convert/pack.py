@@ -4,7 +4,7 @@ import hashlib
 import json
 import os
 from collections.abc import Callable, Iterator
-from dataclasses import dataclass
+from dataclasses import dataclass, replace
 from typing import Any
 
 from . import rules
@@ -21,6 +21,7 @@ from .entries import (
     is_whiteout, needs_lower_layers,
 )
 from .faults import UsageFault, cannot_read, reading, writing
+from .links import FirstNames, take_links
 from .manifests import read_manifest
 from .outputs import new_folder, write_file
 from .progress import Progress, counted, note, note_path
@@ -55,6 +56,7 @@ class PackOptions:
     skip_unsupported: bool = False
     config: str | None = None
     compress: str = NONE
+    links: str | None = None
 
 
 @dataclass(frozen=True)
@@ -103,7 +105,9 @@ def _given_configuration(options: PackOptions) -> Document:
 def _packable(path: str, options: PackOptions) -> Iterator[Entry]:
     """The entries of a layer that an archive can state; refuses the others, or leaves them out."""
     marks = 0
-    for entry in read_manifest(path):
+    entries = read_manifest(path)
+    take_links(path, entries, options.links)
+    for entry in entries:
         reason = needs_lower_layers(entry)
         if reason:
             raise cannot_read(
@@ -185,11 +189,12 @@ def _write_layer(folder: str, entries: list[Entry], options: PackOptions) -> _Pa
 
 def _write_archive(entries: list[Entry], blobs: str, write: Callable[[bytes], object]) -> None:
     """The archive of a layer. A directory's `.wh..wh..opq` comes right after it."""
-    archive = TarWriter(write)
+    archive, firsts = TarWriter(write), FirstNames()
     progress = Progress("packing entries", len(entries))
     for entry in entries:
-        archive.entry(_header(entry))
-        if entry.names_contents():
+        first = firsts.before(entry)
+        archive.entry(_header(entry) if first is None else _link_header(entry, first))
+        if first is None and entry.names_contents():
             for piece in _contents(entry, blobs):
                 archive.data(piece)
             archive.end_data(entry.size)
@@ -217,6 +222,11 @@ def _header(entry: Entry) -> Header:
         path.encode(), kind, entry.mode, entry.uid, entry.gid, entry.size, entry.mtime_ns,
         entry.target.encode(), entry.major, entry.minor, attributes,
     )
+
+
+def _link_header(entry: Entry, first: str) -> Header:
+    """One more name of a file that came before. What it is dressed with is said again, since some dress it anew."""
+    return replace(_header(entry), type=tar.HARD_LINK, target=first[1:].encode(), size=0, major=0, minor=0)
 
 
 def _contents(entry: Entry, blobs: str) -> Iterator[bytes]:

@@ -11,6 +11,7 @@ import sys
 import time
 import unittest
 from collections.abc import Iterator
+from pathlib import Path
 from unittest import mock
 
 from images import archive, folder, member, put_index, put_manifest, write_layout
@@ -104,7 +105,7 @@ class Steps(FlattenTest):
         """How many layers an image has."""
         shutil.rmtree(self.path("in", "stack"), ignore_errors=True)
         self.require_done(call("unpack", image, "--out", self.path("in", "stack")))
-        return len(os.listdir(self.path("in", "stack"))) - 2
+        return len(list(Path(self.path("in", "stack")).glob("l*.json")))
 
     def test_merges_down_to_so_many_layers(self) -> None:
         whole = "stack/l0.json stack/l1.json stack/l2.json"
@@ -381,7 +382,7 @@ class ImageTest(FlattenTest):
         """What the layers of an image show."""
         stack = self.path("in", "stack")
         self.require_done(call("unpack", image, "--out", stack, *more))
-        layers = [f"{stack}/l{number}.json" for number in range(len(os.listdir(stack)) - 2)]
+        layers = [f"{stack}/l{number}.json" for number in range(len(list(Path(stack).glob("l*.json"))))]
         result = subprocess.run([self.program, "show", *layers], capture_output=True, text=True, check=True)
         words = [self.program, "fsck", "--any-size", "--blobs", f"{stack}/blobs", *layers]
         checked = subprocess.run(words, capture_output=True, check=False)
