@@ -10,7 +10,7 @@ from . import VERSION
 from .build import BuildOptions, build
 from .compression import COMPRESSIONS, NONE
 from .configuration import USUAL_PLATFORM
-from .faults import OTHER, WRITING, Fault
+from .faults import OTHER, WRITING, Fault, UsageFault
 from .flatten import FlattenOptions, flatten, flatten_commands
 from .mounted import report
 from .pack import PackOptions, pack
@@ -19,6 +19,7 @@ from .scan import ScanOptions, scan
 from .shares import MOST_WORKERS, usual_workers
 from .stores import StoreOptions, store
 from .texts import printable
+from .targets import Target, target_of
 from .unpack import UnpackOptions, unpack
 
 NAME = "layers"
@@ -34,6 +35,7 @@ a folder of blobs, each in a file named by its SHA-256 digest. This tool is test
 _MORE = """\
 examples:
   {name} flatten image.tar --out flat.tar       an image of one layer that shows the same
+  docker save NAME | {name} flatten - --out - | docker load
   {name} unpack image.tar --out stack          an image's layers: stack/l0.json is the topmost
   ovl_layers show stack/l0.json stack/l1.json  what the layers show together
   ovl_layers fsck --blobs stack/blobs stack/l0.json stack/l1.json
@@ -91,14 +93,15 @@ enough for `ovl_layers show`.
 
 IMAGE is an OCI image layout (a folder or a tar archive of it), what `docker save` writes, or a folder of
 skopeo's dir:. It may also be named as skopeo does it (oci:DIR:TAG, docker-archive:FILE); - is an archive
-from standard input. Layers may be plain, gzip, or zstd where the zstd program is there. Their digests are
+from standard input. An archive may be packed by gzip or zstd. Layers may be plain, gzip, or zstd where the zstd program is there. Their digests are
 checked. A directory that a layer leaves out is as the layers below show it. Names that are one file (hard
 links) stand in DIR/l0.links and so on, and those that all layers show in DIR/shown.links. A whiteout
 (.wh.NAME) becomes a char device 0:0, and .wh..wh..opq an opaque directory."""
 
 _PACK = """\
 Writes manifests, the topmost first, as an OCI image layout: a folder, or one tar archive where the name
-ends in .tar. The same input gives the same bytes. The image's configuration (command, environment, user,
+ends in .tar, which `docker load` and `podman load` take too. --out may also be named as skopeo does it; - is
+an archive on standard output. The same input gives the same bytes. The image's configuration (command, environment, user,
 labels, platform and all else) is that of --config; a history that tells of as many layers is kept as it is,
 any other stays as entries without layers, and each layer gets an entry of its own.
 
@@ -116,7 +119,8 @@ drops what changes nothing (`vacuum`), unfolds moved directories and metacopy fi
 (`deref`), and merges (`merge`). Then `pack` writes the image. Each step is told with its time.
 
 Nothing is written unless the merged layers, and the new image when it is read again, show what the given
-image shows, byte for byte. What the program refuses is told as it is, with its status.
+image shows, byte for byte. What the program refuses is told as it is, with its status. --out is as for
+`pack`: with -, an archive on standard output, nothing else goes there.
 
 --dry-run prints the commands that do the same by hand."""
 
@@ -265,11 +269,14 @@ def _add_pack(parser: argparse.ArgumentParser) -> None:
 def _add_new_image(parser: argparse.ArgumentParser) -> None:
     """Which image is written."""
     parser.add_argument(
-        "--out", metavar="IMAGE", required=True, help="folder to make, or a file whose name ends in .tar"
+        "--out", metavar="IMAGE", required=True,
+        help="folder to make, or a file whose name ends in .tar; - is such an archive on standard output; or as skopeo "
+        "names it: oci:DIR:TAG, oci-archive:FILE:TAG, docker-archive:FILE:NAME, dir:DIR",
     )
     parser.add_argument(
         "--compress", choices=COMPRESSIONS, default=NONE,
-        help="packs the layers; zstd needs the program of that name [default: none]",
+        help="packs the layers; zstd needs the program of that name, and is read by podman, buildah, containerd and "
+        "docker from 23 on, not by umoci and older dockers [default: none]",
     )
 
 
@@ -369,21 +376,32 @@ def _unpack(words: argparse.Namespace) -> None:
 
 
 def _pack(words: argparse.Namespace) -> None:
+    out = _target(words.out)
+    if None not in (out.tag, words.tag) and out.tag != words.tag:
+        raise UsageFault(f"{words.out} and --tag give two names")
     pack(PackOptions(
-        words.layers, _folder(words.blobs), _folder(words.out), words.platform, words.tag,
+        words.layers, _folder(words.blobs), out, words.platform, out.tag or words.tag,
         words.skip_unsupported, words.config, words.compress, words.links,
     ))
 
 
 def _flatten(words: argparse.Namespace) -> None:
     options = FlattenOptions(
-        _folder(words.image), _folder(words.out), words.layers, words.keep and _folder(words.keep), words.platform,
-        words.tag, words.skip_unsupported, words.overlay_marks, words.compress,
+        _folder(words.image), _target(words.out, words.dry_run), words.layers, words.keep and _folder(words.keep),
+        words.platform, words.tag, words.skip_unsupported, words.overlay_marks, words.compress,
     )
     if words.dry_run:
         _print(flatten_commands(options))
     else:
         flatten(options)
+
+
+def _target(word: str, is_told: bool = False) -> Target:
+    """Where an image goes; never to a terminal."""
+    target = target_of(word)
+    if target.is_standard_output and sys.stdout.isatty() and not is_told:
+        raise UsageFault("standard output is a terminal; send the image into a file or a pipe")
+    return target
 
 
 def _mounted(words: argparse.Namespace) -> None:

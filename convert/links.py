@@ -67,7 +67,7 @@ class LinkNames:
             text = f"{before}{encode_basestring(entry.path)}:{number}"
             left -= len(text.encode())
             if left < 0:
-                note_path(path, f"cut at {rules.MAX_MANIFEST_BYTES:,} bytes; the names that follow are files of their own")
+                note_path(path, f"cut at {rules.MAX_MANIFEST_BYTES:,} bytes; names that follow are files of their own")
                 break
             yield text
             before = ","

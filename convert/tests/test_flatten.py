@@ -14,7 +14,7 @@ from collections.abc import Iterator
 from pathlib import Path
 from unittest import mock
 
-from images import archive, folder, member, put_index, put_manifest, write_layout
+from images import archive, folder, member, put_index, put_manifest, write_layout, write_saved
 from support import ROOT, FolderTest, call, program_words, why_no_trusted
 
 LAYERS = [
@@ -161,6 +161,50 @@ class Steps(FlattenTest):
             "deref vacuum/layer-0.json deref-1/layer-0.json deref-2/layer-0.json stack/l3.json",
         ])
 
+    def test_standard_output(self) -> None:
+        """The image alone goes there, faults of layers to standard error; nothing is left in the temporary folder."""
+        os.environ["TMPDIR"] = self.path("in", "temporary")
+        os.mkdir(os.environ["TMPDIR"])
+        self.addCleanup(os.environ.pop, "TMPDIR")
+        self.require_done(call("flatten", self.image, "--out", f"oci-archive:{self.path('all', 'wanted.tar')}:x:1"))
+        wanted = Path(self.path("all", "wanted.tar")).read_bytes()
+        tool = Path(self.path("in", "tool"))
+        tool.write_text(f"""import sys
+sys.path.insert(0, {str(ROOT)!r})
+from unittest import mock
+from convert import command
+with mock.patch("convert.program.find_program", return_value={self.program!r}):
+    sys.exit(command.main(sys.argv[1:]))
+""", encoding="utf-8")
+        words = [sys.executable, "-B", tool, "flatten", self.image, "--out", "oci-archive:-:x:1"]
+        result = subprocess.run(words, capture_output=True, check=False)
+        self.assertTrue(result.stdout == wanted, result.stderr)
+        self.assertIn(b"layers: standard output: 1 layer in place of 3, ", result.stderr)
+        self.manner("[ $what = fsck ] && { echo report; exit 1; }")
+        result = subprocess.run(words, capture_output=True, check=False)
+        self.assertEqual((result.returncode, result.stdout), (1, b""))
+        self.assertIn(b"\nreport\nlayers: ovl_layers fsck ended with status 1; nothing is written\n", result.stderr)
+        self.manner("")
+        script = call(*words[3:], "--dry-run")[1]
+        result = subprocess.run(["sh"], input=script.encode(), capture_output=True, check=False)
+        self.assertTrue(result.stdout == wanted, result.stderr)
+        self.assertEqual(len(os.listdir(os.environ["TMPDIR"])), 1)  # what the script works in
+        self.left("wanted.tar")
+
+    def test_paths_that_begin_with_a_dash(self) -> None:
+        with contextlib.chdir(self.path("all")):
+            os.rename("image", "-image")
+            self.addCleanup(os.rename, self.path("all", "-image"), self.image)
+            self.require_done(call("flatten", "--out=-flat", "--keep=-kept", "--", "-image"))
+            with open(self.path("in", "calls"), encoding="utf-8") as file:
+                paths = [word for line in file for word in line.split()[1:] if word != "--any-size"]
+            self.assertEqual({word.split("/")[0] for word in paths}, {".", "--blobs", "--out"})
+            self.assertIn("./-kept/stack/l0.json", paths)
+            script = call("flatten", "--out=-more", "--keep=-again", "--dry-run", "--", "-image")[1]
+            subprocess.run(["sh"], input=script, text=True, capture_output=True, check=True)
+            self.assertEqual(sorted(os.listdir()), ["-again", "-flat", "-image", "-kept", "-more"])
+        shutil.rmtree(self.path("in", "stack"), ignore_errors=True)
+
     def test_a_refusal_is_told_as_it_is(self) -> None:
         for what, status in (("show", 3), ("fsck", 1), ("vacuum", 4), ("merge", 5)):
             for words in ((), ("--keep", self.path("in", "kept"))):
@@ -254,6 +298,13 @@ class Steps(FlattenTest):
         self.require_done(self.flatten(image=f"oci:{self.image}:a", out="named"))
         with open(self.path("all", "named", "index.json"), encoding="utf-8") as file:
             self.assertIn('"a"', file.read())
+        write_saved(self.path("in", "saved"), [archive(LAYERS[0])])
+        self.require_done(self.flatten("--tag", "small", image=self.path("in", "saved"), out="saved"))
+        with open(self.path("all", "saved", "index.json"), encoding="utf-8") as file:
+            self.assertIn('"small:latest"', file.read())
+        self.require_done(call("flatten", self.path("in", "saved"), "--out", f"oci:{self.path('all', 'own')}:x"))
+        with open(self.path("all", "own", "index.json"), encoding="utf-8") as file:
+            self.assertIn('"x"', file.read())
 
     def test_packed_layers(self) -> None:
         for kind, begin in (("gzip", b"\x1f\x8b"), ("none", b"./")):
