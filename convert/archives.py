@@ -20,7 +20,7 @@ from .images import ImageLayer
 from .layer_tree import Attributes, Below, Blocked, Gap, Held, LayerTree, TooMuch, Unfit, whiteout
 from .losses import Loss, Losses
 from .progress import Progress, note
-from .streams import Digesting, Slice, Source, Watched, buffered, unpacked
+from .streams import Digesting, Source, buffered, unpacked
 from .tar_headers import HARD_LINK, REGULAR_TYPES, Header
 from .tar_reader import TarReader
 from .times import ONE_SECOND
@@ -61,40 +61,36 @@ class LayerArchive:
     def tree(self) -> LayerTree:
         """The layer, where its bytes are those that the image names."""
         layer = self._layer
+        progress = Progress(f"unpacking {layer.name[-20:]}")
         try:
-            with layer.opened() as part:
-                self._read_watched(part)
+            with layer.opened() as part, unpacked(part, layer.path) as stream:
+                self._read_checked(stream, progress)
             self._tree.settle(self._taking.below.root, lambda gap, path: self._losses.add(_GAPS[gap], path))
         except TooMuch as problem:
             raise cannot_read(layer.path, str(problem)) from None
+        finally:
+            progress.end()
         self._losses.tell(layer.name)
         return self._tree
 
-    def _read_watched(self, part: Slice) -> None:
-        progress = Progress(f"unpacking bytes of {self._layer.name[-20:]}", part.size())
-        try:
-            with unpacked(Watched(part, progress.step), self._layer.path) as stream:
-                self._read_checked(stream)
-        finally:
-            progress.end()
-
-    def _read_checked(self, stream: Source) -> None:
+    def _read_checked(self, stream: Source, progress: Progress) -> None:
         if self._layer.unpacked_digest is None:
-            self._read(stream)
+            self._read(stream, progress)
             return
         algorithm, wanted = self._layer.unpacked_digest
         source = Digesting(stream, algorithm)
-        self._read(source)
+        self._read(source, progress)
         if source.digest.hexdigest() != wanted:
             raise cannot_read(self._layer.path, f"its unpacked bytes aren't those of {algorithm}:{wanted}")
 
-    def _read(self, stream: Source) -> None:
+    def _read(self, stream: Source, progress: Progress) -> None:
         archive = TarReader(buffered(stream))
         for header in archive:
             try:
                 self._take(header, archive)
             except Unfit as problem:
                 self._refuse_or_note(header, str(problem))
+            progress.step()
 
     def _take(self, header: Header, archive: TarReader) -> None:
         names = self._paths.names(header.name)

@@ -21,6 +21,7 @@ MAX_DOCUMENTS = 1 << 24  # bytes of an image's documents together, each as often
 _DIGEST = re.compile(r"(sha256|sha384|sha512):([0-9a-f]{64,128})\Z")
 _MAX_DEPTH = 4
 _MOST_TOLD = 20
+_HEAD = 6  # bytes that tell how a layer is packed
 _INDEXES = (
     "application/vnd.oci.image.index.v1+json",
     "application/vnd.docker.distribution.manifest.list.v2+json",
@@ -54,7 +55,8 @@ class ImageLayer:
     def packed_size(self) -> int | None:
         """How many bytes it has in the image, where these are compressed."""
         with self.members.opened(self.name) as part, reading(self.path):
-            return part.size() if is_packed(part) else None
+            size = part.size()
+            return size if is_packed(part.read(_HEAD) or b"") else None
 
 
 @dataclass(frozen=True)

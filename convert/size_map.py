@@ -2,15 +2,15 @@
 
 import json
 from collections import Counter
-from collections.abc import Iterator
 from dataclasses import dataclass, field
+from typing import Any
 
 from .layer_sizes import Sizes, shown_size
 from .shown_tree import Directory, LayerFile, Node
 from .texts import printable
 
 _MAX_BYTES = 1 << 20  # of the map's text
-_NODE_BYTES = 40  # that a node takes beside its name, at most
+_NODE_BYTES = 48  # that a node takes beside its name, at most
 FOLDER, FILE, REST = "d", "f", "r"
 
 
@@ -112,14 +112,19 @@ def _largest(places: list[Place]) -> set[int]:
     taken, room = {0}, _MAX_BYTES
     for number in sorted(range(1, len(places)), key=lambda number: (-places[number].bytes, number)):
         name = places[number].path.rpartition("/")[2]
-        room -= len(json.dumps(printable(name), ensure_ascii=False).encode()) + _NODE_BYTES
+        room -= len(json_text(printable(name)).encode()) + _NODE_BYTES * (1 + places[number].is_folder)
         if room < 0 or places[number].bytes == 0:
             break
         taken.add(number)
     return taken
 
 
-def largest_folders(places: list[Place], most: int) -> Iterator[Place]:
+def json_text(value: Any) -> str:
+    """A value as JSON in which no markup can stand."""
+    return json.dumps(value, ensure_ascii=False, separators=(",", ":")).replace("<", "\\u003c")
+
+
+def largest_folders(places: list[Place], most: int) -> list[Place]:
     """The largest directories, the greater ones first."""
     folders = [place for place in places if place.is_folder]
-    yield from sorted(folders, key=lambda place: -place.bytes)[:most]
+    return sorted(folders, key=lambda place: -place.bytes)[:most]

@@ -7,14 +7,14 @@ lets nothing run and nothing dress it but its own script and style, told by thei
 import base64
 import hashlib
 import html
-import json
+import itertools
 from collections.abc import Iterator, Sequence
 from dataclasses import asdict
 from pathlib import Path
 
-from .layer_sizes import LayerSizes, NotShown, Sizes
+from .layer_sizes import LayerSizes, Sizes
 from .outputs import write_text
-from .size_map import largest_folders, map_of, places_of
+from .size_map import json_text, largest_folders, map_of, places_of
 from .size_texts import Origin, not_shown_text, packed_sum, per_cent, size_text
 from .texts import printable
 
@@ -23,7 +23,7 @@ _TURN = 137.508  # degrees from a layer's hue to the next one's: the golden angl
 _FIRST_HUE = 210.0
 _BAR = 1_000
 _MOST_LISTED = 1_000
-_MOST_LETTERS = 500_000  # of the paths of these
+_MOST_TEXT = 500_000  # bytes of the paths of a table
 _MOST_FOLDERS = 100
 _MOST_OF_MAKING = 300  # letters
 _POLICY = "default-src 'none'; script-src '{script}'; style-src '{style}'; base-uri 'none'; form-action 'none'"
@@ -52,12 +52,13 @@ def page(sizes: Sizes, origins: Sequence[Origin], of: str) -> Iterator[str]:
     yield _MAP
     yield from _not_shown(sizes)
     yield "<section>\n<h2>The largest directories of the merged tree</h2>\n"
+    folders = largest_folders(places, _MOST_FOLDERS)
     yield from _table(("Bytes|number", "Share|number", "Files|number", "Path"), (
         (size_text(place.bytes), per_cent(place.bytes, places[0].bytes), f"{place.files:,}", place.path)
-        for place in largest_folders(places, _MOST_FOLDERS)
+        for place in folders[:_fitting([place.path for place in folders])]
     ))
     yield "</section>\n"
-    data = json.dumps(asdict(map_of(places)), ensure_ascii=False, separators=(",", ":")).replace("<", "\\u003c")
+    data = json_text(asdict(map_of(places)))
     yield f'<script type="application/json" id="data">{data}</script>\n<script>{script}</script>\n</body>\n</html>\n'
 
 
@@ -149,12 +150,8 @@ def _numbers(own: LayerSizes, packed: int | None) -> str:
 
 def _not_shown(sizes: Sizes) -> Iterator[str]:
     """The largest files that aren't shown, as many as there is room for."""
-    listed, letters = list[NotShown](), 0
-    for one in sizes.not_shown[:_MOST_LISTED]:
-        letters += len(_text(one.file.path).encode())
-        if letters > _MOST_LETTERS:
-            break
-        listed.append(one)
+    listed = sizes.not_shown[:_MOST_LISTED]
+    listed = listed[:_fitting([one.file.path for one in listed])]
     yield '<section id="not-shown">\n<h2>Shipped and not shown</h2>\n'
     if not listed:
         yield "<p>Nothing: all that the layers hold is shown, and nothing is repeated.</p>\n</section>\n"
@@ -169,6 +166,12 @@ def _not_shown(sizes: Sizes) -> Iterator[str]:
         size = sum(one.file.size for one in sizes.not_shown[len(listed):])
         yield f'<p class="faint">and {left:,} smaller ones, {size_text(size)} in all</p>\n'
     yield "</section>\n"
+
+
+def _fitting(paths: Sequence[str]) -> int:
+    """How many paths there is room for in one table."""
+    sums = itertools.accumulate(len(_text(path).encode()) for path in paths)
+    return sum(size <= _MOST_TEXT for size in sums)
 
 
 def _table(heads: Sequence[str], rows: Iterator[Sequence[str]], sizes: Sequence[int] = ()) -> Iterator[str]:

@@ -10,7 +10,7 @@ import subprocess
 import tempfile
 import threading
 import zlib
-from collections.abc import Callable, Iterator
+from collections.abc import Iterator
 from typing import IO, Protocol
 
 from .contents import PIECE
@@ -109,25 +109,6 @@ class Gunzip(io.RawIOBase):
                     raise EOFError("it ends too early")
 
 
-class Watched(io.RawIOBase):
-    """Reads a part of a file and tells how many bytes were read."""
-
-    def __init__(self, part: Slice, step: Callable[[int], None]) -> None:
-        super().__init__()
-        self._part = part
-        self._step = step
-
-    def readable(self) -> bool:
-        """It is."""
-        return True
-
-    def readinto(self, buffer: memoryview) -> int:  # type: ignore[override]
-        """Reads what fits."""
-        count = self._part.readinto(buffer)
-        self._step(count)
-        return count
-
-
 class Digesting(io.RawIOBase):
     """Reads from a stream and digests all that is read."""
 
@@ -153,13 +134,13 @@ def buffered(stream: Source) -> Source:
     return io.BufferedReader(stream, PIECE) if isinstance(stream, io.RawIOBase) else stream
 
 
-def is_packed(part: Slice) -> bool:
-    """Whether the bytes of a layer are compressed."""
-    return io.BufferedReader(part.again(), _PEEK).read(_PEEK).startswith((_GZIP, _ZSTD))
+def is_packed(head: bytes) -> bool:
+    """Whether what begins so may be unpacked."""
+    return head.startswith((_GZIP, _ZSTD))
 
 
 @contextlib.contextmanager
-def unpacked(part: io.RawIOBase, name: str) -> Iterator[Source]:
+def unpacked(part: Slice, name: str) -> Iterator[Source]:
     """The bytes of a layer's archive. Tells what is wrong with its packing as a fault of this name."""
     packed = io.BufferedReader(part, PIECE)
     head = packed.peek(_PEEK)[:_PEEK]

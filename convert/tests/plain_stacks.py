@@ -42,7 +42,7 @@ def random_stack(seed: int) -> tuple[list[list[Entry]], int]:
 
 
 def _random_layer(pick: random.Random) -> list[Entry]:
-    entries = {(): Entry("/", DIRECTORY, 0o755)}
+    entries: dict[Path, Entry] = {(): Entry("/", DIRECTORY, 0o755)}
     paths = [path for depth in (1, 2, 3) for path in itertools.product(_NAMES, repeat=depth)]
     for path in paths:
         if path[:-1] in entries and entries[path[:-1]].kind == DIRECTORY and pick.random() < 0.6:
