@@ -427,10 +427,10 @@ def _flatten(words: argparse.Namespace) -> None:
 
 
 def _sizes(words: argparse.Namespace) -> None:
-    if words.stack and (words.platform is not None or words.tag is not None):
-        raise UsageFault("--platform and --tag choose among images, and a stack is none")
+    if words.stack and (words.platform is not None or words.tag is not None or words.overlay_marks):
+        raise UsageFault("--platform, --tag and --overlay-marks are for images, and a stack is none")
     if words.image is not None and (words.data_layers or words.userxattr):
-        raise UsageFault("--data-layers and --userxattr are of a stack, and an image has no such layers")
+        raise UsageFault("--data-layers and --userxattr are for stacks, and an image is none")
     sizes(SizesOptions(
         image=None if words.image is None else _folder(words.image), stack=words.stack or (),
         data_layers=words.data_layers, platform=words.platform, tag=words.tag,

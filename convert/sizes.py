@@ -1,9 +1,8 @@
 """`sizes`: what each layer of an image, or of a stack, holds, and what of it is still shown."""
 
-import contextlib
 import os
 import tempfile
-from collections.abc import Callable, Iterable, Iterator, Mapping, Sequence
+from collections.abc import Callable, Iterable, Mapping, Sequence
 from dataclasses import dataclass
 from fractions import Fraction
 from typing import Any
@@ -51,57 +50,57 @@ class SizesOptions:
 def sizes(options: SizesOptions, tell: Callable[[Iterable[str]], None]) -> None:
     """Tells the sizes, and fails where more than may be isn't shown."""
     program = require_program()
-    with _work_folder() as folder:
-        with _manifests(options, folder) as (layers, origins):
-            report = f"{folder}/{_SHOWN}"
-            run_program(program, _show_words(layers, options.data_layers), report)
-            found = sizes_of(layers, options.data_layers, report)
+    with passing_folder(os.path.join(tempfile.gettempdir(), _WORK)) as folder:
+        given = _given_stack(options, folder) if options.image is None else _given_image(options, options.image, folder)
+        report = f"{folder}/{_SHOWN}"
+        run_program(program, _show_words(given.layers, options.data_layers), report)
+        found = sizes_of(given.layers, options.data_layers, report)
     if options.page is not None:
-        write_page(options.page, found, origins, options.image or f"a stack of {len(origins)}")
+        write_page(options.page, found, given.origins, given.name)
     if options.page != STANDARD_OUTPUT:
-        tell(json_text(found, origins) if options.as_json else table(found, origins, options.exact))
+        tell(json_text(found, given.origins) if options.as_json else table(found, given.origins, options.exact))
     _require_shown(found, options.fail_over)
-
-
-def _work_folder() -> contextlib.AbstractContextManager[str]:
-    return passing_folder(os.path.join(tempfile.gettempdir(), _WORK))
 
 
 def _show_words(layers: Sequence[str], data_layers: int) -> list[str]:
     return ["show", *(["--data-layers", str(data_layers)] if data_layers else []), *layers]
 
 
-@contextlib.contextmanager
-def _manifests(options: SizesOptions, folder: str) -> Iterator[tuple[list[str], list[Origin]]]:
-    """The manifests of the layers, and where these come from; the topmost first."""
-    if options.image is None:
-        yield _stack_manifests(options, folder), [Origin(made_by=layer) for layer in options.stack]
-        return
-    path, tag = image_place(options.image, options.tag)
+@dataclass(frozen=True)
+class _Given:
+    """What is measured: its name, its manifests, the topmost first, and how each layer came."""
+
+    name: str
+    layers: list[str]
+    origins: list[Origin]
+
+
+def _given_image(options: SizesOptions, word: str, folder: str) -> _Given:
+    path, tag = image_place(word, options.tag)
     out = f"{folder}/stack"
     with opened_image(path, options.platform, tag) as image:
         unpack_opened(UnpackOptions(
-            path, out, skip_unsupported=options.skip_unsupported, overlay_marks=options.overlay_marks,
+            image=path, out=out, skip_unsupported=options.skip_unsupported, overlay_marks=options.overlay_marks,
             digests_only=True,
         ), image)
-        count = len(image.layers)
-        made = made_by(image.configuration, count)
-        origins = [Origin(layer.packed_size(), made_by=text) for layer, text in zip(image.layers, made)]
-    yield stacks.layer_paths(out, count), origins[::-1]
+        made = made_by(image.configuration, len(image.layers))
+        origins = [Origin(layer.packed_size(), text) for layer, text in zip(image.layers, made)]
+    return _Given(tag or next(iter(image.names), word), stacks.layer_paths(out, len(origins)), origins[::-1])
 
 
-def _stack_manifests(options: SizesOptions, folder: str) -> list[str]:
-    """The manifests of a stack's layers, of which folders are scanned."""
-    found = []
+def _given_stack(options: SizesOptions, folder: str) -> _Given:
+    """The layers of a stack, of which folders are scanned."""
+    layers = []
     for number, layer in enumerate(options.stack):
         if os.path.isdir(layer):
             manifest = f"{folder}/{stacks.layer_name(number)}"
             scan(ScanOptions(
-                layer, manifest, None, userxattr=options.userxattr, skip_unsupported=options.skip_unsupported
+                folder=layer, out=manifest, blobs=None, userxattr=options.userxattr,
+                skip_unsupported=options.skip_unsupported,
             ))
             layer = manifest
-        found.append(os.path.abspath(layer))
-    return found
+        layers.append(os.path.abspath(layer))
+    return _Given(f"a stack of {len(layers)}", layers, [Origin(made_by=layer) for layer in options.stack])
 
 
 def made_by(configuration: Document, count: int) -> list[str | None]:

@@ -190,7 +190,7 @@ class Telling(SizesTest):
             (2, (image, "--stack", lone), "not allowed with argument"),
             (2, (image, "--fail-over", "101"), "a share is a number from 0 to 100"),
             (2, (image, "--fail-over", "1/2"), "a share is a number from 0 to 100"),
-            (2, (image, "--data-layers", "1"), "an image has no such layers"),
+            (2, (image, "--data-layers", "1"), "an image is none"),
             (2, ("--tag", "x", "--stack", lone), "a stack is none"),
             (3, ("--stack", lone), f"cannot read {lone}: "),
             (3, (self.path("absent"),), "absent"),
