@@ -5,6 +5,7 @@ from dataclasses import dataclass, field, fields
 
 from .entries import DIRECTORY, FILE, METACOPY, Entry, is_opaque, is_whiteout
 from .faults import Fault, reading
+from .links import take_links
 from .manifests import read_manifest
 from .program import NAME
 from .shown_tree import Directory, LayerFile, Node, ShownTree
@@ -115,7 +116,9 @@ def sizes_of(layers: Sequence[str], data_layers: int, report: str) -> Sizes:
     """The sizes of manifests, the topmost first, whose show report is in a file."""
     stack = _Stack(len(layers), data_layers)
     for number in reversed(range(len(layers))):
-        stack.take(number, read_manifest(layers[number]))
+        entries = read_manifest(layers[number])
+        take_links(layers[number], entries)
+        stack.take(number, entries)
     sizes = Sizes(stack.layers, tree=stack.tree)
     _take_merged(sizes, report)
     paying = _Paying(stack.files, stack.lowest)

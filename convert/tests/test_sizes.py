@@ -4,6 +4,7 @@ import json
 import os
 import unittest
 from collections.abc import Sequence
+from functools import partial
 from unittest import mock
 
 from images import archive, folder, member, packed, put_index, put_manifest
@@ -12,6 +13,7 @@ from support import FolderTest, call, program_words, why_no_trusted
 
 from convert.entries import Entry
 from convert.layer_sizes import sizes_of
+from convert.links import count_links, links_path
 from convert.manifests import read_manifest, written
 from convert.size_texts import Origin, json_text, size_text
 
@@ -85,11 +87,12 @@ class Definitions(FolderTest):
     """Random stacks of small layers with every mark, equal contents, and names of one file."""
 
     def write(self, layers: Sequence[Sequence[Entry]]) -> list[str]:
-        """Writes manifests."""
+        """Writes manifests, and which names are one file."""
         paths = [self.path(f"l{number}.json") for number in range(len(layers))]
         for path, layer in zip(paths, layers):
             with open(path, "w", encoding="utf-8") as file:
                 file.writelines(written(layer))
+            count_links(layer).write(links_path(path), partial(iter, layer), path)
         return paths
 
     def test_numbers(self) -> None:
@@ -101,9 +104,7 @@ class Definitions(FolderTest):
             paths = self.write(layers)
             with open(self.path("report"), "w", encoding="ascii") as file:
                 file.writelines(stack.report())
-            by_path = dict(zip(paths, layers))
-            with mock.patch("convert.layer_sizes.read_manifest", by_path.get):
-                sizes = sizes_of(paths, data_layers, self.path("report"))
+            sizes = sizes_of(paths, data_layers, self.path("report"))
             told = json.loads("".join(json_text(sizes, [Origin()] * len(layers))))
             with self.subTest(seed=seed):
                 for number, own in enumerate(told["layers"]):
@@ -121,8 +122,6 @@ class Definitions(FolderTest):
             self.skipTest("the program isn't built")
         for seed in range(_WITH_PROGRAM):
             layers, data_layers = random_stack(seed)
-            for entry in (entry for layer in layers for entry in layer):
-                entry.link = 0
             result = call("sizes", "--json", "--data-layers", data_layers, "--stack", *self.write(layers))
             self.require_done(result)
             wanted = PlainSizes(PlainStack(layers, data_layers))
