@@ -1,6 +1,7 @@
 """`sizes`: what each layer of an image, or of a stack, holds, and what of it is still shown."""
 
 import os
+import sys
 import tempfile
 from collections.abc import Callable, Iterable, Mapping, Sequence
 from dataclasses import dataclass
@@ -53,7 +54,7 @@ def sizes(options: SizesOptions, tell: Callable[[Iterable[str]], None]) -> None:
     with passing_folder(os.path.join(tempfile.gettempdir(), _WORK)) as folder:
         given = _given_stack(options, folder) if options.image is None else _given_image(options, options.image, folder)
         report = f"{folder}/{_SHOWN}"
-        run_program(program, _show_words(given.layers, options.data_layers), report)
+        run_program(program, _show_words(given.layers, options.data_layers), report, sys.stderr)
         found = sizes_of(given.layers, options.data_layers, report)
     if options.page is not None:
         write_page(options.page, found, given.origins, given.name)

@@ -3,7 +3,7 @@
 import json
 import os
 import unittest
-from collections.abc import Sequence
+from collections.abc import Callable, Sequence
 from functools import partial
 from unittest import mock
 
@@ -49,7 +49,7 @@ BYTES  LAYER  WHY          PATH
 """
 
 
-def plain_program(_: str, words: Sequence[str], report: str) -> str:
+def plain_program(_: str, words: Sequence[str], report: str, __: object) -> str:
     """A stand-in for the program: `show`, as the definitions have it."""
     what, *layers = words
     data_layers = int(layers.pop(1)) if layers[0] == "--data-layers" else 0
@@ -66,10 +66,16 @@ class SizesTest(FolderTest):
 
     def setUp(self) -> None:
         super().setUp()
-        for name, value in (("require_program", lambda: "none"), ("run_program", plain_program)):
-            patch = mock.patch(f"convert.sizes.{name}", value)
-            patch.start()
-            self.addCleanup(patch.stop)
+        self.use(plain_program)
+        patch = mock.patch("convert.sizes.require_program", return_value="none")
+        patch.start()
+        self.addCleanup(patch.stop)
+
+    def use(self, stand_in: Callable[..., str]) -> None:
+        """Has this called in place of the program."""
+        patch = mock.patch("convert.sizes.run_program", autospec=True, side_effect=stand_in)
+        patch.start()
+        self.addCleanup(patch.stop)
 
     def write_image(self) -> int:
         """Writes the image, of which one layer is packed, and gives that one's bytes in it."""
@@ -203,8 +209,8 @@ class Telling(SizesTest):
         report = self.path("wrong")
         for old, new in ((" /same", " /some"), (" 700 ", " 701 "), ("file 0644 0 0 0 0 -", "fifo 0644 0 0 0 - -"),
                          ("entries 8", "entries 9"), ("entries 8\n", ""), ("dir 0755 0 0 0 - - /bin\n", "")):
-            def wrong(_: str, words: Sequence[str], place: str, old: str = old, new: str = new) -> str:
-                plain_program(_, words, report)
+            def wrong(_: str, words: Sequence[str], place: str, __: object, old: str = old, new: str = new) -> str:
+                plain_program(_, words, report, __)
                 with open(report, encoding="ascii") as given, open(place, "x", encoding="ascii") as file:
                     text = given.read()
                     self.assertIn(old, text)
@@ -212,8 +218,8 @@ class Telling(SizesTest):
                 os.unlink(report)
                 return ""
 
-            with mock.patch("convert.sizes.run_program", wrong):
-                self.require_fault(call("sizes", self.path("image")), 5, "ovl_layers shows something else at ")
+            self.use(wrong)
+            self.require_fault(call("sizes", self.path("image")), 5, "ovl_layers shows something else at ")
 
 
 class Units(unittest.TestCase):
