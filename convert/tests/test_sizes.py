@@ -3,7 +3,7 @@
 import json
 import os
 import unittest
-from collections.abc import Callable, Sequence
+from collections.abc import Sequence
 from functools import partial
 from unittest import mock
 
@@ -66,16 +66,12 @@ class SizesTest(FolderTest):
 
     def setUp(self) -> None:
         super().setUp()
-        self.use(plain_program)
-        patch = mock.patch("convert.sizes.require_program", return_value="none")
-        patch.start()
-        self.addCleanup(patch.stop)
-
-    def use(self, stand_in: Callable[..., str]) -> None:
-        """Has this called in place of the program."""
-        patch = mock.patch("convert.sizes.run_program", autospec=True, side_effect=stand_in)
-        patch.start()
-        self.addCleanup(patch.stop)
+        found = mock.patch("convert.sizes.require_program", return_value="none")
+        run = mock.patch("convert.sizes.run_program", autospec=True, side_effect=plain_program)
+        found.start()
+        self.program = run.start()
+        self.addCleanup(found.stop)
+        self.addCleanup(run.stop)
 
     def write_image(self) -> int:
         """Writes the image, of which one layer is packed, and gives that one's bytes in it."""
@@ -218,7 +214,7 @@ class Telling(SizesTest):
                 os.unlink(report)
                 return ""
 
-            self.use(wrong)
+            self.program.side_effect = wrong
             self.require_fault(call("sizes", self.path("image")), 5, "ovl_layers shows something else at ")
 
 
