@@ -10,7 +10,7 @@ from collections.abc import Iterator
 
 from support import COMMAND, PROGRAM, why_no_trusted
 
-TOOLS = ("dockerd", "docker", "podman", "skopeo", "umoci", "buildah", "busybox", "bash", "unshare")
+TOOLS = ("dockerd", "docker", "podman", "skopeo", "busybox", "bash")
 SECONDS = 600  # that anything may take
 _BEGIN = 60
 _LIMITS = ["--ulimit", "nofile=1024:1024", "--ulimit", "nproc=1024:1024"]

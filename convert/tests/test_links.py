@@ -22,7 +22,7 @@ LINK = tarfile.LNKTYPE
 REDIRECT = "SCHILY.xattr.trusted.overlay.redirect"
 MEMORY = 128 << 20  # bytes
 SECONDS = 20  # of processor time
-RANDOM_IMAGES = int(os.environ.get("LAYERS_TEST_IMAGES", "5"))
+RANDOM_IMAGES = int(os.environ.get("LAYERS_TEST_IMAGES", "15"))
 
 
 def linked_in(image: str) -> dict[str, str]:
