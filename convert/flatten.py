@@ -56,7 +56,7 @@ class FlattenOptions:
 
 
 def flatten(options: FlattenOptions) -> None:
-    """Merges an image's layers from the topmost on, and writes the image that this gives.
+    """Writes an image with all that the given one's layers show in one layer, or with the topmost layers merged.
 
     Nothing is written unless it shows, read again, what the given image shows.
     """
@@ -148,27 +148,42 @@ class _Steps(Protocol):
 
 
 def _carry_out(steps: _Steps, wanted: int) -> tuple[int, int]:
-    """Does it all. Gives how many layers there were, and how many there are."""
+    """Does it all: checks and makes the new layers, and then looks at what they show. Gives how many layers there
+    were, and how many there are."""
     count = steps.unpack()
-    layers = stacks.layer_paths(_STACK, count)
-    steps.run("show", "show", layers, _BEFORE)
+    given = stacks.layer_paths(_STACK, count)
+    new = _as_one(steps, given) if min(count, wanted) == 1 else _merged_down(steps, given, wanted)
+    steps.run("show", "show", given, _BEFORE)
+    steps.run("show of the new layers", "show", new, _AFTER)
+    steps.compare(_AFTER)
+    steps.pack(new)
+    return count, len(new)
+
+
+def _as_one(steps: _Steps, layers: Sequence[str]) -> list[str]:
+    """All that the layers show as one layer; the program checks them first."""
+    steps.run("flatten", "flatten", layers, "flatten")
+    return [_new_layer("flatten")]
+
+
+def _merged_down(steps: _Steps, given: Sequence[str], wanted: int) -> list[str]:
+    """The layers without redirects, metacopy files and what changes nothing, the topmost merged until so many are
+    left."""
+    layers = list(given)
     steps.run("fsck", "fsck", layers, f"fsck.{_REPORT}")
     layers[0] = steps.vacuum("vacuum", layers, "vacuum")
     # Over layers without redirects each loses its own, and then no merge makes any.
     for number in steps.moved(layers):
         steps.run(f"deref of layer {number}", "deref", layers[number:], f"deref-{number}")
         layers[number] = _new_layer(f"deref-{number}")
-    merges = max(0, count - wanted)
+    merges = max(0, len(layers) - wanted)
     for number in range(1, merges + 1):
         steps.run(f"merge {number} of {merges}", "merge", layers, f"merge-{number}")
         # The new topmost layer holds a root alone, which the one below it has too.
         layers[:2] = [_new_layer(f"merge-{number}", 1)]
-    if merges and len(layers) > 1:
+    if merges:
         layers[0] = steps.vacuum("vacuum of the merged layer", layers, "vacuum-merged")
-    steps.run("show of the new layers", "show", layers, _AFTER)
-    steps.compare(_AFTER)
-    steps.pack(layers)
-    return count, len(layers)
+    return layers
 
 
 def _new_layer(folder: str, number: int = 0) -> str:
