@@ -1,0 +1,5 @@
+pub mod FlattenLemmas
+pub mod DirectoryLemmas
+pub mod VisitLemmas
+pub mod FinishLemmas
+mod Rows

@@ -1,0 +1,4 @@
+pub mod Flatten
+pub mod Laws
+pub mod Directories
+pub mod Limits

@@ -1,0 +1,10 @@
+//! What a stack shows, as one layer: work in pieces.
+#![tactic(auto)]
+
+mod finish;
+mod inodes;
+pub mod laws;
+mod works;
+
+pub use finish::finish_flatten;
+pub use works::FlattenWork;
