@@ -1,6 +1,7 @@
 pub mod LawsOfPaths
 pub mod LawsOfInodes
 pub mod LawsOfWalks
+pub mod LawsOfSplits
 pub mod LawsOfNames
 pub mod LawsOfFound
 pub mod LawsOfLooks

@@ -2,7 +2,6 @@
 use Rattle.std.proofs.Common.{◌≡◌, ℕ, zero, suc, Bool, true, false, cond, Option, Some, None, is_some, List, [], ◌∷◌, ◌++◌, drop, refl, sym, ap, ◌∙◌, append_assoc, inl, inr, ◌⊎◌}
 use Rattle.std.specs.Prelude.{◌||◌, ◌&&◌, slice_get}
 use Rattle.std.specs.List.{cons_option, All}
-use Rattle.std.proofs.Math.Bool.{or-true, or-false}
 use Rattle.ovl_names.specs.Names.{PathName}
 use Rattle.ovl_names.specs.Paths.{PathNames, child_path}
 use Rattle.ovl_inode.specs.declared.inodes.Inode.{Inode}
@@ -16,11 +15,12 @@ use Rattle.ovl_lookup.specs.Walk.{walk, walk_beyond, walk_to_file, nothing_found
 use Rattle.ovl_lookup.specs.Trace.{things_found}
 use Rattle.ovl_lookup.specs.Merged.{shown_of, is_shown_directory}
 use Rattle.ovl_lookup.specs.Laws.{ViewsGoOn, ViewsFind, ViewsShow}
+use Rattle.ovl_lookup.specs.Onwards.{next_on, closed_on}
 use Rattle.ovl_lookup.specs.Passes.{entered_path, entered_closed}
 use Rattle.ovl_lookup.specs.Views.{Reached, reached, is_reached, entry_in, entered, below_entry, reached_below, found_below}
 use Rattle.ovl_lookup.proofs.LawsOfPaths.{all-first, all-rest}
-use Rattle.ovl_lookup.proofs.LawsOfInodes.{directory-kind, directory-marked, directory-no_whiteout, is_directory_mark, mark-directory}
-use Rattle.ovl_lookup.proofs.LawsOfWalks.{Beyond, directory-entry, directory_found, entry-above, entry-parent, found-file, no-directory-below, walk-child_directory, walk-child_end, walk-end, walk-past, walk-stop, walk-whole}
+use Rattle.ovl_lookup.proofs.LawsOfInodes.{directory-kind, directory-marked}
+use Rattle.ovl_lookup.proofs.LawsOfWalks.{Beyond, directory-entry, directory_found, entered-on, entry-above, entry-parent, found-file, marked-whiteout, no-directory-below, walk-child, walk-child_directory, walk-child_end, walk-end, walk-past, walk-stop, walk-whole}
 use Rattle.ovl_lookup.proofs.LawsOfFound.{shown_of-full, things_found-step}
 use Rattle.ovl_lookup.proofs.LawsOfLooks.{file-shown, found-by, found_by}
 
@@ -32,11 +32,6 @@ layer-here [] (suc i) x xs e = let bad : x ∷ xs ≡ [] = e in cc
 layer-here (y ∷ all) zero x xs e = let same : x ≡ y = cc in (ap Some (sym same), ap (drop 1) e)
 layer-here (y ∷ all) (suc i) x xs e = layer-here all i x xs e
 
--- ---- the marks of directories
-
-pub file-marked : (inode : Inode) → is_whiteout inode ≡ false → is_directory inode ≡ false → is_directory_mark (mark_of inode) ≡ false
-file-marked inode none file = mark-directory inode none ∙ file
-
 -- ---- below an entry, by its mark: `f` goes on in the layers below, `h` in the view
 
 module _ {X : Type 0} (f : PathNames → List X) (h : PathName → List Reached → List X) (r : PathNames → List Reached) (none : (name : PathName) → h name [] ≡ []) (later : (path : PathNames) (name : PathName) → f (child_path path name) ≡ h name (r path)) where
@@ -44,35 +39,18 @@ module _ {X : Type 0} (f : PathNames → List X) (h : PathName → List Reached 
   goes-on true next name = sym (none name)
   goes-on false next name = later next name
 
-  stays : (shut : Bool) (next : PathNames) (name : PathName) → cond (shut || false) [] (f (child_path next name)) ≡ h name (cond shut [] (r next))
-  stays shut next name = ap (λ b. cond b [] (f (child_path next name))) (or-false shut) ∙ goes-on shut next name
-
-  ends : (shut : Bool) (next : PathNames) → cond (shut || true) [] (f next) ≡ []
-  ends shut next = ap (λ b. cond b [] (f next)) (or-true shut)
-
-  directory-on : (mark : Mark) (shut : Bool) (next : PathNames) (name : PathName) → is_directory_mark mark ≡ true → cond (entered_closed mark shut) [] (f (entered_path mark next name)) ≡ below_entry mark name f (λ other. h other (cond shut [] (r next)))
-  directory-on DirPlain shut next name is = stays shut next name
-  directory-on (DirMoved (Beside other)) shut next name is = stays shut next other
-  directory-on (DirMoved (To origin)) shut next name is = refl
-  directory-on DirOpaque shut next name is = ends shut (child_path next name)
-  directory-on DirBad shut next name is = ends shut (child_path next name)
-  directory-on Whiteout shut next name is = let bad : false ≡ true = is in cc
-  directory-on (Meta redirect) shut next name is = let bad : false ≡ true = is in cc
-  directory-on MetaBad shut next name is = let bad : false ≡ true = is in cc
-  directory-on Leaf shut next name is = let bad : false ≡ true = is in cc
-
-module _ (f : PathNames → List Inode) (h : PathName → List Reached → List Inode) (r : PathNames → List Reached) (none : (name : PathName) → h name [] ≡ []) (later : (path : PathNames) (name : PathName) → f (child_path path name) ≡ h name (r path)) where
-  file-on : (inode : Inode) (mark : Mark) (shut : Bool) (next : PathNames) (name : PathName) → is_directory_mark mark ≡ false → cons_option (walk_to_file inode mark next shut name).found (cond (walk_to_file inode mark next shut name).closed [] (f (walk_to_file inode mark next shut name).next)) ≡ inode ∷ below_entry mark name f (λ other. h other (cond shut [] (r next)))
-  file-on inode (Meta None) shut next name is = ap (λ found. inode ∷ found) (goes-on f h r none later shut next name)
-  file-on inode (Meta (Some (Beside other))) shut next name is = ap (λ found. inode ∷ found) (goes-on f h r none later shut next other)
-  file-on inode (Meta (Some (To origin))) shut next name is = refl
-  file-on inode Whiteout shut next name is = refl
-  file-on inode MetaBad shut next name is = refl
-  file-on inode Leaf shut next name is = refl
-  file-on inode DirOpaque shut next name is = let bad : true ≡ false = is in cc
-  file-on inode (DirMoved redirect) shut next name is = let bad : true ≡ false = is in cc
-  file-on inode DirBad shut next name is = let bad : true ≡ false = is in cc
-  file-on inode DirPlain shut next name is = let bad : true ≡ false = is in cc
+  mark-on : (mark : Mark) (shut : Bool) (next : PathNames) (name : PathName) → cond (closed_on mark name shut) [] (f (next_on mark next name)) ≡ below_entry mark name f (λ other. h other (cond shut [] (r next)))
+  mark-on DirPlain shut next name = goes-on shut next name
+  mark-on (DirMoved (Beside other)) shut next name = goes-on shut next other
+  mark-on (DirMoved (To origin)) shut next name = refl
+  mark-on (Meta None) shut next name = goes-on shut next name
+  mark-on (Meta (Some (Beside other))) shut next name = goes-on shut next other
+  mark-on (Meta (Some (To origin))) shut next name = refl
+  mark-on Whiteout shut next name = refl
+  mark-on DirOpaque shut next name = refl
+  mark-on DirBad shut next name = refl
+  mark-on MetaBad shut next name = refl
+  mark-on Leaf shut next name = refl
 
 -- ---- a path at which a layer has no directory
 
@@ -205,6 +183,9 @@ module _ (all : List Entries) (layer : Entries) (layers : List Entries) (i : ℕ
   entry-in : entry_in all name place ≡ entry_at layer (child_path path name)
   entry-in = ap (λ (o : Option Entries). elim o as (λ _. Option Inode) [ Some own ↦ entry_at own (child_path path name) | None ↦ None ]) here
 
+  abbrev step-at : Inode → Bool → Mark → Step
+  step-at inode white mark = record { found = cond white None (Some inode); next = next_on mark (walk layer path).next name; closed = closed_on mark name (walk layer path).closed }
+
   pub reached-here : is_directory_at layer path ≡ true → reached (layer ∷ layers) i path ≡ place ∷ rest_of
   reached-here holds = ap (λ b. cond b (place ∷ rest_of) (cond (is_some (entry_at layer path) || (walk layer path).closed) [] (reached layers (suc i) (walk layer path).next))) holds
 
@@ -224,12 +205,13 @@ module _ (all : List Entries) (layer : Entries) (layers : List Entries) (i : ℕ
 
     view-entry : is_directory_at layer path ≡ true → (inode : Inode) → entry_at layer (child_path path name) ≡ Some inode → (d : Bool) → is_directory inode ≡ d → reached (layer ∷ layers) i (child_path path name) ≡ reached_below all name (reached (layer ∷ layers) i path)
     view-entry holds inode e true d =
-        let mark = directory-marked inode d in
+        let on = entered-on (walk layer path).next name (mark_of inode) (directory-marked inode d) (walk layer path).closed in
         let step : Step = record { found = Some inode; next = entered_path (mark_of inode) (walk layer path).next name; closed = entered_closed (mark_of inode) (walk layer path).closed } in
         reached-by layer layers i (child_path path name) (Some inode) step e (walk-child_directory layer path name is inode e d)
         ∙ (ap (λ b. cond b (entered name (mark_of inode) place ∷ cond step.closed [] (reached layers (suc i) step.next)) []) d
         ∙ (ap (λ views. entered name (mark_of inode) place ∷ views)
-        (directory-on (reached layers (suc i)) (reached_below all) (reached layers (suc i)) (λ n. refl) later (mark_of inode) (walk layer path).closed (walk layer path).next name mark
+        ((λ j. cond (on.1 j) [] (reached layers (suc i) (on.0 j)))
+        ∙ mark-on (reached layers (suc i)) (reached_below all) (reached layers (suc i)) (λ n. refl) later (mark_of inode) (walk layer path).closed (walk layer path).next name
         ∙ ap (λ (more : List Entries). below_entry (mark_of inode) name (reached more (suc i)) (λ other. reached_below all other rest_of)) rest)
         ∙ sym (view-here (Some inode) holds e
         ∙ ap (λ b. cond b (entered name (mark_of inode) place ∷ below_entry (mark_of inode) name (reached (drop (suc i) all) (suc i)) (λ other. reached_below all other rest_of)) []) d)))
@@ -276,23 +258,17 @@ module _ (all : List Entries) (layer : Entries) (layers : List Entries) (i : ℕ
         ∙ sym (found-here (Some inode) holds e
         ∙ ap (λ b. cond b [] (inode ∷ below_entry (mark_of inode) name (things_found (drop (suc i) all)) (λ other. found_below all other rest_of))) w))
 
-    found-entry : is_directory_at layer path ≡ true → (inode : Inode) → entry_at layer (child_path path name) ≡ Some inode → (d : Bool) → is_directory inode ≡ d → (w : Bool) → is_whiteout inode ≡ w → things_found (layer ∷ layers) (child_path path name) ≡ found_below all name (reached (layer ∷ layers) i path)
-    found-entry holds inode e true d w h =
-        let mark = directory-marked inode d in
-        found-inode holds inode e (directory-no_whiteout inode d)
-        (found-by layer layers (child_path path name) (record { found = Some inode; next = entered_path (mark_of inode) (walk layer path).next name; closed = entered_closed (mark_of inode) (walk layer path).closed }) (walk-child_directory layer path name is inode e d)
-        ∙ ap (λ found. inode ∷ found) (directory-on (things_found layers) (found_below all) (reached layers (suc i)) (λ n. refl) later (mark_of inode) (walk layer path).closed (walk layer path).next name mark))
-    found-entry holds inode e false d true w =
-        found-by layer layers (child_path path name) (walk_beyond (Some inode) (walk layer path).next (walk layer path).closed name []) (walk-child_end layer path name is (Some inode) holds e d [])
-        ∙ (ap (λ b. found_by (cond b (nothing_found (child_path (walk layer path).next name) true) (walk_to_file inode (mark_of inode) (walk layer path).next (walk layer path).closed name)) layers) w
+    found-entry : is_directory_at layer path ≡ true → (inode : Inode) → entry_at layer (child_path path name) ≡ Some inode → (w : Bool) → is_whiteout inode ≡ w → things_found (layer ∷ layers) (child_path path name) ≡ found_below all name (reached (layer ∷ layers) i path)
+    found-entry holds inode e true w =
+        found-by layer layers (child_path path name) (step-at inode (is_whiteout inode) (mark_of inode)) (walk-child layer path name is inode e)
+        ∙ ((λ j. found_by (step-at inode (w j) (marked-whiteout inode w j)) layers)
         ∙ sym (found-here (Some inode) holds e
         ∙ ap (λ b. cond b [] (inode ∷ below_entry (mark_of inode) name (things_found (drop (suc i) all)) (λ other. found_below all other rest_of))) w))
-    found-entry holds inode e false d false w =
-        let mark = file-marked inode w d in
+    found-entry holds inode e false w =
         found-inode holds inode e w
-        (found-by layer layers (child_path path name) (walk_beyond (Some inode) (walk layer path).next (walk layer path).closed name []) (walk-child_end layer path name is (Some inode) holds e d [])
-        ∙ (ap (λ b. found_by (cond b (nothing_found (child_path (walk layer path).next name) true) (walk_to_file inode (mark_of inode) (walk layer path).next (walk layer path).closed name)) layers) w
-        ∙ file-on (things_found layers) (found_below all) (reached layers (suc i)) (λ n. refl) later inode (mark_of inode) (walk layer path).closed (walk layer path).next name mark))
+        (found-by layer layers (child_path path name) (step-at inode (is_whiteout inode) (mark_of inode)) (walk-child layer path name is inode e)
+        ∙ (ap (λ b. found_by (step-at inode b (mark_of inode)) layers) w
+        ∙ ap (λ found. inode ∷ found) (mark-on (things_found layers) (found_below all) (reached layers (suc i)) (λ n. refl) later (mark_of inode) (walk layer path).closed (walk layer path).next name)))
 
     found-past : NothingAt layer path ⊎ FileAt layer path → things_found (layer ∷ layers) (child_path path name) ≡ found_below all name (reached (layer ∷ layers) i path)
     found-past (inl nothing) =
@@ -331,7 +307,7 @@ found-child all (layer ∷ layers) i path name whole each = by (λ p n. found-ch
       where
         inside : (found : Option Inode) → entry_at layer (child_path path name) ≡ found → things_found (layer ∷ layers) (child_path path name) ≡ found_below all name (reached (layer ∷ layers) i path)
         inside None e = found-none all layer layers i path name is (layer-here all i layer layers whole).0 (layer-here all i layer layers whole).1 later holds e
-        inside (Some inode) e = found-entry all layer layers i path name is (layer-here all i layer layers whole).0 (layer-here all i layer layers whole).1 later holds inode e (is_directory inode) refl (is_whiteout inode) refl
+        inside (Some inode) e = found-entry all layer layers i path name is (layer-here all i layer layers whole).0 (layer-here all i layer layers whole).1 later holds inode e (is_whiteout inode) refl
     by later (inr b) = found-past all layer layers i path name is (layer-here all i layer layers whole).0 (layer-here all i layer layers whole).1 later (past layer path is b)
 
 -- ---- a directory is shown exactly where some layer has one

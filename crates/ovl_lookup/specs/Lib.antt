@@ -14,3 +14,4 @@ pub mod Laws
 pub mod Equal
 pub mod EqualLaws
 pub mod WalkLaws
+pub mod WalkSplits

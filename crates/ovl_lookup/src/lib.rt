@@ -17,6 +17,6 @@ mod views;
 pub use looks::{Look, is_well_formed_metacopy};
 pub use onward::Onward;
 pub use stacks::{LAYER_LIMIT, Stack, StackFault};
-pub use steps::{Found, OwnDirectory, Step, walk};
+pub use steps::{Arrival, Found, OwnDirectory, Step, walk};
 pub use trails::Trail;
 pub use views::DirView;

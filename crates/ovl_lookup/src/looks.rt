@@ -83,7 +83,7 @@ impl Stack {
                 found,
                 next: below,
                 closed,
-            } = self.followed(alloc, i, &next)?;
+            } = self.followed(alloc, i, next)?;
             if let Some(found) = found {
                 return self.shown(alloc, found, i + 1, below, closed);
             }
@@ -100,10 +100,10 @@ impl Stack {
         &'a self,
         alloc: Global,
         i: usize,
-        trail: &Trail<'a>,
+        trail: Trail<'a>,
     ) -> Result<TrailStep<'a>, AllocError>
         requires { i < length self.now.layers }
-        ensures value { IfSome (slice_get self.now.layers i) (λ layer. IfOk result (λ step. step_of step ≡ the_walk layer trail.now)) }
+        ensures value { IfSome (slice_get self.now.layers i) (λ layer. IfOk result (λ step. step_of step ≡ the_walk layer trail.entry)) }
         ensures marked { IfOk result IsMarked }
     {
         follow(alloc, &self.layers[i], trail)
@@ -175,7 +175,7 @@ impl Stack {
                 found,
                 next: lower,
                 closed,
-            } = self.followed(alloc, place, &next)?;
+            } = self.followed(alloc, place, next)?;
             if let Some(found) = found {
                 if is_data(found.inode) {
                     return Ok(Some(found.inode.copy(alloc)?));
@@ -205,7 +205,7 @@ impl Stack {
                 found,
                 next: lower,
                 closed,
-            } = self.followed(alloc, i, &next)?;
+            } = self.followed(alloc, i, next)?;
             if let Some(found) = found {
                 if !is_well_formed_metacopy(found.mark) {
                     return Ok(None);

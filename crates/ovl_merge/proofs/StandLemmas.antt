@@ -1,30 +1,27 @@
 -- Where the walk of a directory stands in a layer, and how those of the names in it end.
-use Rattle.std.proofs.Common.{◌≡◌, ℕ, ◌<◌, Bool, true, false, cond, Option, Some, None, [], ◌∷◌, ◌++◌, length, refl, sym, ap, ◌∙◌, subst, append_assoc}
-use Rattle.std.specs.Prelude.{◌&&◌, is_some, is_none, slice_get, unwrap_or, IfSome, MatchOption}
+use Rattle.std.proofs.Common.{◌≡◌, ℕ, ◌<◌, Bool, true, false, cond, Option, Some, None, [], ◌∷◌, ◌++◌, length, refl, sym, ap, ◌∙◌, subst, inl, inr, ◌⊎◌}
+use Rattle.std.specs.Prelude.{◌||◌, is_some, is_none, slice_get, unwrap_or, IfSome, MatchOption}
 use Rattle.std.specs.Option.{option_map}
 use Rattle.std.specs.List.{list_any}
 use Rattle.ovl_names.specs.Names.{PathName, name_eq}
 use Rattle.ovl_names.specs.Paths.{PathNames, child_path}
 use Rattle.ovl_inode.specs.declared.inodes.Inode.{Inode}
 use Rattle.ovl_inode.specs.declared.marks.Mark.{Mark}
-use Rattle.ovl_inode.specs.declared.marks.Mark.TheVariants.{Whiteout, DirOpaque, DirMoved, DirBad, DirPlain, Meta, MetaBad, Leaf}
-use Rattle.ovl_inode.specs.declared.marks.Redirect.TheVariants.{To, Beside as ByName}
-use Rattle.ovl_inode.specs.Marks.{mark_of, is_directory, is_regular, is_whiteout, has_opaque, has_metacopy, redirect_reading, directory_mark, metacopy_mark}
+use Rattle.ovl_inode.specs.Marks.{mark_of, is_directory}
 use Rattle.ovl_manifest.specs.Layers.{Entries, IsLayer, entry_at, is_directory_at, names_below}
 use Rattle.ovl_manifest.specs.LayerTrees.{entries_under}
 use Rattle.ovl_manifest.specs.Sheets.{path_at}
 use Rattle.ovl_manifest.proofs.NodeLemmas.{entry_at-under}
 use Rattle.ovl_lookup.specs.declared.steps.Found.{Found}
-use Rattle.ovl_lookup.specs.declared.steps.OwnDirectory.{OwnDirectory}
 use Rattle.ovl_lookup.specs.declared.steps.Step.{Step}
 use Rattle.ovl_lookup.specs.declared.onward.Onward.{Onward}
 use Rattle.ovl_lookup.specs.declared.onward.Onward.TheVariants.{Beside, At, Nowhere}
 use Rattle.ovl_lookup.specs.Onwards.{IsOnward, path_on, name_on as marked_name, path_told, name_told}
 use Rattle.ovl_lookup.specs.Stacks.{StackView}
-use Rattle.ovl_lookup.specs.Walk.{walk, walk_beyond, walk_to_file, nothing_found}
-use Rattle.ovl_lookup.specs.Passes.{IsOwnDirectory, entered_path, entered_closed}
-use Rattle.ovl_lookup.proofs.LawsOfInodes.{is_directory_mark, mark-directory, directory-marked, directory-no_whiteout}
-use Rattle.ovl_lookup.proofs.LawsOfWalks.{directory_found, walk-whole, walk-child_end, file-is_found, file-found, found-file, whiteout-closes, own-file, own-entered, names_below-has, entry-parent, entry-of_row}
+use Rattle.ovl_lookup.specs.Walk.{walk, nothing_found}
+use Rattle.ovl_lookup.specs.Passes.{IsArrivalAt}
+use Rattle.ovl_lookup.proofs.ViewLemmas.{NothingAt, FileAt, past}
+use Rattle.ovl_lookup.proofs.LawsOfWalks.{Beyond, directory_found, walk-whole, walk-child, walk-child_end, walk-end, walk-finds, names_below-has, entry-parent, entry-of_row}
 use Rattle.ovl_merge.specs.declared.stands.Stand.{Stand}
 use Rattle.ovl_merge.specs.declared.stands.Passing.{Passing}
 use Rattle.ovl_merge.specs.Places.{merge_of, passes}
@@ -46,27 +43,14 @@ pub over-row : (layer : Entries) (path : PathNames) (row : Option ℕ) (next : O
 over-row layer path None next is = tt
 over-row layer path (Some row) next is = is.inside
 
-pub over-stand : (layer : Entries) (path : PathNames) (stand : Stand) → IsStand layer path stand → IsOver layer stand
-over-stand layer path stand is = over-row layer path stand.row stand.next is
-
 pub below-over : (layer : Entries) (onward : Option PathNames) (stand : Stand) → IsBelow layer onward (Some stand) → IsOver layer stand
 below-over layer None stand below = absurd below
-below-over layer (Some path) stand below = over-stand layer path stand below
+below-over layer (Some path) stand below = over-row layer path stand.row stand.next below
 
 -- where that of the lower layer stands, if it goes on there
 pub below-place : (layer : Entries) (onward : Option PathNames) (stand : Stand) → IsBelow layer onward (Some stand) → (place : PathNames) × (onward ≡ Some place) × IsStand layer place stand
 below-place layer None stand below = absurd below
 below-place layer (Some place) stand below = (place, refl, below)
-
--- where it goes on by a name
-pub below-none : (layer : Entries) (onward : Option PathNames) → IsBelow layer onward None → (name : PathName) → name_on onward name ≡ None
-below-none layer onward none name = ap (λ (o : Option PathNames). name_on o name) none
-
-pub below-entered : (layer : Entries) (onward : Option PathNames) (stand : Stand) → IsBelow layer onward (Some stand) → (name : PathName) (entered : Stand)
-    → (sheet : Entries) → layer ≡ sheet → ((path : PathNames) → IsStand sheet path stand → IsStand sheet (child_path path name) entered) → IsBelow layer (name_on onward name) (Some entered)
-below-entered layer None stand below name entered sheet same enters = absurd below
-below-entered layer (Some path) stand below name entered sheet same enters =
-    subst (λ (s : Entries). IsStand s (child_path path name) entered) (sym same) (enters path (subst (λ (s : Entries). IsStand s path stand) same below))
 
 passes-same : (found : Option Inode) → directory_found found ≡ passes is_directory found
 passes-same None = refl
@@ -87,17 +71,6 @@ no-directory layer path none = by (is_directory_at layer path) refl
     by false e = e
     by true e = let bad : false ≡ true = sym none ∙ inside-found layer path e in cc
 
--- the root's
-pub root-stands : (layer : Entries) → IsLayer layer → (row : ℕ) → row < length layer → path_at layer row ≡ [] → IsInside layer [] row (Some [])
-root-stands layer is row inside here =
-    record { inside = inside; here = here; directory = is.rooted; onward = sym (ap step_onward (walk-whole layer [] is.rooted)) }
-
--- ---- marks
-
-marked-whiteout : (inode : Inode) → is_whiteout inode ≡ true → mark_of inode ≡ Whiteout
-marked-whiteout inode white =
-    ap (λ (b : Bool). cond b Whiteout (cond (is_directory inode && has_opaque inode) DirOpaque (cond (is_directory inode) (directory_mark (redirect_reading inode)) (cond (is_regular inode && has_metacopy inode) (metacopy_mark (redirect_reading inode)) Leaf)))) white
-
 -- where a walk goes on at a thing of this mark and name
 abbrev onward_among : Option PathNames → Option PathName → Option PathNames → Option PathNames
 onward_among (Some path) own next = Some path
@@ -115,43 +88,15 @@ onward-told mark name onward is next = by onward ∙ (λ j. onward_among (is.at 
     by (At path) = refl
     by Nowhere = refl
 
-module _ (next : PathNames) (name : PathName) where
-  -- where the walk of a directory goes on
-  directory-onward : (mark : Mark) → is_directory_mark mark ≡ true → (closed : Bool) → onward_by mark (onward_on next closed) name ≡ onward_on (entered_path mark next name) (entered_closed mark closed)
-  directory-onward DirPlain is true = refl
-  directory-onward DirPlain is false = refl
-  directory-onward (DirMoved (To origin)) is closed = refl
-  directory-onward (DirMoved (ByName own)) is true = refl
-  directory-onward (DirMoved (ByName own)) is false = refl
-  directory-onward DirOpaque is true = refl
-  directory-onward DirOpaque is false = refl
-  directory-onward DirBad is true = refl
-  directory-onward DirBad is false = refl
-  directory-onward Whiteout is closed = let bad : false ≡ true = is in cc
-  directory-onward (Meta redirect) is closed = let bad : false ≡ true = is in cc
-  directory-onward MetaBad is closed = let bad : false ≡ true = is in cc
-  directory-onward Leaf is closed = let bad : false ≡ true = is in cc
-
-  -- and that of a file
-  file-onward : (inode : Inode) (mark : Mark) → is_directory_mark mark ≡ false → (closed : Bool) → onward_by mark (onward_on next closed) name ≡ step_onward (walk_to_file inode mark next closed name)
-  file-onward inode (Meta None) is true = refl
-  file-onward inode (Meta None) is false = refl
-  file-onward inode (Meta (Some (To origin))) is closed = refl
-  file-onward inode (Meta (Some (ByName own))) is true = refl
-  file-onward inode (Meta (Some (ByName own))) is false = refl
-  file-onward inode MetaBad is closed = refl
-  file-onward inode Leaf is closed = refl
-  file-onward inode Whiteout is closed = refl
-  file-onward inode DirPlain is closed = let bad : true ≡ false = is in cc
-  file-onward inode (DirMoved redirect) is closed = let bad : true ≡ false = is in cc
-  file-onward inode DirOpaque is closed = let bad : true ≡ false = is in cc
-  file-onward inode DirBad is closed = let bad : true ≡ false = is in cc
+-- by the path and the flag there
+onward-on : (path : Option PathNames) (own : Option PathName) (next : PathNames) (name : PathName) (closed : Bool)
+    → onward_among path own (onward_on next closed) ≡ onward_on (unwrap_or path (child_path next (unwrap_or own name))) (cond (is_some path) false (cond (is_none own) true closed))
+onward-on (Some path) own next name closed = refl
+onward-on None (Some own) next name true = refl
+onward-on None (Some own) next name false = refl
+onward-on None None next name closed = refl
 
 -- ---- the end of a name's walk
-
-abbrev IsRow : Entries → PathNames → Option ℕ → Type 0
-IsRow layer path row =
-    MatchOption row (passes is_directory (walk layer path).found ≡ false) (λ r. (r < length layer) × (path_at layer r ≡ path) × (is_directory_at layer path ≡ true))
 
 -- in what is no directory there is no row
 no-row : (layer : Entries) → IsLayer layer → (path : PathNames) (name : PathName) (next : Option PathNames) → IsPast layer path next → (row : ℕ) → row < length layer → path_at layer row ≡ child_path path name → ⊥
@@ -161,12 +106,11 @@ no-row layer layered path name next is row inside there =
     let bad : false ≡ true = sym (no-directory layer path is.no_directory) ∙ holds in cc
 
 -- at a name that the layer doesn't have
-module _ (layer : Entries) (path : PathNames) (name : PathName) (next : Option PathNames) (passing : Passing) (found : passing.found ≡ None) (row : passing.row ≡ None) (onward : (n : Option PathNames) → onward_to n passing.onward ≡ name_on n name) where
+module _ (layer : Entries) (path : PathNames) (name : PathName) (next : Option PathNames) (passing : Passing) (found : passing.found ≡ None) (onward : (n : Option PathNames) → onward_to n passing.onward ≡ name_on n name) where
   ended : (walk layer (child_path path name)).found ≡ None → name_on next name ≡ step_onward (walk layer (child_path path name)) → IsPassing layer (child_path path name) next passing
   ended none on = record {
     found = ap (option_map (λ (f : Found). f.inode.now)) found ∙ sym none;
     marked = subst (λ (o : Option Found). IfSome o (λ f. f.mark.now ≡ mark_of f.inode.now)) (sym found) tt;
-    row = subst (IsRow layer (child_path path name)) (sym row) (ap (passes is_directory) none);
     onward = onward next ∙ on;
   }
 
@@ -190,62 +134,18 @@ module _ (layer : Entries) (path : PathNames) (name : PathName) (next : Option P
 -- at a thing in its row
 pass-thing : (layer : Entries) → IsLayer layer → (path : PathNames) (name : PathName) (directory : ℕ) (next : Option PathNames) → IsInside layer path directory next
     → (row : ℕ) → row < length layer → path_at layer row ≡ child_path path name → (passing : Passing) → IsThing layer row name passing → IsPassing layer (child_path path name) next passing
-pass-thing layer layered path name directory next is row inside place passing thing = by (is_directory inode) refl
-  where
-    inode : Inode
-    inode = thing.inode
-
-    turned : PathNames
-    turned = (walk layer path).next
-
-    shut : Bool
-    shut = (walk layer path).closed
-
-    own : OwnDirectory
-    own = record { row = directory; turned = Some turned; closed = shut }
-
-    stands : IsOwnDirectory layer path own
-    stands = record { inside = is.inside; here = is.here; directory = is.directory; next = refl; closed = refl }
-
-    here : entry_at layer (child_path path name) ≡ Some inode
-    here = ap (entry_at layer) (sym place) ∙ thing.here
-
-    known : onward_to next passing.onward ≡ onward_by (mark_of inode) (onward_on turned shut) name
-    known = onward-told (mark_of inode) name passing.onward thing.onward next ∙ ap (λ (o : Option PathNames). onward_by (mark_of inode) o name) is.onward
-
-    file : is_directory inode ≡ false → (step : Step) → step ≡ walk layer (child_path path name) → cond (is_whiteout inode) None (Some inode) ≡ step.found → passes is_directory step.found ≡ false → onward_by (mark_of inode) (onward_on turned shut) name ≡ step_onward step
-        → IsPassing layer (child_path path name) next passing
-    file d step same found none onward = record {
-      found = thing.found ∙ (found ∙ ap (λ (s : Step). s.found) same);
+pass-thing layer layered path name directory next is row inside place passing thing =
+    let inode : Inode = thing.inode in
+    let step = walk-child layer path name layered inode (ap (entry_at layer) (sym place) ∙ thing.here) in
+    record {
+      found = thing.found ∙ ap (λ (s : Step). s.found) (sym step);
       marked = thing.marked;
-      row = subst (IsRow layer (child_path path name)) (sym (thing.directory ∙ ap (λ (b : Bool). cond b (Some row) None) d)) (sym (ap (λ (s : Step). passes is_directory s.found) same) ∙ none);
-      onward = known ∙ (onward ∙ ap step_onward same);
+      onward =
+          onward-told (mark_of inode) name passing.onward thing.onward next
+          ∙ (ap (λ (o : Option PathNames). onward_by (mark_of inode) o name) is.onward
+          ∙ (onward-on (path_on (mark_of inode)) (marked_name (mark_of inode) name) (walk layer path).next name (walk layer path).closed
+          ∙ ap step_onward (sym step)));
     }
-
-    by : (b : Bool) → is_directory inode ≡ b → IsPassing layer (child_path path name) next passing
-    by true d =
-        let step = own-entered layer path name layered own stands inode here d in
-        record {
-          found = thing.found ∙ (ap (λ (b : Bool). cond b None (Some inode)) (directory-no_whiteout inode d) ∙ ap (λ (s : Step). s.found) step);
-          marked = thing.marked;
-          row = subst (IsRow layer (child_path path name)) (sym (thing.directory ∙ ap (λ (b : Bool). cond b (Some row) None) d)) (inside, place, ap directory_found here ∙ d);
-          onward = known ∙ (directory-onward turned name (mark_of inode) (directory-marked inode d) shut ∙ ap step_onward step);
-        }
-    by false d = white (is_whiteout inode) refl
-      where
-        step : walk_beyond (Some inode) turned shut name [] ≡ walk layer (child_path path name)
-        step = own-file layer path name layered own stands inode here d
-
-        white : (b : Bool) → is_whiteout inode ≡ b → IsPassing layer (child_path path name) next passing
-        white true w =
-            file d (nothing_found (child_path turned name) true) (sym (whiteout-closes inode turned shut name w) ∙ step)
-            (ap (λ (b : Bool). cond b None (Some inode)) w) refl
-            (ap (λ (mark : Mark). onward_by mark (onward_on turned shut) name) (marked-whiteout inode w))
-        white false w =
-            file d (walk_to_file inode (mark_of inode) turned shut name) (sym (file-found inode turned shut name w) ∙ step)
-            (ap (λ (b : Bool). cond b None (Some inode)) w ∙ sym (found-file inode (mark_of inode) turned shut name))
-            (ap (passes is_directory) (found-file inode (mark_of inode) turned shut name) ∙ d)
-            (file-onward turned name inode (mark_of inode) (mark-directory inode w ∙ d) shut)
 
 pub pass-row : (layer : Entries) → IsLayer layer → (path : PathNames) (name : PathName) (directory : Option ℕ) (next : Option PathNames) → StandsAt layer path directory next
     → (row : ℕ) → row < length layer → path_at layer row ≡ child_path path name → (passing : Passing) → IsThing layer row name passing → IsPassing layer (child_path path name) next passing
@@ -289,106 +189,63 @@ sought-row layer path directory next is name None nothing =
     ∙ ap (λ (entries : Entries). entry_at entries []) (ap (λ (p : PathNames). entries_under (child_path p name) layer) (sym is.here) ∙ nothing)
 sought-row layer path directory next is name (Some child) there = (there.0, there.1 ∙ ap (λ (p : PathNames). child_path p name) is.here)
 
--- ---- a stand with one more name
+-- ---- where a walk arrives, it stands
 
--- past what the layer has
-module _ (layer : Entries) (layered : IsLayer layer) (path : PathNames) (own : PathName) where
-  joined : (name : PathName) (names : PathNames) → child_path path own ++ name ∷ names ≡ path ++ own ∷ name ∷ names
-  joined name names = append_assoc path (own ∷ []) (name ∷ names)
+-- what is hidden there goes on no further
+shut-past : (step : Step) → step.closed ≡ true → None ≡ past_onward step
+shut-past step shut = by step.found ∙ (λ j. cond (is_some step.found) None (onward_on step.next (sym shut j)))
+  where
+    by : (found : Option Inode) → None ≡ cond (is_some found) None (onward_on step.next true)
+    by None = refl
+    by (Some inode) = refl
 
-  under-past : (next : Option PathNames) → IsPast layer path next → passes is_directory (walk layer (child_path path own)).found ≡ false → (below : Option PathNames) → below ≡ past_onward (walk layer (child_path path own)) → IsPast layer (child_path path own) below
-  under-past next is none below told = record {
-    no_directory = none;
-    onward = told;
-    nothing = λ name names. ap (λ (p : PathNames). (walk layer p).found) (joined name names) ∙ is.nothing own (name ∷ names);
-    below = λ name names. ap (λ (p : PathNames). step_onward (walk layer p)) (joined name names) ∙ (is.below own (name ∷ names) ∙ (further next name names ∙ sym (ap (option_map (λ (above : PathNames). above ++ name ∷ names)) on)));
+found-past : (step : Step) (inode : Inode) → step.found ≡ Some inode → None ≡ past_onward step
+found-past step inode found = ap (λ (o : Option Inode). cond (is_some o) None (step_onward step)) (sym found)
+
+module _ (layer : Entries) (is : IsLayer layer) (path : PathNames) where
+  past-stands : (next : PathNames) (closed : Bool) → IsArrivalAt layer path None next closed → IsPast layer path (onward_on next closed)
+  past-stands next closed at = record {
+    no_directory = no_directory (walk layer path).found refl;
+    onward = goes closed at;
+    nothing = λ name names. ap (λ (s : Step). s.found) (at.below name names);
+    below = λ name names. ap step_onward (at.below name names) ∙ named closed name names;
   }
     where
-      on : below ≡ option_map (λ (above : PathNames). above ++ own ∷ []) next
-      on = told ∙ (ap (λ (o : Option Inode). cond (is_some o) None (step_onward (walk layer (child_path path own)))) (is.nothing own []) ∙ is.below own [])
+      named : (b : Bool) (name : PathName) (names : PathNames) → onward_on (next ++ name ∷ names) b ≡ option_map (λ (above : PathNames). above ++ name ∷ names) (onward_on next b)
+      named true name names = refl
+      named false name names = refl
 
-      further : (o : Option PathNames) (name : PathName) (names : PathNames) → option_map (λ (above : PathNames). above ++ own ∷ name ∷ names) o ≡ option_map (λ (above : PathNames). above ++ name ∷ names) (option_map (λ (above : PathNames). above ++ own ∷ []) o)
-      further None name names = refl
-      further (Some above) name names = ap (λ (p : PathNames). Some p) (sym (append_assoc above (own ∷ []) (name ∷ names)))
+      no_directory : (found : Option Inode) → (walk layer path).found ≡ found → passes is_directory (walk layer path).found ≡ false
+      no_directory None e = ap (passes is_directory) e
+      no_directory (Some inode) e = ap (passes is_directory) e ∙ (sym (ap directory_found (walk-finds layer path inode is e).0) ∙ at.none)
 
-  under-directory : (row : ℕ) (next : Option PathNames) → IsInside layer path row next → passes is_directory (walk layer (child_path path own)).found ≡ false → (below : Option PathNames) → below ≡ past_onward (walk layer (child_path path own)) → IsPast layer (child_path path own) below
-  under-directory row next is none below told = record {
-    no_directory = none;
-    onward = told;
-    nothing = λ name names. ap (λ (s : Step). s.found) (ends (entry_at layer (child_path path own)) refl name names) ∙ unfound (entry_at layer (child_path path own)) name names;
-    below = λ name names. ap step_onward (ends (entry_at layer (child_path path own)) refl name names) ∙ goes (entry_at layer (child_path path own)) refl name names;
-  }
-    where
-      turned : PathNames
-      turned = (walk layer path).next
-
-      shut : Bool
-      shut = (walk layer path).closed
-
-      file : directory_found (entry_at layer (child_path path own)) ≡ false
-      file = no-directory layer (child_path path own) none
-
-      ends : (found : Option Inode) → entry_at layer (child_path path own) ≡ found → (name : PathName) (names : PathNames) → walk layer (child_path path own ++ name ∷ names) ≡ walk_beyond found turned shut own (name ∷ names)
-      ends found here name names =
-          ap (walk layer) (joined name names)
-          ∙ walk-child_end layer path own layered found is.directory here (ap directory_found (sym here) ∙ file) (name ∷ names)
-
-      here-ends : (found : Option Inode) → entry_at layer (child_path path own) ≡ found → walk layer (child_path path own) ≡ walk_beyond found turned shut own []
-      here-ends found here = walk-child_end layer path own layered found is.directory here (ap directory_found (sym here) ∙ file) []
-
-      unfound : (found : Option Inode) (name : PathName) (names : PathNames) → (walk_beyond found turned shut own (name ∷ names)).found ≡ None
-      unfound None name names = refl
-      unfound (Some inode) name names = refl
-
-      goes : (found : Option Inode) → entry_at layer (child_path path own) ≡ found → (name : PathName) (names : PathNames) → step_onward (walk_beyond found turned shut own (name ∷ names)) ≡ option_map (λ (above : PathNames). above ++ name ∷ names) below
-      goes None here name names =
-          by shut ∙ sym (ap (option_map (λ (above : PathNames). above ++ name ∷ names)) (told ∙ ap past_onward (here-ends None here)))
+      goes : (b : Bool) → IsArrivalAt layer path None next b → onward_on next b ≡ past_onward (walk layer path)
+      goes b at = by (walk-end layer path is) b at
         where
-          by : (closed : Bool) → onward_on (turned ++ own ∷ name ∷ names) closed ≡ option_map (λ (above : PathNames). above ++ name ∷ names) (onward_on (turned ++ own ∷ []) closed)
-          by true = refl
-          by false = ap (λ (p : PathNames). Some p) (sym (append_assoc turned (own ∷ []) (name ∷ names)))
-      goes (Some inode) here name names = sym (ap (option_map (λ (above : PathNames). above ++ name ∷ names)) (told ∙ (ap past_onward (here-ends (Some inode) here) ∙ by (is_whiteout inode) refl)))
-        where
-          by : (b : Bool) → is_whiteout inode ≡ b → past_onward (walk_beyond (Some inode) turned shut own []) ≡ None
-          by true w = ap past_onward (whiteout-closes inode turned shut own w)
-          by false w = ap (λ (o : Option Inode). cond (is_some o) None (step_onward (walk_beyond (Some inode) turned shut own []))) (file-is_found inode turned shut own w)
+          opened : (one other : Bool) → (one || other) ≡ false → (one ≡ false) × (other ≡ false)
+          opened false other e = (refl, e)
+          opened true other e = let bad : true ≡ false = e in cc
 
-  enter-past : (row : Option ℕ) (next : Option PathNames) → StandsAt layer path row next → passes is_directory (walk layer (child_path path own)).found ≡ false → (below : Option PathNames) → below ≡ past_onward (walk layer (child_path path own)) → IsPast layer (child_path path own) below
-  enter-past None next is none below told = under-past next is none below told
-  enter-past (Some row) next is none below told = under-directory row next is none below told
+          unfound : (found : Option Inode) → (walk layer path).found ≡ found → is_some (entry_at layer path) ≡ false → (walk layer path).found ≡ None
+          unfound None e none = e
+          unfound (Some inode) e none = let bad : true ≡ false = sym (ap is_some (walk-finds layer path inode is e).0) ∙ none in cc
 
-  module _ (row : Option ℕ) (next : Option PathNames) (is : StandsAt layer path row next) (passing : Passing) (passes-by : IsPassing layer (child_path path own) next passing) where
-    -- a file hides all under it
-    pub enter-file : (is_some passing.found && is_none passing.row) ≡ true → StandsAt layer (child_path path own) None None
-    enter-file file =
-        enter-past row next is (by passing.row passes-by.row file) None
-        (sym (ap (λ (b : Bool). cond b None (step_onward (walk layer (child_path path own)))) (sym (ap is_some passes-by.found) ∙ told passing.found file)))
-      where
-        by : (r : Option ℕ) → IsRow layer (child_path path own) r → (is_some passing.found && is_none r) ≡ true → passes is_directory (walk layer (child_path path own)).found ≡ false
-        by None none file = none
-        by (Some r) own-row file = let bad : false ≡ true = sym (never (is_some passing.found)) ∙ file in cc
-          where
-            never : (b : Bool) → (b && false) ≡ false
-            never true = refl
-            never false = refl
+          by : (is_directory_at layer path ≡ true) ⊎ Beyond layer path → (b : Bool) → IsArrivalAt layer path None next b → onward_on next b ≡ past_onward (walk layer path)
+          by (inl holds) b at = let bad : false ≡ true = sym at.none ∙ holds in cc
+          by (inr beyond) false at =
+              let o = opened (is_some (entry_at layer path)) (walk layer path).closed (sym at.ended) in
+              (λ j. onward_on (at.next refl j) (sym o.1 j))
+              ∙ ap (λ (found : Option Inode). cond (is_some found) None (step_onward (walk layer path))) (sym (unfound (walk layer path).found refl o.0))
+          by (inr beyond) true at = ends (past layer path is beyond)
+            where
+              ends : NothingAt layer path ⊎ FileAt layer path → None ≡ past_onward (walk layer path)
+              ends (inl nothing) = shut-past (walk layer path) (ap (λ (o : Option Inode). is_some o || (walk layer path).closed) (sym nothing.none) ∙ sym at.ended)
+              ends (inr file) = either file.finds
+                where
+                  either : ((walk layer path).found ≡ Some file.inode) ⊎ (((walk layer path).found ≡ None) × ((walk layer path).closed ≡ true)) → None ≡ past_onward (walk layer path)
+                  either (inl found) = found-past (walk layer path) file.inode found
+                  either (inr shut) = shut-past (walk layer path) shut.1
 
-        told : (o : Option Found) → (is_some o && is_none passing.row) ≡ true → is_some (option_map (λ (f : Found). f.inode.now) o) ≡ true
-        told None file = let bad : false ≡ true = file in cc
-        told (Some f) file = refl
-
-    -- what else is there, or nothing
-    pub enter-on : (is_some passing.found && is_none passing.row) ≡ false → (below : Option PathNames) → below ≡ onward_to next passing.onward → StandsAt layer (child_path path own) passing.row below
-    enter-on apart below on = by passing.row refl passes-by.row apart
-      where
-        nothing : (o : Option Found) → (is_some o && true) ≡ false → option_map (λ (f : Found). f.inode.now) o ≡ None
-        nothing None e = refl
-        nothing (Some f) e = let bad : true ≡ false = e in cc
-
-        by : (r : Option ℕ) → passing.row ≡ r → IsRow layer (child_path path own) r → (is_some passing.found && is_none r) ≡ false → StandsAt layer (child_path path own) passing.row below
-        by (Some r) there own-row apart =
-            subst (λ (o : Option ℕ). StandsAt layer (child_path path own) o below) (sym there)
-            (record { inside = own-row.0; here = own-row.1; directory = own-row.2; onward = on ∙ passes-by.onward })
-        by None there file apart =
-            subst (λ (o : Option ℕ). StandsAt layer (child_path path own) o below) (sym there)
-            (enter-past row next is file below
-            (on ∙ (passes-by.onward ∙ ap (λ (o : Option Inode). cond (is_some o) None (step_onward (walk layer (child_path path own)))) (sym (sym passes-by.found ∙ nothing passing.found apart)))))
+  pub arrival-stands : (row : Option ℕ) (next : PathNames) (closed : Bool) → IsArrivalAt layer path row next closed → StandsAt layer path row (onward_on next closed)
+  arrival-stands None next closed at = past-stands next closed at
+  arrival-stands (Some row) next closed at = record { inside = at.inside; here = at.here; directory = at.directory; onward = λ j. onward_on (at.next j) (at.closed j) }

@@ -79,13 +79,10 @@ pub record IsThing (layer : Entries) (row : ℕ) (name : PathName) (passing : Pa
   pub here : entry_at layer (path_at layer row) ≡ Some inode
   pub found : option_map (λ found. found.inode.now) passing.found ≡ (if is_whiteout inode then None else Some inode)
   pub marked : IfSome passing.found (λ found. found.mark.now ≡ mark_of found.inode.now)
-  pub directory : passing.row ≡ (if is_directory inode then Some row else None)
   pub onward : IsOnward (mark_of inode) name passing.onward
 
 -- the walk of a path, by where the layer below knows the directory above
 pub record IsPassing (layer : Entries) (path : PathNames) (next : Option PathNames) (passing : Passing) : Type 0 where
   pub found : option_map (λ found. found.inode.now) passing.found ≡ (walk layer path).found
   pub marked : IfSome passing.found (λ found. found.mark.now ≡ mark_of found.inode.now)
-  pub row : MatchOption passing.row (passes is_directory (walk layer path).found ≡ false)
-      (λ row. (row < length layer) × (path_at layer row ≡ path) × (is_directory_at layer path ≡ true))
   pub onward : onward_to next passing.onward ≡ step_onward (walk layer path)

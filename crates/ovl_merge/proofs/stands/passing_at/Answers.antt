@@ -16,4 +16,4 @@ returns-in-None c path there directory next is =
     let layer = c.args.sheet.now in
     let name = c.args.name.now in
     let end = c.nothing_at in
-    pass-none layer path name next end.result end.ensures.found end.ensures.row end.ensures.onward c.root_number-root.ensures.layer directory is (subst (IsRowAt layer (child_path path name)) c.in-None.is there)
+    pass-none layer path name next end.result end.ensures.found end.ensures.onward c.root_number-root.ensures.layer directory is (subst (IsRowAt layer (child_path path name)) c.in-None.is there)
