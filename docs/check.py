@@ -3,6 +3,7 @@
 
 - HEADLINE.md has every definition that is reached from the contract of `command`, beside its file.
 - PROVED.md has every public call of the crates, and none that isn't there.
+- MADE_FAULTS.md has every function that makes want of memory, or a fault of reading or writing, by hand, and no other.
 - Links of all documents lead somewhere, and files that ARCHITECTURE.md names are there.
 
 Prints what is missing; the status is 1 where something is. Says nothing of what the documents say.
@@ -13,6 +14,11 @@ from pathlib import Path
 
 TOP = Path(__file__).resolve().parent.parent
 CLAUSES = ["IsOutcome", "is_outside", "request_of", "makes_layers", "KeepsTree", "after", "stays_sound", "HasSoundStack"]
+# What is made by hand, and the words of code that make it, chapter by chapter of MADE_FAULTS.md.
+MADE = {
+    "want of memory": r"\bAllocError\b(?!\s*[>{;])|\bAllocFailed\b(?!\s*[<>{;])|Fault::Memory\b|\bOutOfMemory\b|\bUnread\b(?!\s*[>{;(])|\bstarved (?:=|: true)",
+    "a fault of reading or writing": r"\bReadFault::(?:Device|TooLong)\b|\bProgramFault::(?:Input|Unread|Unwritten|Output)\b|\bErr\(\w*PartFault::",
+}
 TESTS = {"ovl_pool_tests", "ovl_engine_tests", "ovl_program_tests", "ovl_refusal_tests"}
 
 
@@ -128,6 +134,48 @@ def proved():
                 yield f"PROVED.md names {call}, which no crate has"
 
 
+def code_lines(path):
+    """The function that each line of code stands in, methods as TYPE::NAME, and the line without comments and clauses."""
+    owner, function = None, None
+    for line in path.read_text(encoding="utf-8").splitlines():
+        code = line.split("//")[0]
+        own = re.match(r"impl(?:<[^{]*?>)? (?:(?:\w+::)*(\w+)(?:<[^{]*>)? for )?(\w+)", code)
+        if own:
+            owner = f"{own[2]} from {own[1]}" if own[1] == "From" else own[2]
+        elif re.match(r"(pub|fn|enum|struct|trait|mod)\b", code):
+            owner = None
+        head = re.search(r"\bfn (\w+)", code)
+        if head:
+            function = f"{owner}::{head[1]}" if owner and code.startswith(" ") else head[1]
+            code = code.partition("->")[0].partition("(_:")[0]
+        if not re.match(r"\s*(ghost|pub use|use|impl|type|ensures|requires)\b|.*[\u2261\u03bb\u2192]", code):
+            yield function, code
+
+
+def made(pattern):
+    """The functions of the crates that have such a word in their code."""
+    for crate in crates():
+        for path in sorted((crate / "src").rglob("*.rt")):
+            for function, code in code_lines(path):
+                if re.search(pattern, code):
+                    yield f"{crate.name}/{path.relative_to(crate / 'src')}", function
+
+
+def made_faults():
+    text = (TOP / "docs/MADE_FAULTS.md").read_text(encoding="utf-8")
+    chapters = re.split(r"^## ", text, flags=re.M)[1:]
+    for (name, pattern), chapter in zip(MADE.items(), chapters):
+        told, file = set(), ""
+        for row in re.findall(r"^\| (.*?) \| `([\w: ]+)` \| \S.* \|$", chapter, flags=re.M):
+            file = row[0].strip("`") or file
+            told.add((file, row[1]))
+        found = set(made(pattern))
+        for file, function in sorted(found - told):
+            yield f"MADE_FAULTS.md lacks {function} of {file}, which makes {name} by hand"
+        for file, function in sorted(told - found):
+            yield f"MADE_FAULTS.md names {function} of {file}, which doesn't make {name}"
+
+
 def anchor(heading):
     return re.sub(r"[^\w\- ]", "", heading.strip().lower()).replace(" ", "-")
 
@@ -154,6 +202,6 @@ def links():
 
 
 if __name__ == "__main__":
-    missing = [*headline(), *proved(), *links()]
+    missing = [*headline(), *proved(), *made_faults(), *links()]
     print("\n".join(missing) or "nothing is missing")
     sys.exit(1 if missing else 0)
