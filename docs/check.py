@@ -3,11 +3,13 @@
 
 - HEADLINE.md has every definition that is reached from the contract of `command`, beside its file.
 - PROVED.md has every public call of the crates, and none that isn't there.
-- MADE_FAULTS.md has every function that makes want of memory, or a fault of reading or writing, by hand, and no other.
+- MADE_FAULTS.md has every function that names want of memory, or a fault of reading or writing, in its code,
+  with how often, and no other.
 - Links of all documents lead somewhere, and files that ARCHITECTURE.md names are there.
 
 Prints what is missing; the status is 1 where something is. Says nothing of what the documents say.
 """
+import collections
 import re
 import sys
 from pathlib import Path
@@ -153,12 +155,13 @@ def code_lines(path):
 
 
 def made(pattern):
-    """The functions of the crates that have such a word in their code."""
+    """The functions of the crates that have such words in their code, and how many."""
+    counts = collections.Counter()
     for crate in crates():
         for path in sorted((crate / "src").rglob("*.rt")):
             for function, code in code_lines(path):
-                if re.search(pattern, code):
-                    yield f"{crate.name}/{path.relative_to(crate / 'src')}", function
+                counts[f"{crate.name}/{path.relative_to(crate / 'src')}", function] += len(re.findall(pattern, code))
+    return {(*place, count) for place, count in counts.items() if count}
 
 
 def made_faults():
@@ -166,14 +169,14 @@ def made_faults():
     chapters = re.split(r"^## ", text, flags=re.M)[1:]
     for (name, pattern), chapter in zip(MADE.items(), chapters):
         told, file = set(), ""
-        for row in re.findall(r"^\| (.*?) \| `([\w: ]+)` \| \S.* \|$", chapter, flags=re.M):
-            file = row[0].strip("`") or file
-            told.add((file, row[1]))
-        found = set(made(pattern))
-        for file, function in sorted(found - told):
-            yield f"MADE_FAULTS.md lacks {function} of {file}, which makes {name} by hand"
-        for file, function in sorted(told - found):
-            yield f"MADE_FAULTS.md names {function} of {file}, which doesn't make {name}"
+        for first, function, count in re.findall(r"^\| (.*?) \| `([\w: ]+)` \| (\d+) \| \S.* \|$", chapter, flags=re.M):
+            file = first.strip("`") or file
+            told.add((file, function, int(count)))
+        found = made(pattern)
+        for file, function, count in sorted(found - told):
+            yield f"MADE_FAULTS.md lacks {function} of {file}, whose code has a word of {name} {count} times"
+        for file, function, count in sorted(told - found):
+            yield f"MADE_FAULTS.md says {count} times of {function} of {file}, which isn't so of {name}"
 
 
 def anchor(heading):
