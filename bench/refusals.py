@@ -96,6 +96,8 @@ STACKS = {
                             {digest(b"abc"): b"abd", digest(b"ab"): b"ab"}),
     "forty_directories": Stack((FORTY, FORTY), A, (7,)),
     "many_lines": Stack((LINES, []), {}, refused=(THREAD,)),
+    "forty_layers": Stack(tuple([file(f"/f{n:02d}", b"%d" % n)] for n in range(40)), {digest(b"%d" % n): b"%d" % n for n in range(40)},
+                          (2, 4), (THREAD,)),
 }
 
 

@@ -188,13 +188,14 @@ printf '{"entries":[%s%s],"overlay-layer":2}\n' "$root" "$pipes" > pipes.json
 printf '[]' > shape.json
 : > empty.json
 python3 -B "$bench/refusals.py" --library refuse.so || exit 1
-mkdir blobs wrong short most eight none bad.utf8 large flood closed folder.json
+mkdir blobs wrong short hollow most eight none bad.utf8 large flood closed folder.json
 printf abc > "blobs/$abc"
 printf note > blobs/note
 mkdir "blobs/${abc//b/f}"
 ln -s "$abc" "blobs/${abc//b/0}"
 printf abd > "wrong/$abc"
 printf ab > "short/$abc"
+: > "hollow/$abc"
 : > $'bad.utf8/\xff'
 truncate -s 268435457 long.json
 truncate -s 268435456 most.json
@@ -291,6 +292,7 @@ prints 0 'faults 0 notes 0\n' fsck --blobs blobs/ --workers 1 root.json k.json
 prints 1 'fault blob-digest 0 /k\nfaults 1 notes 0\n' fsck --blobs wrong k.json
 prints 1 'fault blob-missing 1 /k\nfaults 1 notes 0\n' fsck --blobs none root.json k.json
 prints 1 'fault blob-size 0 /k\nfault blob-digest 0 /k\nfaults 2 notes 0\n' fsck --blobs short k.json
+prints 1 'fault blob-size 0 /k\nfault blob-digest 0 /k\nfaults 2 notes 0\n' fsck --blobs hollow k.json
 prints 0 'faults 0 notes 0\n' fsck --blobs most root.json
 
 # Files and folders.
@@ -342,8 +344,10 @@ for words in pipe.json 'root.json pipe.json'; do
     wait
 done
 prints 0 'faults 0 notes 0\n' fsck --blobs linked k.json
-for path in dangling.json round.json socket.json pipe.json /dev/null '' "$long_name"; do
-    refuses 3 "cannot read $path" fsck --blobs "$path" k.json
+for path in missing missing/ root.json dangling.json round.json socket.json pipe.json /dev/null '' "$long_name"; do
+    for layer in k.json root.json; do
+        refuses 3 "cannot read $path" fsck --blobs "$path" "$layer"
+    done
 done
 for kind in 'mkfifo' 'socket_at' 'mkdir' 'ln -s ../root.json' 'ln -s lost' 'ln -s /dev/zero'; do
     mkdir odd
@@ -388,6 +392,7 @@ prints 1 'fault blob-missing 0 /k\nfaults 1 notes 0\n' "${parts[@]}" bad.utf8 k.
 prints 0 "$clean" "${parts[@]}" large root.json
 unlike='fault blob-size 0 /k\nfault blob-digest 0 /k\nfaults 2 notes 0\n'
 prints 1 "$unlike" "${parts[@]}" large k.json
+prints 1 "$unlike" "${parts[@]}" hollow k.json
 mkdir longest && truncate -s 268435457 "longest/$abc"
 prints 1 "$unlike" "${parts[@]}" longest k.json
 refuses 3 "cannot read longest/$abc" fsck --blobs longest k.json
@@ -395,7 +400,9 @@ rm -r longest
 refuses 3 'cannot read missing.json' "${parts[@]}" missing missing.json
 refuses 3 'layer 0: wrong shape' "${parts[@]}" missing shape.json
 for path in missing missing/ root.json dangling.json round.json socket.json pipe.json /dev/null '' "$long_name"; do
-    refuses 3 "cannot read $path" "${parts[@]}" "$path" k.json
+    for layer in k.json root.json; do
+        refuses 3 "cannot read $path" "${parts[@]}" "$path" "$layer"
+    done
 done
 if ((EUID != 0)); then
     refuses 3 "cannot read closed/$abc" "${parts[@]}" closed k.json
@@ -424,7 +431,8 @@ for most in 1 2 100; do
     over='failing read no-file 0 0' prints 0 "$clean" "${parts[@]}" blobs k.json
 done
 most=
-# (Of eight contents two can't be read, whose names end otherwise: the first of them is told by any number of workers.)
+# (Of eight contents two can't be read, whose names end otherwise: the first of them is told by any number of workers, also
+# where they are held.)
 for pair in '0 7' '2 3' '1 6' '5 5'; do
     entries='' told_first=''
     for ((i = 0; i < 8; i++)); do
@@ -436,8 +444,10 @@ for pair in '0 7' '2 3' '1 6' '5 5'; do
     done
     printf '{"entries":[%s%s],"overlay-layer":2}\n' "$root" "$entries" > eight.json
     for workers in 1 2 7; do
-        over='failing open ff 1 5' REFUSE_ON=1 refuses 3 "cannot read eight/$told_first" "${parts[@]}" eight --workers "$workers" eight.json
-        over='failing read ff 1 5' REFUSE_ON=1 refuses 3 "cannot read eight/$told_first" "${parts[@]}" eight --workers "$workers" eight.json
+        for call in open read; do
+            over="failing $call ff 1 5" REFUSE_ON=1 refuses 3 "cannot read eight/$told_first" fsck --blobs eight --workers "$workers" eight.json
+            over="failing $call ff 1 5" REFUSE_ON=1 refuses 3 "cannot read eight/$told_first" "${parts[@]}" eight --workers "$workers" eight.json
+        done
     done
     rm eight/*
 done
@@ -473,12 +483,23 @@ for ((i = 0; i < 64; i++)); do
     layers+=(/dev/stdin)
 done
 over=from_a_pipe refuses 3 'layer 1: not JSON' show --workers 64 "${layers[@]}"
+for ((i = 0; i < 20; i++)); do
+    over=from_a_pipe refuses 3 'layer 1: not JSON' show --workers 4 /dev/stdin /dev/stdin root.json
+done
 layers=()
 for ((i = 0; i < 129; i++)); do
     layers+=(root.json)
 done
 refuses 3 'layers must be 1 to 128' show "${layers[@]}"
 prints 0 'dir 0755 0 0 0 - - /\nentries 1\n' show "${layers[@]:1}"
+prints 0 "$clean" fsck --blobs none "${layers[@]:1}"
+prints 0 "$clean" "${parts[@]}" none "${layers[@]:1}"
+mkdir most.layers
+prints 0 'removed 0 kept 1\n' vacuum --blobs none --out most.layers "${layers[@]:1}"
+for what in deref merge; do
+    prints 0 'entries 1\n' "$what" --blobs none --out most.layers "${layers[@]:1}"
+done
+rm -r most.layers
 refuses 3 'data layers must leave a layer' show --data-layers 1 root.json
 
 # Words.
@@ -656,6 +677,16 @@ for target in ../pipes.json layer-0.json ../none/made.json /dev/null; do
     rm -r places
 done
 rm none/made.json
+# Two files of two file systems, which have one number there, are two.
+on_two_disks() {
+    unshare -m sh -c 'mount -t tmpfs none one && mount -t tmpfs none two && : > one/new && : > two/new && "$@" && cat one/new' sh "$@"
+}
+if mkdir one two places && on_two_disks stat -c %i one/new two/new > told 2>&1 && [[ $(sort -u told | wc -l) == 1 ]]; then
+    ln -s ../one/new places/layer-0.json
+    ln -s ../two/new places/layer-1.json
+    over=on_two_disks prints 0 'leaf /k\nentries 2\n'"$(cat root.json)"'\n' "${merge[@]}"
+fi
+rm -r one two places
 if on_a_disk_for_reading true 2> told; then
     over=on_a_disk_for_reading refuses 4 'cannot write disk/layer-0.json' vacuum --blobs blobs --out disk k.json root.json
 fi
