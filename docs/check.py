@@ -12,7 +12,8 @@ import sys
 from pathlib import Path
 
 TOP = Path(__file__).resolve().parent.parent
-CLAUSES = ["IsOutcome", "is_outside", "request_of", "makes_layers", "KeepsTree", "after", "stays_sound", "HasSoundStack"]
+CLAUSES = ["IsOutcome", "is_outside", "request_of", "makes_layers", "KeepsTree", "after", "stays_sound", "HasSoundStack", "stands_alone",
+           "FindsBlobsAlone"]
 TESTS = {"ovl_pool_tests", "ovl_engine_tests", "ovl_program_tests", "ovl_refusal_tests"}
 
 
