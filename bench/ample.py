@@ -9,12 +9,13 @@ In a third of the stacks something is then changed that no mounted overlay would
 of both versions: some of those without a time below a second are of version 1.
 
 Where `fsck` finds no fault, `vacuum`, `deref` and `merge` must give new layers with which the stack shows the same
-bytes; `vacuum` once more must remove nothing, and `fsck` must find no fault after `vacuum` and `deref`. Where it finds
-one, all three must answer with its report. There is memory enough, so no command may end with `out of memory`.
+bytes, and `flatten` one that does so alone; `vacuum` once more must remove nothing, `fsck` must find no fault after
+`vacuum` and `deref`, and nothing after `flatten`. Where it finds one, all four must answer with its report. There is memory
+enough, so no command may end with `out of memory`.
 
-Before these come stacks whose new layers just keep a limit of names or of text, or just pass it: `deref` and `merge` must
-give them, or say that they are over the limits; and stacks that are large in one way, as those of users are, or as large as
-a limit lets them be.
+Before these come stacks whose new layers just keep a limit of names or of text, or just pass it: `deref`, `merge` and
+`flatten` must give them, or say that they are over the limits; and stacks that are large in one way, as those of users are,
+or as large as a limit lets them be.
 
     python3 bench/ample.py --program crates/ovl_layers/out/ovl_layers
 """
@@ -34,7 +35,9 @@ OPAQUE, WHITEOUT = "trusted.overlay.opaque", "trusted.overlay.whiteout"
 CONTENTS = ("", "a", "b", "abc")
 NAMES, DEEPEST = ("a", "b", "c", "d"), 5
 NANOSECONDS = (0, 1, 500_000_000, 999_999_999)
-REWRITES = ("vacuum", "deref", "merge")
+REWRITES = ("vacuum", "deref", "merge", "flatten")
+# What `fsck` prints where it finds nothing.
+CLEAN = b"faults 0 notes 0\n"
 # How many stacks that are not as they should be are told, and the seconds after which a command counts as one without end.
 TOLD, LONGEST = 10, 60
 
@@ -332,14 +335,14 @@ def same(what, one, other):
 
 
 def rewritten(program, blobs, layers, command, folder):
-    """The layers with the new ones of a command, and what it printed."""
+    """The layers with the new ones of a command, or that of `flatten` alone, and what it printed."""
     out = os.path.join(folder, command)
     os.makedirs(out, exist_ok=True)
     status, printed = ran(program, command, "--blobs", blobs, "--out", out, "--workers", "3", *layers)
     if status != 0:
         return None, (status, printed)
     new = [os.path.join(out, it) for it in sorted(os.listdir(out))]
-    return new + layers[len(new):], (status, printed)
+    return new if command == "flatten" else new + layers[len(new):], (status, printed)
 
 
 def judge(program, blobs, stack, folder):
@@ -356,7 +359,9 @@ def judge(program, blobs, stack, folder):
             continue
         same(f"the status of {command}", answered[0], 0)
         same(f"show after {command}", ran(program, "show", *new), shown)
-        if command != "merge":
+        if command == "flatten":
+            same(f"fsck after {command}", ran(program, "fsck", "--blobs", blobs, *new), (0, CLEAN))
+        elif command != "merge":
             same(f"the status of fsck after {command}", ran(program, "fsck", "--blobs", blobs, *new)[0], 0)
     if found[0] == 0:
         _, (_, again) = rewritten(program, blobs, after["vacuum"][0], "vacuum", os.path.join(folder, "again"))
@@ -365,10 +370,10 @@ def judge(program, blobs, stack, folder):
 
 
 def judge_at_limit(program, blobs, layers, within, folder):
-    """Whether `deref` and `merge` give what keeps the limits and refuse what doesn't, as what it is."""
+    """Whether all but `vacuum` give what keeps the limits and refuse what doesn't, as what it is."""
     files = write(folder, layers)
     shown = ran(program, "show", *files)
-    for command in ("deref", "merge"):
+    for command in REWRITES[1:]:
         if within:
             new, _ = rewritten(program, blobs, files, command, folder)
             same(f"show after {command}", ran(program, "show", *new), shown)

@@ -30,7 +30,7 @@ from pathlib import Path
 from growth import REDIRECT, First, entry, write
 
 SOURCE = Path(__file__).resolve().parent / "refuse.c"
-COMMANDS = ("show", "fsck", "vacuum", "deref", "merge", "fsck --any-size", "merge --any-size")
+COMMANDS = ("show", "fsck", "vacuum", "deref", "merge", "flatten", "fsck --any-size", "merge --any-size")
 # What is refused, and how refuse.c is told so.
 THREAD = "the start of a thread"
 WAYS = {"a request": {"REFUSE": "memory"}, "a request and all after it": {"REFUSE": "memory", "REFUSE_ON": ""},

@@ -269,6 +269,7 @@ fifos() {
     at dir /x "$plain"
     fifos /x/ 524286
 } | layer > many_below.json
+fifos /z 1 | layer > one.json
 # A redirect of 100,000 names; and a chain of as many directories as a path may have names, the last of which goes on at the
 # chain of deeper.json.
 at dir /m "\"xattrs\":{\"trusted.overlay.redirect\":\"$(printf '2f61%.0s' {1..100000})\"}" | layer > far.json
@@ -534,7 +535,7 @@ explains "$wanted<LAYER>..." 'show <LAYER>...' show
 explains "$wanted--blobs <DIR>" 'fsck --blobs <DIR> <LAYER>...' fsck root.json
 explains "$wanted--out <DIR>" 'vacuum --blobs <DIR> --out <DIR> <LAYER>...' vacuum --blobs none root.json
 explains "unrecognized subcommand 'mount'" '<COMMAND>' mount root.json
-for what in vacuum deref merge; do
+for what in vacuum deref merge flatten; do
     explains "a value is required for '--out <DIR>' but none was supplied" '' "$what" --blobs blobs --out '' meta.json k.json
     explains "a value is required for '--out <DIR>' but none was supplied" '' "$what" --blobs blobs --out= meta.json k.json
 done
@@ -543,7 +544,7 @@ refuses 2 'words must be UTF-8' show $'\xff'
 # New layers. That of k.json over itself is a root alone.
 mkdir new taken full disk taken/layer-0.json
 ln -s /dev/full full/layer-0.json
-for what in vacuum deref; do
+for what in vacuum deref flatten; do
     misfits "$what" --blobs blobs k.json
     misfits "$what" --out new k.json
     misfits "$what" --blobs blobs --out new
@@ -600,6 +601,23 @@ closes 'entries 1048576\n' merge "${rewritten[@]}" many_beside.json many_below.j
 closes 'entries 129\n' merge "${rewritten[@]}" moved.json deep.json
 closes 'entries 128\n' merge "${rewritten[@]}" chain_moved.json half.json
 rm -f new/layer-*.json
+# (What is shown has no whiteout.)
+for more in --workers=4 --any-size; do
+    prints 0 'leaf /k\nentries 2\n' flatten "$more" --blobs blobs --out new meta.json k.json
+    gives new k.json
+    rm new/layer-0.json
+done
+prints 1 'fault blob-missing 1 /k\nfaults 1 notes 0\n' flatten --blobs none --out new meta.json k.json
+gives new
+closes 'entries 1048576\n' flatten "${rewritten[@]}" many_beside.json many_below.json
+closes 'entries 129\n' flatten "${rewritten[@]}" moved.json deep.json
+closes 'entries 128\n' flatten "${rewritten[@]}" chain_moved.json half.json
+closes 'entries 16\n' flatten "${rewritten[@]}" long_named.json long.fits.json
+rm -f new/layer-0.json
+refuses 5 'result over the limits' flatten "${rewritten[@]}" one.json many_beside.json many_below.json
+refuses 5 'result over the limits' flatten "${rewritten[@]}" moved.json deeper.json
+refuses 5 'result over the limits' flatten "${rewritten[@]}" long_named.json long.over.json
+gives new
 
 prints 1 'fault redirect-lost 0 /m\nfault redirect-open 0 /m\nfaults 2 notes 0\n' fsck --blobs none far.json root.json
 prints 0 'faults 0 notes 0\n' fsck --blobs none moved_deeper.json deeper.json
@@ -728,7 +746,7 @@ done
 over=without_errors ends 3 told show missing.json && same=$((same + 1))
 
 # Help and the version go to standard output.
-for words in --help -h --version 'show --help' 'fsck --help' 'vacuum --help' 'deref --help' 'merge --help'; do
+for words in --help -h --version 'show --help' 'fsck --help' 'vacuum --help' 'deref --help' 'merge --help' 'flatten --help'; do
     # shellcheck disable=SC2086
     "$program" $words < input > printed 2> told
     status=$?
