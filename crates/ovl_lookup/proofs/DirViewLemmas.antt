@@ -1,6 +1,6 @@
 -- Views of directories over a stack, place by place.
-use Rattle.std.proofs.Common.{◌≡◌, ℕ, ◌+◌, ◌<◌, length, arith, Bool, true, false, cond, Option, Some, None, is_some, get_or, List, [], ◌∷◌, ◌++◌, drop, refl, sym, ap, ◌∙◌, subst, append_assoc}
-use Rattle.std.specs.Prelude.{◌||◌, unwrap_or, slice_get, IsSomeAnd}
+use Rattle.std.proofs.Common.{◌≡◌, ℕ, ◌+◌, ◌<◌, length, arith, Bool, true, false, cond, Option, Some, None, get_or, List, [], ◌∷◌, ◌++◌, drop, refl, sym, ap, ◌∙◌, subst, append_assoc}
+use Rattle.std.specs.Prelude.{unwrap_or, slice_get, IsSomeAnd}
 use Rattle.std.specs.Option.{option_map}
 use Rattle.std.proofs.lemmas.Option.{slice_get-map, slice_get-get_or, slice_get_within}
 use Rattle.std.proofs.lemmas.List.{map_push}
@@ -18,13 +18,13 @@ use Rattle.ovl_manifest.specs.Sheets.{path_at}
 use Rattle.ovl_lookup.specs.declared.steps.Step.{Step}
 use Rattle.ovl_lookup.specs.declared.views.DirPlace.{DirPlace}
 use Rattle.ovl_lookup.specs.declared.views.PlaceEntry.{PlaceEntry}
-use Rattle.ovl_lookup.specs.Walk.{walk, turn, is_shut, mark_at}
+use Rattle.ovl_lookup.specs.Walk.{turn, is_shut, mark_at}
 use Rattle.ovl_lookup.specs.Passes.{IsArrivalAt}
 use Rattle.ovl_lookup.specs.Stacks.{StackView}
 use Rattle.ovl_lookup.specs.Views.{Reached, reached, is_reached, entry_in, entered, below_entry, reached_below}
 use Rattle.ovl_lookup.specs.Onwards.{path_on, name_on}
 use Rattle.ovl_lookup.specs.DirViews.{IsEntryIn, place_below, place_in, places_in, IsPlaceOver}
-use Rattle.ovl_lookup.proofs.ViewSteps.{arrives-directory, arrives-past, arrives-end, below-directory}
+use Rattle.ovl_lookup.proofs.ViewSteps.{arrives-directory, arrives-past, below-directory}
 use Rattle.ovl_lookup.proofs.LawsOfWalks.{is_shut-entered, mark_at-child, turn-entered, walk-whole}
 
 same_some : {X : Type 0} (one other : X) → Some one ≡ Some other → one ≡ other
@@ -84,19 +84,8 @@ module _ (stack : StackView) where
   pub past-step : (i : ℕ) (layer : Entries) (path : PathNames) (next : PathNames) (closed : Bool) → slice_get stack.layers i ≡ Some layer → IsArrivalAt layer path None next closed
       → (old so_far : List DirPlace) (more : List Reached) → places_in stack so_far ++ reached (drop i stack.layers) i path ≡ places_in stack old ++ more
       → places_in stack so_far ++ cond closed [] (reached (drop (i + 1) stack.layers) (i + 1) next) ≡ places_in stack old ++ more
-  past-step i layer path next true at arrival old so_far more same =
-      ap (λ (ps : List Reached). places_in stack so_far ++ ps) (sym (arrives-end stack.layers i layer at path arrival.none (sym arrival.ended))) ∙ same
-  past-step i layer path next false at arrival old so_far more same =
-      let open_ = opened (is_some (entry_at layer path)) (walk layer path).closed (sym arrival.ended) in
-      ap (λ (ps : List Reached). places_in stack so_far ++ ps) (sym (arrives-past stack.layers i layer at path next (none-there (entry_at layer path) open_.0) open_.1 (arrival.next refl))) ∙ same
-    where
-      opened : (one other : Bool) → (one || other) ≡ false → (one ≡ false) × (other ≡ false)
-      opened false other e = (refl, e)
-      opened true other e = let bad : true ≡ false = e in cc
-
-      none-there : (o : Option Inode) → is_some o ≡ false → o ≡ None
-      none-there None e = refl
-      none-there (Some inode) e = let bad : true ≡ false = e in cc
+  past-step i layer path next closed at arrival old so_far more same =
+      ap (λ (ps : List Reached). places_in stack so_far ++ ps) (sym (arrives-past stack.layers i layer at path next closed arrival)) ∙ same
 
   pub over-push : (old so_far new : List DirPlace) (own : DirPlace) (layer : Entries) → slice_get stack.layers own.layer ≡ Some layer → own.row < length layer → new ≡ so_far ++ own ∷ [] → (All (IsPlaceOver stack) old → All (IsPlaceOver stack) so_far) → All (IsPlaceOver stack) old → All (IsPlaceOver stack) new
   over-push old so_far new own layer at inside is over all =

@@ -8,6 +8,7 @@ use Rattle.ovl_names.specs.Names.{PathName}
 use Rattle.ovl_names.specs.Paths.{PathNames, child_path}
 use Rattle.ovl_inode.specs.declared.inodes.Inode.{Inode}
 use Rattle.ovl_inode.specs.declared.marks.Mark.{Mark}
+use Rattle.ovl_inode.specs.declared.marks.Mark.TheVariants.{DirPlain}
 use Rattle.ovl_inode.specs.Marks.{mark_of, is_directory, is_whiteout}
 use Rattle.ovl_manifest.specs.Layers.{Entries, IsLayer, entry_at, is_directory_at}
 use Rattle.ovl_manifest.specs.LayerTrees.{entries_under}
@@ -19,11 +20,16 @@ use Rattle.ovl_lookup.specs.declared.steps.Descent.{Descent}
 use Rattle.ovl_lookup.specs.declared.steps.OwnDirectory.{OwnDirectory}
 use Rattle.ovl_lookup.specs.declared.steps.Step.{Step}
 use Rattle.ovl_lookup.specs.Passes.{IsNumberAt, IsOwnDirectory, IsOwnEntry, IsStop, IsDescent, IsPast}
-use Rattle.ovl_lookup.proofs.LawsOfWalks.{entry-above, entry-of_row, no-directory-below, own-mark, walk-child, walk-child_end, walk-whole}
+use Rattle.ovl_lookup.proofs.LawsOfInodes.{is_directory_mark}
+use Rattle.ovl_lookup.proofs.LawsOfWalks.{Beyond, directory_found, entry-of_row, marked-directory, no-directory-below, nothing-below, own-mark, walk-child, walk-child_end, walk-whole, walks-pass}
 
 -- the rest of a list as a slice gives it
 pub take-rest : {X : Type 0} (xs : List X) (i : ℕ) → take (length xs - i) (drop i xs) ≡ drop i xs
 take-rest xs i = ap (λ n. take n (drop i xs)) (sym (length-drop i xs)) ∙ take-length (drop i xs)
+
+pub none-is : {X : Type 0} (o : Option X) → is_some o ≡ false → o ≡ None
+none-is None e = refl
+none-is (Some x) e = let bad : true ≡ false = e in cc
 
 -- the root
 pub root-own : (layer : Entries) → IsLayer layer → (row : ℕ) → row < length layer → path_at layer row ≡ [] → IsOwnDirectory layer [] (record { row = row; turned = None; closed = false })
@@ -45,6 +51,22 @@ entry-entered layer path name is own stands number inside at mark marked turned 
       here = at;
       next = on ∙ ((λ j. next_on (same j) (stands.next j) name) ∙ sym (ap (λ (s : Step). s.next) step));
       closed = shut ∙ ((λ j. closed_on (same j) name (stands.closed j)) ∙ sym (ap (λ (s : Step). s.closed) step));
+    }
+
+-- a plain directory in one that nothing turns is known by its own path
+pub plain-entered : (layer : Entries) (path : PathNames) (name : PathName) → IsLayer layer → (row : ℕ) (closed : Bool) → IsOwnDirectory layer path (record { row = row; turned = None; closed = closed })
+    → (number : ℕ) → number < length layer → path_at layer number ≡ child_path path name → option_map mark_of (entry_at layer (path_at layer number)) ≡ Some DirPlain
+    → IsOwnDirectory layer (child_path path name) (record { row = number; turned = None; closed = closed })
+plain-entered layer path name is row closed stands number inside at marked =
+    let found = entry-of_row layer number is inside in
+    let plain : DirPlain ≡ mark_of found.0 = own-mark found.0 DirPlain (sym (ap (option_map mark_of) found.1) ∙ marked) in
+    let entered = entry-entered layer path name is (record { row = row; turned = None; closed = closed }) stands number inside at DirPlain marked None closed refl refl in
+    record {
+      inside = inside;
+      here = at;
+      directory = ap directory_found (ap (entry_at layer) (sym at) ∙ found.1) ∙ marked-directory found.0 (ap is_directory_mark (sym plain));
+      next = entered.next;
+      closed = entered.closed;
     }
 
 -- what stands at a name in a directory, by the number of its row
@@ -73,19 +95,13 @@ module _ (layer : Entries) (is : IsLayer layer) (above : PathNames) (name : Path
   stop-walk found here rest = walk-child_end layer above name is found holds here (ap (λ (o : Option Inode). elim o as (λ _. Bool) [ Some inode ↦ is_directory inode | None ↦ false ]) (sym here) ∙ stops) rest
 
   -- below that, nothing is found, and each path goes on by its own names
-  beyond-more : (found : Option Inode) (rest : PathNames) (own : PathName) (names : PathNames) → walk_beyond found next closed name (rest ++ own ∷ names) ≡ nothing_found ((next ++ name ∷ rest) ++ own ∷ names) (closed || is_some found)
-  beyond-more None rest own names = λ j. nothing_found (sym (append_assoc next (name ∷ rest) (own ∷ names)) j) (sym (or-false closed) j)
-  beyond-more (Some inode) [] own names = λ j. nothing_found (sym (append_assoc next (name ∷ []) (own ∷ names)) j) (sym (or-true closed) j)
-  beyond-more (Some inode) (first ∷ rest) own names = λ j. nothing_found (sym (append_assoc next (name ∷ first ∷ rest) (own ∷ names)) j) (sym (or-true closed) j)
+  passed : (rest : PathNames) (own : PathName) (names : PathNames) → walk layer (above ++ name ∷ (rest ++ own ∷ names)) ≡ nothing_found (next ++ name ∷ (rest ++ own ∷ names)) (closed || is_some (entry_at layer (child_path above name)))
+  passed [] own names = walks-pass layer above name own is names holds stops
+  passed (first ∷ rest) own names = walks-pass layer above name first is (rest ++ own ∷ names) holds stops
 
   nothing-there : entry_at layer (child_path above name) ≡ None → (rest : PathNames) → entry_at layer (above ++ name ∷ rest) ≡ None
   nothing-there here [] = here
-  nothing-there here (other ∷ rest) = by (entry_at layer (above ++ name ∷ other ∷ rest)) refl
-    where
-      by : (o : Option Inode) → entry_at layer (above ++ name ∷ other ∷ rest) ≡ o → entry_at layer (above ++ name ∷ other ∷ rest) ≡ None
-      by None e = e
-      by (Some inode) e =
-          let bad : false ≡ true = sym stops ∙ entry-above layer (child_path above name) other rest inode is (ap (entry_at layer) (append_assoc above (name ∷ []) (other ∷ rest)) ∙ e) in cc
+  nothing-there here (other ∷ rest) = ap (entry_at layer) (sym (append_assoc above (name ∷ []) (other ∷ rest))) ∙ nothing-below layer (child_path above name) other rest is stops
 
   ended : (found : Option Inode) → entry_at layer (child_path above name) ≡ found → (rest : PathNames) → (closed || is_some found) ≡ (is_some (entry_at layer (above ++ name ∷ rest)) || (walk layer (above ++ name ∷ rest)).closed)
   ended None here rest = or-false closed ∙ sym (λ j. is_some (nothing-there here rest j) || (stop-walk None here rest j).closed)
@@ -106,9 +122,17 @@ module _ (layer : Entries) (is : IsLayer layer) (above : PathNames) (name : Path
     next = λ opened. goes found here rest (sym told ∙ opened);
     below = λ own names.
         ap (walk layer) (append_assoc above (name ∷ rest) (own ∷ names))
-        ∙ (stop-walk found here (rest ++ own ∷ names)
-        ∙ (beyond-more found rest own names ∙ ap (nothing_found ((next ++ name ∷ rest) ++ own ∷ names)) (sym told)));
+        ∙ (passed rest own names
+        ∙ (λ j. nothing_found (sym (append_assoc next (name ∷ rest) (own ∷ names)) j) ((ap (λ (o : Option Inode). closed || is_some o) here ∙ sym told) j)));
   }
+
+-- where the walk of a path leads that goes beyond a directory
+pub past-beyond : (layer : Entries) (path : PathNames) → IsLayer layer → Beyond layer path → (onward : PathNames) × (hidden : Bool) × IsPast layer path onward hidden
+past-beyond layer path is b =
+    let found = entry_at layer (child_path b.directory b.name) in
+    let onward : PathNames = (walk layer b.directory).next ++ b.name ∷ b.rest in
+    let hidden : Bool = (walk layer b.directory).closed || is_some found in
+    (onward, hidden, subst (λ (p : PathNames). IsPast layer p onward hidden) b.whole (past-there layer is b.directory b.name b.holds b.stops found refl b.rest hidden refl))
 
 -- ---- a descent
 

@@ -11,7 +11,6 @@ use Rattle.ovl_manifest.specs.Layers.{Entries, IsLayer, entry_at, is_directory_a
 use Rattle.ovl_lookup.specs.declared.steps.Step.{Step}
 use Rattle.ovl_lookup.specs.Walk.{walk, walk_beyond, mark_at}
 use Rattle.ovl_lookup.specs.Onwards.{next_on, closed_on}
-use Rattle.ovl_lookup.specs.Passes.{entered_path, entered_closed}
 
 -- what stands at one more name says by its mark alone where the walk goes on from where that of its directory does
 abbrev pub WalksStep : Type 0
@@ -30,7 +29,7 @@ walk_below layer above next closed (name ∷ rest) =
     elim (entry_at layer (child_path above name)) [
       | Some inode ↦
           if is_directory inode
-          then walk_below layer (child_path above name) (entered_path (mark_of inode) next name) (entered_closed (mark_of inode) closed) rest
+          then walk_below layer (child_path above name) (next_on (mark_of inode) next name) (closed_on (mark_of inode) name closed) rest
           else walk_beyond (Some inode) next closed name rest
       | None ↦ walk_beyond None next closed name rest
     ]

@@ -1,7 +1,7 @@
 //! Laws of walks and of the merged tree; the contract of each is its statement.
 ghost use Rattle.ovl_lookup.specs.Laws.{ShowsParents, ShowsWithinDepth, ViewsGoOn, ViewsFind, ViewsShow, ViewsStand, ViewsLook};
 ghost use Rattle.ovl_lookup.specs.WalkSplits.{WalksStep, WalksSplit, AbsoluteRedirectsLead, RelativeRedirectsLead};
-ghost use Rattle.ovl_lookup.specs.WalkLaws.{WalksEnter, WalksEnd, WalksPassOver, FilesClose, WalksKeepNames, WalksStayBelowRoot};
+ghost use Rattle.ovl_lookup.specs.WalkLaws.{WalksEnter, WalksEnd, WalksPass, WalksPassOver, FilesClose, WalksKeepNames, WalksStayBelowRoot};
 
 /// The merged tree is closed under parents: where something is shown in a directory, that directory is shown.
 pub fn merged_tree_has_parents()
@@ -47,6 +47,11 @@ pub fn walks_enter()
 /// A walk ends at the first name that is no directory.
 pub fn walks_end()
     ensures { WalksEnd }
+{}
+
+/// Past a name that is no directory nothing is found, and the names are kept.
+pub fn walks_pass()
+    ensures { WalksPass }
 {}
 
 /// A layer that is passed with one more name is passed without it.

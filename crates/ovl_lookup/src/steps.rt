@@ -317,14 +317,28 @@ pub(crate) fn descend<'a>(
     let mut closed = false;
     let mut depth = 0;
     for name in trail.names() {
+        let number = sheet.child(row, name);
+        let Some(child) = number else {
+            return Ok(Descent {
+                own: OwnDirectory {
+                    row,
+                    turned,
+                    closed,
+                },
+                depth,
+                number,
+            });
+        };
+        if turned.is_none() && matches!(sheet.mark(child), Mark::DirPlain) {
+            // The layer below knows it by its own path, as it does the directory above.
+            row = child;
+            depth += 1;
+            continue;
+        }
         let own = OwnDirectory {
             row,
             turned,
             closed,
-        };
-        let number = sheet.child(row, name);
-        let Some(child) = number else {
-            return Ok(Descent { own, depth, number });
         };
         if !is_directory(sheet.inode(child)) {
             return Ok(Descent { own, depth, number });

@@ -1,11 +1,13 @@
-use Rattle.std.proofs.Common.{◌≡◌, ◌+◌, ◌∙◌, ◌++◌, ◌∷◌, [], length, append_assoc, refl, sym, ap, subst, arith}
+use Rattle.std.proofs.Common.{◌≡◌, ◌+◌, ◌∙◌, ◌++◌, ◌∷◌, [], Option, Some, None, true, false, length, append_assoc, refl, sym, ap, subst, arith}
 use Rattle.std.proofs.lemmas.List.{length_push}
 use Rattle.ovl_names.specs.Names.{PathName}
 use Rattle.ovl_names.specs.Paths.{PathNames, child_path}
+use Rattle.ovl_inode.specs.declared.marks.Mark.TheVariants.{DirPlain}
 use Rattle.ovl_manifest.specs.Layers.{Entries, is_directory_at}
-use Rattle.ovl_lookup.specs.Passes.{IsNumberAt}
+use Rattle.ovl_lookup.specs.Passes.{IsNumberAt, IsOwnDirectory}
 use Rattle.ovl_lookup.proofs.LawsOfWalks.{directory_found}
-use Rattle.ovl_lookup.proofs.WalkFacts.{root-own, sought, length-seam}
+use Rattle.ovl_lookup.proofs.WalkFacts.{none-is, plain-entered, root-own, sought, length-seam}
+use Rattle.ovl_lookup.proofs.steps.descend.Goals.{in-DirPlain, in_default-matches}
 use Rattle.ovl_lookup.proofs.steps.descend.Goals as goal
 
 pub loop-name-init : goal.loop-name-init
@@ -66,6 +68,25 @@ loop-name-preserved c =
         next = entered.next;
         closed = entered.closed;
       },
+    )
+
+pub loop-name-preserved-then-matches : goal.loop-name-preserved-then-matches
+loop-name-preserved-then-matches c =
+    let layer : Entries = c.args.sheet.now in
+    let way = c.loop-name.invariant in
+    let name : PathName = c.in-Some.name.now in
+    let there = subst (IsNumberAt layer (child_path way.0 name)) c.in-Some-number.is (sought layer way.0 name c.loop-name.row way.3.here c.child-number.result c.child-number.ensures) in
+    let unturned : c.loop-name.turned ≡ None = none-is c.loop-name.turned c.if-is_none.ensures in
+    let plain : c.mark.result.now ≡ DirPlain = elim c.match-matches.branch [
+      | in-DirPlain w ↦ w.in-DirPlain.is
+      | in_default-matches w ↦ let bad : false ≡ true = sym w.matches-is ∙ c.if-matches.true in cc
+    ] in
+    let own = subst (λ (turned : Option PathNames). IsOwnDirectory layer way.0 (record { row = c.loop-name.row; turned = turned; closed = c.loop-name.closed })) unturned way.3 in (
+      child_path way.0 name,
+      append_assoc way.0 (name ∷ []) c.next.new.self ∙ (ap (λ (names : PathNames). way.0 ++ names) (sym c.in-Some.ensures.steps) ∙ way.1),
+      ap (λ n. n + 1) way.2 ∙ sym (length_push way.0 name),
+      subst (λ (turned : Option PathNames). IsOwnDirectory layer (child_path way.0 name) (record { row = c.in-Some-number.child; turned = turned; closed = c.loop-name.closed })) (sym unturned)
+          (plain-entered layer way.0 name c.root_number-row.ensures.layer c.loop-name.row c.loop-name.closed own c.in-Some-number.child there.0 there.1 (c.mark.ensures ∙ ap Some plain)),
     )
 
 pub overflow_add-depth : goal.overflow_add-depth
