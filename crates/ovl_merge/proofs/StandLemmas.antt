@@ -1,5 +1,5 @@
 -- Where the walk of a directory stands in a layer, and how those of the names in it end.
-use Rattle.std.proofs.Common.{◌≡◌, ℕ, ◌<◌, Bool, true, false, cond, Option, Some, None, [], ◌∷◌, ◌++◌, length, refl, sym, ap, ◌∙◌, subst, inl, inr, ◌⊎◌}
+use Rattle.std.proofs.Common.{◌≡◌, ℕ, ◌<◌, Bool, true, false, cond, Option, Some, None, [], length, refl, sym, ap, ◌∙◌, subst}
 use Rattle.std.specs.Prelude.{◌||◌, is_some, is_none, slice_get, unwrap_or, IfSome, MatchOption}
 use Rattle.std.specs.Option.{option_map}
 use Rattle.std.specs.List.{list_any}
@@ -20,12 +20,11 @@ use Rattle.ovl_lookup.specs.Onwards.{IsOnward, path_on, name_on as marked_name, 
 use Rattle.ovl_lookup.specs.Stacks.{StackView}
 use Rattle.ovl_lookup.specs.Walk.{walk, nothing_found}
 use Rattle.ovl_lookup.specs.Passes.{IsArrivalAt}
-use Rattle.ovl_lookup.proofs.ViewLemmas.{NothingAt, FileAt, past}
-use Rattle.ovl_lookup.proofs.LawsOfWalks.{Beyond, directory_found, walk-whole, walk-child, walk-child_end, walk-end, walk-finds, names_below-has, entry-parent, entry-of_row}
+use Rattle.ovl_lookup.proofs.LawsOfWalks.{directory_found, entry-of_row, hides-alike, names_below-has, nothing-below, walk-child, walk-child_end, walk-finds, walk-whole}
 use Rattle.ovl_merge.specs.declared.stands.Stand.{Stand}
 use Rattle.ovl_merge.specs.declared.stands.Passing.{Passing}
 use Rattle.ovl_merge.specs.Places.{merge_of, passes}
-use Rattle.ovl_merge.specs.Stands.{IsInside, IsPast, StandsAt, IsStand, IsOver, IsRowAt, IsThing, IsPassing, onward_on, step_onward, past_onward, name_on, onward_to}
+use Rattle.ovl_merge.specs.Stands.{StandsAt, IsStand, IsOver, IsRowAt, IsThing, IsPassing, onward_on, step_onward, name_on, onward_to}
 use Rattle.ovl_merge.specs.Reckoned.{IsBelow}
 use Rattle.ovl_merge.proofs.VisitLemmas.{lower-layer}
 
@@ -41,7 +40,7 @@ lower-sheet stack several layer at =
 
 pub over-row : (layer : Entries) (path : PathNames) (row : Option ℕ) (next : Option PathNames) → StandsAt layer path row next → IfSome row (λ r. r < length layer)
 over-row layer path None next is = tt
-over-row layer path (Some row) next is = is.inside
+over-row layer path (Some row) next is = is.arrival.inside
 
 pub below-over : (layer : Entries) (onward : Option PathNames) (stand : Stand) → IsBelow layer onward (Some stand) → IsOver layer stand
 below-over layer None stand below = absurd below
@@ -59,17 +58,32 @@ passes-same (Some inode) = refl
 pub inside-found : (layer : Entries) (path : PathNames) → is_directory_at layer path ≡ true → passes is_directory (walk layer path).found ≡ true
 inside-found layer path is = ap (λ (s : Step). passes is_directory s.found) (walk-whole layer path is) ∙ (sym (passes-same (entry_at layer path)) ∙ is)
 
-pub stand-found : (layer : Entries) (path : PathNames) (row : Option ℕ) (next : Option PathNames) → StandsAt layer path row next → passes is_directory (walk layer path).found ≡ is_some row
-stand-found layer path (Some row) next is = inside-found layer path is.directory
-stand-found layer path None next is = is.no_directory
-
--- what is no directory for its walk is none
-pub no-directory : (layer : Entries) (path : PathNames) → passes is_directory (walk layer path).found ≡ false → is_directory_at layer path ≡ false
-no-directory layer path none = by (is_directory_at layer path) refl
+-- what isn't a directory there is none for its walk
+pub past-found : (layer : Entries) (path : PathNames) (next : Option PathNames) → StandsAt layer path None next → passes is_directory (walk layer path).found ≡ false
+past-found layer path next is = by (walk layer path).found refl
   where
-    by : (b : Bool) → is_directory_at layer path ≡ b → is_directory_at layer path ≡ false
-    by false e = e
-    by true e = let bad : false ≡ true = sym none ∙ inside-found layer path e in cc
+    by : (found : Option Inode) → (walk layer path).found ≡ found → passes is_directory (walk layer path).found ≡ false
+    by None e = ap (passes is_directory) e
+    by (Some inode) e = ap (passes is_directory) e ∙ (sym (ap directory_found (walk-finds layer path inode is.layered e).0) ∙ is.arrival.none)
+
+pub stand-found : (layer : Entries) (path : PathNames) (row : Option ℕ) (next : Option PathNames) → StandsAt layer path row next → passes is_directory (walk layer path).found ≡ is_some row
+stand-found layer path (Some row) next is = inside-found layer path is.arrival.directory
+stand-found layer path None next is = past-found layer path next is
+
+-- where its walk goes on, and past what is no directory: a thing hides all under it
+pub own-onward : (layer : Entries) (path : PathNames) (row : ℕ) (next : Option PathNames) → StandsAt layer path (Some row) next → next ≡ step_onward (walk layer path)
+own-onward layer path row next is = is.told ∙ (λ j. onward_on (is.arrival.next j) (is.arrival.closed j))
+
+abbrev pub past_onward : Option Inode → PathNames → Bool → Option PathNames
+past_onward found next closed = cond (is_some found) None (onward_on next closed)
+
+pub past-onward : (layer : Entries) (path : PathNames) (next : Option PathNames) → StandsAt layer path None next → next ≡ past_onward (walk layer path).found (walk layer path).next (walk layer path).closed
+past-onward layer path next is = is.told ∙ by (walk layer path).found (walk layer path).closed is.closed (is.arrival.ended ∙ hides-alike layer path is.layered) is.arrival.next
+  where
+    by : (found : Option Inode) (closed hidden : Bool) → hidden ≡ (is_some found || closed) → (hidden ≡ false → is.onward ≡ (walk layer path).next) → onward_on is.onward hidden ≡ past_onward found (walk layer path).next closed
+    by None true hidden e goes = ap (onward_on is.onward) e
+    by None false hidden e goes = λ j. onward_on (goes e j) (e j)
+    by (Some inode) closed hidden e goes = ap (onward_on is.onward) e
 
 -- where a walk goes on at a thing of this mark and name
 abbrev onward_among : Option PathNames → Option PathName → Option PathNames → Option PathNames
@@ -99,58 +113,49 @@ onward-on None None next name closed = refl
 -- ---- the end of a name's walk
 
 -- in what is no directory there is no row
-no-row : (layer : Entries) → IsLayer layer → (path : PathNames) (name : PathName) (next : Option PathNames) → IsPast layer path next → (row : ℕ) → row < length layer → path_at layer row ≡ child_path path name → ⊥
-no-row layer layered path name next is row inside there =
-    let entry = entry-of_row layer row layered inside in
-    let holds : is_directory_at layer path ≡ true = entry-parent layer path name entry.0 layered (ap (entry_at layer) (sym there) ∙ entry.1) in
-    let bad : false ≡ true = sym (no-directory layer path is.no_directory) ∙ holds in cc
+no-row : (layer : Entries) (path : PathNames) (name : PathName) (next : Option PathNames) → StandsAt layer path None next → (row : ℕ) → row < length layer → path_at layer row ≡ child_path path name → ⊥
+no-row layer path name next is row inside there =
+    let entry = entry-of_row layer row is.layered inside in
+    let bad : None ≡ Some entry.0 = sym (nothing-below layer path name [] is.layered is.arrival.none) ∙ (ap (entry_at layer) (sym there) ∙ entry.1) in cc
 
 -- at a name that the layer doesn't have
 module _ (layer : Entries) (path : PathNames) (name : PathName) (next : Option PathNames) (passing : Passing) (found : passing.found ≡ None) (onward : (n : Option PathNames) → onward_to n passing.onward ≡ name_on n name) where
-  ended : (walk layer (child_path path name)).found ≡ None → name_on next name ≡ step_onward (walk layer (child_path path name)) → IsPassing layer (child_path path name) next passing
-  ended none on = record {
-    found = ap (option_map (λ (f : Found). f.inode.now)) found ∙ sym none;
-    marked = subst (λ (o : Option Found). IfSome o (λ f. f.mark.now ≡ mark_of f.inode.now)) (sym found) tt;
-    onward = onward next ∙ on;
-  }
-
-  pass-past : IsPast layer path next → IsPassing layer (child_path path name) next passing
-  pass-past is = ended (is.nothing name []) (sym (is.below name []))
-
   name-onward : (n : PathNames) (closed : Bool) → name_on (onward_on n closed) name ≡ onward_on (child_path n name) closed
   name-onward n true = refl
   name-onward n false = refl
 
-  pass-nothing : IsLayer layer → (directory : ℕ) → IsInside layer path directory next → entry_at layer (child_path path name) ≡ None → IsPassing layer (child_path path name) next passing
-  pass-nothing layered directory is nothing =
-      let step : walk layer (child_path path name) ≡ nothing_found (child_path (walk layer path).next name) (walk layer path).closed = walk-child_end layer path name layered None is.directory nothing refl [] in
-      ended (ap (λ (s : Step). s.found) step)
-      (ap (λ (o : Option PathNames). name_on o name) is.onward ∙ (name-onward (walk layer path).next (walk layer path).closed ∙ sym (ap step_onward step)))
+  passed : (n : PathNames) (closed : Bool) → next ≡ onward_on n closed → walk layer (child_path path name) ≡ nothing_found (child_path n name) closed → IsPassing layer (child_path path name) next passing
+  passed n closed told step = record {
+    found = ap (option_map (λ (f : Found). f.inode.now)) found ∙ sym (ap (λ (s : Step). s.found) step);
+    marked = subst (λ (o : Option Found). IfSome o (λ f. f.mark.now ≡ mark_of f.inode.now)) (sym found) tt;
+    onward = onward next ∙ (ap (λ (o : Option PathNames). name_on o name) told ∙ (name-onward n closed ∙ sym (ap step_onward step)));
+  }
 
-  pub pass-none : IsLayer layer → (directory : Option ℕ) → StandsAt layer path directory next → entry_at layer (child_path path name) ≡ None → IsPassing layer (child_path path name) next passing
-  pass-none layered None is nothing = pass-past is
-  pass-none layered (Some directory) is nothing = pass-nothing layered directory is nothing
+  pub pass-none : (directory : Option ℕ) → StandsAt layer path directory next → entry_at layer (child_path path name) ≡ None → IsPassing layer (child_path path name) next passing
+  pass-none None is nothing = passed is.onward is.closed is.told (is.arrival.below name [])
+  pass-none (Some directory) is nothing =
+      passed (walk layer path).next (walk layer path).closed (own-onward layer path directory next is) (walk-child_end layer path name is.layered None is.arrival.directory nothing refl [])
 
 -- at a thing in its row
-pass-thing : (layer : Entries) → IsLayer layer → (path : PathNames) (name : PathName) (directory : ℕ) (next : Option PathNames) → IsInside layer path directory next
+pass-thing : (layer : Entries) (path : PathNames) (name : PathName) (directory : ℕ) (next : Option PathNames) → StandsAt layer path (Some directory) next
     → (row : ℕ) → row < length layer → path_at layer row ≡ child_path path name → (passing : Passing) → IsThing layer row name passing → IsPassing layer (child_path path name) next passing
-pass-thing layer layered path name directory next is row inside place passing thing =
+pass-thing layer path name directory next is row inside place passing thing =
     let inode : Inode = thing.inode in
-    let step = walk-child layer path name layered inode (ap (entry_at layer) (sym place) ∙ thing.here) in
+    let step = walk-child layer path name is.layered inode (ap (entry_at layer) (sym place) ∙ thing.here) in
     record {
       found = thing.found ∙ ap (λ (s : Step). s.found) (sym step);
       marked = thing.marked;
       onward =
           onward-told (mark_of inode) name passing.onward thing.onward next
-          ∙ (ap (λ (o : Option PathNames). onward_by (mark_of inode) o name) is.onward
+          ∙ (ap (λ (o : Option PathNames). onward_by (mark_of inode) o name) (own-onward layer path directory next is)
           ∙ (onward-on (path_on (mark_of inode)) (marked_name (mark_of inode) name) (walk layer path).next name (walk layer path).closed
           ∙ ap step_onward (sym step)));
     }
 
-pub pass-row : (layer : Entries) → IsLayer layer → (path : PathNames) (name : PathName) (directory : Option ℕ) (next : Option PathNames) → StandsAt layer path directory next
+pub pass-row : (layer : Entries) (path : PathNames) (name : PathName) (directory : Option ℕ) (next : Option PathNames) → StandsAt layer path directory next
     → (row : ℕ) → row < length layer → path_at layer row ≡ child_path path name → (passing : Passing) → IsThing layer row name passing → IsPassing layer (child_path path name) next passing
-pass-row layer layered path name None next is row inside there passing thing = absurd (no-row layer layered path name next is row inside there)
-pass-row layer layered path name (Some directory) next is row inside there passing thing = pass-thing layer layered path name directory next is row inside there passing thing
+pass-row layer path name None next is row inside there passing thing = absurd (no-row layer path name next is row inside there)
+pass-row layer path name (Some directory) next is row inside there passing thing = pass-thing layer path name directory next is row inside there passing thing
 
 -- ---- the rows in a directory
 
@@ -167,85 +172,19 @@ unnamed layer path name other = by (entry_at layer (child_path path name)) refl
     by None e = e
     by (Some inode) e = let bad : false ≡ true = sym other ∙ names_below-has layer path name inode e in cc
 
--- past what the layer has
-module _ (layer : Entries) (layered : IsLayer layer) (path : PathNames) (next : Option PathNames) (is : IsPast layer path next) where
-  pub past-entry : (name : PathName) → entry_at layer (child_path path name) ≡ None
-  past-entry name = by (entry_at layer (child_path path name)) refl
-    where
-      by : (found : Option Inode) → entry_at layer (child_path path name) ≡ found → entry_at layer (child_path path name) ≡ None
-      by None e = e
-      by (Some inode) e = let bad : false ≡ true = sym (no-directory layer path is.no_directory) ∙ entry-parent layer path name inode layered e in cc
-
 -- the row that is sought in a directory
 pub sought-inside : (layer : Entries) (path : PathNames) (row : Option ℕ) → MatchOption row (entries_under path layer ≡ []) (λ child. (child < length layer) × (path_at layer child ≡ path)) → IfSome row (λ number. number < length layer)
 sought-inside layer path None nothing = tt
 sought-inside layer path (Some child) there = there.0
 
-pub sought-row : (layer : Entries) (path : PathNames) (directory : ℕ) (next : Option PathNames) → IsInside layer path directory next → (name : PathName) (row : Option ℕ)
+pub sought-row : (layer : Entries) (path : PathNames) (directory : ℕ) (next : Option PathNames) → StandsAt layer path (Some directory) next → (name : PathName) (row : Option ℕ)
     → MatchOption row (entries_under (child_path (path_at layer directory) name) layer ≡ []) (λ child. (child < length layer) × (path_at layer child ≡ child_path (path_at layer directory) name))
     → IsRowAt layer (child_path path name) row
 sought-row layer path directory next is name None nothing =
     entry_at-under (child_path path name) layer
-    ∙ ap (λ (entries : Entries). entry_at entries []) (ap (λ (p : PathNames). entries_under (child_path p name) layer) (sym is.here) ∙ nothing)
-sought-row layer path directory next is name (Some child) there = (there.0, there.1 ∙ ap (λ (p : PathNames). child_path p name) is.here)
+    ∙ ap (λ (entries : Entries). entry_at entries []) (ap (λ (p : PathNames). entries_under (child_path p name) layer) (sym is.arrival.here) ∙ nothing)
+sought-row layer path directory next is name (Some child) there = (there.0, there.1 ∙ ap (λ (p : PathNames). child_path p name) is.arrival.here)
 
--- ---- where a walk arrives, it stands
-
--- what is hidden there goes on no further
-shut-past : (step : Step) → step.closed ≡ true → None ≡ past_onward step
-shut-past step shut = by step.found ∙ (λ j. cond (is_some step.found) None (onward_on step.next (sym shut j)))
-  where
-    by : (found : Option Inode) → None ≡ cond (is_some found) None (onward_on step.next true)
-    by None = refl
-    by (Some inode) = refl
-
-found-past : (step : Step) (inode : Inode) → step.found ≡ Some inode → None ≡ past_onward step
-found-past step inode found = ap (λ (o : Option Inode). cond (is_some o) None (step_onward step)) (sym found)
-
-module _ (layer : Entries) (is : IsLayer layer) (path : PathNames) where
-  past-stands : (next : PathNames) (closed : Bool) → IsArrivalAt layer path None next closed → IsPast layer path (onward_on next closed)
-  past-stands next closed at = record {
-    no_directory = no_directory (walk layer path).found refl;
-    onward = goes closed at;
-    nothing = λ name names. ap (λ (s : Step). s.found) (at.below name names);
-    below = λ name names. ap step_onward (at.below name names) ∙ named closed name names;
-  }
-    where
-      named : (b : Bool) (name : PathName) (names : PathNames) → onward_on (next ++ name ∷ names) b ≡ option_map (λ (above : PathNames). above ++ name ∷ names) (onward_on next b)
-      named true name names = refl
-      named false name names = refl
-
-      no_directory : (found : Option Inode) → (walk layer path).found ≡ found → passes is_directory (walk layer path).found ≡ false
-      no_directory None e = ap (passes is_directory) e
-      no_directory (Some inode) e = ap (passes is_directory) e ∙ (sym (ap directory_found (walk-finds layer path inode is e).0) ∙ at.none)
-
-      goes : (b : Bool) → IsArrivalAt layer path None next b → onward_on next b ≡ past_onward (walk layer path)
-      goes b at = by (walk-end layer path is) b at
-        where
-          opened : (one other : Bool) → (one || other) ≡ false → (one ≡ false) × (other ≡ false)
-          opened false other e = (refl, e)
-          opened true other e = let bad : true ≡ false = e in cc
-
-          unfound : (found : Option Inode) → (walk layer path).found ≡ found → is_some (entry_at layer path) ≡ false → (walk layer path).found ≡ None
-          unfound None e none = e
-          unfound (Some inode) e none = let bad : true ≡ false = sym (ap is_some (walk-finds layer path inode is e).0) ∙ none in cc
-
-          by : (is_directory_at layer path ≡ true) ⊎ Beyond layer path → (b : Bool) → IsArrivalAt layer path None next b → onward_on next b ≡ past_onward (walk layer path)
-          by (inl holds) b at = let bad : false ≡ true = sym at.none ∙ holds in cc
-          by (inr beyond) false at =
-              let o = opened (is_some (entry_at layer path)) (walk layer path).closed (sym at.ended) in
-              (λ j. onward_on (at.next refl j) (sym o.1 j))
-              ∙ ap (λ (found : Option Inode). cond (is_some found) None (step_onward (walk layer path))) (sym (unfound (walk layer path).found refl o.0))
-          by (inr beyond) true at = ends (past layer path is beyond)
-            where
-              ends : NothingAt layer path ⊎ FileAt layer path → None ≡ past_onward (walk layer path)
-              ends (inl nothing) = shut-past (walk layer path) (ap (λ (o : Option Inode). is_some o || (walk layer path).closed) (sym nothing.none) ∙ sym at.ended)
-              ends (inr file) = either file.finds
-                where
-                  either : ((walk layer path).found ≡ Some file.inode) ⊎ (((walk layer path).found ≡ None) × ((walk layer path).closed ≡ true)) → None ≡ past_onward (walk layer path)
-                  either (inl found) = found-past (walk layer path) file.inode found
-                  either (inr shut) = shut-past (walk layer path) shut.1
-
-  pub arrival-stands : (row : Option ℕ) (next : PathNames) (closed : Bool) → IsArrivalAt layer path row next closed → StandsAt layer path row (onward_on next closed)
-  arrival-stands None next closed at = past-stands next closed at
-  arrival-stands (Some row) next closed at = record { inside = at.inside; here = at.here; directory = at.directory; onward = λ j. onward_on (at.next j) (at.closed j) }
+-- where a walk arrives, it stands
+pub arrival-stands : (layer : Entries) → IsLayer layer → (path : PathNames) (row : Option ℕ) (next : PathNames) (closed : Bool) → IsArrivalAt layer path row next closed → StandsAt layer path row (onward_on next closed)
+arrival-stands layer is path row next closed at = record { layered = is; onward = next; closed = closed; arrival = at; told = refl }

@@ -82,8 +82,6 @@ fn row_in(sheet: &Sheet, directory: Option<u32>, name: &Name) -> Option<u32>
     ensures row { (path : PathNames) (next : Option PathNames) → StandsAt sheet.now path directory next
         → IsRowAt sheet.now (child_path path name.now) result }
 {
-    // Each sheet is a layer.
-    let _root = sheet.root_number();
     match directory {
         Some(directory) => sheet.child(directory, name.as_str()),
         None => None,
@@ -97,8 +95,6 @@ pub(crate) fn passing_at<'a>(sheet: &'a Sheet, name: &'a Name, row: Option<u32>)
         → (directory : Option ℕ) (next : Option PathNames) → StandsAt sheet.now path directory next
         → IsPassing sheet.now (child_path path name.now) next result }
 {
-    // Each sheet is a layer.
-    let _root = sheet.root_number();
     match row {
         Some(row) => thing_at(sheet, row, name),
         None => nothing_at(name),
