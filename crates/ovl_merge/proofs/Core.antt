@@ -1,6 +1,6 @@
 -- The core of the law that a merge keeps the merged tree: where the walks of the new lower layer go on.
 use Rattle.std.proofs.Common.{◌≡◌, ℕ, arith, Bool, true, false, cond, Option, Some, None, is_some, List, [], ◌∷◌, suc, length, refl, sym, ap, ◌∙◌, subst, inl, inr, ◌⊎◌}
-use Rattle.std.specs.Prelude.{not, ◌&&◌, ◌||◌, is_none, IfSome, codes}
+use Rattle.std.specs.Prelude.{not, ◌&&◌, is_none, IfSome, codes}
 use Rattle.std.specs.List.{cons_option, list_all, All}
 use Rattle.std.proofs.lemmas.List.Elements.{All-cons}
 use Rattle.std.specs.Cmp.Lexicographic.{pointwise_decides, bytes_decides}
