@@ -4,6 +4,7 @@ import contextlib
 import filecmp
 import os
 import shlex
+import sys
 import time
 from collections.abc import Iterator, Sequence
 from dataclasses import dataclass, replace
@@ -12,15 +13,20 @@ from typing import Protocol
 
 from . import stacks
 from .compression import NONE
+from .contents import PIECE
 from .entries import METACOPY, REDIRECT
-from .faults import Fault, UsageFault, cannot_write, writing
-from .images import Image, image_place, opened_image
+from .faults import Fault, UsageFault, cannot_write, reading, writing
+from .images import Image, image_place, opened_image, spellings
+from .links import links_path, names_in
 from .manifests import blobs_named_in, has_attribute
-from .outputs import kept_folder, new_folder, passing_folder
-from .pack import ARCHIVE_SUFFIX, PackOptions, pack
-from .program import NAME, find_program, makes_layers, require_program, run_program, words_of
+from .members import STANDARD_INPUT
+from .mounted import escaped_path
+from .outputs import kept_folder, new_folder, passing_folder, standard_output
+from .pack import PackOptions, pack
+from .program import NAME, find_program, makes_layers, require_program, run_program, word_of_path, words_of
 from .progress import counted, note, note_path
 from .stages import tidy, told
+from .targets import ARCHIVE_SUFFIX, Form, Target
 from .unpack import UnpackOptions, unpack
 
 _STACK = "stack"
@@ -30,6 +36,7 @@ _AFTER = "after.show"
 _IMAGE = "image"
 _SHOWN = f"{_IMAGE}.show"
 _REPORT = "report"
+_FOR_PACK = (stacks.BLOBS, stacks.CONFIG, stacks.SHOWN_LINKS)
 _TOOL = Path(__file__).resolve().parents[1] / "layers.py"
 
 
@@ -38,7 +45,7 @@ class FlattenOptions:
     """What the words of `flatten` say."""
 
     image: str
-    out: str
+    out: Target
     layers: int = 1
     keep: str | None = None
     platform: str | None = None
@@ -60,7 +67,7 @@ def flatten(options: FlattenOptions) -> None:
         with passing_folder(image) if options.keep is None else kept_folder(options.keep) as folder:
             before, after = _carry_out(_Doing(options, folder, image), options.layers)
     seconds = time.monotonic() - begun
-    note_path(options.out, f"{counted(after, 'layer', 'layers')} in place of {before}, {seconds:.2f} s in all")
+    note_path(options.out.told, f"{counted(after, 'layer', 'layers')} in place of {before}, {seconds:.2f} s in all")
 
 
 def flatten_commands(options: FlattenOptions) -> list[str]:
@@ -77,33 +84,44 @@ def _with_place(options: FlattenOptions) -> FlattenOptions:
 
 def _require_free(options: FlattenOptions) -> None:
     """Refuses at once what couldn't be written in the end."""
-    if options.keep is not None and os.path.realpath(options.keep) == os.path.realpath(options.out):
+    out = options.out
+    if out.is_standard_output:
+        return
+    if options.keep is not None and os.path.realpath(options.keep) == os.path.realpath(out.path):
         raise UsageFault("--keep and --out must be two places")
-    is_archive = options.out.endswith(ARCHIVE_SUFFIX)
-    if is_archive and os.path.lexists(options.out) and not os.path.isfile(options.out):
-        raise cannot_write(options.out, "it is no regular file")
+    if out.form is Form.ARCHIVE and os.path.lexists(out.path) and not os.path.isfile(out.path):
+        raise cannot_write(out.path, "it is no regular file")
 
 
 @contextlib.contextmanager
-def _new_image(out: str) -> Iterator[str]:
+def _new_image(out: Target) -> Iterator[str]:
     """Where the new image is to be made. It gets its name at the end, and only there."""
-    if not out.endswith(ARCHIVE_SUFFIX):
-        with new_folder(out) as stage:
+    if out.form is not Form.ARCHIVE:
+        with new_folder(out.path) as stage:
             image = f"{stage}/{_IMAGE}"
             yield image
-            with writing(out):
+            with writing(out.path):
                 for name in os.listdir(image):
                     os.rename(f"{image}/{name}", f"{stage}/{name}")
                 os.rmdir(image)
         return
-    place = os.path.realpath(out)
+    place = os.path.realpath(out.place)
     for found in tidy(os.path.dirname(place)):
         note(f"there is {told(found)}")
     with passing_folder(place) as stage:
         image = f"{stage}/{_IMAGE}{ARCHIVE_SUFFIX}"
         yield image
-        with writing(out):
-            os.rename(image, place)
+        if out.is_standard_output:
+            _print_image(image)
+        else:
+            with writing(out.path):
+                os.rename(image, place)
+
+
+def _print_image(image: str) -> None:
+    with open(image, "rb") as file, standard_output() as write:
+        while piece := file.read(PIECE):
+            write(piece)
 
 
 class _Steps(Protocol):
@@ -114,6 +132,10 @@ class _Steps(Protocol):
 
     def run(self, step: str, what: str, layers: Sequence[str], new: str) -> None:
         """Runs the program: its report is the file `new`, or where it makes layers, in a folder `new` with them."""
+
+    def vacuum(self, step: str, layers: Sequence[str], new: str) -> str:
+        """The topmost layer without what changes nothing, or as it is where that takes away a name of a hard link, or
+        shows one: below stands the same, but not as the same file."""
 
     def moved(self, layers: Sequence[str]) -> list[int]:
         """The layers with redirects or metacopy files, which no image can state; the lowest first."""
@@ -131,8 +153,7 @@ def _carry_out(steps: _Steps, wanted: int) -> tuple[int, int]:
     layers = stacks.layer_paths(_STACK, count)
     steps.run("show", "show", layers, _BEFORE)
     steps.run("fsck", "fsck", layers, f"fsck.{_REPORT}")
-    steps.run("vacuum", "vacuum", layers, "vacuum")
-    layers[0] = _new_layer("vacuum")
+    layers[0] = steps.vacuum("vacuum", layers, "vacuum")
     # Over layers without redirects each loses its own, and then no merge makes any.
     for number in steps.moved(layers):
         steps.run(f"deref of layer {number}", "deref", layers[number:], f"deref-{number}")
@@ -143,8 +164,7 @@ def _carry_out(steps: _Steps, wanted: int) -> tuple[int, int]:
         # The new topmost layer holds a root alone, which the one below it has too.
         layers[:2] = [_new_layer(f"merge-{number}", 1)]
     if merges and len(layers) > 1:
-        steps.run("vacuum of the merged layer", "vacuum", layers, "vacuum-merged")
-        layers[0] = _new_layer("vacuum-merged")
+        layers[0] = steps.vacuum("vacuum of the merged layer", layers, "vacuum-merged")
     steps.run("show of the new layers", "show", layers, _AFTER)
     steps.compare(_AFTER)
     steps.pack(layers)
@@ -165,6 +185,7 @@ class _Doing:
         self._image = image
         self._program = require_program()
         self._name: str | None = None
+        self._count = 0
 
     def _path(self, name: str) -> str:
         return f"{self._folder}/{name}"
@@ -177,9 +198,9 @@ class _Doing:
                 options.image, self._path(_STACK), options.platform, options.tag, options.skip_unsupported,
                 options.overlay_marks,
             ))
-            self._name = _name_of(image, options)
-            words.append(counted(len(image.layers), "layer", "layers"))
-        return len(image.layers)
+            self._name, self._count = _name_of(image, options), len(image.layers)
+            words.append(counted(self._count, "layer", "layers"))
+        return self._count
 
     def run(self, step: str, what: str, layers: Sequence[str], new: str) -> None:
         """See `_Steps`."""
@@ -189,11 +210,28 @@ class _Doing:
     def _run(self, what: str, layers: Sequence[str], new: str) -> str:
         blobs = self._path(f"{_STACK}/{stacks.BLOBS}")
         words = words_of(what, layers, blobs, new)
-        if not makes_layers(what):
-            return run_program(self._program, words, new)
-        with writing(new):
-            os.mkdir(new)
-        return run_program(self._program, words, f"{new}/{_REPORT}")
+        report = new
+        if makes_layers(what):
+            with writing(new):
+                os.mkdir(new)
+            report = f"{new}/{_REPORT}"
+        faults = sys.stderr if self._options.out.is_standard_output else sys.stdout
+        return run_program(self._program, words, report, faults)
+
+    def vacuum(self, step: str, layers: Sequence[str], new: str) -> str:
+        """See `_Steps`."""
+        self.run(step, "vacuum", layers, new)
+        removed = _removed_in(self._path(f"{new}/{_REPORT}"))
+        if removed and any(escaped_path(name) in removed for name in self._linked()):
+            note(f"{step}: not used, since it takes away names of hard links")
+            return layers[0]
+        return _new_layer(new)
+
+    def _linked(self) -> Iterator[str]:
+        """The names of the hard links that the given layers have or show."""
+        yield from names_in(self._path(f"{_STACK}/{stacks.SHOWN_LINKS}"))
+        for layer in map(self._path, stacks.layer_paths(_STACK, self._count)):
+            yield from names_in(links_path(layer), layer)
 
     def moved(self, layers: Sequence[str]) -> list[int]:
         """See `_Steps`."""
@@ -211,15 +249,20 @@ class _Doing:
 
     def pack(self, layers: Sequence[str]) -> None:
         """See `_Steps`."""
+        blobs, config, links = (self._path(f"{_STACK}/{name}") for name in _FOR_PACK)
         with _timed("pack") as words:
             pack(PackOptions(
-                [self._path(layer) for layer in layers], self._path(f"{_STACK}/{stacks.BLOBS}"), self._image,
-                tag=self._name, config=self._path(f"{_STACK}/{stacks.CONFIG}"), compress=self._options.compress,
+                [self._path(layer) for layer in layers], blobs, self._target(), tag=self._name, config=config,
+                compress=self._options.compress, links=links,
             ))
             words.append(counted(len(layers), "layer", "layers"))
         with _timed("the new image, read again") as words:
             words.append(self._shown(self._image))
             self.compare(_SHOWN)
+
+    def _target(self) -> Target:
+        """The image that is made, on its way to its name."""
+        return replace(self._options.out, path=self._image)
 
     def _shown(self, image: str) -> str:
         """Writes what an image shows."""
@@ -227,6 +270,12 @@ class _Doing:
             again = f"{folder}/{_AGAIN}"
             found = unpack(UnpackOptions(image, again, overlay_marks=self._options.overlay_marks, digests_only=True))
             return self._run("show", stacks.layer_paths(again, len(found.layers)), self._path(_SHOWN))
+
+
+def _removed_in(report: str) -> set[str]:
+    """The paths, as reports write them, that `vacuum` took away."""
+    with reading(report), open(report, encoding="ascii") as lines:
+        return {words[1] for words in map(str.split, lines) if words[0] == "removed" and words[1].startswith("/")}
 
 
 def _unpacked(options: UnpackOptions) -> Image:
@@ -246,8 +295,9 @@ def _unpacked(options: UnpackOptions) -> Image:
 
 
 def _name_of(image: Image, options: FlattenOptions) -> str | None:
-    """The name of the new image: the one that was asked for, or else the first of the given image."""
-    return options.tag or next(iter(image.names), None)
+    """The name of the new image: the one that was asked for, as the given image spells it, or else its first."""
+    asked = spellings(options.tag) if options.tag else image.names
+    return options.out.tag or next((name for name in image.names if name in asked), options.tag)
 
 
 @contextlib.contextmanager
@@ -279,7 +329,7 @@ class _Telling:
         if options.keep is None:
             self.lines.append("work=$(mktemp -d)\n")
         else:
-            self.lines.append(f"work={shlex.quote(options.keep)}\n")
+            self.lines.append(f"work={shlex.quote(word_of_path(options.keep))}\n")
             self._add("mkdir", "-p", "--", _InWork(""))
 
     def unpack(self) -> int:
@@ -290,7 +340,7 @@ class _Telling:
         words = _given("--platform", options.platform) + _given("--tag", options.tag)
         if options.skip_unsupported:
             words.append("--skip-unsupported")
-        self._add_tool("unpack", options.image, "--out", self._path(_STACK), *words, *self._marks)
+        self._add_tool("unpack", _word_of_image(options.image), "--out", self._path(_STACK), *words, *self._marks)
         return count
 
     def run(self, step: str, what: str, layers: Sequence[str], new: str) -> None:
@@ -302,6 +352,12 @@ class _Telling:
         blobs = self._path(f"{_STACK}/{stacks.BLOBS}")
         words = words_of(what, [self._path(layer) for layer in layers], blobs, self._path(new))
         self._add(self._program, *words, into=report)
+
+    def vacuum(self, step: str, layers: Sequence[str], new: str) -> str:
+        """See `_Steps`."""
+        self.run(step, "vacuum", layers, new)
+        self.lines.append("# where it takes away names that a file of links has, go on with the layer before it\n")
+        return _new_layer(new)
 
     def moved(self, layers: Sequence[str]) -> list[int]:
         """None: without marks of the image's own there are none, and with them nobody knows before it is unpacked."""
@@ -315,16 +371,19 @@ class _Telling:
 
     def pack(self, layers: Sequence[str]) -> None:
         """See `_Steps`."""
-        paths, out = [self._path(layer) for layer in layers], self._options.out
-        blobs, config = (self._path(f"{_STACK}/{name}") for name in (stacks.BLOBS, stacks.CONFIG))
+        paths, target = [self._path(layer) for layer in layers], self._options.out
+        out = self._path(f"{_IMAGE}{ARCHIVE_SUFFIX}") if target.is_standard_output else word_of_path(target.word)
+        blobs, config, links = (self._path(f"{_STACK}/{name}") for name in _FOR_PACK)
         self._add_tool(
-            "pack", *paths, "--blobs", blobs, "--config", config, "--out", out, "--compress", self._options.compress,
-            *_given("--tag", self._name),
+            "pack", *paths, "--blobs", blobs, "--config", config, "--links", links, "--out", out,
+            "--compress", self._options.compress, *_given("--tag", self._name),
         )
         self._add_tool("unpack", out, "--out", self._path(_AGAIN), "--digests-only", *self._marks)
         again = [self._path(layer) for layer in stacks.layer_paths(_AGAIN, len(layers))]
         self._add(self._program, "show", *again, into=self._path(_SHOWN))
         self.compare(_SHOWN)
+        if target.is_standard_output:
+            self._add("cat", out)
 
     def _path(self, name: str) -> _InWork:
         return _InWork(name)
@@ -335,6 +394,10 @@ class _Telling:
     def _add(self, *words: str, into: str | None = None) -> None:
         report = [] if into is None else [">", _quoted(into)]
         self.lines.append(" ".join([*map(_quoted, words), *report]) + "\n")
+
+
+def _word_of_image(path: str) -> str:
+    return path if path == STANDARD_INPUT else word_of_path(path)
 
 
 def _given(option: str, value: str | None) -> list[str]:
