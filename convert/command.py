@@ -54,7 +54,10 @@ exit status:
 `{name} COMMAND --help` tells the words of a command."""
 
 _SCAN = """\
-Writes the manifest of a layer's folder, and the contents of its files into the folder of blobs.
+Writes the manifest of a layer, and the contents of its files into the folder of blobs. LAYER is the layer's
+folder, a squashfs file, or a tar archive of the folder with its attributes. In all of them a char device 0:0
+is a whiteout, trusted.overlay.* are marks, and names that begin with .wh. are names like others. A squashfs
+is read by sqfs2tar (in Debian's squashfs-tools-ng); it gives no sockets, which is counted and said.
 
 Links are never followed, and other file systems aren't entered. Anything that a manifest can't state
 is refused, before anything is written: names that aren't UTF-8, paths over 128 names or 4,095 bytes,
@@ -64,7 +67,7 @@ its own, which is counted and said.
 With --digests-only in place of --blobs contents are read for their digests and copied nowhere, which is
 enough for `ovl_layers show`.
 
-Reading the marks of an overlay (trusted.overlay.*) needs root."""
+Reading the marks of an overlay (trusted.overlay.*) of a folder needs root; of a file it doesn't."""
 
 _STORE = """\
 Writes a layer that docker (overlay2) or podman and buildah (containers-storage) keep on this machine, and
@@ -153,7 +156,7 @@ def _parser() -> argparse.ArgumentParser:
     )
     parser.add_argument("--version", action="version", version=f"{NAME} {VERSION}", help="print the version and exit")
     commands = parser.add_subparsers(title="commands", metavar="COMMAND", required=True)
-    _add_scan(_command(commands, "scan", "a layer's folder as a manifest and blobs", _SCAN, _scan))
+    _add_scan(_command(commands, "scan", "a layer as a manifest and blobs", _SCAN, _scan))
     _add_store(_command(commands, "store", "a layer of docker or podman with those below it", _STORE, _store))
     _add_build(_command(commands, "build", "the folder of a manifest", _BUILD, _build))
     _add_unpack(_command(commands, "unpack", "an image's layers as manifests and blobs", _UNPACK, _unpack))
@@ -176,7 +179,7 @@ def _command(
 
 
 def _add_scan(parser: argparse.ArgumentParser) -> None:
-    parser.add_argument("folder", metavar="DIR", help="folder of a layer")
+    parser.add_argument("layer", metavar="LAYER", help="folder of a layer, a squashfs, or a tar archive of the folder")
     parser.add_argument("--out", metavar="FILE", required=True, help="manifest to write; - is standard output")
     contents = parser.add_mutually_exclusive_group(required=True)
     contents.add_argument("--blobs", metavar="DIR", help="folder of blobs, made where it is absent")
@@ -335,7 +338,7 @@ def _folder(path: str) -> str:
 
 def _scan(words: argparse.Namespace) -> None:
     scan(ScanOptions(
-        _folder(words.folder), words.out, None if words.digests_only else _folder(words.blobs), words.userxattr,
+        _folder(words.layer), words.out, None if words.digests_only else _folder(words.blobs), words.userxattr,
         words.cross_file_systems, words.skip_unsupported, words.workers,
     ))
 

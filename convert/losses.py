@@ -31,6 +31,11 @@ class Loss(Enum):
         "char device 0:0, which an overlay takes as a whiteout",
         "char devices 0:0, which an overlay takes as whiteouts",
     )
+    WHITEOUT_NAME = (
+        "name that begins with .wh., which means a whiteout in images alone (`unpack` reads those)",
+        "names that begin with .wh., which mean whiteouts in images alone (`unpack` reads those)",
+    )
+    SOCKET = ("socket left out, which archives don't have", "sockets left out, which archives don't have")
     UNKNOWN = (
         "directory that no layer states, now of mode 0755, owner 0 and time 0",
         "directories that no layer states, now of mode 0755, owner 0 and time 0",

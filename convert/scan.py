@@ -1,4 +1,4 @@
-"""`scan`: a layer's folder as a manifest and blobs."""
+"""`scan`: a layer as a manifest and blobs, whether it is a folder, a squashfs or an archive of its folder."""
 
 import os
 import stat
@@ -10,6 +10,7 @@ from .attributes import Unstated, marks_from_user, read_attributes, require_trus
 from .blobs import Writer, writers
 from .entries import BLOCK, CHAR, DIRECTORY, FILE, NO_ATTRIBUTES, SYMLINK, Entry, is_whiteout
 from .faults import cannot_read, reading, reason_of
+from .layer_files import FileOptions, Form, form_of, scan_file
 from .manifests import write_manifest
 from .places import Chain, open_root
 from .progress import Progress, counted, note, note_path
@@ -23,7 +24,7 @@ _READ = os.O_RDONLY | os.O_NOFOLLOW | os.O_NONBLOCK | os.O_CLOEXEC
 class ScanOptions:
     """What the words of `scan` say. Without a folder of blobs contents are digested and not copied."""
 
-    folder: str
+    layer: str
     out: str
     blobs: str | None
     userxattr: bool = False
@@ -51,24 +52,32 @@ class Losses:
 
 
 def scan(options: ScanOptions) -> None:
-    """Writes the manifest of a folder, and the contents of its files. Tells what is lost."""
+    """Writes the manifest of a layer, and the contents of its files. Tells what is lost."""
+    form = form_of(options.layer)
+    if form is Form.MANIFEST:
+        raise cannot_read(options.layer, "it is no layer, but perhaps the manifest of one")
+    if form is not Form.FOLDER:
+        scan_file(FileOptions(
+            options.layer, options.out, options.blobs, options.userxattr, options.skip_unsupported
+        ), form)
+        return
     losses = Losses()
     scan_folder(options, losses)
     losses.tell()
 
 
 def scan_folder(options: ScanOptions, losses: Losses) -> None:
-    """The same, with what is lost counted."""
+    """The same of a folder, with what is lost counted."""
     if not options.userxattr:
-        require_trusted(options.folder)
-    with reading(options.folder):
-        root = open_root(options.folder)
+        require_trusted(options.layer)
+    with reading(options.layer):
+        root = open_root(options.layer)
     try:
         entries = Survey(options, losses).entries(root)
         _store_contents(options, root, entries)
     finally:
         os.close(root)
-    write_manifest(options.out, entries, options.folder)
+    write_manifest(options.out, entries, options.layer)
 
 
 class Survey:
@@ -82,7 +91,7 @@ class Survey:
         """The entries of an open folder, in path order."""
         entries: list[Entry] = []
         progress = Progress("looking at entries")
-        for found in walk(root, self._options.folder, self._options.cross_file_systems):
+        for found in walk(root, self._options.layer, self._options.cross_file_systems):
             if len(entries) == rules.MAX_ENTRIES:
                 self._leave_out(found, f"the folder has over {rules.MAX_ENTRIES:,} entries")
                 break
@@ -92,7 +101,7 @@ class Survey:
                 self._leave_out(found, problem or "")
                 continue
             if found.is_other_system and not found.enter:
-                note_path(self._options.folder + found.path, "another file system, not entered")
+                note_path(self._options.layer + found.path, "another file system, not entered")
             entries.append(entry)
             progress.step()
         progress.end()
@@ -151,7 +160,7 @@ class Survey:
         self._losses.left_out += 1
 
     def _path(self, found: Found) -> str:
-        return self._options.folder + (found.path if found.depth else "")
+        return self._options.layer + (found.path if found.depth else "")
 
 
 def _place_problem(found: Found) -> str | None:
@@ -171,7 +180,7 @@ def _store_contents(options: ScanOptions, root: int, entries: list[Entry]) -> No
             chain, writer = Chain(root), new_writer()
             try:
                 for entry in share:
-                    yield _stored(options.folder, chain, writer, entry)
+                    yield _stored(options.layer, chain, writer, entry)
             finally:
                 writer.close()
                 chain.close()

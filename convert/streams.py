@@ -130,6 +130,11 @@ def buffered(stream: Source) -> Source:
     return io.BufferedReader(stream, PIECE) if isinstance(stream, io.RawIOBase) else stream
 
 
+def is_packed(head: bytes) -> bool:
+    """Whether bytes begin as what gzip, zstd or another such program packs."""
+    return head.startswith((_GZIP, _ZSTD, *_OTHERS))
+
+
 @contextlib.contextmanager
 def unpacked(part: Slice, name: str) -> Iterator[Source]:
     """The bytes of a layer's archive. Tells what is wrong with its packing as a fault of this name."""
