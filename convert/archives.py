@@ -12,13 +12,14 @@ from . import rules
 from . import tar_headers as tar
 from .archive_names import AUFS_LINKS, OPAQUE_NAME, WHITEOUT_PREFIX, Paths, is_of_aufs
 from .attributes import Unstated, marks_from_user
+from .below import Below
 from .blobs import Digester, Writer
 from .contents import PIECE, write_all
 from .entries import (
     BLOCK, CHAR, DIRECTORY, FIFO, FILE, METACOPY, NO_ATTRIBUTES, OVERLAY, SYMLINK, WHITEOUT, Entry, is_whiteout,
 )
 from .faults import cannot_read, cannot_write, writing
-from .layer_tree import Attributes, Below, Blocked, Gap, Held, LayerTree, TooMuch, Unfit, whiteout
+from .layer_tree import Attributes, Blocked, Gap, Held, LayerTree, TooMuch, Unfit, whiteout
 from .losses import Loss, Losses
 from .progress import Progress, note
 from .streams import Digesting, Source, buffered
@@ -219,7 +220,7 @@ class LayerArchive:
         return Attributes(kept or NO_ATTRIBUTES, len(attributes) - len(kept), text_bytes)
 
     def _linked(self, header: Header, names: list[str]) -> Entry:
-        """A hard link as a file of its own, with all that the file it names has, here or below."""
+        """One more name of a file of this layer, or a copy of one of the layers below."""
         told, is_folder = os.fsdecode(header.target), self._taking.is_folder
         linked = Paths(not is_folder).names(header.target, "the file that it links to")
         aufs = self._aufs_links.get(_path(linked))
@@ -229,10 +230,13 @@ class LayerArchive:
             raise Unfit(f"it links to {told}, which is no file of this layer so far or of those below")
         if METACOPY in found.attributes and not is_folder:
             raise Unfit(f"it links to {told}, a file without its contents")
-        # The kernel links the whiteouts of a mount to one another, which nothing shows.
-        if not is_whiteout(found):
-            self._losses.add(Loss.HARD_LINK if here else Loss.LOWER_LINK, _path(names))
-        return copy.copy(found)
+        if here is None:
+            self._losses.add(Loss.LOWER_LINK, _path(names))
+        elif not is_whiteout(here):  # the kernel links the whiteouts of a mount to one another, which nothing shows
+            here.link = here.link or self._taking.held.new_link()
+        own = copy.copy(found)
+        own.link = here.link if here else 0
+        return own
 
     def _fill(self, entry: Entry, header: Header, archive: TarReader) -> None:
         most = self._taking.most_contents

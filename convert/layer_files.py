@@ -9,11 +9,12 @@ from enum import Enum, auto
 
 from . import squashfs
 from .archives import LayerArchive, Taking
+from .below import Below
 from .blobs import writers
 from .faults import cannot_read, reading
-from .layer_tree import Below, Held, LayerTree, whiteout
-from .losses import Loss, Losses
-from .manifests import write_manifest
+from .layer_tree import Folder, Held, LayerTree, whiteout
+from .links import renumber, write_layer
+from .losses import Loss, Losses, ScanLosses
 from .streams import Slice, Source, is_packed, unpacked
 from .tar_headers import BLOCK_BYTES, TarFault, parse_header
 
@@ -40,13 +41,14 @@ def form_of(path: str) -> Form:
             if stat.S_ISDIR(kind):
                 return Form.FOLDER
             head = os.pread(file, BLOCK_BYTES, 0) if stat.S_ISREG(kind) else b""
+            may_be_archive = stat.S_ISREG(kind) and (is_packed(file) or _is_header(head))
         finally:
             os.close(file)
     if head.startswith(squashfs.MAGIC):
         return Form.SQUASHFS
     if head.lstrip(b" \t\r\n").startswith(b"{"):
         return Form.MANIFEST
-    if is_packed(head) or _is_header(head):
+    if may_be_archive:
         return Form.ARCHIVE
     raise cannot_read(path, "it is neither a folder, nor a squashfs, nor a tar archive")
 
@@ -105,8 +107,13 @@ class _FileLayer:
             raise cannot_read(self.path, f"its squashfs is broken: {problem}") from problem
 
 
-def scan_file(options: FileOptions, form: Form) -> None:
-    """Writes the manifest of a squashfs or an archive, and the contents of its files. Tells what is lost."""
+def scan_file(
+    options: FileOptions, form: Form, losses: ScanLosses, links: Iterator[int] | None = None
+) -> Folder:
+    """Writes the manifest of a squashfs or an archive, and the contents of its files; gives the tree of its entries.
+
+    With numbers for files of several names it is of a stack; see `write_layer`.
+    """
     with reading(options.layer):
         file = os.open(options.layer, _READ)
     try:
@@ -114,23 +121,26 @@ def scan_file(options: FileOptions, form: Form) -> None:
         tree = _read(layer, options)
     finally:
         os.close(file)
-    losses = Losses()
+    told = Losses()
     for path in layer.sockets:
-        losses.add(Loss.SOCKET, path)
+        told.add(Loss.SOCKET, path)
         if options.hides_sockets:
             tree.put(path[1:].split("/"), whiteout())
-    losses.tell(layer.name)
-    write_manifest(options.out, tree.entries(), options.layer)
+    told.tell(layer.name)
+    if links is not None:
+        renumber(tree.entries(), links)
+    losses.hard_links += write_layer(options.out, tree.entries, options.layer, links is not None)
+    return tree.root
 
 
 def _read(layer: _FileLayer, options: FileOptions) -> LayerTree:
+    most = max(_MOST_CONTENTS, _MOST_RATIO * layer.size())
     with writers(options.blobs) as new_writer:
         writer = new_writer()
         try:
             return LayerArchive(layer, Taking(
                 options.blobs or options.out, options.skip_unsupported, True, writer, Held(), Below(),
-                is_folder=True, userxattr=options.userxattr,
-                most_contents=max(_MOST_CONTENTS, _MOST_RATIO * layer.size()),
+                is_folder=True, userxattr=options.userxattr, most_contents=most,
             )).tree()
         finally:
             writer.close()

@@ -1,5 +1,6 @@
 """`scan`: a layer as a manifest and blobs, whether it is a folder, a squashfs or an archive of its folder."""
 
+import itertools
 import os
 import stat
 from collections.abc import Iterator, Mapping, Sequence
@@ -11,9 +12,10 @@ from .blobs import Writer, writers
 from .entries import BLOCK, CHAR, DIRECTORY, FILE, NO_ATTRIBUTES, SYMLINK, Entry, is_whiteout
 from .faults import cannot_read, reading, reason_of
 from .layer_files import FileOptions, Form, form_of, scan_file
-from .manifests import write_manifest
+from .links import write_layer
+from .losses import ScanLosses
 from .places import Chain, open_root
-from .progress import Progress, counted, note, note_path
+from .progress import Progress, note_path
 from .shares import give_blobs
 from .walks import Found, walk
 
@@ -33,59 +35,44 @@ class ScanOptions:
     workers: int = 1
 
 
-@dataclass
-class Losses:
-    """What a manifest doesn't state, counted as it is met."""
-
-    hard_links: int = 0
-    left_out: int = 0
-
-    def tell(self) -> None:
-        """Says what was lost, where anything was."""
-        if self.hard_links:
-            note(
-                counted(self.hard_links, "name of a hard link, now a file", "names of hard links, now files")
-                + " with the same contents"
-            )
-        if self.left_out:
-            note(f"{counted(self.left_out, 'thing', 'things')} left out")
-
-
 def scan(options: ScanOptions) -> None:
     """Writes the manifest of a layer, and the contents of its files. Tells what is lost."""
-    form = form_of(options.layer)
+    form, losses = form_of(options.layer), ScanLosses()
     if form is Form.MANIFEST:
         raise cannot_read(options.layer, "it is no layer, but perhaps the manifest of one")
-    if form is not Form.FOLDER:
+    if form is Form.FOLDER:
+        scan_folder(options, losses)
+    else:
         scan_file(FileOptions(
             options.layer, options.out, options.blobs, options.userxattr, options.skip_unsupported
-        ), form)
-        return
-    losses = Losses()
-    scan_folder(options, losses)
+        ), form, losses)
     losses.tell()
 
 
-def scan_folder(options: ScanOptions, losses: Losses) -> None:
-    """The same of a folder, with what is lost counted."""
+def scan_folder(options: ScanOptions, losses: ScanLosses, links: Iterator[int] | None = None) -> list[Entry]:
+    """The same of a folder, with what is lost counted; gives the entries. With numbers for files of several names it is
+    of a stack, and has a file of links even where there are none."""
     if not options.userxattr:
         require_trusted(options.layer)
     with reading(options.layer):
         root = open_root(options.layer)
     try:
-        entries = Survey(options, losses).entries(root)
+        entries = Survey(options, losses, links or itertools.count(1)).entries(root)
         _store_contents(options, root, entries)
     finally:
         os.close(root)
-    write_manifest(options.out, entries, options.layer)
+    losses.hard_links += write_layer(options.out, lambda: entries, options.layer, links is not None)
+    return entries
 
 
 class Survey:
     """The first pass: every entry but for its blob, so that a refusal comes before anything is written."""
 
-    def __init__(self, options: ScanOptions, losses: Losses) -> None:
+    def __init__(self, options: ScanOptions, losses: ScanLosses, links: Iterator[int]) -> None:
         self._options = options
         self._losses = losses
+        self._links = links
+        self._numbers: dict[tuple[int, int], int] = {}
 
     def entries(self, root: int) -> list[Entry]:
         """The entries of an open folder, in path order."""
@@ -127,7 +114,11 @@ class Survey:
             entry.size = status.st_size
         # The kernel links the whiteouts of a mount to one another, which nothing shows.
         is_linked = found.kind != DIRECTORY and status.st_nlink > 1
-        self._losses.hard_links += is_linked and not is_whiteout(entry)
+        if is_linked and not is_whiteout(entry):
+            inode = status.st_dev, status.st_ino
+            if inode not in self._numbers:
+                self._numbers[inode] = next(self._links)
+            entry.link = self._numbers[inode]
         return entry
 
     def _attributes(self, found: Found) -> Mapping[str, bytes]:

@@ -1,14 +1,20 @@
 """The layers of a stack, each a folder, a squashfs, an archive or a manifest, as manifests and blobs in one folder."""
 
-from collections.abc import Sequence
+import itertools
+from collections.abc import Iterable, Iterator, Sequence
 from dataclasses import dataclass
 
 from . import rules, stacks
+from .below import Below, tree_of, write_shown_links
 from .blobs import blob_path, opened_blob, writers
+from .entries import Entry
 from .faults import UsageFault, cannot_read, reading
 from .layer_files import FileOptions, Form, form_of, scan_file
-from .manifests import read_manifest, write_manifest
-from .scan import Losses, ScanOptions, scan_folder
+from .layer_tree import Folder
+from .links import renumber, take_links, write_layer
+from .losses import ScanLosses
+from .manifests import read_manifest
+from .scan import ScanOptions, scan_folder
 
 
 @dataclass(frozen=True)
@@ -25,28 +31,41 @@ class StackOptions:
 
 
 def read_stack(options: StackOptions, out: str) -> None:
-    """Writes `l0.json`, the topmost layer, and so on, and the folder `blobs` unless digests are enough.
+    """Writes `l0.json`, the topmost layer, and so on, their links, and the folder `blobs` unless digests are enough.
 
     `out` is a folder that is there. A socket that a layer's file can't give hides what is below it all the same.
     """
     forms = require_forms(options)
-    losses = Losses()
-    blobs = None if options.digests_only else f"{out}/{stacks.BLOBS}"
-    for number, (layer, form) in enumerate(zip(options.layers, forms)):
-        manifest = f"{out}/{stacks.layer_name(number)}"
-        if form is Form.FOLDER:
-            scan_folder(ScanOptions(
-                layer, manifest, blobs, options.userxattr, options.cross_file_systems, options.skip_unsupported,
-                options.workers,
-            ), losses)
-        elif form is Form.MANIFEST:
-            _copy(layer, options.blobs, manifest, blobs)
-        else:
-            is_lowest = number == len(forms) - 1
-            scan_file(FileOptions(
-                layer, manifest, blobs, options.userxattr, options.skip_unsupported, not is_lowest
-            ), form)
+    losses, below, links = ScanLosses(), Below(), itertools.count(1)
+    for number, form in reversed(list(enumerate(forms))):
+        below.cover(_read(options, number, form, out, losses, links))
+    write_shown_links(out, below)
     losses.tell()
+
+
+def _read(
+    options: StackOptions, number: int, form: Form, out: str, losses: ScanLosses, links: Iterator[int]
+) -> Folder:
+    """Writes one layer; gives the tree of its entries."""
+    layer, manifest = options.layers[number], f"{out}/{stacks.layer_name(number)}"
+    blobs = None if options.digests_only else f"{out}/{stacks.BLOBS}"
+    if form is Form.FOLDER:
+        return tree_of(scan_folder(ScanOptions(
+            layer, manifest, blobs, options.userxattr, options.cross_file_systems, options.skip_unsupported,
+            options.workers,
+        ), losses, links))
+    if form is Form.MANIFEST:
+        entries = read_manifest(layer)
+        take_links(layer, entries)
+        renumber(entries, links)
+        if blobs is not None:
+            _copy_contents(entries, str(options.blobs), blobs)
+        write_layer(manifest, lambda: entries, layer, True)
+        return tree_of(entries)
+    is_lowest = number == len(options.layers) - 1
+    return scan_file(FileOptions(
+        layer, manifest, blobs, options.userxattr, options.skip_unsupported, not is_lowest
+    ), form, losses, links)
 
 
 def require_forms(options: StackOptions) -> list[Form]:
@@ -61,20 +80,16 @@ def require_forms(options: StackOptions) -> list[Form]:
     return forms
 
 
-def _copy(layer: str, given: str | None, manifest: str, blobs: str | None) -> None:
-    """Copies a manifest, and the contents that it names."""
-    entries = read_manifest(layer)
-    if blobs is not None:
-        assert given is not None
-        named = {str(entry.blob): entry.size for entry in entries if entry.names_contents()}
-        with writers(blobs) as new_writer:
-            writer = new_writer()
-            try:
-                for blob, size in sorted(named.items()):
-                    path = blob_path(given, blob)
-                    with opened_blob(given, blob, size) as file, reading(path):
-                        if writer.put(file, size) != blob:
-                            raise cannot_read(path, "its contents have another digest")
-            finally:
-                writer.close()
-    write_manifest(manifest, entries, layer)
+def _copy_contents(entries: Iterable[Entry], given: str, blobs: str) -> None:
+    """Copies what the files of a layer hold from one folder of blobs into another."""
+    named = {str(entry.blob): entry.size for entry in entries if entry.names_contents()}
+    with writers(blobs) as new_writer:
+        writer = new_writer()
+        try:
+            for blob, size in sorted(named.items()):
+                path = blob_path(given, blob)
+                with opened_blob(given, blob, size) as file, reading(path):
+                    if writer.put(file, size) != blob:
+                        raise cannot_read(path, "its contents have another digest")
+        finally:
+            writer.close()

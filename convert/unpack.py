@@ -4,10 +4,12 @@ from dataclasses import dataclass
 
 from . import stacks
 from .archives import LayerArchive, Taking
+from .below import Below, write_shown_links
 from .blobs import Writer, writers
 from .configuration import configuration_text
 from .images import Image, ImageLayer, image_place, opened_image
-from .layer_tree import Below, Held
+from .layer_tree import Held
+from .links import LinkNames, links_path
 from .manifests import write_manifest
 from .outputs import new_folder, write_text
 
@@ -44,8 +46,10 @@ def _unpack_layers(options: UnpackOptions, layers: list[ImageLayer], stage: str,
     try:
         for number, layer in zip(reversed(range(len(layers))), layers):
             tree = LayerArchive(layer, taking).tree()
-            write_manifest(f"{stage}/{stacks.layer_name(number)}", tree.entries(), layer.path)
-            if number:
-                below.cover(tree)
+            path, names = f"{stage}/{stacks.layer_name(number)}", LinkNames()
+            write_manifest(path, names.passing(tree.entries()), layer.path)
+            names.write(links_path(path), tree.entries, path)
+            below.cover(tree.root)
+        write_shown_links(stage, below)
     finally:
         writer.close()

@@ -14,7 +14,7 @@ from unittest import mock
 from images import (
     archive, folder, is_document, member, packed, put_index, put_manifest, write_layout, write_saved,
 )
-from support import FolderTest, call
+from support import FolderTest, call, links
 
 from convert.entries import Entry
 from convert.manifests import read_manifest
@@ -120,7 +120,7 @@ class Entries(ImageTest):
         )
         result = call("unpack", self.path("image"), "--out", self.path("out"))
         self.require_done(result)
-        self.assertIn("1 hard link, now a file with the same contents", result[2])
+        self.assertEqual(links(self.path("out", "l0.links")), [["/f", "/h"]])
         self.assertNotIn("cut", result[2])
         entries = read_manifest(self.path("out", "l0.json"))
         self.assertEqual([entry.mtime_ns for entry in entries], [0, -1_500_000_000, -1_500_000_000])

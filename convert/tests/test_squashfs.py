@@ -73,6 +73,8 @@ class Reading(FileTest):
         self.assertEqual(entries["/g"].attributes, entries["/d/f"].attributes)
         self.assertEqual((entries["/g"].mode, len(entries["/g"].attributes)), (0o4755, 1))
         self.assertEqual(len(os.listdir(self.path("blobs"))), 3)
+        with open(self.path("out.links"), encoding="utf-8") as file:
+            self.assertIn('"names":{"/d/f":1,"/g":1}', file.read())
         for _, told in texts:
             self.assertIn("2 names that begin with .wh., which mean whiteouts in images alone", told)
             self.assertNotIn("/v", told)
@@ -143,7 +145,7 @@ class Hostile(FileTest):
                 result = call("scan", self.write("l", data), "--out", self.path("out.json"), "--digests-only")
                 self.assertIn(result[0], (0, 3))
                 self.assertTrue(result[0] == 0 or len(result[2].splitlines()) == 1, result[2])
-                self.require_nothing_left("l", *(["out.json"] if result[0] == 0 else []))
+                self.require_nothing_left("l", *(["out.json", "out.links"] if result[0] == 0 else []))
                 self.empty()
 
     def test_doubling_directories(self) -> None:
