@@ -35,6 +35,7 @@ class BuildOptions:
     blobs: str
     out: str
     userxattr: bool = False
+    compress: str | None = None  # of a squashfs; where it isn't said, the program's default
 
 
 def build(options: BuildOptions) -> None:
@@ -42,7 +43,7 @@ def build(options: BuildOptions) -> None:
     entries = read_manifest(options.layer)
     take_links(options.layer, entries)
     for entry in entries:
-        problem = _problem(entry, options.userxattr)
+        problem = entry_problem(entry, options.userxattr)
         if problem:
             raise cannot_write(options.out + entry.path, problem)
         if entry.names_contents():
@@ -58,7 +59,7 @@ def build(options: BuildOptions) -> None:
     _finish_root(options, entries)
 
 
-def _problem(entry: Entry, userxattr: bool) -> str | None:
+def entry_problem(entry: Entry, userxattr: bool) -> str | None:
     """Why Linux can't have this entry."""
     if entry.kind == SYMLINK and entry.mode != _LINK_MODE:
         return f"a symlink of mode {entry.mode:04o}: Linux has them of mode 0777 alone"

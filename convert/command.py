@@ -6,8 +6,10 @@ import signal
 import sys
 from collections.abc import Callable, Iterable, Sequence
 
-from . import VERSION
-from .build import BuildOptions, build
+from . import VERSION, squashfs
+from .build import BuildOptions
+from .build_squashfs import SUFFIX as SQUASHFS_SUFFIX
+from .build_squashfs import build_layer
 from .compression import COMPRESSIONS, NONE
 from .configuration import USUAL_PLATFORM
 from .faults import OTHER, WRITING, Fault, UsageFault
@@ -83,10 +85,14 @@ DIR is the folder of the topmost layer, such as /var/lib/docker/overlay2/ID or
 Reading the marks of an overlay (trusted.overlay.*) needs root."""
 
 _BUILD = """\
-Makes the folder of a manifest: kinds, modes, owners, times, attributes, devices and whiteouts, as the
-kernel has them. Contents are checked against their digests. Names that are one file, by the LAYER.links
-that `scan` writes beside LAYER.json, become hard links. Owners, devices and trusted.overlay.* attributes
-need root."""
+Makes the folder of a manifest, or a squashfs where the name ends in .squashfs: kinds, modes, owners, times,
+attributes, devices and whiteouts, as the kernel has them. Contents are checked against their digests. Names
+that are one file, by the LAYER.links that `scan` writes beside LAYER.json, become hard links. Owners, devices
+and trusted.overlay.* attributes of a folder need root.
+
+A squashfs is made by tar2sqfs (in Debian's squashfs-tools-ng), without any rights, of the same bytes for the same
+input. It has no sockets, and times in whole seconds from 1970 to 2105, which is counted and said. It gets its
+name once it was read again and gives the manifest back."""
 
 _UNPACK = """\
 Writes the layers of an image as manifests: DIR/l0.json, the topmost, DIR/l1.json and so on, and the
@@ -224,7 +230,13 @@ def _add_reading(parser: argparse.ArgumentParser) -> None:
 def _add_build(parser: argparse.ArgumentParser) -> None:
     parser.add_argument("layer", metavar="LAYER", help="manifest of a layer")
     parser.add_argument("--blobs", metavar="DIR", required=True, help="folder with the contents of its files")
-    parser.add_argument("--out", metavar="DIR", required=True, help="folder to make, absent or empty")
+    parser.add_argument(
+        "--out", metavar="OUT", required=True,
+        help=f"folder to make, absent or empty, or a file whose name ends in {SQUASHFS_SUFFIX}",
+    )
+    parser.add_argument(
+        "--compress", choices=squashfs.COMPRESSIONS, help="packs the squashfs [default: as tar2sqfs does it]"
+    )
     _add_userxattr(parser, "writes")
 
 
@@ -368,7 +380,9 @@ def _store(words: argparse.Namespace) -> None:
 
 
 def _build(words: argparse.Namespace) -> None:
-    build(BuildOptions(words.layer, _folder(words.blobs), _folder(words.out), words.userxattr))
+    build_layer(BuildOptions(
+        words.layer, _folder(words.blobs), _folder(words.out), words.userxattr, words.compress,
+    ))
 
 
 def _unpack(words: argparse.Namespace) -> None:

@@ -10,7 +10,7 @@ from enum import Enum, auto
 from . import squashfs
 from .archives import LayerArchive, Taking
 from .below import Below
-from .blobs import writers
+from .blobs import Digester, writers
 from .faults import cannot_read, reading
 from .layer_tree import Folder, Held, LayerTree, whiteout
 from .links import renumber, write_layer
@@ -131,6 +131,18 @@ def scan_file(
         renumber(tree.entries(), links)
     losses.hard_links += write_layer(options.out, tree.entries, options.layer, links is not None)
     return tree.root
+
+
+def squashfs_tree(path: str, told_as: str, userxattr: bool) -> LayerTree:
+    """The entries of a squashfs that was written here, with the digests of its files."""
+    with reading(told_as):
+        file = os.open(path, _READ)
+    try:
+        layer = _FileLayer(told_as, Form.SQUASHFS, file)
+        taking = Taking(told_as, False, True, Digester(), Held(), Below(), is_folder=True, userxattr=userxattr)
+        return LayerArchive(layer, taking).tree()
+    finally:
+        os.close(file)
 
 
 def _read(layer: _FileLayer, options: FileOptions) -> LayerTree:

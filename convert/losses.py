@@ -35,6 +35,11 @@ class Loss(Enum):
         "name that begins with .wh., which means a whiteout in images alone (`unpack` reads those)",
         "names that begin with .wh., which mean whiteouts in images alone (`unpack` reads those)",
     )
+    SECONDS = ("time cut to whole seconds", "times cut to whole seconds")
+    FAR_TIME = (
+        "time before 1970 or after the year 2105, now the nearest one that a squashfs has",
+        "times before 1970 or after the year 2105, now the nearest ones that a squashfs has",
+    )
     SOCKET = ("socket left out, which archives don't have", "sockets left out, which archives don't have")
     UNKNOWN = (
         "directory that no layer states, now of mode 0755, owner 0 and time 0",

@@ -224,7 +224,7 @@ def _write_archive(entries: list[Entry], blobs: str, write: Callable[[bytes], ob
         first = firsts.before(entry)
         archive.entry(_header(entry) if first is None else _link_header(entry, first))
         if first is None and entry.names_contents():
-            for piece in _contents(entry, blobs):
+            for piece in contents_of(entry, blobs):
                 archive.data(piece)
             archive.end_data(entry.size)
         if is_opaque(entry):
@@ -258,7 +258,7 @@ def _link_header(entry: Entry, first: str) -> Header:
     return replace(_header(entry), type=tar.HARD_LINK, target=first[1:].encode(), size=0, major=0, minor=0)
 
 
-def _contents(entry: Entry, blobs: str) -> Iterator[bytes]:
+def contents_of(entry: Entry, blobs: str) -> Iterator[bytes]:
     """A file's contents, which are those of its digest."""
     digest, left, path = hashlib.sha256(), entry.size, blob_path(blobs, str(entry.blob))
     with opened_blob(blobs, str(entry.blob), entry.size) as file:

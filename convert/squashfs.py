@@ -8,15 +8,19 @@ import signal
 import struct
 import subprocess
 import tempfile
-from collections.abc import Callable, Iterator, Sequence
+from collections.abc import Callable, Iterator, Mapping, Sequence
 from typing import IO
 
 from . import rules
-from .faults import ReadFault, cannot_read, reading
+from .faults import ReadFault, cannot_read, cannot_write, reading
+from .shares import usual_workers
 from .streams import Source
 from .tar_headers import TarFault
 
 MAGIC = b"hsqs"
+COMPRESSIONS = ("gzip", "xz", "zstd", "lz4")
+_READER, _WRITER = "sqfs2tar", "tar2sqfs"
+Write = Callable[[bytes], object]
 _SUPER_BLOCK = struct.Struct("<4sI20xHH8xQ")  # magic, inodes, .., major and minor version, .., bytes used
 _VERSION = 4
 _PACKAGE = "squashfs-tools-ng"
@@ -55,64 +59,80 @@ def archive_of(file: int, path: str, tell_socket: Callable[[str], None]) -> Iter
     """The archive of all that an open squashfs file holds; sockets, which archives don't have, are told."""
     if entry_count(file, path) > rules.MAX_ENTRIES:
         raise cannot_read(path, f"it has over {rules.MAX_ENTRIES:,} entries")
-    command = [require_program("sqfs2tar"), "--root-becomes", ".", f"/dev/fd/{file}"]
+    command = [require_program(_READER), "--root-becomes", ".", f"/dev/fd/{file}"]
+    limits = {resource.RLIMIT_AS: _MOST_MEMORY, resource.RLIMIT_FSIZE: _MOST_TOLD}
     with tempfile.TemporaryFile() as told:
-        with _started(command, told, (file,)) as process:
+        with _started(command, told, limits, stdout=subprocess.PIPE, pass_fds=(file,)) as process:
             assert process.stdout is not None
             try:
                 yield process.stdout
             except TarFault:
                 # An archive that seems to be cut short may be one of which the program could read no more.
-                if not _has_failed(process):
+                if process.stdout.read(1) or process.wait() == 0:
                     raise
-            status = _ended(process)
+            process.stdout.close()
+            status = process.wait()
         sockets, words = _sockets_and_words(told)
     if status != 0 or words:
-        raise cannot_read(path, f"its squashfs is broken: {_reason(words, command[-1], status)}")
+        raise cannot_read(path, f"its squashfs is broken: {_reason(words, command[-1], _READER, status)}")
     for name in sockets:
         tell_socket(name)
 
 
 @contextlib.contextmanager
-def _started(command: Sequence[str], told: IO[bytes], files: tuple[int, ...]) -> Iterator["subprocess.Popen[bytes]"]:
+def written(path: str, told_as: str, compress: str | None) -> Iterator[Write]:
+    """What takes the bytes of an archive, of which a squashfs is made at a path where nothing is."""
+    command = [require_program(_WRITER), "--quiet", "--no-skip", "--num-jobs", str(usual_workers())]
+    command += [] if compress is None else ["--compressor", compress]
+    with tempfile.TemporaryFile() as told:
+        with _started([*command, path], told, {}, stdin=subprocess.PIPE) as process:
+            assert process.stdin is not None
+            with contextlib.suppress(BrokenPipeError):
+                yield process.stdin.write
+            with contextlib.suppress(BrokenPipeError):
+                process.stdin.close()
+            status = process.wait()
+        told.seek(0)
+        words = told.read(_LAST_TOLD)
+    if status != 0:
+        raise cannot_write(told_as, _reason(words, path, _WRITER, status))
+
+
+@contextlib.contextmanager
+def _started(
+    command: Sequence[str], told: IO[bytes], limits: Mapping[int, int], stdin: int = subprocess.DEVNULL,
+    stdout: int = subprocess.DEVNULL, pass_fds: tuple[int, ...] = (),
+) -> Iterator["subprocess.Popen[bytes]"]:
     """A process that ends with this one's work: signals wait while it is started, so that none leaves it alone."""
     mask = signal.pthread_sigmask(signal.SIG_BLOCK, _ENDING)
 
     def prepare() -> None:
-        for limit, most in (
-            (resource.RLIMIT_AS, _MOST_MEMORY), (resource.RLIMIT_FSIZE, _MOST_TOLD), (resource.RLIMIT_CORE, 0)
-        ):
+        for limit, most in {resource.RLIMIT_CORE: 0, **limits}.items():
             hard = resource.getrlimit(limit)[1]
-            most = most if hard == resource.RLIM_INFINITY else min(most, hard)
-            resource.setrlimit(limit, (most, hard))
+            resource.setrlimit(limit, (most if hard == resource.RLIM_INFINITY else min(most, hard), hard))
         signal.pthread_sigmask(signal.SIG_SETMASK, mask)
 
     try:
         process = subprocess.Popen(
-            command, stdin=subprocess.DEVNULL, stdout=subprocess.PIPE, stderr=told, pass_fds=files, preexec_fn=prepare,
-            env=_ENVIRONMENT,
+            command, stdin=stdin, stdout=stdout, stderr=told, pass_fds=pass_fds, preexec_fn=prepare, env=_ENVIRONMENT
         )
         try:
             signal.pthread_sigmask(signal.SIG_SETMASK, mask)
             yield process
         finally:
-            process.kill()
-            _ended(process)
+            _end(process)
     finally:
         signal.pthread_sigmask(signal.SIG_SETMASK, mask)
 
 
-def _ended(process: "subprocess.Popen[bytes]") -> int:
-    """Its status, once it has written all that it will."""
-    assert process.stdout is not None
-    process.stdout.close()
-    return process.wait()
-
-
-def _has_failed(process: "subprocess.Popen[bytes]") -> bool:
-    """Whether it has written all that it could and then ended with a fault."""
-    assert process.stdout is not None
-    return not process.stdout.read(1) and process.wait() != 0
+def _end(process: "subprocess.Popen[bytes]") -> None:
+    """Ends it, where it hasn't ended itself."""
+    process.kill()
+    for stream in (process.stdin, process.stdout):
+        if stream is not None:
+            with contextlib.suppress(BrokenPipeError):
+                stream.close()
+    process.wait()
 
 
 def _sockets_and_words(told: IO[bytes]) -> tuple[list[str], bytes]:
@@ -131,9 +151,9 @@ def _sockets_and_words(told: IO[bytes]) -> tuple[list[str], bytes]:
     return sockets, text[place:]
 
 
-def _reason(words: bytes, name: str, status: int) -> str:
+def _reason(words: bytes, name: str, program: str, status: int) -> str:
     """What the program said last, in one line, or how it ended where it said nothing."""
     lines = words[-_LAST_TOLD:].decode("utf-8", "surrogateescape").splitlines()
     reasons = "; ".join(line.removeprefix(f"{name}: ").strip() for line in lines if line.strip())
     how = f"was ended by signal {-status}" if status < 0 else f"ended with status {status}"
-    return reasons or f"sqfs2tar {how}"
+    return reasons or f"{program} {how}"

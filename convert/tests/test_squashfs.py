@@ -2,19 +2,25 @@
 
 import os
 import resource
+import shutil
 import socket
 import tarfile
 import unittest
 from unittest import mock
 
+from generator import Generator, Style, write_layer
 from images import archive, folder, member
 from squashfs_files import doubling, from_archive, require, spoilt, turned
-from support import FolderTest, call, run
+from support import FolderTest, call, run, why_no_trusted
 
 from convert import layer_files
-from convert.manifests import read_manifest
+from convert.entries import Entry
+from convert.fitting import fitted
+from convert.losses import Losses
+from convert.manifests import read_manifest, written
 
 MARK = {"SCHILY.xattr.trusted.overlay.opaque": "y"}
+LAYERS = 30
 SECONDS = 20  # of processor time
 
 
@@ -118,6 +124,103 @@ class Reading(FileTest):
             "layers: there is no program sqfs2tar, which reads and writes squashfs; install squashfs-tools-ng\n"
         ))
         self.assertEqual(result[0], 3)
+
+
+class Building(FileTest):
+    """Layers out."""
+
+    def setUp(self) -> None:
+        super().setUp()
+        require("sqfs2tar", "tar2sqfs")
+
+    def put(self, *entries: Entry) -> str:
+        """The manifest of these entries, below a root."""
+        with open(self.path("given.json"), "w", encoding="utf-8") as file:
+            file.writelines(written([Entry("/", "dir", 0o755), *entries]))
+        return self.path("given.json")
+
+    def build(self, manifest: str, *words: str) -> tuple[int, str, str]:
+        """Makes a squashfs of a manifest."""
+        return call("build", manifest, "--blobs", self.path("blobs"), "--out", self.path("o.squashfs"), *words)
+
+    def test_round_trips(self) -> None:
+        """What is built is scanned as it was, but for sockets and what is below a second; of that a folder too."""
+        generators, reason = (Generator(11, Style()), Generator(12, Style(False))), why_no_trusted(self.folder)
+        for number in range(LAYERS):
+            with self.subTest(layer=number):
+                random_layer = generators[number % 2].layer()
+                write_layer(random_layer, self.path("given.json"), self.path("blobs"))
+                words = ["--userxattr"] if number % 2 else []
+                self.require_done(self.build(self.path("given.json"), *words))
+                text, _ = self.scan(self.path("o.squashfs"), *words)
+                self.assertEqual(text, "".join(written(fitted(random_layer.entries, Losses()))).encode())
+                if reason is None:
+                    words += ["--blobs", self.path("blobs"), "--out", self.path("built")]
+                    self.require_done(call("build", self.path("out.json"), *words))
+                    self.assertEqual(self.scan(self.path("built"), *words[:number % 2])[0], text)
+                self.empty()
+
+    def test_what_is_told(self) -> None:
+        times = (-1, 0, 1, 999_999_999, 2**32 * 10**9 - 1, 2**32 * 10**9, -(2**63) * 10**9)
+        manifest = self.put(*(Entry(f"/{n}", "fifo", 0o644, mtime_ns=time) for n, time in enumerate(times)),
+                            Entry("/s", "socket", 0o755))
+        _, _, told = self.build(manifest)
+        for line in (
+            "3 times cut to whole seconds: /2, ..", "3 times before 1970 or after the year 2105, now the nearest ",
+            "1 socket left out, which archives don't have: /s",
+        ):
+            self.assertIn(f"layers: {self.path('o.squashfs')}: {line}", told)
+        self.scan(self.path("o.squashfs"))
+        seconds = [entry.mtime_ns // 10**9 for entry in read_manifest(self.path("out.json"))[1:]]
+        self.assertEqual(seconds, [0, 0, 0, 0, 2**32 - 1, 2**32 - 1, 0])
+
+    def test_same_bytes(self) -> None:
+        """Of the same input, by any number of processors and at any time; links are kept."""
+        self.scan(self.write("l.tar", layer()))
+        found = set()
+        for words in (("--compress", "gzip"), ("--compress", "gzip"), ("--compress", "lz4"), ()):
+            with mock.patch.dict(os.environ, {"SOURCE_DATE_EPOCH": str(len(found))}):
+                self.require_done(self.build(self.path("out.json"), *words))
+            with open(self.path("o.squashfs"), "rb") as file:
+                found.add(file.read())
+            self.assertEqual(os.stat(self.path("o.squashfs")).st_mode & 0o777, 0o600)
+        self.assertEqual(len(found), 3)
+        self.scan(self.path("o.squashfs"))
+        with open(self.path("out.links"), encoding="utf-8") as file:
+            self.assertIn('"names":{"/d/f":1,"/g":1}', file.read())
+
+    def test_what_a_squashfs_has_no_place_for(self) -> None:
+        for entry, words in (
+            (Entry("/a", "fifo", 0, attributes={"system.posix_acl_access": b""}), "attribute system.posix_acl_access: "),
+            (Entry("/a", "fifo", 0, attributes={"trusted.a=b": b""}), "attribute trusted.a=b: "),
+            (Entry("/a", "fifo", 0, attributes={"trusted.": b""}), "attribute trusted.: "),
+            (Entry("/a", "fifo", 0, attributes={"trusted.a": bytes(65_509)}), "65,539 bytes, and tar2sqfs takes"),
+            (Entry("/a", "char", 0, major=4_096), "a device 4096:0"),
+            (Entry("/a", "file", 0, attributes={"trusted.overlay.metacopy": b""}, size=1 << 35), "17,179,869,184"),
+        ):
+            self.require_fault(self.build(self.put(entry)), 4, f"{self.path('o.squashfs')}/a: ", words)
+            self.require_nothing_left("given.json")
+        owners = [Entry(f"/{n:05}", "fifo", 0, uid=n, gid=40_000 + n) for n in range(33_000)]
+        self.require_fault(self.build(self.put(*owners)), 4, "66,000 users and groups: a squashfs has at most 65,535")
+
+    def test_faults(self) -> None:
+        manifest = self.put(Entry("/a", "fifo", 0o644))
+        words = "--blobs", self.path("blobs"), "--out"
+        result = call("build", manifest, *words, self.path("o"), "--compress", "gzip")
+        self.require_fault(result, 2, "--compress is of a squashfs")
+        self.write("tar2sqfs", f"#!/bin/sh\n{shutil.which('tar2sqfs')} \"$@\" </dev/null\n".encode())
+        os.chmod(self.path("tar2sqfs"), 0o755)
+        path = f"{self.folder}:{os.environ['PATH']}"
+        for name, wanted in ((path, "o.squashfs: read again it has another /a, so it"), ("", "install squashfs-tools")):
+            with mock.patch.dict(os.environ, {"PATH": name}):
+                self.require_fault(self.build(manifest), 5 if name else 3, wanted)
+            self.require_nothing_left("given.json", "tar2sqfs")
+        self.write("tar2sqfs", b"#!/bin/sh\necho 'o: No space left on device' >&2; exit 1\n")
+        with mock.patch.dict(os.environ, {"PATH": path}):
+            self.require_fault(self.build(manifest), 4, "o.squashfs: o: No space left on device")
+        os.mkdir(self.path("o.squashfs"))
+        self.require_fault(self.build(manifest), 4, "it is no regular file")
+        self.require_nothing_left("given.json", "o.squashfs", "tar2sqfs")
 
 
 class Hostile(FileTest):
