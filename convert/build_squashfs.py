@@ -49,16 +49,16 @@ def build_squashfs(options: BuildOptions) -> None:
     entries = _fitting(options, losses)
     place = os.path.realpath(options.out)
     if os.path.lexists(place) and not os.path.isfile(place):
-        raise cannot_write(options.out, "it is no regular file")
+        raise cannot_write(options.told, "it is no regular file")
     with passing_folder(place) as folder:
         path = f"{folder}/{os.path.basename(place)}"
-        with squashfs.written(path, options.out, options.compress) as write:
+        with squashfs.written(path, options.told, options.compress) as write:
             _write_archive(entries, options, TarWriter(write))
         _require_same(path, entries, options)
-        with writing(options.out):
+        with writing(options.told):
             os.chmod(path, _MODE)
             os.rename(path, place)
-    losses.tell(options.out)
+    losses.tell(options.told)
 
 
 def _fitting(options: BuildOptions, losses: Losses) -> list[Entry]:
@@ -73,13 +73,13 @@ def _fitting(options: BuildOptions, losses: Losses) -> list[Entry]:
         if zeros > _MAX_ZEROS:
             problem = f"with it, files without their contents have over {_MAX_ZEROS:,} bytes"
         if problem:
-            raise cannot_write(options.out + entry.path, problem)
+            raise cannot_write(options.told + entry.path, problem)
         if entry.names_contents():
             with opened_blob(options.blobs, str(entry.blob), entry.size):
                 pass
     problem = owners_problem(entries)
     if problem:
-        raise cannot_write(options.out, problem)
+        raise cannot_write(options.told, problem)
     return entries
 
 
@@ -129,7 +129,7 @@ def _header(entry: Entry, userxattr: bool) -> Header:
 def _require_same(path: str, entries: list[Entry], options: BuildOptions) -> None:
     """Reads the new file again: it gives the very entries, and the same of them are one file."""
     here, there = FirstNames(), FirstNames()
-    tree = squashfs_tree(path, options.out, options.userxattr)
+    tree = squashfs_tree(path, options.told, options.userxattr)
     for wanted, found in itertools.zip_longest(entries, tree.entries()):
         if wanted is None or found is None or wanted != found or here.before(wanted) != there.before(found):
-            raise Fault(f"{options.out}: read again it has another {(wanted or found).path}, so it isn't written")
+            raise Fault(f"{options.told}: read again it has another {(wanted or found).path}, so it isn't written")

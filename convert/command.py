@@ -14,11 +14,13 @@ from .compression import COMPRESSIONS, NONE
 from .configuration import USUAL_PLATFORM
 from .faults import OTHER, WRITING, Fault, UsageFault
 from .flatten import FlattenOptions, flatten, flatten_commands
+from .flatten_stack import FlattenStackOptions, OutForm, flatten_stack
 from .mounted import report
 from .pack import PackOptions, pack
 from .rules import MAX_LAYERS
 from .scan import ScanOptions, scan
 from .shares import MOST_WORKERS, usual_workers
+from .stack_layers import StackOptions
 from .stores import StoreOptions, store
 from .texts import printable
 from .targets import Target, target_of
@@ -26,6 +28,8 @@ from .unpack import UnpackOptions, unpack
 
 NAME = "layers"
 _INTERRUPTED = 128
+_OF_IMAGES = ("platform", "tag", "overlay_marks", "dry_run")  # words of `flatten`
+_OF_STACKS = ("blobs", "data_layers", "form", "userxattr", "cross_file_systems")
 
 _ABOUT = """\
 Turns real layers into manifests for ovl_layers, and manifests into real layers.
@@ -138,6 +142,16 @@ Prints what is in a folder, such as a mounted overlay, as `ovl_layers show` prin
 can be compared."""
 
 
+_NEW_IMAGE = (
+    "folder to make, or a file whose name ends in .tar; - is such an archive on standard output; or as skopeo "
+    "names it: oci:DIR:TAG, oci-archive:FILE:TAG, docker-archive:FILE:NAME, dir:DIR"
+)
+_PACKS = (
+    "packs the layers; zstd needs the program of that name, and is read by podman, buildah, containerd and "
+    "docker from 23 on, not by umoci and older dockers [default: none]"
+)
+
+
 def main(words: Sequence[str]) -> int:
     """Runs the command that the words name; gives the exit status."""
     for number in (signal.SIGTERM, signal.SIGHUP):
@@ -221,6 +235,10 @@ def _add_reading(parser: argparse.ArgumentParser) -> None:
     _add_userxattr(parser, "reads")
     _add_cross(parser)
     _add_skip(parser)
+    _add_workers(parser)
+
+
+def _add_workers(parser: argparse.ArgumentParser) -> None:
     parser.add_argument(
         "--workers", metavar="N", type=_workers, default=usual_workers(),
         help=f"how many processes read files, 1 to {MOST_WORKERS} [default: the processors, at most 4]",
@@ -246,12 +264,13 @@ def _add_unpack(parser: argparse.ArgumentParser) -> None:
     _add_digests_only(parser)
 
 
-def _add_image(parser: argparse.ArgumentParser) -> None:
+def _add_image(parser: argparse.ArgumentParser, may_be_absent: bool = False) -> None:
     """Which image is read, and how."""
-    parser.add_argument(
-        "image", metavar="IMAGE",
-        help="OCI image layout (folder or tar), or what docker save wrote; - is standard input",
-    )
+    told = "OCI image layout (folder or tar), or what docker save wrote; - is standard input"
+    if may_be_absent:
+        parser.add_argument("image", metavar="IMAGE", nargs="?", help=told)
+    else:
+        parser.add_argument("image", metavar="IMAGE", help=told)
     parser.add_argument("--platform", metavar="OS/ARCH", help="which of several images, such as linux/amd64")
     parser.add_argument("--tag", metavar="NAME", help="which of several images, by its name in the image's index")
     parser.add_argument(
@@ -283,21 +302,21 @@ def _add_pack(parser: argparse.ArgumentParser) -> None:
 
 def _add_new_image(parser: argparse.ArgumentParser) -> None:
     """Which image is written."""
-    parser.add_argument(
-        "--out", metavar="IMAGE", required=True,
-        help="folder to make, or a file whose name ends in .tar; - is such an archive on standard output; or as skopeo "
-        "names it: oci:DIR:TAG, oci-archive:FILE:TAG, docker-archive:FILE:NAME, dir:DIR",
-    )
-    parser.add_argument(
-        "--compress", choices=COMPRESSIONS, default=NONE,
-        help="packs the layers; zstd needs the program of that name, and is read by podman, buildah, containerd and "
-        "docker from 23 on, not by umoci and older dockers [default: none]",
-    )
+    _add_out(parser, _NEW_IMAGE)
+    parser.add_argument("--compress", choices=COMPRESSIONS, default=NONE, help=_PACKS)
+
+
+def _add_out(parser: argparse.ArgumentParser, told: str) -> None:
+    parser.add_argument("--out", metavar="IMAGE", required=True, help=told)
 
 
 def _add_flatten(parser: argparse.ArgumentParser) -> None:
-    _add_image(parser)
-    _add_new_image(parser)
+    _add_image(parser, may_be_absent=True)
+    _add_out(parser, f"{_NEW_IMAGE}; with --stack a folder, or a file whose name ends in {SQUASHFS_SUFFIX}")
+    parser.add_argument(
+        "--compress", choices=dict.fromkeys((*COMPRESSIONS, *squashfs.COMPRESSIONS)),
+        help=f"{_PACKS}; xz and lz4 are for a squashfs, which is packed by default as tar2sqfs does it",
+    )
     parser.add_argument(
         "--layers", metavar="N", type=_layers, default=1, help="how many layers are left at most [default: 1]"
     )
@@ -307,6 +326,27 @@ def _add_flatten(parser: argparse.ArgumentParser) -> None:
     parser.add_argument(
         "--dry-run", action="store_true", help="prints the commands, as a shell takes them, and runs none"
     )
+    _add_stack(parser)
+
+
+def _add_stack(parser: argparse.ArgumentParser) -> None:
+    """Which layers are read in place of an image's, and how."""
+    parser.add_argument(
+        "--stack", metavar="LAYER", nargs="+",
+        help="layers in place of an image, the topmost first: folders, squashfs files, tar archives or manifests",
+    )
+    parser.add_argument("--blobs", metavar="DIR", help="with --stack: folder with the contents of manifests")
+    parser.add_argument(
+        "--data-layers", metavar="K", type=_data_layers, default=0,
+        help="with --stack: how many of the layers, the lowest ones, are data-only [default: 0]",
+    )
+    parser.add_argument(
+        "--form", choices=[form.value for form in OutForm],
+        help="with --stack: what layers are written as [default: what the name of --out says]",
+    )
+    _add_userxattr(parser, "with --stack: reads and writes")
+    _add_cross(parser)
+    _add_workers(parser)
 
 
 def _add_mounted(parser: argparse.ArgumentParser) -> None:
@@ -343,6 +383,13 @@ def _layers(text: str) -> int:
     number = int(text)
     if not 1 <= number <= MAX_LAYERS:
         raise argparse.ArgumentTypeError(f"layers must be 1 to {MAX_LAYERS}")
+    return number
+
+
+def _data_layers(text: str) -> int:
+    number = int(text)
+    if not 0 <= number < MAX_LAYERS:
+        raise argparse.ArgumentTypeError(f"data-only layers must be 0 to {MAX_LAYERS - 1}")
     return number
 
 
@@ -403,14 +450,44 @@ def _pack(words: argparse.Namespace) -> None:
 
 
 def _flatten(words: argparse.Namespace) -> None:
+    if (words.image is None) == (words.stack is None):
+        raise UsageFault("name an IMAGE, or layers by --stack LAYER..")
+    strange = _OF_STACKS if words.stack is None else _OF_IMAGES
+    for name in strange:
+        if getattr(words, name):
+            told = "--stack alone" if words.stack is None else "images alone"
+            raise UsageFault(f"--{name.replace('_', '-')} is for {told}")
+    if words.stack is None:
+        _flatten_image(words)
+    else:
+        _flatten_stack(words)
+
+
+def _flatten_image(words: argparse.Namespace) -> None:
+    compress = words.compress or NONE
+    if compress not in COMPRESSIONS:
+        raise UsageFault(f"--compress {compress} is for a squashfs alone")
     options = FlattenOptions(
         _folder(words.image), _target(words.out, words.dry_run), words.layers, words.keep and _folder(words.keep),
-        words.platform, words.tag, words.skip_unsupported, words.overlay_marks, words.compress,
+        words.platform, words.tag, words.skip_unsupported, words.overlay_marks, compress,
     )
     if words.dry_run:
         _print(flatten_commands(options))
     else:
         flatten(options)
+
+
+def _flatten_stack(words: argparse.Namespace) -> None:
+    if words.compress == NONE:
+        raise UsageFault("--compress none is for images alone")
+    flatten_stack(FlattenStackOptions(
+        StackOptions(
+            [_folder(layer) for layer in words.stack], words.blobs and _folder(words.blobs), words.userxattr,
+            words.cross_file_systems, words.skip_unsupported, workers=words.workers,
+        ),
+        _folder(words.out), words.form and OutForm(words.form), words.layers, words.data_layers,
+        words.keep and _folder(words.keep), words.compress,
+    ))
 
 
 def _target(word: str, is_told: bool = False) -> Target:

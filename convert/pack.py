@@ -17,7 +17,7 @@ from .configuration import (
 )
 from .contents import PIECE, digest_and_size
 from .entries import (
-    BLOCK, CHAR, DIRECTORY, FIFO, FILE, HOST_MARKS, IS_OPAQUE, OPAQUE, SOCKET, SYMLINK, Entry, is_opaque,
+    BLOCK, CHAR, DIRECTORY, FIFO, FILE, IS_OPAQUE, OPAQUE, SOCKET, SYMLINK, Entry, drop_host_marks, is_opaque,
     is_whiteout, needs_lower_layers,
 )
 from .faults import UsageFault, cannot_read, reading, writing
@@ -119,7 +119,7 @@ def _packable(path: str, options: PackOptions) -> Iterator[Entry]:
             )
         problem = _problem(entry)
         if problem is None:
-            marks += _drop_host_marks(entry)
+            marks += drop_host_marks(entry)
             yield entry
         elif options.skip_unsupported:
             note_path(path, f"{entry.path}: left out: {problem}")
@@ -140,14 +140,6 @@ def _problem(entry: Entry) -> str | None:
     if any("=" in name for name in entry.attributes):
         return "the name of an attribute holds ="
     return None
-
-
-def _drop_host_marks(entry: Entry) -> int:
-    """Leaves out what means something on the host alone that the layer comes from; tells how many marks."""
-    found = [name for name in entry.attributes if name in HOST_MARKS]
-    if found:
-        entry.attributes = {name: value for name, value in entry.attributes.items() if name not in HOST_MARKS}
-    return len(found)
 
 
 def _write_image(folder: str, layers: list[list[Entry]], given: Document, options: PackOptions) -> None:

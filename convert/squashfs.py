@@ -32,6 +32,12 @@ _ENVIRONMENT = {"LC_ALL": "C"}  # without SOURCE_DATE_EPOCH, which would be in w
 _ENDING = (signal.SIGINT, signal.SIGTERM, signal.SIGHUP)
 
 
+def require_programs() -> None:
+    """Refuses to begin what needs both programs where one isn't there."""
+    for name in (_READER, _WRITER):
+        require_program(name)
+
+
 def require_program(name: str) -> str:
     """A program of squashfs-tools-ng on the PATH, or a fault that says where to get it."""
     program = shutil.which(name)
