@@ -47,6 +47,7 @@ examples:
   ovl_layers fsck --blobs stack/blobs stack/l0.json stack/l1.json
   {name} pack stack/l0.json stack/l1.json --blobs stack/blobs --config stack/config.json --out new-image
   sudo {name} scan /srv/upper --out upper.json --blobs blobs
+  sudo {name} flatten --stack /srv/upper live.squashfs --out new.squashfs
   sudo {name} store /var/lib/docker/overlay2/ID --out stack
   sudo {name} build upper.json --blobs blobs --out upper
   ovl_layers show l0.json l1.json | diff - <(sudo {name} mounted /mnt)
@@ -135,7 +136,12 @@ Nothing is written unless the merged layers, and the new image when it is read a
 image shows, byte for byte. What the program refuses is told as it is, with its status. --out is as for
 `pack`: with -, an archive on standard output, nothing else goes there.
 
---dry-run prints the commands that do the same by hand."""
+--dry-run prints the commands that do the same by hand.
+
+With --stack LAYER.. layers on a disk take an image's place, the topmost first: folders, squashfs files, tar
+archives of folders, or manifests with --blobs. One layer is written: a squashfs where the name of --out ends
+in .squashfs, a folder otherwise; with --layers over 1, a folder of layers l0, the topmost, l1 and so on. The
+steps and comparisons are the same, but that a squashfs has no sockets and times in whole seconds alone."""
 
 _MOUNTED = """\
 Prints what is in a folder, such as a mounted overlay, as `ovl_layers show` prints it, so that the two

@@ -4,14 +4,16 @@ import os
 import resource
 import shutil
 import socket
+import subprocess
+import sys
 import tarfile
 import unittest
 from unittest import mock
 
 from generator import Generator, Style, write_layer
-from images import archive, folder, member
+from images import archive, folder, member, write_layout
 from squashfs_files import doubling, from_archive, require, spoilt, turned
-from support import FolderTest, call, run, why_no_trusted
+from support import COMMAND, ROOT, FolderTest, call, run, why_no_trusted
 
 from convert import layer_files
 from convert.entries import Entry
@@ -159,6 +161,25 @@ class Building(FileTest):
                     self.require_done(call("build", self.path("out.json"), *words))
                     self.assertEqual(self.scan(self.path("built"), *words[:number % 2])[0], text)
                 self.empty()
+
+    def test_between_images_and_squashfs(self) -> None:
+        """The commands of the README, run as they stand there."""
+        text = (ROOT / "convert" / "README.md").read_text(encoding="utf-8")
+        chapter = text.split("## Between images and squashfs\n", 1)[1].split("\n## ", 1)[0]
+        commands = [line.strip() for line in chapter.splitlines() if line.startswith("    ")]
+        self.write("layers.py", f"#!/bin/sh\nexec {sys.executable} -B {COMMAND} \"$@\"\n".encode())
+        os.chmod(self.path("layers.py"), 0o755)
+        lower = [folder("./"), folder("d"), member("d/f", b"1"), member("g", kind=tarfile.LNKTYPE, target="d/f")]
+        upper = [folder("d"), member("d/.wh..wh..opq"), member(".wh.g"), member("d/h", b"2")]
+        write_layout(self.path("image"), [archive(lower), archive(upper)])
+        result = subprocess.run(
+            ["sh", "-ec", "\n".join(commands)], cwd=self.folder, capture_output=True, text=True, check=False
+        )
+        self.assertEqual(result.returncode, 0, result.stderr)
+        self.require_done(call("unpack", self.path("new-image"), "--out", self.path("again")))
+        for name in ("l0.json", "l1.json", "l1.links"):
+            with open(self.path("stack", name), "rb") as one, open(self.path("again", name), "rb") as other:
+                self.assertEqual(one.read(), other.read())
 
     def test_what_is_told(self) -> None:
         times = (-1, 0, 1, 999_999_999, 2**32 * 10**9 - 1, 2**32 * 10**9, -(2**63) * 10**9)
