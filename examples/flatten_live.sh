@@ -40,11 +40,11 @@ mount -t squashfs -o loop,ro filesystem.squashfs lower
 mount -t overlay -o lowerdir=lower,upperdir=upper,workdir=work,redirect_dir=on,metacopy=on overlay system
 cp /etc/resolv.conf system/etc/resolv.conf
 chroot system apt-get -qq update
-DEBIAN_FRONTEND=noninteractive chroot system apt-get -qq install --no-install-recommends file iputils-ping
-DEBIAN_FRONTEND=noninteractive chroot system apt-get -qq purge --allow-remove-essential e2fsprogs
+DEBIAN_FRONTEND=noninteractive chroot system apt-get -qq install --no-install-recommends file iputils-ping python3
+DEBIAN_FRONTEND=noninteractive chroot system apt-get -qq purge util-linux-extra
 rm -rf system/var/lib/apt/lists system/var/cache/apt/*.bin
 mv system/usr/share/doc system/usr/share/texts
-mv system/usr/share/texts/libc6 system/usr/share/zoneinfo system/srv
+mv system/usr/share/texts/libc6 system/usr/share/perl5 system/srv
 chmod 4711 system/usr/bin/mawk
 chown 33:33 system/etc/debian_version
 ln system/usr/bin/perl system/usr/bin/perl-again
