@@ -15,7 +15,7 @@ from .contents import PIECE
 from .faults import ReadFault, UsageFault, cannot_read, reading
 from .members import Members, opened_members
 from .progress import Progress, note
-from .streams import Slice, Source, unpacked
+from .streams import HEAD_BYTES, Slice, Source, is_packed, unpacked
 
 MAX_DOCUMENTS = 1 << 24  # bytes of an image's documents together, each as often as it is named
 _DIGEST = re.compile(r"(sha256|sha384|sha512):([0-9a-f]{64,128})\Z")
@@ -56,6 +56,12 @@ class ImageLayer:
         """The same, unpacked."""
         with self.opened() as part, unpacked(part, self.path) as stream:
             yield stream
+
+    def packed_size(self) -> int | None:
+        """How many bytes it has in the image, where these are compressed."""
+        with self.members.opened(self.name) as part, reading(self.path):
+            size = part.size()
+            return size if is_packed(part.read(HEAD_BYTES) or b"") else None
 
 
 @dataclass(frozen=True)
@@ -195,7 +201,7 @@ def _wrong_bytes(path: str, digest: Digest) -> ReadFault:
 
 def _require_digest(layer: ImageLayer, part: Slice, digest: Digest) -> None:
     found = hashlib.new(digest[0])
-    progress = Progress(f"checking bytes of {layer.name[-20:]}")
+    progress = Progress(f"checking bytes of {layer.name[-20:]}", part.size())
     with reading(layer.path):
         while piece := part.read(PIECE):
             found.update(piece)

@@ -41,7 +41,7 @@ def form_of(path: str) -> Form:
             if stat.S_ISDIR(kind):
                 return Form.FOLDER
             head = os.pread(file, BLOCK_BYTES, 0) if stat.S_ISREG(kind) else b""
-            may_be_archive = stat.S_ISREG(kind) and (is_packed(file) or _is_header(head))
+            may_be_archive = stat.S_ISREG(kind) and (is_packed(head) or _is_header(head))
         finally:
             os.close(file)
     if head.startswith(squashfs.MAGIC):

@@ -33,11 +33,17 @@ def unpack(options: UnpackOptions) -> Image:
     Where digests are enough there is no folder `blobs`.
     """
     path, tag = image_place(options.image, options.tag)
-    with opened_image(path, options.platform, tag) as image, new_folder(options.out) as stage:
+    with opened_image(path, options.platform, tag) as image:
+        unpack_opened(options, image)
+    return image
+
+
+def unpack_opened(options: UnpackOptions, image: Image) -> None:
+    """The same of an image that is open."""
+    with new_folder(options.out) as stage:
         with writers(None if options.digests_only else f"{stage}/{stacks.BLOBS}") as new_writer:
             _unpack_layers(options, image.layers, stage, new_writer())
         write_text(f"{stage}/{stacks.CONFIG}", [configuration_text(image.configuration)])
-    return image
 
 
 def _unpack_layers(options: UnpackOptions, layers: list[ImageLayer], stage: str, writer: Writer) -> None:

@@ -32,7 +32,7 @@ fi
 cd -- "$work"
 
 # What a live medium has.
-mmdebstrap --quiet --variant=apt --format=squashfs bookworm filesystem.squashfs
+mmdebstrap --quiet --variant=apt --include=less --format=squashfs bookworm filesystem.squashfs
 
 # The live system at work: all that is done goes into the folder `upper`.
 mkdir lower upper work system flat
@@ -41,7 +41,7 @@ mount -t overlay -o lowerdir=lower,upperdir=upper,workdir=work,redirect_dir=on,m
 cp /etc/resolv.conf system/etc/resolv.conf
 chroot system apt-get -qq update
 DEBIAN_FRONTEND=noninteractive chroot system apt-get -qq install --no-install-recommends file iputils-ping python3
-DEBIAN_FRONTEND=noninteractive chroot system apt-get -qq purge util-linux-extra
+DEBIAN_FRONTEND=noninteractive chroot system apt-get -qq purge less
 rm -rf system/var/lib/apt/lists system/var/cache/apt/*.bin
 mv system/usr/share/doc system/usr/share/texts
 mv system/usr/share/texts/libc6 system/usr/share/perl5 system/srv
