@@ -24,7 +24,11 @@ _STAND_IN = """#!/bin/sh
 while [ $# -gt 0 ]; do [ "$1" = --out ] && out=$2; shift; done
 [ -z "$out" ] || for n in 0 1; do cp "${{out%/*}}/stack/l0.json" "$out/layer-$n.json"; done
 """
-MARK = {"SCHILY.xattr.trusted.overlay.opaque": "y"}
+_OTHER_AT_THE_END = """
+case $1 in
+    show) echo >> "$0.calls"; [ "$(wc -l < "$0.calls")" -lt 3 ] && echo 'entries 1' || echo 'entries 2' ;;
+    fsck) echo 'faults 0 notes 0' ;;
+esac"""
 LOWEST = [folder("./"), folder("d"), member("d/f", b"lowest"), member("d/g", b"g"), member("l", kind=b"1", target="d/g")]
 MIDDLE = [folder("./"), folder("d"), member("d/g", kind=b"3"), member("d/h", b"h")]
 TOPMOST = [folder("./"), folder("d", pax={"SCHILY.xattr.trusted.overlay.origin": "x"}), member("d/f", b"topmost")]
@@ -169,14 +173,16 @@ class Stacks(StackTest):
         program = self.path("in", "ovl_layers")
         for text, status, told in (
             ("case $1 in show) echo $$;; fsck) echo 'faults 0 notes 0';; esac", 5, "show something else"),
-            ("exit 3", 3, "ovl_layers show ended with status 3"),
+            (_OTHER_AT_THE_END, 5, "show something else"), ("exit 3", 3, "ovl_layers show ended with status 3"),
         ):
             with open(program, "w", encoding="utf-8") as file:
                 file.write(_STAND_IN.format(text))
             os.chmod(program, 0o755)
             self.program = [program]
             self.require_program()
-            self.require_fault_at_end(self.flatten(), status, told)
+            result = self.flatten()
+            self.require_fault_at_end(result, status, told)
+            self.assertEqual("layers: build: 1 layer, " in result[2], text is _OTHER_AT_THE_END)
             self.require_nothing_left("in")
 
     def require_fault_at_end(self, result: tuple[int, str, str], status: int, told: str) -> None:
