@@ -13,7 +13,7 @@ from . import stacks
 from .compression import NONE
 from .contents import PIECE
 from .faults import UsageFault, cannot_write, writing
-from .flatten_steps import AGAIN, BEFORE, REPORT, STACK, Doing, carry_out, drop_unnamed, timed
+from .flatten_steps import AGAIN, BEFORE, REPORT, STACK, Doing, carry_out, drop_unnamed, new_layer, timed
 from .images import Image, image_place, opened_image, spellings
 from .members import STANDARD_INPUT
 from .outputs import kept_folder, new_folder, passing_folder, standard_output
@@ -133,9 +133,9 @@ class _Doing(Doing):
                 options.image, self.path(STACK), options.platform, options.tag, options.skip_unsupported,
                 options.overlay_marks,
             ))
-            self._name = _name_of(image, options)
-            words.append(counted(len(image.layers), "layer", "layers"))
-        return len(image.layers)
+            self._name, self.count = _name_of(image, options), len(image.layers)
+            words.append(counted(self.count, "layer", "layers"))
+        return self.count
 
     def pack(self, layers: Sequence[str]) -> None:
         """See `Steps`."""
@@ -214,6 +214,12 @@ class _Telling:
         blobs = self._path(f"{STACK}/{stacks.BLOBS}")
         words = words_of(what, [self._path(layer) for layer in layers], blobs, self._path(new))
         self._add(self._program, *words, into=report)
+
+    def vacuum(self, step: str, layers: Sequence[str], new: str) -> str:
+        """See `Steps`."""
+        self.run(step, "vacuum", layers, new)
+        self.lines.append("# where it takes away names that a file of links has, go on with the layer before it\n")
+        return new_layer(new)
 
     def moved(self, layers: Sequence[str]) -> list[int]:
         """None: without marks of the image's own there are none, and with them nobody knows before it is unpacked."""

@@ -104,15 +104,16 @@ class _DoingStack(Doing):
 
     def unpack(self) -> int:
         """See `Steps`."""
-        count, stack = len(self._options.stack.layers), self.path(STACK)
+        self.count, stack = len(self._options.stack.layers), self.path(STACK)
         with timed("scan") as words:
             with writing(stack):
                 os.mkdir(stack)
             read_stack(self._options.stack, stack)
-            drop_unnamed(stack, count)
-            words.append(counted(count, "layer", "layers"))
-        self.data_layers = frozenset(stacks.layer_paths(stack, count)[count - self._options.data_layers:])
-        return count
+            drop_unnamed(stack, self.count)
+            words.append(counted(self.count, "layer", "layers"))
+        paths = stacks.layer_paths(stack, self.count)
+        self.data_layers = frozenset(paths[self.count - self._options.data_layers:])
+        return self.count
 
     def pack(self, layers: Sequence[str]) -> None:
         """See `Steps`."""

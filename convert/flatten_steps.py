@@ -9,8 +9,10 @@ from typing import IO, Protocol
 
 from . import stacks
 from .entries import METACOPY, REDIRECT
-from .faults import Fault, writing
+from .faults import Fault, reading, writing
+from .links import links_path, names_in
 from .manifests import blobs_named_in, has_attribute
+from .mounted import escaped_path
 from .program import makes_layers, require_program, run_program, words_of
 from .progress import note
 
@@ -29,6 +31,10 @@ class Steps(Protocol):
 
     def run(self, step: str, what: str, layers: Sequence[str], new: str) -> None:
         """Runs the program: its report is the file `new`, or where it makes layers, in a folder `new` with them."""
+
+    def vacuum(self, step: str, layers: Sequence[str], new: str) -> str:
+        """The topmost layer without what changes nothing, or as it is where that takes away a name of a hard link, or
+        shows one: below stands the same, but not as the same file."""
 
     def moved(self, layers: Sequence[str]) -> list[int]:
         """The layers with redirects or metacopy files, which no image can state; the lowest first."""
@@ -49,28 +55,26 @@ def carry_out(steps: Steps, wanted: int, data_layers: int = 0) -> tuple[int, int
     layers = stacks.layer_paths(STACK, count)
     steps.run("show", "show", layers, BEFORE)
     steps.run("fsck", "fsck", layers, f"fsck.{REPORT}")
-    steps.run("vacuum", "vacuum", layers, "vacuum")
-    layers[0] = _new_layer("vacuum")
+    layers[0] = steps.vacuum("vacuum", layers, "vacuum")
     # Over layers without redirects each loses its own, and then no merge makes any.
     for number in steps.moved(layers[:count - data_layers]):
         steps.run(f"deref of layer {number}", "deref", layers[number:], f"deref-{number}")
-        layers[number] = _new_layer(f"deref-{number}")
+        layers[number] = new_layer(f"deref-{number}")
     merges = max(0, count - data_layers - wanted)
     for number in range(1, merges + 1):
         steps.run(f"merge {number} of {merges}", "merge", layers, f"merge-{number}")
         # The new topmost layer holds a root alone, which the one below it has too.
-        layers[:2] = [_new_layer(f"merge-{number}", 1)]
+        layers[:2] = [new_layer(f"merge-{number}", 1)]
     del layers[len(layers) - data_layers:]
     if merges and len(layers) > 1:
-        steps.run("vacuum of the merged layer", "vacuum", layers, "vacuum-merged")
-        layers[0] = _new_layer("vacuum-merged")
+        layers[0] = steps.vacuum("vacuum of the merged layer", layers, "vacuum-merged")
     steps.run("show of the new layers", "show", layers, _AFTER)
     steps.compare(_AFTER)
     steps.pack(layers)
     return count, len(layers)
 
 
-def _new_layer(folder: str, number: int = 0) -> str:
+def new_layer(folder: str, number: int = 0) -> str:
     """Where the program writes a new layer."""
     return f"{folder}/layer-{number}.json"
 
@@ -83,6 +87,7 @@ class Doing:
         self._is_kept = is_kept
         self._faults = faults
         self._program = require_program()
+        self.count = 0  # of the given layers
         self.data_layers: frozenset[str] = frozenset()  # the paths of those that are data-only
 
     def path(self, name: str) -> str:
@@ -105,6 +110,21 @@ class Doing:
             report = f"{new}/{REPORT}"
         return run_program(self._program, words, report, self._faults)
 
+    def vacuum(self, step: str, layers: Sequence[str], new: str) -> str:
+        """See `Steps`."""
+        self.run(step, "vacuum", layers, new)
+        removed = _removed_in(self.path(f"{new}/{REPORT}"))
+        if removed and any(escaped_path(name) in removed for name in self._linked()):
+            note(f"{step}: not used, since it takes away names of hard links")
+            return layers[0]
+        return new_layer(new)
+
+    def _linked(self) -> Iterator[str]:
+        """The names of the hard links that the given layers have or show."""
+        yield from names_in(self.path(f"{STACK}/{stacks.SHOWN_LINKS}"))
+        for layer in map(self.path, stacks.layer_paths(STACK, self.count)):
+            yield from names_in(links_path(layer), layer)
+
     def moved(self, layers: Sequence[str]) -> list[int]:
         """See `Steps`."""
         return [
@@ -118,6 +138,12 @@ class Doing:
             kept = f"see {wanted} and {report} in {self._folder}"
             hint = kept if self._is_kept else "--keep DIR keeps both reports"
             raise Fault(f"the new layers show something else, so nothing is written; {hint}")
+
+
+def _removed_in(report: str) -> set[str]:
+    """The paths, as reports write them, that `vacuum` took away."""
+    with reading(report), open(report, encoding="ascii") as lines:
+        return {words[1] for words in map(str.split, lines) if words[0] == "removed" and words[1].startswith("/")}
 
 
 def drop_unnamed(folder: str, count: int) -> None:
