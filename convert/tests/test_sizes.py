@@ -44,11 +44,11 @@ LAYER  ENTRIES  FILES  BYTES  SHOWN  HIDDEN  REPEATED  WHITEOUTS  OPAQUE  PACKED
 17.3 % of 33K are shown; 21K are hidden, 5.6K repeated. One layer would take 6.3K.
 
 The largest contents that aren't shown:
-BYTES  LAYER  WHY          PATH
-  20K      2  hidden by 0  /cache/package
- 4.9K      1  as in 3      /bin/tool
- 1.5K      2  hidden by 1  /lib
-  700      1  as in 3      /copy
+BYTES  LAYER  WHY                PATH
+  20K      2  hidden by layer 0  /cache/package
+ 4.9K      1  as in layer 3      /bin/tool
+ 1.5K      2  hidden by layer 1  /lib
+  700      1  as in layer 3      /copy
 """
 
 
@@ -157,7 +157,7 @@ class Telling(SizesTest):
         self.assertEqual(printed, _TABLE.replace("GZIP", f"{small:4}"))
         exact = call("sizes", self.path("image"), "--bytes")[1]
         self.assertIn("17.3 % of 32903 are shown; 21500 are hidden, 5700 repeated. One layer would take 6403.", exact)
-        self.assertIn("20000      2  hidden by 0  /cache/package\n", exact)
+        self.assertIn("20000      2  hidden by layer 0  /cache/package\n", exact)
 
     def test_json(self) -> None:
         small = self.write_image()
