@@ -15,7 +15,7 @@ from .contents import PIECE
 from .faults import ReadFault, UsageFault, cannot_read, reading
 from .members import Members, opened_members
 from .progress import Progress, note
-from .streams import HEAD_BYTES, Slice, is_packed
+from .streams import HEAD_BYTES, Slice, Source, is_packed, unpacked
 
 MAX_DOCUMENTS = 1 << 24  # bytes of an image's documents together, each as often as it is named
 _DIGEST = re.compile(r"(sha256|sha384|sha512):([0-9a-f]{64,128})\Z")
@@ -50,6 +50,12 @@ class ImageLayer:
             if self.digest is not None:
                 _require_digest(self, part.again(), self.digest)
             yield part
+
+    @contextlib.contextmanager
+    def archive(self) -> Iterator[Source]:
+        """The same, unpacked."""
+        with self.opened() as part, unpacked(part, self.path) as stream:
+            yield stream
 
     def packed_size(self) -> int | None:
         """How many bytes it has in the image, where these are compressed."""
