@@ -31,7 +31,7 @@ from .unpack import UnpackOptions, unpack
 
 NAME = "layers"
 _INTERRUPTED = 128
-_OF_IMAGES = ("platform", "tag", "overlay_marks", "dry_run")  # words of `flatten`
+_OF_IMAGES = ("platform", "tag", "overlay_marks", "dry_run")  # words of `flatten` and `sizes`
 _OF_STACKS = ("blobs", "data_layers", "form", "userxattr", "cross_file_systems")
 
 _ABOUT = """\
@@ -156,8 +156,8 @@ aren't shown, with the layer that hides them. convert/README.md defines each num
 
 Contents are copied nowhere. What the layers show is told by the proved program ovl_layers, as in `flatten`.
 
---stack takes layers in place of an image, the topmost first: manifests, squashfs files, tar archives of folders,
-and folders, whose marks root alone can read."""
+--stack takes layers in place of an image, the topmost first: folders, squashfs files, tar archives of folders, and
+manifests, whose contents aren't needed. The marks of folders can be read by root alone."""
 
 _MOUNTED = """\
 Prints what is in a folder, such as a mounted overlay, as `ovl_layers show` prints it, so that the two
@@ -294,11 +294,6 @@ def _add_image(parser: argparse.ArgumentParser, may_be_absent: bool = False) -> 
         parser.add_argument("image", metavar="IMAGE", nargs="?", help=_IMAGE)
     else:
         parser.add_argument("image", metavar="IMAGE", help=_IMAGE)
-    _add_choice(parser)
-
-
-def _add_choice(parser: argparse.ArgumentParser) -> None:
-    """Which of several images is read, and how."""
     parser.add_argument("--platform", metavar="OS/ARCH", help="which of several images, such as linux/amd64")
     parser.add_argument("--tag", metavar="NAME", help="which of several images, by its name in the image's index")
     parser.add_argument(
@@ -359,33 +354,31 @@ def _add_flatten(parser: argparse.ArgumentParser) -> None:
 
 def _add_stack(parser: argparse.ArgumentParser) -> None:
     """Which layers are read in place of an image's, and how."""
-    parser.add_argument(
-        "--stack", metavar="LAYER", nargs="+",
-        help="layers in place of an image, the topmost first: folders, squashfs files, tar archives or manifests",
-    )
+    _add_stack_layers(parser, "reads and writes")
     parser.add_argument("--blobs", metavar="DIR", help="with --stack: folder with the contents of manifests")
-    parser.add_argument(
-        "--data-layers", metavar="K", type=_data_layers, default=0,
-        help="with --stack: how many of the layers, the lowest ones, are data-only [default: 0]",
-    )
     parser.add_argument(
         "--form", choices=[form.value for form in OutForm],
         help="with --stack: what layers are written as [default: what the name of --out says]",
     )
-    _add_userxattr(parser, "with --stack: reads and writes")
+
+
+def _add_stack_layers(parser: argparse.ArgumentParser, does: str) -> None:
+    parser.add_argument(
+        "--stack", metavar="LAYER", nargs="+",
+        help="layers in place of an image, the topmost first: folders, squashfs files, tar archives or manifests",
+    )
+    parser.add_argument(
+        "--data-layers", metavar="K", type=_data_layers, default=0,
+        help="with --stack: how many of the layers, the lowest ones, are data-only [default: 0]",
+    )
+    _add_userxattr(parser, f"with --stack: {does}")
     _add_cross(parser)
     _add_workers(parser)
 
 
 def _add_sizes(parser: argparse.ArgumentParser) -> None:
-    what = parser.add_mutually_exclusive_group(required=True)
-    what.add_argument("image", metavar="IMAGE", nargs="?", help=_IMAGE)
-    what.add_argument("--stack", metavar="LAYER", nargs="+", help="layers in place of an image, the topmost first")
-    _add_choice(parser)
-    _add_userxattr(parser, "of folders, reads")
-    parser.add_argument(
-        "--data-layers", metavar="K", type=int, default=0, help="how many layers, the lowest, are data-only [default: 0]"
-    )
+    _add_image(parser, may_be_absent=True)
+    _add_stack_layers(parser, "reads")
     parser.add_argument("--json", action="store_true", help="prints it all for a program")
     parser.add_argument("--bytes", action="store_true", help="prints exact numbers of bytes")
     parser.add_argument("--html", metavar="FILE", help="page to write besides; - is standard output, in its place")
@@ -502,14 +495,19 @@ def _pack(words: argparse.Namespace) -> None:
     ))
 
 
-def _flatten(words: argparse.Namespace) -> None:
+def _require_one_sort(words: argparse.Namespace) -> None:
+    """Refuses an image beside a stack, neither of them, and what is for the other one."""
     if (words.image is None) == (words.stack is None):
         raise UsageFault("name an IMAGE, or layers by --stack LAYER..")
     strange = _OF_STACKS if words.stack is None else _OF_IMAGES
     for name in strange:
-        if getattr(words, name):
+        if getattr(words, name, None):
             told = "--stack alone" if words.stack is None else "images alone"
             raise UsageFault(f"--{name.replace('_', '-')} is for {told}")
+
+
+def _flatten(words: argparse.Namespace) -> None:
+    _require_one_sort(words)
     if words.stack is None:
         _flatten_image(words)
     else:
@@ -544,15 +542,17 @@ def _flatten_stack(words: argparse.Namespace) -> None:
 
 
 def _sizes(words: argparse.Namespace) -> None:
-    if words.stack and (words.platform is not None or words.tag is not None or words.overlay_marks):
-        raise UsageFault("--platform, --tag and --overlay-marks are for images, and a stack is none")
-    if words.image is not None and (words.data_layers or words.userxattr):
-        raise UsageFault("--data-layers and --userxattr are for stacks, and an image is none")
+    _require_one_sort(words)
+    stack = None if words.stack is None else StackOptions(
+        layers=[_folder(layer) for layer in words.stack], userxattr=words.userxattr,
+        cross_file_systems=words.cross_file_systems, skip_unsupported=words.skip_unsupported, digests_only=True,
+        workers=words.workers,
+    )
     sizes(SizesOptions(
-        image=None if words.image is None else _folder(words.image), stack=words.stack or (),
-        data_layers=words.data_layers, platform=words.platform, tag=words.tag,
-        skip_unsupported=words.skip_unsupported, overlay_marks=words.overlay_marks, userxattr=words.userxattr,
-        as_json=words.json, exact=words.bytes, page=words.html, fail_over=words.fail_over,
+        image=None if words.image is None else _folder(words.image), stack=stack, data_layers=words.data_layers,
+        platform=words.platform, tag=words.tag, skip_unsupported=words.skip_unsupported,
+        overlay_marks=words.overlay_marks, as_json=words.json, exact=words.bytes, page=words.html,
+        fail_over=words.fail_over,
     ), _print)
 
 

@@ -14,6 +14,7 @@ from .layer_tree import Folder
 from .links import renumber, take_links, write_layer
 from .losses import ScanLosses
 from .manifests import read_manifest
+from .progress import counted
 from .scan import ScanOptions, scan_folder
 
 
@@ -78,6 +79,12 @@ def require_forms(options: StackOptions) -> list[Form]:
             f"{options.layers[forms.index(Form.MANIFEST)]} is a manifest: --blobs must name the folder of its contents"
         )
     return forms
+
+
+def require_ordinary(count: int, data_layers: int) -> None:
+    """Refuses so many data-only layers of a stack that none is left."""
+    if data_layers >= count:
+        raise UsageFault(f"of {counted(count, 'layer', 'layers')} {data_layers} can't be data-only")
 
 
 def _copy_contents(entries: Iterable[Entry], given: str, blobs: str) -> None:

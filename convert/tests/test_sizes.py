@@ -201,12 +201,13 @@ class Telling(SizesTest):
         self.write_image()
         image, lone = self.path("image"), self.path("lone.json")
         for status, words, part in (
-            (2, (), "one of the arguments IMAGE --stack is required"),
-            (2, (image, "--stack", lone), "not allowed with argument"),
+            (2, (), "name an IMAGE, or layers by --stack LAYER.."),
+            (2, (image, "--stack", lone), "name an IMAGE, or layers by --stack LAYER.."),
             (2, (image, "--fail-over", "101"), "a share is a number from 0 to 100"),
             (2, (image, "--fail-over", "1/2"), "a share is a number from 0 to 100"),
-            (2, (image, "--data-layers", "1"), "an image is none"),
-            (2, ("--tag", "x", "--stack", lone), "a stack is none"),
+            (2, (image, "--data-layers", "1"), "--data-layers is for --stack alone"),
+            (2, ("--tag", "x", "--stack", lone), "--tag is for images alone"),
+            (2, ("--data-layers", "1", "--stack", lone), "of 1 layer 1 can't be data-only"),
             (3, ("--stack", lone), f"cannot read {lone}: "),
             (3, (self.path("absent"),), "absent"),
         ):
