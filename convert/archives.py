@@ -51,7 +51,7 @@ class Layer(Protocol):
     def unpacked_digest(self) -> tuple[str, str] | None:
         """The algorithm and the digits of the digest of the archive's bytes, where they are known."""
 
-    def archive(self) -> contextlib.AbstractContextManager[Source]:
+    def archive(self, progress: Progress) -> contextlib.AbstractContextManager[Source]:
         """The bytes of its archive, unpacked. Tells what is wrong with them as a fault of its path."""
 
 
@@ -90,10 +90,10 @@ class LayerArchive:
     def tree(self) -> LayerTree:
         """The layer, where its bytes are those that the image names."""
         layer = self._layer
-        progress = Progress(f"unpacking {layer.name[-20:]}")
+        progress = Progress(f"unpacking bytes of {layer.name[-20:]}")
         try:
-            with layer.archive() as stream:
-                self._read_checked(stream, progress)
+            with layer.archive(progress) as stream:
+                self._read_checked(stream)
             self._tree.settle(self._taking.below.root, lambda gap, path: self._losses.add(_GAPS[gap], path))
         except TooMuch as problem:
             raise cannot_read(layer.path, str(problem)) from None
@@ -102,17 +102,17 @@ class LayerArchive:
         self._losses.tell(layer.name)
         return self._tree
 
-    def _read_checked(self, stream: Source, progress: Progress) -> None:
+    def _read_checked(self, stream: Source) -> None:
         if self._layer.unpacked_digest is None:
-            self._read(stream, progress)
+            self._read(stream)
             return
         algorithm, wanted = self._layer.unpacked_digest
         source = Digesting(stream, algorithm)
-        self._read(source, progress)
+        self._read(source)
         if source.digest.hexdigest() != wanted:
             raise cannot_read(self._layer.path, f"its unpacked bytes aren't those of {algorithm}:{wanted}")
 
-    def _read(self, stream: Source, progress: Progress) -> None:
+    def _read(self, stream: Source) -> None:
         archive = TarReader(buffered(stream))
         for header in archive:
             try:
@@ -121,7 +121,6 @@ class LayerArchive:
                 self._refuse_or_note(header, str(problem))
             except Unstated as problem:
                 raise cannot_read(self._layer.path, f"{os.fsdecode(header.name)}: {problem.text}") from None
-            progress.step()
 
     def _take(self, header: Header, archive: TarReader) -> None:
         names = self._paths.names(header.name)

@@ -15,7 +15,7 @@ from .contents import PIECE
 from .faults import ReadFault, UsageFault, cannot_read, reading
 from .members import Members, opened_members
 from .progress import Progress, note
-from .streams import HEAD_BYTES, Slice, Source, is_packed, unpacked
+from .streams import HEAD_BYTES, Slice, Source, Watched, is_packed, unpacked
 
 MAX_DOCUMENTS = 1 << 24  # bytes of an image's documents together, each as often as it is named
 _DIGEST = re.compile(r"(sha256|sha384|sha512):([0-9a-f]{64,128})\Z")
@@ -52,9 +52,9 @@ class ImageLayer:
             yield part
 
     @contextlib.contextmanager
-    def archive(self) -> Iterator[Source]:
+    def archive(self, progress: Progress) -> Iterator[Source]:
         """The same, unpacked."""
-        with self.opened() as part, unpacked(part, self.path) as stream:
+        with self.opened() as part, unpacked(Watched(part, progress), self.path) as stream:
             yield stream
 
     def packed_size(self) -> int | None:

@@ -15,7 +15,8 @@ from .faults import cannot_read, reading
 from .layer_tree import Folder, Held, LayerTree, whiteout
 from .links import renumber, write_layer
 from .losses import Loss, Losses, ScanLosses
-from .streams import Slice, Source, is_packed, unpacked
+from .progress import Progress
+from .streams import Slice, Source, Watched, is_packed, unpacked
 from .tar_headers import BLOCK_BYTES, TarFault, parse_header
 
 _READ = os.O_RDONLY | os.O_NONBLOCK | os.O_CLOEXEC
@@ -94,10 +95,10 @@ class _FileLayer:
         return os.fstat(self.file).st_size
 
     @contextlib.contextmanager
-    def archive(self) -> Iterator[Source]:
-        """The bytes of its archive."""
+    def archive(self, progress: Progress) -> Iterator[Source]:
+        """The bytes of its archive. Those that a program makes of a squashfs aren't counted."""
         if self.form is Form.ARCHIVE:
-            with unpacked(Slice(self.file, 0, self.size()), self.path) as stream:
+            with unpacked(Watched(Slice(self.file, 0, self.size()), progress), self.path) as stream:
                 yield stream
             return
         try:

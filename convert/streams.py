@@ -15,6 +15,7 @@ from typing import IO, Protocol
 
 from .contents import PIECE
 from .faults import cannot_read
+from .progress import Progress
 from .tar_headers import TarFault
 
 _GZIP = b"\x1f\x8b"
@@ -107,6 +108,26 @@ class Gunzip(io.RawIOBase):
                 self._input = self._packed.read(_GZIP_PIECE)
                 if not self._input:
                     raise EOFError("it ends too early")
+
+
+class Watched(io.RawIOBase):
+    """Reads a part of a file, and tells the progress how many of its bytes were read."""
+
+    def __init__(self, part: Slice, progress: Progress) -> None:
+        super().__init__()
+        self._part = part
+        self._progress = progress
+        progress.expect(part.size())
+
+    def readable(self) -> bool:
+        """It is."""
+        return True
+
+    def readinto(self, buffer: memoryview) -> int:  # type: ignore[override]
+        """Reads what fits."""
+        count = self._part.readinto(buffer)
+        self._progress.step(count)
+        return count
 
 
 class Digesting(io.RawIOBase):

@@ -1,8 +1,10 @@
 """`sizes`: its numbers beside the definitions, read plainly; its table, its refusals, and images."""
 
 import contextlib
+import io
 import json
 import os
+import re
 import unittest
 from collections.abc import Sequence
 from functools import partial
@@ -12,6 +14,7 @@ from images import archive, folder, member, packed, put_index, put_manifest
 from plain_stacks import PlainSizes, PlainStack, random_stack
 from support import FolderTest, call, program_words, why_no_trusted
 
+from convert import command
 from convert.entries import DIRECTORY, REDIRECT, SYMLINK, Entry
 from convert.faults import ReadFault
 from convert.layer_sizes import sizes_of
@@ -158,6 +161,23 @@ class Telling(SizesTest):
         exact = call("sizes", self.path("image"), "--bytes")[1]
         self.assertIn("17.3 % of 32903 are shown; 21500 are hidden, 5700 repeated. One layer would take 6403.", exact)
         self.assertIn("20000      2  hidden by layer 0  /cache/package\n", exact)
+
+    def test_progress(self) -> None:
+        """On a terminal the bytes of each layer are counted as they are read, to their end."""
+
+        class Terminal(io.StringIO):
+            """Standard error that is one."""
+
+            def isatty(self) -> bool:
+                return True
+
+        self.write_image()
+        told = Terminal()
+        with contextlib.redirect_stderr(told), contextlib.redirect_stdout(io.StringIO()):
+            with mock.patch("convert.progress._EVERY", 0):
+                self.assertEqual(command.main(["sizes", self.path("image")]), 0)
+        whole = re.findall(r"\r(checking|unpacking) bytes of ([0-9a-f]{20}): ([\d,]+) of \3 *\r", told.getvalue())
+        self.assertEqual(len(set(whole)), 2 * len(_LAYERS), told.getvalue())
 
     def test_json(self) -> None:
         small = self.write_image()
