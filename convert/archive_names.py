@@ -7,6 +7,7 @@ WHITEOUT_PREFIX = ".wh."
 OPAQUE_NAME = ".wh..wh..opq"
 _AUFS_PREFIX = ".wh..wh."
 AUFS_LINKS = ".wh..wh.plnk"
+_PREFIX = WHITEOUT_PREFIX.encode()
 
 
 class Paths:
@@ -23,10 +24,15 @@ class Paths:
             return _all_names(path, what)
         if folder != self._folder or not slash:
             names = _all_names(folder, what) if slash else []
-            if any(map(_is_whiteout_name, names)) and not is_of_aufs(names):
+            if may_be_special(folder) and any(map(_is_whiteout_name, names)) and not is_of_aufs(names):
                 raise Unfit("its path leads through a whiteout")
             self._folder, self._names = folder, names
         return [*self._names, _checked(_text(last))]
+
+
+def may_be_special(path: bytes) -> bool:
+    """Whether a path may hold a name that stands for something else, which is seen at once of most that don't."""
+    return _PREFIX in path
 
 
 def is_of_aufs(names: list[str]) -> bool:
@@ -39,17 +45,28 @@ def _is_whiteout_name(name: str) -> bool:
 
 
 def _all_names(path: bytes, what: str) -> list[str]:
-    names: list[str] = []
+    parts: list[bytes] = []
     for part in path.split(b"/"):
         if part == b"..":
-            if not names:
+            if not parts:
                 raise Unfit(f"{what} leads out of the layer by ..")
-            names.pop()
+            parts.pop()
         elif part not in (b"", b"."):
-            names.append(_checked(_text(part)))
-    if any(map(_is_whiteout_name, names[:-1])) and not is_of_aufs(names):
+            parts.append(part)
+    if len(parts) > rules.MAX_NAMES + 1:  # the last one may be a whiteout in the deepest directory
+        raise Unfit(f"it is {len(parts)} names deep, over {rules.MAX_NAMES}")
+    names = _checked_names(parts)
+    if may_be_special(path) and any(map(_is_whiteout_name, names[:-1])) and not is_of_aufs(names):
         raise Unfit("its path leads through a whiteout")
     return names
+
+
+def _checked_names(parts: list[bytes]) -> list[str]:
+    """Parts of a path as names; refuses those that can't be names. Mostly all are plain, which is seen at once."""
+    way = b"/".join(parts)
+    if way.isascii() and b"\0" not in way and max(map(len, parts), default=0) <= rules.MAX_NAME_BYTES:
+        return way.decode().split("/") if parts else []
+    return [_checked(_text(part)) for part in parts]
 
 
 def _text(name: bytes) -> str:

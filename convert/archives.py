@@ -2,24 +2,27 @@
 
 import contextlib
 import copy
+import functools
 import hashlib
 import os
-from collections.abc import Mapping
+from collections.abc import Callable, Mapping
 from dataclasses import dataclass, replace
 
 from . import rules
 from . import tar_headers as tar
-from .archive_names import AUFS_LINKS, OPAQUE_NAME, WHITEOUT_PREFIX, Paths, is_of_aufs
+from .archive_names import AUFS_LINKS, OPAQUE_NAME, WHITEOUT_PREFIX, Paths, is_of_aufs, may_be_special
 from .blobs import Digester, Writer
+from .budgets import TooMuch
 from .contents import PIECE, write_all
 from .entries import (
     BLOCK, CHAR, DIRECTORY, FIFO, FILE, METACOPY, NO_ATTRIBUTES, OVERLAY, SYMLINK, WHITEOUT, Entry, is_whiteout,
 )
 from .faults import cannot_read, cannot_write, writing
 from .images import ImageLayer
-from .layer_tree import Attributes, Below, Blocked, Gap, Held, LayerTree, TooMuch, Unfit, whiteout
+from .layer_tree import Attributes, Below, Blocked, Gap, Held, LayerTree, Unfit, whiteout
 from .losses import Loss, Losses
 from .progress import Progress, note
+from .repeats import Contents, Kept, Repeats
 from .streams import Digesting, Source, buffered, unpacked
 from .tar_headers import HARD_LINK, REGULAR_TYPES, Header
 from .tar_reader import TarReader
@@ -31,6 +34,8 @@ _KINDS = {
     tar.SYMLINK: SYMLINK, tar.CHAR: CHAR, tar.BLOCK: BLOCK, tar.DIRECTORY: DIRECTORY, tar.FIFO: FIFO,
     HARD_LINK: FILE, **{bytes([kind]): FILE for kind in REGULAR_TYPES},
 }
+_NO_CONTENTS: Contents = ("", 0)
+Store = Callable[[], Contents]  # gives the contents of an entry, which are blobs then
 _GAPS = {Gap.UNKNOWN: Loss.UNKNOWN, Gap.OVER_OTHER: Loss.OVER_OTHER, Gap.WHITEOUT: Loss.WHITEOUT}
 
 
@@ -44,6 +49,7 @@ class Taking:
     writer: Writer
     held: Held
     below: Below
+    repeats: Repeats
 
 
 class LayerArchive:
@@ -55,16 +61,19 @@ class LayerArchive:
         self._tree = LayerTree(taking.held)
         self._paths = Paths()
         self._losses = Losses()
-        self._attribute_text = 0
         self._aufs_links: dict[str, Entry] = {}
 
     def tree(self) -> LayerTree:
         """The layer, where its bytes are those that the image names."""
         layer = self._layer
         progress = Progress(f"unpacking {layer.name[-20:]}")
+        kept = self._taking.repeats.kept(layer)
         try:
-            with layer.opened() as part, unpacked(part, layer.path) as stream:
-                self._read_checked(stream, progress)
+            if kept is not None:
+                self._take_kept(kept, progress)
+            else:
+                with layer.opened() as part, unpacked(part, layer.path) as stream:
+                    self._read_checked(stream, progress)
             self._tree.settle(self._taking.below.root, lambda gap, path: self._losses.add(_GAPS[gap], path))
         except TooMuch as problem:
             raise cannot_read(layer.path, str(problem)) from None
@@ -72,6 +81,13 @@ class LayerArchive:
             progress.end()
         self._losses.tell(layer.name)
         return self._tree
+
+    def _take_kept(self, kept: Kept, progress: Progress) -> None:
+        """Takes the entries of an archive that was read before, whose contents are blobs already."""
+        for header, contents in kept.entries():
+            self._taking.held.budget.headers.take()
+            self._take_fitting(header, _known(contents))
+            progress.step()
 
     def _read_checked(self, stream: Source, progress: Progress) -> None:
         if self._layer.unpacked_digest is None:
@@ -84,37 +100,47 @@ class LayerArchive:
             raise cannot_read(self._layer.path, f"its unpacked bytes aren't those of {algorithm}:{wanted}")
 
     def _read(self, stream: Source, progress: Progress) -> None:
-        archive = TarReader(buffered(stream))
+        archive = TarReader(buffered(stream), self._taking.held.budget)
+        keeping = self._taking.repeats.keeping(self._layer)
         for header in archive:
-            try:
-                self._take(header, archive)
-            except Unfit as problem:
-                self._refuse_or_note(header, str(problem))
+            store: Store = functools.partial(self._store, archive, header)
+            if keeping is not None:
+                contents = store() if header.type in REGULAR_TYPES else _NO_CONTENTS
+                keeping.add(header, contents)
+                store = _known(contents)
+            self._take_fitting(header, store)
             progress.step()
 
-    def _take(self, header: Header, archive: TarReader) -> None:
+    def _take_fitting(self, header: Header, store: Store) -> None:
+        try:
+            self._take(header, store)
+        except Unfit as problem:
+            self._refuse_or_note(header, str(problem))
+
+    def _take(self, header: Header, store: Store) -> None:
         names = self._paths.names(header.name)
-        if names and (names[-1].startswith(WHITEOUT_PREFIX) or is_of_aufs(names)):
-            self._take_special(header, names, archive)
+        is_special = names and may_be_special(header.name)
+        if is_special and (names[-1].startswith(WHITEOUT_PREFIX) or is_of_aufs(names)):
+            self._take_special(header, names, store)
             return
         entry = self._entry(header, names)
         self._tree.folder(names[:-1])
         if header.type == HARD_LINK:
             entry = self._linked(header, names)
         elif entry.kind == FILE:
-            self._fill(entry, header, archive)
+            _fill(entry, store)
         elif is_whiteout(entry):
             self._losses.add(Loss.DEVICE, _path(names))
         self._tree.put(names, entry)
 
-    def _take_special(self, header: Header, names: list[str], archive: TarReader) -> None:
+    def _take_special(self, header: Header, names: list[str], store: Store) -> None:
         """What is no entry of the layer: a whiteout, an opaque mark, or what aufs keeps for itself."""
         if is_of_aufs(names):
             self._losses.add(Loss.AUFS, _path(names))
             if names[0] == AUFS_LINKS and header.type in REGULAR_TYPES:
                 entry = self._entry(header, names)
                 self._taking.held.grow()
-                self._fill(entry, header, archive)
+                _fill(entry, store)
                 self._aufs_links[_path(names)] = entry
             return
         try:
@@ -160,6 +186,10 @@ class LayerArchive:
             self._losses.add(Loss.CUT_TIME, _path(names))
         if header.has_acl:
             self._losses.add(Loss.ACCESS_LIST, _path(names))
+        if header.has_label:
+            self._losses.add(Loss.LABEL, _path(names))
+        if header.other_record:
+            self._losses.add(Loss.RECORD, f"{_path(names)} ({os.fsdecode(header.other_record)})")
         return entry
 
     def _attributes(self, header: Header, names: list[str]) -> Mapping[str, bytes]:
@@ -167,9 +197,6 @@ class LayerArchive:
         found = self._taking.held.attributes(tuple(raw.items()), lambda: self._decoded(raw))
         if found.marks:
             self._losses.add(Loss.MARK, _path(names), found.marks)
-        self._attribute_text += found.text_bytes
-        if self._attribute_text > rules.MAX_MANIFEST_BYTES:
-            raise TooMuch(f"its attributes alone take over {rules.MAX_MANIFEST_BYTES:,} bytes of a manifest")
         return found.kept
 
     def _decoded(self, raw: Mapping[bytes, bytes]) -> Attributes:
@@ -179,8 +206,7 @@ class LayerArchive:
         problem = next(filter(None, map(rules.attribute_problem, kept)), None) or rules.attributes_problem(kept)
         if problem:
             raise Unfit(problem)
-        text_bytes = sum(len('"":"",') + len(name) + 2 * len(value) for name, value in kept.items())
-        return Attributes(kept or NO_ATTRIBUTES, len(attributes) - len(kept), text_bytes)
+        return Attributes(kept or NO_ATTRIBUTES, len(attributes) - len(kept))
 
     def _linked(self, header: Header, names: list[str]) -> Entry:
         """A hard link as a file of its own, with all that the file it names has, here or below."""
@@ -193,18 +219,15 @@ class LayerArchive:
             raise Unfit(f"it links to {told}, which is no file of this layer so far or of those below")
         if METACOPY in found.attributes:
             raise Unfit(f"it links to {told}, a file without its contents")
+        self._taking.held.budget.attributes.take(len(found.attributes))
         self._losses.add(Loss.HARD_LINK if here else Loss.LOWER_LINK, _path(names))
         return copy.copy(found)
 
-    def _fill(self, entry: Entry, header: Header, archive: TarReader) -> None:
-        digest, entry.size = self._store(archive, header)
-        entry.blob = digest if entry.names_contents() else None
-
-    def _store(self, archive: TarReader, header: Header) -> tuple[str, int]:
+    def _store(self, archive: TarReader, header: Header) -> Contents:
         """Writes an entry's data as a blob, zeros as holes."""
         writer = self._taking.writer
         if header.size == 0:
-            return "", 0
+            return _NO_CONTENTS
         if isinstance(writer, Digester):
             return writer.take(archive.data())
         digest, size, scratch = hashlib.sha256(), 0, writer.scratch()
@@ -240,6 +263,15 @@ class LayerArchive:
         if not self._taking.skip_unsupported:
             raise cannot_read(self._layer.path, f"{name}: {problem}")
         note(f"{self._layer.path}: {name}: left out: {problem}")
+
+
+def _known(contents: Contents) -> Store:
+    return lambda: contents
+
+
+def _fill(entry: Entry, store: Store) -> None:
+    digest, entry.size = store()
+    entry.blob = digest if entry.names_contents() else None
 
 
 def _path(names: list[str]) -> str:

@@ -5,7 +5,7 @@ import hashlib
 import io
 import os
 import re
-from collections.abc import Callable, Iterator, Mapping, Sequence
+from collections.abc import Callable, Hashable, Iterator, Mapping, Sequence
 from dataclasses import dataclass, field, replace
 from typing import Any
 
@@ -42,6 +42,10 @@ class ImageLayer:
     members: Members
     digest: Digest | None
     unpacked_digest: Digest | None
+
+    def identity(self) -> Hashable:
+        """The same for two layers of the image that are one file, and must unpack to the same."""
+        return self.members.identity(self.name), self.unpacked_digest
 
     @contextlib.contextmanager
     def opened(self) -> Iterator[Slice]:

@@ -6,6 +6,7 @@ from dataclasses import dataclass, field
 from enum import Enum, auto
 
 from . import rules
+from .budgets import Budget, TooMuch
 from .entries import CHAR, DIRECTORY, IS_OPAQUE, NO_ATTRIBUTES, OPAQUE, OVERLAY, SYMLINK, Entry, is_whiteout
 
 _IMPLIED_MODE = 0o755
@@ -19,10 +20,6 @@ class Unfit(Exception):
 
 class Blocked(Unfit):
     """The way to an entry leads through what is no directory."""
-
-
-class TooMuch(Exception):
-    """The layer can't be stated in a manifest."""
 
 
 @dataclass(slots=True)
@@ -63,6 +60,7 @@ class Held:
     """What the layers of an image hold in memory, within bounds."""
 
     def __init__(self) -> None:
+        self.budget = Budget()
         self._entries = 0
         self._bytes = 0
         self._sets: dict[RawAttributes, Attributes] = {}
@@ -90,11 +88,10 @@ class Held:
 
 @dataclass(frozen=True, slots=True)
 class Attributes:
-    """Attributes as an entry has them, how many marks were left out, and their bytes in a manifest."""
+    """Attributes as an entry has them, and how many marks were left out."""
 
     kept: Mapping[str, bytes]
     marks: int
-    text_bytes: int
 
 
 class LayerTree:
@@ -156,6 +153,7 @@ class LayerTree:
                 if name not in folder.whiteouts:
                     self._grow()
                 self._held.weigh(sys.getsizeof(name))
+                self._held.budget.unstated.take()
                 found = folder.children[name] = _implied()
             elif not isinstance(found, Folder):
                 sort = "the symlink" if found.kind == SYMLINK else "what is no directory,"
@@ -206,6 +204,7 @@ class LayerTree:
                 tell(Gap.OVER_OTHER, f"{path}/{name}")
         if not folder.is_stated:
             if below is not None:
+                self._held.budget.attributes.take(len(below.entry.attributes))
                 folder.entry = _shown_directory(below.entry)
             elif folder.children or folder.is_root:
                 tell(Gap.UNKNOWN, path or "/")

@@ -22,6 +22,11 @@ class Loss(Enum):
         "entry with an access list (SCHILY.acl.*), left out",
         "entries with access lists (SCHILY.acl.*), left out",
     )
+    LABEL = (
+        "entry with a label of SELinux (RHT.security.selinux), left out",
+        "entries with labels of SELinux (RHT.security.selinux), left out",
+    )
+    RECORD = ("entry with PAX records that aren't read", "entries with PAX records that aren't read")
     AUFS = ("entry of aufs' own (.wh..wh.*) left out", "entries of aufs' own (.wh..wh.*) left out")
     WHITEOUT = (
         "whiteout left out that hides nothing, as there is no directory for it",

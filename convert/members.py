@@ -5,9 +5,10 @@ import os
 import posixpath
 import stat
 import tempfile
-from collections.abc import Iterator
+from collections.abc import Hashable, Iterator
 from typing import Protocol
 
+from .budgets import Budget, TooMuch
 from .contents import PIECE, write_all
 from .faults import cannot_read, reading, writing
 from .streams import SeekingSlice, Slice
@@ -27,6 +28,9 @@ class Members(Protocol):
 
     def size(self, name: str) -> int | None:
         """The size of a file, or nothing where there is none of this name."""
+
+    def identity(self, name: str) -> Hashable:
+        """The same for two names of one file."""
 
     def opened(self, name: str) -> contextlib.AbstractContextManager[Slice]:
         """The bytes of a file while it is open; fails where there is none."""
@@ -90,6 +94,11 @@ class _Folder:
         way = self._way(name)
         return None if way is None else os.stat(way).st_size
 
+    def identity(self, name: str) -> Hashable:
+        """The file's place in its file system."""
+        status = os.stat(self._way(name) or "")
+        return status.st_dev, status.st_ino
+
     @contextlib.contextmanager
     def opened(self, name: str) -> Iterator[Slice]:
         """The bytes of a file."""
@@ -127,7 +136,7 @@ class _Archive:
 
     def _find(self, size: int) -> None:
         source = SeekingSlice(self._file, 0, size)
-        archive = TarReader(source)
+        archive = TarReader(source, Budget())
         try:
             for header in archive:
                 name = _inner(os.fsdecode(header.name))
@@ -146,11 +155,17 @@ class _Archive:
         except TarFault as problem:
             hint = "; an image that is packed as a whole must be unpacked first" if not self._places else ""
             raise cannot_read(self.path, f"it is no tar archive: {problem}{hint}") from None
+        except TooMuch as problem:
+            raise cannot_read(self.path, str(problem)) from None
 
     def size(self, name: str) -> int | None:
         """The size of a file."""
         place = self._place(name)
         return None if place is None else place[1]
+
+    def identity(self, name: str) -> Hashable:
+        """Where its bytes are."""
+        return self._place(name)
 
     @contextlib.contextmanager
     def opened(self, name: str) -> Iterator[Slice]:

@@ -1,15 +1,18 @@
 """`unpack`: the layers of an image as manifests and blobs, and its configuration."""
 
+import os
 from dataclasses import dataclass
 
-from . import stacks
+from . import rules, stacks
 from .archives import LayerArchive, Taking
 from .blobs import Writer, writers
 from .configuration import configuration_text
+from .faults import cannot_read
 from .images import Image, ImageLayer, image_place, opened_image
 from .layer_tree import Below, Held
 from .manifests import write_manifest
 from .outputs import new_folder, write_text
+from .repeats import Repeats
 
 
 @dataclass(frozen=True)
@@ -39,13 +42,21 @@ def unpack(options: UnpackOptions) -> Image:
 
 
 def _unpack_layers(options: UnpackOptions, layers: list[ImageLayer], stage: str, writer: Writer) -> None:
-    held, below = Held(), Below()
-    taking = Taking(options.out, options.skip_unsupported, options.overlay_marks, writer, held, below)
+    held, below, repeats = Held(), Below(), Repeats(layers, stage, options.out)
+    taking = Taking(options.out, options.skip_unsupported, options.overlay_marks, writer, held, below, repeats)
+    written = 0
     try:
         for number, layer in zip(reversed(range(len(layers))), layers):
             tree = LayerArchive(layer, taking).tree()
-            write_manifest(f"{stage}/{stacks.layer_name(number)}", tree.entries(), layer.path)
+            manifest = f"{stage}/{stacks.layer_name(number)}"
+            write_manifest(manifest, tree.entries(), layer.path)
+            written += os.path.getsize(manifest)
+            if written > rules.MAX_IMAGE_MANIFESTS:
+                raise cannot_read(
+                    layer.path, f"the manifests of the layers have over {rules.MAX_IMAGE_MANIFESTS:,} bytes"
+                )
             if number:
                 below.cover(tree)
     finally:
+        repeats.close()
         writer.close()
