@@ -11,6 +11,7 @@ from dataclasses import dataclass, replace
 from . import rules
 from . import tar_headers as tar
 from .archive_names import AUFS_LINKS, OPAQUE_NAME, WHITEOUT_PREFIX, Paths, is_of_aufs, may_be_special
+from .below import Below
 from .blobs import Digester, Writer
 from .budgets import TooMuch
 from .contents import PIECE, write_all
@@ -19,7 +20,7 @@ from .entries import (
 )
 from .faults import cannot_read, cannot_write, writing
 from .images import ImageLayer
-from .layer_tree import Attributes, Below, Blocked, Gap, Held, LayerTree, Unfit, whiteout
+from .layer_tree import Attributes, Blocked, Gap, Held, LayerTree, Unfit, whiteout
 from .losses import Loss, Losses
 from .progress import Progress, note
 from .repeats import Contents, Kept, Repeats
@@ -209,7 +210,7 @@ class LayerArchive:
         return Attributes(kept or NO_ATTRIBUTES, len(attributes) - len(kept))
 
     def _linked(self, header: Header, names: list[str]) -> Entry:
-        """A hard link as a file of its own, with all that the file it names has, here or below."""
+        """One more name of a file of this layer, or a copy of one of the layers below."""
         told = os.fsdecode(header.target)
         linked = Paths().names(header.target, "the file that it links to")
         aufs = self._aufs_links.get(_path(linked))
@@ -220,8 +221,13 @@ class LayerArchive:
         if METACOPY in found.attributes:
             raise Unfit(f"it links to {told}, a file without its contents")
         self._taking.held.budget.attributes.take(len(found.attributes))
-        self._losses.add(Loss.HARD_LINK if here else Loss.LOWER_LINK, _path(names))
-        return copy.copy(found)
+        if here:
+            here.link = here.link or self._taking.held.new_link()
+        else:
+            self._losses.add(Loss.LOWER_LINK, _path(names))
+        own = copy.copy(found)
+        own.link = here.link if here else 0
+        return own
 
     def _store(self, archive: TarReader, header: Header) -> Contents:
         """Writes an entry's data as a blob, zeros as holes."""

@@ -12,9 +12,10 @@ from .blobs import blob_path, opened_blob
 from .contents import PIECE, Copier, digest_and_size, read_small, write_all
 from .entries import BLOCK, CHAR, DIRECTORY, FIFO, FILE, SYMLINK, Entry
 from .faults import cannot_read, cannot_write, reason_of, writing
+from .links import FirstNames, take_links
 from .manifests import read_manifest
 from .outputs import new_folder
-from .places import open_folder, open_root, place_of
+from .places import Chain, open_folder, open_root, place_of
 from .progress import Progress
 
 _CREATE = os.O_RDWR | os.O_CREAT | os.O_EXCL | os.O_NOFOLLOW | os.O_CLOEXEC
@@ -39,6 +40,7 @@ class BuildOptions:
 def build(options: BuildOptions) -> None:
     """Makes the folder of a manifest, in one that is empty or absent."""
     entries = read_manifest(options.layer)
+    take_links(options.layer, entries)
     for entry in entries:
         problem = _problem(entry, options.userxattr)
         if problem:
@@ -88,6 +90,8 @@ class _Builder:
 
     def __init__(self, options: BuildOptions, root: int) -> None:
         self._options = options
+        self._firsts = FirstNames()
+        self._chain = Chain(root)
         self._levels = [_Level(None, root)]
         self._copier = Copier()
 
@@ -106,6 +110,7 @@ class _Builder:
             self._leave(0)
         finally:
             progress.end()
+            self._chain.close()
             for level in self._levels[1:]:
                 os.close(level.folder)
 
@@ -122,7 +127,11 @@ class _Builder:
 
     def _make(self, entry: Entry, name: str) -> None:
         parent = self._levels[-1].folder
-        if entry.kind == DIRECTORY:
+        before = self._firsts.before(entry)
+        if before is not None:
+            *names, first = before[1:].split("/")
+            os.link(first, name, src_dir_fd=self._chain.folder(names), dst_dir_fd=parent, follow_symlinks=False)
+        elif entry.kind == DIRECTORY:
             os.mkdir(name, 0o700, dir_fd=parent)
             self._levels.append(_Level(entry, open_folder(name, parent)))
         elif entry.kind == FILE:

@@ -10,7 +10,7 @@ from . import VERSION
 from .build import BuildOptions, build
 from .compression import COMPRESSIONS, NONE
 from .configuration import USUAL_PLATFORM
-from .faults import OTHER, WRITING, Fault
+from .faults import OTHER, WRITING, Fault, UsageFault
 from .flatten import FlattenOptions, flatten, flatten_commands
 from .mounted import report
 from .pack import PackOptions, pack
@@ -19,6 +19,7 @@ from .scan import ScanOptions, scan
 from .shares import MOST_WORKERS, usual_workers
 from .stores import StoreOptions, store
 from .texts import printable
+from .targets import Target, target_of
 from .unpack import UnpackOptions, unpack
 
 NAME = "layers"
@@ -34,6 +35,7 @@ a folder of blobs, each in a file named by its SHA-256 digest. This tool is test
 _MORE = """\
 examples:
   {name} flatten image.tar --out flat.tar       an image of one layer that shows the same
+  docker save NAME | {name} flatten - --out - | docker load
   {name} unpack image.tar --out stack          an image's layers: stack/l0.json is the topmost
   ovl_layers show stack/l0.json stack/l1.json  what the layers show together
   ovl_layers fsck --blobs stack/blobs stack/l0.json stack/l1.json
@@ -58,8 +60,8 @@ Writes the manifest of a layer's folder, and the contents of its files into the 
 
 Links are never followed, and other file systems aren't entered. Anything that a manifest can't state
 is refused, before anything is written: names that aren't UTF-8, paths over 128 names or 4,095 bytes,
-over 1,048,576 entries, trusted.overlay.overlay.* attributes. Each name of a hard link becomes a file of
-its own, which is counted and said.
+over 1,048,576 entries, trusted.overlay.overlay.* attributes. Where names are one file (hard links),
+NAME.links beside NAME.json says so, for `build` and `pack`; for standard output they are files of their own.
 
 With --digests-only in place of --blobs contents are read for their digests and copied nowhere, which is
 enough for `ovl_layers show`.
@@ -69,7 +71,8 @@ Reading the marks of an overlay (trusted.overlay.*) needs root."""
 _STORE = """\
 Writes a layer that docker (overlay2) or podman and buildah (containers-storage) keep on this machine, and
 those below it, as manifests: OUT/l0.json, the topmost, OUT/l1.json and so on, and the contents of all
-their files into OUT/blobs, as `scan` does.
+their files into OUT/blobs, as `scan` does. OUT/l0.links and so on have the hard links of each layer, and
+OUT/shown.links those that the layers show together.
 
 DIR is the folder of the topmost layer, such as /var/lib/docker/overlay2/ID or
 /var/lib/containers/storage/overlay/ID; its `lower` says which layers are below it.
@@ -78,8 +81,9 @@ Reading the marks of an overlay (trusted.overlay.*) needs root."""
 
 _BUILD = """\
 Makes the folder of a manifest: kinds, modes, owners, times, attributes, devices and whiteouts, as the
-kernel has them. Contents are checked against their digests. Owners, devices and trusted.overlay.*
-attributes need root."""
+kernel has them. Contents are checked against their digests. Names that are one file, by the LAYER.links
+that `scan` writes beside LAYER.json, become hard links. Owners, devices and trusted.overlay.* attributes
+need root."""
 
 _UNPACK = """\
 Writes the layers of an image as manifests: DIR/l0.json, the topmost, DIR/l1.json and so on, and the
@@ -89,28 +93,34 @@ enough for `ovl_layers show`.
 
 IMAGE is an OCI image layout (a folder or a tar archive of it), what `docker save` writes, or a folder of
 skopeo's dir:. It may also be named as skopeo does it (oci:DIR:TAG, docker-archive:FILE); - is an archive
-from standard input. Layers may be plain, gzip, or zstd where the zstd program is there. Their digests are
-checked. A directory that a layer leaves out is as the layers below show it. A hard link becomes a file
-with the same contents, a whiteout (.wh.NAME) a char device 0:0, and .wh..wh..opq an opaque directory."""
+from standard input. An archive may be packed by gzip or zstd. Layers may be plain, gzip, or zstd where the zstd program is there. Their digests are
+checked. A directory that a layer leaves out is as the layers below show it. Names that are one file (hard
+links) stand in DIR/l0.links and so on, and those that all layers show in DIR/shown.links. A whiteout
+(.wh.NAME) becomes a char device 0:0, and .wh..wh..opq an opaque directory."""
 
 _PACK = """\
 Writes manifests, the topmost first, as an OCI image layout: a folder, or one tar archive where the name
-ends in .tar. The same input gives the same bytes. The image's configuration (command, environment, user,
+ends in .tar, which `docker load` and `podman load` take too. --out may also be named as skopeo does it; - is
+an archive on standard output. The same input gives the same bytes. The image's configuration (command, environment, user,
 labels, platform and all else) is that of --config; a history that tells of as many layers is kept as it is,
 any other stays as entries without layers, and each layer gets an entry of its own.
+
+Names are hard links where the file of links beside a manifest has them as one file, or for a manifest without
+such a file that of --links, and where all else that the manifest says of them is the same.
 
 A layer that has moved directories (redirects) or files without contents (metacopy) is refused: no image
 can state them. Run `ovl_layers deref` first, or `merge` down to one layer."""
 
 _FLATTEN = """\
 Writes an image with fewer layers that shows the same: its layers are merged from the topmost on, until N
-are left. The image's configuration and name stay. It is done by the proved program ovl_layers, which is
-found where it was built or installed, or on the PATH: after `unpack` it checks the layers (`fsck`), drops
-what changes nothing (`vacuum`), unfolds moved directories and metacopy files where there are any (`deref`),
-and merges (`merge`). Then `pack` writes the image. Each step is told with its time.
+are left. The image's configuration, name and hard links stay. It is done by the proved program ovl_layers,
+which is found where it was built or installed, or on the PATH: after `unpack` it checks the layers (`fsck`),
+drops what changes nothing (`vacuum`), unfolds moved directories and metacopy files where there are any
+(`deref`), and merges (`merge`). Then `pack` writes the image. Each step is told with its time.
 
 Nothing is written unless the merged layers, and the new image when it is read again, show what the given
-image shows, byte for byte. What the program refuses is told as it is, with its status.
+image shows, byte for byte. What the program refuses is told as it is, with its status. --out is as for
+`pack`: with -, an archive on standard output, nothing else goes there.
 
 --dry-run prints the commands that do the same by hand."""
 
@@ -249,17 +259,24 @@ def _add_pack(parser: argparse.ArgumentParser) -> None:
         help=f"what the image says that it is for [default: that of --config, or {USUAL_PLATFORM}]",
     )
     parser.add_argument("--tag", metavar="NAME", type=_name, help="name of the image in its index")
+    parser.add_argument(
+        "--links", metavar="FILE",
+        help="hard links of layers that have no such file beside them: the shown.links of unpack or store",
+    )
     _add_skip(parser)
 
 
 def _add_new_image(parser: argparse.ArgumentParser) -> None:
     """Which image is written."""
     parser.add_argument(
-        "--out", metavar="IMAGE", required=True, help="folder to make, or a file whose name ends in .tar"
+        "--out", metavar="IMAGE", required=True,
+        help="folder to make, or a file whose name ends in .tar; - is such an archive on standard output; or as skopeo "
+        "names it: oci:DIR:TAG, oci-archive:FILE:TAG, docker-archive:FILE:NAME, dir:DIR",
     )
     parser.add_argument(
         "--compress", choices=COMPRESSIONS, default=NONE,
-        help="packs the layers; zstd needs the program of that name [default: none]",
+        help="packs the layers; zstd needs the program of that name, and is read by podman, buildah, containerd and "
+        "docker from 23 on, not by umoci and older dockers [default: none]",
     )
 
 
@@ -359,21 +376,32 @@ def _unpack(words: argparse.Namespace) -> None:
 
 
 def _pack(words: argparse.Namespace) -> None:
+    out = _target(words.out)
+    if None not in (out.tag, words.tag) and out.tag != words.tag:
+        raise UsageFault(f"{words.out} and --tag give two names")
     pack(PackOptions(
-        words.layers, _folder(words.blobs), _folder(words.out), words.platform, words.tag,
-        words.skip_unsupported, words.config, words.compress,
+        words.layers, _folder(words.blobs), out, words.platform, out.tag or words.tag,
+        words.skip_unsupported, words.config, words.compress, words.links,
     ))
 
 
 def _flatten(words: argparse.Namespace) -> None:
     options = FlattenOptions(
-        _folder(words.image), _folder(words.out), words.layers, words.keep and _folder(words.keep), words.platform,
-        words.tag, words.skip_unsupported, words.overlay_marks, words.compress,
+        _folder(words.image), _target(words.out, words.dry_run), words.layers, words.keep and _folder(words.keep),
+        words.platform, words.tag, words.skip_unsupported, words.overlay_marks, words.compress,
     )
     if words.dry_run:
         _print(flatten_commands(options))
     else:
         flatten(options)
+
+
+def _target(word: str, is_told: bool = False) -> Target:
+    """Where an image goes; never to a terminal."""
+    target = target_of(word)
+    if target.is_standard_output and sys.stdout.isatty() and not is_told:
+        raise UsageFault("standard output is a terminal; send the image into a file or a pipe")
+    return target
 
 
 def _mounted(words: argparse.Namespace) -> None:

@@ -40,6 +40,7 @@ class Entry:
     target: str = ""
     major: int = 0
     minor: int = 0
+    link: int = field(default=0, compare=False)  # the same number: names of one file; a manifest doesn't have it
 
     def names_contents(self) -> bool:
         """Whether the manifest names a blob for this entry."""

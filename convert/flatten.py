@@ -4,6 +4,7 @@ import contextlib
 import filecmp
 import os
 import shlex
+import sys
 import time
 from collections.abc import Iterator, Sequence
 from dataclasses import dataclass, replace
@@ -12,15 +13,18 @@ from typing import Protocol
 
 from . import stacks
 from .compression import NONE
+from .contents import PIECE
 from .entries import METACOPY, REDIRECT
 from .faults import Fault, UsageFault, cannot_write, writing
-from .images import Image, image_place, opened_image
+from .images import Image, image_place, opened_image, spellings
 from .manifests import blobs_named_in, has_attribute
-from .outputs import kept_folder, new_folder, passing_folder
-from .pack import ARCHIVE_SUFFIX, PackOptions, pack
-from .program import NAME, find_program, makes_layers, require_program, run_program, words_of
+from .members import STANDARD_INPUT
+from .outputs import kept_folder, new_folder, passing_folder, standard_output
+from .pack import PackOptions, pack
+from .program import NAME, find_program, makes_layers, require_program, run_program, word_of_path, words_of
 from .progress import counted, note, note_path
 from .stages import tidy, told
+from .targets import ARCHIVE_SUFFIX, Form, Target
 from .unpack import UnpackOptions, unpack
 
 _STACK = "stack"
@@ -30,6 +34,7 @@ _AFTER = "after.show"
 _IMAGE = "image"
 _SHOWN = f"{_IMAGE}.show"
 _REPORT = "report"
+_FOR_PACK = (stacks.BLOBS, stacks.CONFIG, stacks.SHOWN_LINKS)
 _TOOL = Path(__file__).resolve().parents[1] / "layers.py"
 
 
@@ -38,7 +43,7 @@ class FlattenOptions:
     """What the words of `flatten` say."""
 
     image: str
-    out: str
+    out: Target
     layers: int = 1
     keep: str | None = None
     platform: str | None = None
@@ -60,7 +65,7 @@ def flatten(options: FlattenOptions) -> None:
         with passing_folder(image) if options.keep is None else kept_folder(options.keep) as folder:
             before, after = _carry_out(_Doing(options, folder, image), options.layers)
     seconds = time.monotonic() - begun
-    note_path(options.out, f"{counted(after, 'layer', 'layers')} in place of {before}, {seconds:.2f} s in all")
+    note_path(options.out.told, f"{counted(after, 'layer', 'layers')} in place of {before}, {seconds:.2f} s in all")
 
 
 def flatten_commands(options: FlattenOptions) -> list[str]:
@@ -77,33 +82,44 @@ def _with_place(options: FlattenOptions) -> FlattenOptions:
 
 def _require_free(options: FlattenOptions) -> None:
     """Refuses at once what couldn't be written in the end."""
-    if options.keep is not None and os.path.realpath(options.keep) == os.path.realpath(options.out):
+    out = options.out
+    if out.is_standard_output:
+        return
+    if options.keep is not None and os.path.realpath(options.keep) == os.path.realpath(out.path):
         raise UsageFault("--keep and --out must be two places")
-    is_archive = options.out.endswith(ARCHIVE_SUFFIX)
-    if is_archive and os.path.lexists(options.out) and not os.path.isfile(options.out):
-        raise cannot_write(options.out, "it is no regular file")
+    if out.form is Form.ARCHIVE and os.path.lexists(out.path) and not os.path.isfile(out.path):
+        raise cannot_write(out.path, "it is no regular file")
 
 
 @contextlib.contextmanager
-def _new_image(out: str) -> Iterator[str]:
+def _new_image(out: Target) -> Iterator[str]:
     """Where the new image is to be made. It gets its name at the end, and only there."""
-    if not out.endswith(ARCHIVE_SUFFIX):
-        with new_folder(out) as stage:
+    if out.form is not Form.ARCHIVE:
+        with new_folder(out.path) as stage:
             image = f"{stage}/{_IMAGE}"
             yield image
-            with writing(out):
+            with writing(out.path):
                 for name in os.listdir(image):
                     os.rename(f"{image}/{name}", f"{stage}/{name}")
                 os.rmdir(image)
         return
-    place = os.path.realpath(out)
+    place = os.path.realpath(out.place)
     for found in tidy(os.path.dirname(place)):
         note(f"there is {told(found)}")
     with passing_folder(place) as stage:
         image = f"{stage}/{_IMAGE}{ARCHIVE_SUFFIX}"
         yield image
-        with writing(out):
-            os.rename(image, place)
+        if out.is_standard_output:
+            _print_image(image)
+        else:
+            with writing(out.path):
+                os.rename(image, place)
+
+
+def _print_image(image: str) -> None:
+    with open(image, "rb") as file, standard_output() as write:
+        while piece := file.read(PIECE):
+            write(piece)
 
 
 class _Steps(Protocol):
@@ -189,11 +205,13 @@ class _Doing:
     def _run(self, what: str, layers: Sequence[str], new: str) -> str:
         blobs = self._path(f"{_STACK}/{stacks.BLOBS}")
         words = words_of(what, layers, blobs, new)
-        if not makes_layers(what):
-            return run_program(self._program, words, new)
-        with writing(new):
-            os.mkdir(new)
-        return run_program(self._program, words, f"{new}/{_REPORT}")
+        report = new
+        if makes_layers(what):
+            with writing(new):
+                os.mkdir(new)
+            report = f"{new}/{_REPORT}"
+        faults = sys.stderr if self._options.out.is_standard_output else sys.stdout
+        return run_program(self._program, words, report, faults)
 
     def moved(self, layers: Sequence[str]) -> list[int]:
         """See `_Steps`."""
@@ -211,15 +229,20 @@ class _Doing:
 
     def pack(self, layers: Sequence[str]) -> None:
         """See `_Steps`."""
+        blobs, config, links = (self._path(f"{_STACK}/{name}") for name in _FOR_PACK)
         with _timed("pack") as words:
             pack(PackOptions(
-                [self._path(layer) for layer in layers], self._path(f"{_STACK}/{stacks.BLOBS}"), self._image,
-                tag=self._name, config=self._path(f"{_STACK}/{stacks.CONFIG}"), compress=self._options.compress,
+                [self._path(layer) for layer in layers], blobs, self._target(), tag=self._name, config=config,
+                compress=self._options.compress, links=links,
             ))
             words.append(counted(len(layers), "layer", "layers"))
         with _timed("the new image, read again") as words:
             words.append(self._shown(self._image))
             self.compare(_SHOWN)
+
+    def _target(self) -> Target:
+        """The image that is made, on its way to its name."""
+        return replace(self._options.out, path=self._image)
 
     def _shown(self, image: str) -> str:
         """Writes what an image shows."""
@@ -246,8 +269,9 @@ def _unpacked(options: UnpackOptions) -> Image:
 
 
 def _name_of(image: Image, options: FlattenOptions) -> str | None:
-    """The name of the new image: the one that was asked for, or else the first of the given image."""
-    return options.tag or next(iter(image.names), None)
+    """The name of the new image: the one that was asked for, as the given image spells it, or else its first."""
+    asked = spellings(options.tag) if options.tag else image.names
+    return options.out.tag or next((name for name in image.names if name in asked), options.tag)
 
 
 @contextlib.contextmanager
@@ -279,7 +303,7 @@ class _Telling:
         if options.keep is None:
             self.lines.append("work=$(mktemp -d)\n")
         else:
-            self.lines.append(f"work={shlex.quote(options.keep)}\n")
+            self.lines.append(f"work={shlex.quote(word_of_path(options.keep))}\n")
             self._add("mkdir", "-p", "--", _InWork(""))
 
     def unpack(self) -> int:
@@ -290,7 +314,7 @@ class _Telling:
         words = _given("--platform", options.platform) + _given("--tag", options.tag)
         if options.skip_unsupported:
             words.append("--skip-unsupported")
-        self._add_tool("unpack", options.image, "--out", self._path(_STACK), *words, *self._marks)
+        self._add_tool("unpack", _word_of_image(options.image), "--out", self._path(_STACK), *words, *self._marks)
         return count
 
     def run(self, step: str, what: str, layers: Sequence[str], new: str) -> None:
@@ -315,16 +339,19 @@ class _Telling:
 
     def pack(self, layers: Sequence[str]) -> None:
         """See `_Steps`."""
-        paths, out = [self._path(layer) for layer in layers], self._options.out
-        blobs, config = (self._path(f"{_STACK}/{name}") for name in (stacks.BLOBS, stacks.CONFIG))
+        paths, target = [self._path(layer) for layer in layers], self._options.out
+        out = self._path(f"{_IMAGE}{ARCHIVE_SUFFIX}") if target.is_standard_output else word_of_path(target.word)
+        blobs, config, links = (self._path(f"{_STACK}/{name}") for name in _FOR_PACK)
         self._add_tool(
-            "pack", *paths, "--blobs", blobs, "--config", config, "--out", out, "--compress", self._options.compress,
-            *_given("--tag", self._name),
+            "pack", *paths, "--blobs", blobs, "--config", config, "--links", links, "--out", out,
+            "--compress", self._options.compress, *_given("--tag", self._name),
         )
         self._add_tool("unpack", out, "--out", self._path(_AGAIN), "--digests-only", *self._marks)
         again = [self._path(layer) for layer in stacks.layer_paths(_AGAIN, len(layers))]
         self._add(self._program, "show", *again, into=self._path(_SHOWN))
         self.compare(_SHOWN)
+        if target.is_standard_output:
+            self._add("cat", out)
 
     def _path(self, name: str) -> _InWork:
         return _InWork(name)
@@ -335,6 +362,10 @@ class _Telling:
     def _add(self, *words: str, into: str | None = None) -> None:
         report = [] if into is None else [">", _quoted(into)]
         self.lines.append(" ".join([*map(_quoted, words), *report]) + "\n")
+
+
+def _word_of_image(path: str) -> str:
+    return path if path == STANDARD_INPUT else word_of_path(path)
 
 
 def _given(option: str, value: str | None) -> list[str]:

@@ -77,13 +77,13 @@ class _Choice:
     def matches(self, platform: str | None, tag: str | None) -> bool:
         """Whether it is meant by what a person asked for."""
         is_platform = platform is None or self.platform == platform or self.platform.startswith(platform + "/")
-        return is_platform and (tag is None or not _spellings(tag).isdisjoint(self.names))
+        return is_platform and (tag is None or not spellings(tag).isdisjoint(self.names))
 
     def __str__(self) -> str:
         return " ".join([self.platform, *self.names])
 
 
-def _spellings(tag: str) -> set[str]:
+def spellings(tag: str) -> set[str]:
     """A name, and what docker and skopeo make of it where a part is left out."""
     whole = tag if ":" in tag.rpartition("/")[2] else f"{tag}:latest"
     return {tag, whole, f"docker.io/{whole}", f"docker.io/library/{whole}"}

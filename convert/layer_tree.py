@@ -64,6 +64,12 @@ class Held:
         self._entries = 0
         self._bytes = 0
         self._sets: dict[RawAttributes, Attributes] = {}
+        self._links = 0
+
+    def new_link(self) -> int:
+        """A number for the names of one file."""
+        self._links += 1
+        return self._links
 
     def grow(self) -> None:
         """One entry more."""
@@ -218,22 +224,7 @@ class LayerTree:
 
     def entries(self) -> Iterator[Entry]:
         """All entries, in path order. Each has its path until the next one is asked for."""
-        yield from _with_path(self.root.entry, "/")
-        levels = [("", _sorted_names(self.root), self.root)]
-        while levels:
-            path, names, folder = levels[-1]
-            name = next(names, None)
-            if name is None:
-                levels.pop()
-                continue
-            child = folder.children.get(name) or folder.whiteouts[name]
-            if isinstance(child, Entry):
-                yield from _with_path(child, f"{path}/{name}")
-                continue
-            if child.is_opaque or name in folder.whiteouts:
-                child.entry.attributes = {**child.entry.attributes, OPAQUE: IS_OPAQUE}
-            yield from _with_path(child.entry, f"{path}/{name}")
-            levels.append((f"{path}/{name}", _sorted_names(child), child))
+        return entries_of(self.root)
 
     def _cut(self, folder: Folder) -> None:
         """Counts what is in a directory out."""
@@ -250,31 +241,24 @@ class LayerTree:
         self._held.weigh(sys.getsizeof(name) + (sys.getsizeof(entry.target) if entry.target else 0))
 
 
-class Below:
-    """What the layers so far show together."""
-
-    def __init__(self) -> None:
-        self.root: Folder | None = None
-
-    def cover(self, tree: LayerTree) -> None:
-        """Puts a layer above the others. The layer is used up."""
-        self.root = _merged(self.root, tree.root)
-
-
-def _merged(below: Folder | None, upper: Folder) -> Folder:
-    """What a directory shows above another one, or alone."""
-    children = {} if below is None or upper.hides_all() else below.children
-    for name in upper.whiteouts:
-        children.pop(name, None)
-    for name, child in upper.children.items():
-        if isinstance(child, Folder):
-            under = children.get(name)
-            children[name] = _merged(under if isinstance(under, Folder) else None, child)
-        elif is_whiteout(child):
-            children.pop(name, None)
-        else:
-            children[name] = child
-    return Folder(upper.entry, children)
+def entries_of(root: Folder) -> Iterator[Entry]:
+    """All entries of a tree, in path order. Each has its path until the next one is asked for."""
+    yield from _with_path(root.entry, "/")
+    levels = [("", _sorted_names(root), root)]
+    while levels:
+        path, names, folder = levels[-1]
+        name = next(names, None)
+        if name is None:
+            levels.pop()
+            continue
+        child = folder.children.get(name) or folder.whiteouts[name]
+        if isinstance(child, Entry):
+            yield from _with_path(child, f"{path}/{name}")
+            continue
+        if child.is_opaque or name in folder.whiteouts:
+            child.entry.attributes = {**child.entry.attributes, OPAQUE: IS_OPAQUE}
+        yield from _with_path(child.entry, f"{path}/{name}")
+        levels.append((f"{path}/{name}", _sorted_names(child), child))
 
 
 def whiteout(uid: int = 0, gid: int = 0, mtime_ns: int = 0) -> Entry:

@@ -9,7 +9,6 @@ class Loss(Enum):
     """A kind of thing that is lost or put right: one of them, and several."""
 
     CUT_TIME = ("time cut to whole nanoseconds", "times cut to whole nanoseconds")
-    HARD_LINK = ("hard link, now a file with the same contents", "hard links, now files with the same contents")
     LOWER_LINK = (
         "hard link to a file of the layers below, now a copy",
         "hard links to files of the layers below, now copies",

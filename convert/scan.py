@@ -1,5 +1,6 @@
 """`scan`: a layer's folder as a manifest and blobs."""
 
+import itertools
 import os
 import stat
 from collections.abc import Iterator, Mapping, Sequence
@@ -10,8 +11,10 @@ from .attributes import Unstated, marks_from_user, read_attributes, require_trus
 from .blobs import Writer, writers
 from .entries import BLOCK, CHAR, DIRECTORY, FILE, NO_ATTRIBUTES, SYMLINK, Entry, is_whiteout
 from .faults import cannot_read, reading, reason_of
+from .links import LinkNames, links_path
 from .manifests import write_manifest
 from .places import Chain, open_root
+from .outputs import is_replaced
 from .progress import Progress, counted, note, note_path
 from .shares import give_blobs
 from .walks import Found, walk
@@ -57,26 +60,34 @@ def scan(options: ScanOptions) -> None:
     losses.tell()
 
 
-def scan_folder(options: ScanOptions, losses: Losses) -> None:
-    """The same, with what is lost counted."""
+def scan_folder(options: ScanOptions, losses: Losses, links: Iterator[int] | None = None) -> list[Entry]:
+    """The same, with what is lost counted; gives the entries. With numbers for files of several names it is of a stack,
+    and has a file of links even where there are none."""
     if not options.userxattr:
         require_trusted(options.folder)
     with reading(options.folder):
         root = open_root(options.folder)
     try:
-        entries = Survey(options, losses).entries(root)
+        entries = Survey(options, losses, links or itertools.count(1)).entries(root)
         _store_contents(options, root, entries)
     finally:
         os.close(root)
-    write_manifest(options.out, entries, options.folder)
+    names, beside = LinkNames(), links_path(options.out)
+    write_manifest(options.out, names.passing(entries), options.folder)
+    if is_replaced(options.out) and (links or names.has_any() or os.path.lexists(beside)):
+        names.write(beside, lambda: entries, options.out)
+    return entries
 
 
 class Survey:
     """The first pass: every entry but for its blob, so that a refusal comes before anything is written."""
 
-    def __init__(self, options: ScanOptions, losses: Losses) -> None:
+    def __init__(self, options: ScanOptions, losses: Losses, links: Iterator[int]) -> None:
         self._options = options
         self._losses = losses
+        self._links = links
+        self._numbers: dict[tuple[int, int], int] = {}
+        self._keeps_links = is_replaced(options.out)
 
     def entries(self, root: int) -> list[Entry]:
         """The entries of an open folder, in path order."""
@@ -118,7 +129,12 @@ class Survey:
             entry.size = status.st_size
         # The kernel links the whiteouts of a mount to one another, which nothing shows.
         is_linked = found.kind != DIRECTORY and status.st_nlink > 1
-        self._losses.hard_links += is_linked and not is_whiteout(entry)
+        if is_linked and not is_whiteout(entry):
+            inode = status.st_dev, status.st_ino
+            if inode not in self._numbers:
+                self._numbers[inode] = next(self._links)
+            entry.link = self._numbers[inode]
+            self._losses.hard_links += not self._keeps_links
         return entry
 
     def _attributes(self, found: Found) -> Mapping[str, bytes]:

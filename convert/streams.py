@@ -130,9 +130,14 @@ def buffered(stream: Source) -> Source:
     return io.BufferedReader(stream, PIECE) if isinstance(stream, io.RawIOBase) else stream
 
 
+def is_packed(file: int) -> bool:
+    """Whether a file's first bytes are those of a packed one."""
+    return os.pread(file, _PEEK, 0).startswith((_GZIP, _ZSTD, *_OTHERS))
+
+
 @contextlib.contextmanager
-def unpacked(part: Slice, name: str) -> Iterator[Source]:
-    """The bytes of a layer's archive. Tells what is wrong with its packing as a fault of this name."""
+def unpacked(part: io.RawIOBase, name: str) -> Iterator[Source]:
+    """The bytes of an archive. Tells what is wrong with its packing as a fault of this name."""
     packed = io.BufferedReader(part, PIECE)
     head = packed.peek(_PEEK)[:_PEEK]
     try:

@@ -5,11 +5,13 @@ from dataclasses import dataclass
 
 from . import rules, stacks
 from .archives import LayerArchive, Taking
+from .below import Below, write_shown_links
 from .blobs import Writer, writers
 from .configuration import configuration_text
 from .faults import cannot_read
 from .images import Image, ImageLayer, image_place, opened_image
-from .layer_tree import Below, Held
+from .layer_tree import Held
+from .links import LinkNames, links_path
 from .manifests import write_manifest
 from .outputs import new_folder, write_text
 from .repeats import Repeats
@@ -48,15 +50,16 @@ def _unpack_layers(options: UnpackOptions, layers: list[ImageLayer], stage: str,
     try:
         for number, layer in zip(reversed(range(len(layers))), layers):
             tree = LayerArchive(layer, taking).tree()
-            manifest = f"{stage}/{stacks.layer_name(number)}"
-            write_manifest(manifest, tree.entries(), layer.path)
-            written += os.path.getsize(manifest)
+            path, names = f"{stage}/{stacks.layer_name(number)}", LinkNames()
+            write_manifest(path, names.passing(tree.entries()), layer.path)
+            names.write(links_path(path), tree.entries, path)
+            written += os.path.getsize(path)
             if written > rules.MAX_IMAGE_MANIFESTS:
                 raise cannot_read(
                     layer.path, f"the manifests of the layers have over {rules.MAX_IMAGE_MANIFESTS:,} bytes"
                 )
-            if number:
-                below.cover(tree)
+            below.cover(tree.root)
+        write_shown_links(stage, below)
     finally:
         repeats.close()
         writer.close()
