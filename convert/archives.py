@@ -18,12 +18,13 @@ from .contents import PIECE, write_all
 from .entries import (
     BLOCK, CHAR, DIRECTORY, FIFO, FILE, METACOPY, NO_ATTRIBUTES, OVERLAY, SYMLINK, WHITEOUT, Entry, is_whiteout,
 )
-from .faults import cannot_read, cannot_write, writing
+from .faults import cannot_read, writing
 from .images import ImageLayer
 from .layer_tree import Attributes, Blocked, Gap, Held, LayerTree, Unfit, whiteout
 from .losses import Loss, Losses
 from .progress import Progress, note
 from .repeats import Contents, Kept, Repeats
+from .room import require_room
 from .streams import Digesting, Source, buffered, unpacked
 from .tar_headers import HARD_LINK, REGULAR_TYPES, Header
 from .tar_reader import TarReader
@@ -237,7 +238,7 @@ class LayerArchive:
         if isinstance(writer, Digester):
             return writer.take(archive.data())
         digest, size, scratch = hashlib.sha256(), 0, writer.scratch()
-        self._require_space(header)
+        self._require_space(archive.stored())
         for piece in archive.data():
             digest.update(piece)
             size += len(piece)
@@ -254,15 +255,9 @@ class LayerArchive:
     def _writing(self) -> contextlib.AbstractContextManager[None]:
         return writing(self._taking.out)
 
-    def _require_space(self, header: Header) -> None:
-        if header.size > PIECE:
-            with self._writing():
-                system = os.statvfs(self._taking.out)
-            if header.size > system.f_bavail * system.f_frsize:
-                raise cannot_write(
-                    self._taking.out,
-                    f"{self._layer.name} has a file of {header.size:,} bytes, more than are free",
-                )
+    def _require_space(self, size: int) -> None:
+        if size > PIECE:
+            require_room(self._taking.out, self._taking.out, size)
 
     def _refuse_or_note(self, header: Header, problem: str) -> None:
         name = os.fsdecode(header.name)

@@ -7,7 +7,7 @@ MAX_GIVEN_RECORDS = 1 << 27  # bytes
 MAX_PARTS = 1 << 20
 MAX_HOLES = 1 << 34  # bytes, which have to be digested
 MAX_ATTRIBUTES = 1 << 23
-MAX_UNSTATED = 1 << 19
+MAX_UNSTATED = 1 << 18
 
 
 class TooMuch(Exception):

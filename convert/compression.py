@@ -5,7 +5,7 @@ import shutil
 import subprocess
 import zlib
 from collections.abc import Callable, Iterator
-from typing import BinaryIO
+from typing import IO
 
 from .faults import Fault, cannot_write
 
@@ -30,7 +30,7 @@ def require_program(compression: str) -> None:
 
 
 @contextlib.contextmanager
-def packing(compression: str, file: BinaryIO) -> Iterator[Write]:
+def packing(compression: str, file: IO[bytes]) -> Iterator[Write]:
     """What takes the bytes of an archive and writes them packed; at its end all is in the file."""
     if compression == GZIP:
         packer = zlib.compressobj(_GZIP_LEVEL, zlib.DEFLATED, _GZIP_WINDOW)
@@ -45,7 +45,7 @@ def packing(compression: str, file: BinaryIO) -> Iterator[Write]:
 
 
 @contextlib.contextmanager
-def _by_zstd(file: BinaryIO) -> Iterator[Write]:
+def _by_zstd(file: IO[bytes]) -> Iterator[Write]:
     process = subprocess.Popen(
         [str(shutil.which("zstd")), *_ZSTD_WORDS], stdin=subprocess.PIPE, stdout=file, stderr=subprocess.PIPE
     )

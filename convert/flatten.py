@@ -23,6 +23,7 @@ from .outputs import kept_folder, new_folder, passing_folder, standard_output
 from .pack import PackOptions, pack
 from .program import NAME, find_program, makes_layers, require_program, run_program, word_of_path, words_of
 from .progress import counted, note, note_path
+from .room import least_shown, require_room
 from .stages import tidy, told
 from .targets import ARCHIVE_SUFFIX, Form, Target
 from .unpack import UnpackOptions, unpack
@@ -106,7 +107,7 @@ def _new_image(out: Target) -> Iterator[str]:
     place = os.path.realpath(out.place)
     for found in tidy(os.path.dirname(place)):
         note(f"there is {told(found)}")
-    with passing_folder(place) as stage:
+    with passing_folder(place, out.told) as stage:
         image = f"{stage}/{_IMAGE}{ARCHIVE_SUFFIX}"
         yield image
         if out.is_standard_output:
@@ -201,6 +202,8 @@ class _Doing:
         """See `_Steps`."""
         with _timed(step) as words:
             words.append(self._run(what, [self._path(layer) for layer in layers], self._path(new)))
+        if new == _BEFORE and self._options.compress == NONE:
+            require_room(self._options.out.told, self._image, least_shown(self._path(new)))
 
     def _run(self, what: str, layers: Sequence[str], new: str) -> str:
         blobs = self._path(f"{_STACK}/{stacks.BLOBS}")
@@ -242,7 +245,7 @@ class _Doing:
 
     def _target(self) -> Target:
         """The image that is made, on its way to its name."""
-        return replace(self._options.out, path=self._image)
+        return replace(self._options.out, path=self._image, given=self._options.out.path)
 
     def _shown(self, image: str) -> str:
         """Writes what an image shows."""

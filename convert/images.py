@@ -40,6 +40,7 @@ class ImageLayer:
     name: str
     path: str
     members: Members
+    size: int
     digest: Digest | None
     unpacked_digest: Digest | None
 
@@ -177,7 +178,7 @@ class _Documents:
             raise cannot_read(self.path(name), "the image has no such file")
         if size not in (None, there):
             raise cannot_read(self.path(name), f"it has another size than the {size:,} bytes of the image's manifest")
-        return ImageLayer(name, self.path(name), self.members, digest, unpacked)
+        return ImageLayer(name, self.path(name), self.members, there, digest, unpacked)
 
 
 def _digest_parts(digest: Any) -> Digest:

@@ -60,6 +60,10 @@ class TarReader:
         """Whether the entry that was given last has holes."""
         return self._places is not None
 
+    def stored(self) -> int:
+        """How many bytes of its data stand in the archive."""
+        return self._left
+
     def _with_holes(self, places: Places) -> Iterator[bytes]:
         at = 0
         for begin, length in [*places, (self._size, 0)]:

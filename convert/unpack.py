@@ -1,5 +1,6 @@
 """`unpack`: the layers of an image as manifests and blobs, and its configuration."""
 
+import contextlib
 import os
 from dataclasses import dataclass
 
@@ -15,6 +16,7 @@ from .links import LinkNames, links_path
 from .manifests import write_manifest
 from .outputs import new_folder, write_text
 from .repeats import Repeats
+from .room import require_room
 
 
 @dataclass(frozen=True)
@@ -36,7 +38,12 @@ def unpack(options: UnpackOptions) -> Image:
     Where digests are enough there is no folder `blobs`.
     """
     path, tag = image_place(options.image, options.tag)
-    with opened_image(path, options.platform, tag) as image, new_folder(options.out) as stage:
+    with contextlib.ExitStack() as opened:
+        image = opened.enter_context(opened_image(path, options.platform, tag))
+        if not options.digests_only:
+            # Equal contents are kept once, in one layer and in several, so it isn't known that it takes more.
+            require_room(options.out, options.out, max(layer.size for layer in image.layers))
+        stage = opened.enter_context(new_folder(options.out))
         with writers(None if options.digests_only else f"{stage}/{stacks.BLOBS}") as new_writer:
             _unpack_layers(options, image.layers, stage, new_writer())
         write_text(f"{stage}/{stacks.CONFIG}", [configuration_text(image.configuration)])

@@ -426,10 +426,10 @@ class Bomb(HostileTest):
 
     def test_what_is_made_of_few_entries(self) -> None:
         """Directories that are left out, and attributes that many names of a file have."""
-        names = (f"{number:05}/" + "d/" * 100 + "f" for number in range(6_000))
+        names = (f"{number:05}/" + "d/" * 100 + "f" for number in range(3_000))
         layer = b"".join(member(name)[0].tobuf(tarfile.USTAR_FORMAT) for name in names)
         write_layout(self.path("image"), [packed(layer)])
-        self.require_bounded("over 524,288 directories that its archives leave out")
+        self.require_bounded("over 262,144 directories that its archives leave out")
         self.empty()
         first = _header("a", 0, {"SCHILY.xattr.user.x": "v" * 1_000_000})
         links = [member(str(number), kind=tarfile.LNKTYPE, target="a")[0] for number in range(120)]
