@@ -28,7 +28,7 @@ def linked_in(image: str) -> dict[str, str]:
     with tarfile.open(image) as file:
         for part in file:
             data = file.extractfile(part)
-            if data is None or data.peek(1)[:1] in (b"{", b""):
+            if data is None or data.peek(1)[:1] in (b"{", b"[", b""):
                 continue
             with tarfile.open(fileobj=io.BytesIO(data.read())) as layer:
                 found.update({each.name: each.linkname for each in layer if each.islnk()})
