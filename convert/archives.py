@@ -38,7 +38,10 @@ _KINDS = {
 }
 _NO_CONTENTS: Contents = ("", 0)
 Store = Callable[[], Contents]  # gives the contents of an entry, which are blobs then
-_GAPS = {Gap.UNKNOWN: Loss.UNKNOWN, Gap.OVER_OTHER: Loss.OVER_OTHER, Gap.WHITEOUT: Loss.WHITEOUT}
+_GAPS = {
+    Gap.UNKNOWN: Loss.UNKNOWN, Gap.OVER_OTHER: Loss.OVER_OTHER, Gap.WHITEOUT: Loss.WHITEOUT,
+    Gap.ANEW: Loss.ANEW,
+}
 
 
 @dataclass(frozen=True)

@@ -88,7 +88,7 @@ need root."""
 _UNPACK = """\
 Writes the layers of an image as manifests: DIR/l0.json, the topmost, DIR/l1.json and so on, and the
 contents of all their files into DIR/blobs. DIR/config.json is the image's configuration with its platform,
-for `pack --config`. With --digests-only contents are read for their digests and copied nowhere, which is
+for `pack --config`; DIR/annotations.json has the annotations of its manifest, where it has any. With --digests-only contents are read for their digests and copied nowhere, which is
 enough for `ovl_layers show`.
 
 IMAGE is an OCI image layout (a folder or a tar archive of it), what `docker save` writes, or a folder of
@@ -260,6 +260,10 @@ def _add_pack(parser: argparse.ArgumentParser) -> None:
     )
     parser.add_argument("--tag", metavar="NAME", type=_name, help="name of the image in its index")
     parser.add_argument(
+        "--annotations", metavar="FILE",
+        help="annotations of the image's manifest, such as the annotations.json that unpack writes",
+    )
+    parser.add_argument(
         "--links", metavar="FILE",
         help="hard links of layers that have no such file beside them: the shown.links of unpack or store",
     )
@@ -381,7 +385,7 @@ def _pack(words: argparse.Namespace) -> None:
         raise UsageFault(f"{words.out} and --tag give two names")
     pack(PackOptions(
         words.layers, _folder(words.blobs), out, words.platform, out.tag or words.tag,
-        words.skip_unsupported, words.config, words.compress, words.links,
+        words.skip_unsupported, words.config, words.compress, words.links, words.annotations,
     ))
 
 

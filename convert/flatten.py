@@ -35,6 +35,7 @@ _AFTER = "after.show"
 _IMAGE = "image"
 _SHOWN = f"{_IMAGE}.show"
 _REPORT = "report"
+_ANNOTATIONS = f"{_STACK}/{stacks.ANNOTATIONS}"
 _FOR_PACK = (stacks.BLOBS, stacks.CONFIG, stacks.SHOWN_LINKS)
 _TOOL = Path(__file__).resolve().parents[1] / "layers.py"
 
@@ -182,6 +183,7 @@ class _Doing:
         self._image = image
         self._program = require_program()
         self._name: str | None = None
+        self._has_annotations = False
 
     def _path(self, name: str) -> str:
         return f"{self._folder}/{name}"
@@ -194,7 +196,7 @@ class _Doing:
                 options.image, self._path(_STACK), options.platform, options.tag, options.skip_unsupported,
                 options.overlay_marks,
             ))
-            self._name = _name_of(image, options)
+            self._name, self._has_annotations = _name_of(image, options), bool(image.annotations)
             words.append(counted(len(image.layers), "layer", "layers"))
         return len(image.layers)
 
@@ -237,6 +239,7 @@ class _Doing:
             pack(PackOptions(
                 [self._path(layer) for layer in layers], blobs, self._target(), tag=self._name, config=config,
                 compress=self._options.compress, links=links,
+                annotations=self._path(_ANNOTATIONS) if self._has_annotations else None,
             ))
             words.append(counted(len(layers), "layer", "layers"))
         with _timed("the new image, read again") as words:
@@ -301,10 +304,13 @@ class _Telling:
         self._options = options
         self._program = find_program() or NAME
         self._name: str | None = None
+        self._has_annotations = False
         self._marks = ["--overlay-marks"] if options.overlay_marks else []
         self.lines = ["set -e\n"]
         if options.keep is None:
-            self.lines.append("work=$(mktemp -d)\n")
+            self.lines += [
+                "work=$(mktemp -d)\n", "trap 'rm -rf -- \"$work\"' EXIT\n", "trap 'exit 1' HUP INT TERM\n",
+            ]
         else:
             self.lines.append(f"work={shlex.quote(word_of_path(options.keep))}\n")
             self._add("mkdir", "-p", "--", _InWork(""))
@@ -314,6 +320,7 @@ class _Telling:
         options = self._options
         with opened_image(options.image, options.platform, options.tag) as image:
             count, self._name = len(image.layers), _name_of(image, options)
+            self._has_annotations = bool(image.annotations)
         words = _given("--platform", options.platform) + _given("--tag", options.tag)
         if options.skip_unsupported:
             words.append("--skip-unsupported")
@@ -348,6 +355,7 @@ class _Telling:
         self._add_tool(
             "pack", *paths, "--blobs", blobs, "--config", config, "--links", links, "--out", out,
             "--compress", self._options.compress, *_given("--tag", self._name),
+            *_given("--annotations", self._path(_ANNOTATIONS) if self._has_annotations else None),
         )
         self._add_tool("unpack", out, "--out", self._path(_AGAIN), "--digests-only", *self._marks)
         again = [self._path(layer) for layer in stacks.layer_paths(_AGAIN, len(layers))]

@@ -10,11 +10,13 @@ from dataclasses import dataclass, field, replace
 from typing import Any
 
 from . import rules
-from .configuration import MAX_BYTES, Document, parse_json, platform_of, platform_text, with_platform
+from .configuration import (
+    MAX_BYTES, Document, configuration_problem, parse_json, platform_of, platform_text, require_texts, with_platform,
+)
 from .contents import PIECE
 from .faults import ReadFault, UsageFault, cannot_read, reading
 from .members import Members, opened_members
-from .progress import Progress, note
+from .progress import Progress
 from .streams import Slice
 
 MAX_DOCUMENTS = 1 << 24  # bytes of an image's documents together, each as often as it is named
@@ -28,6 +30,7 @@ _INDEXES = (
 _TRANSPORTS = ("oci", "oci-archive", "docker-archive", "dir")
 _REF_NAME = "org.opencontainers.image.ref.name"
 _FULL_NAME = "io.containerd.image.name"
+_BASE = "org.opencontainers.image.base."
 _ATTESTATION = "vnd.docker.reference.type"
 Digest = tuple[str, str]  # the algorithm and the hexadecimal digits
 BlobName = Callable[[Digest], str]
@@ -64,6 +67,7 @@ class Image:
     layers: list[ImageLayer]
     configuration: Document
     names: tuple[str, ...] = ()
+    annotations: Mapping[str, str] = field(default_factory=dict)  # but for those of the base, which new layers haven't
 
 
 @dataclass(frozen=True)
@@ -145,8 +149,8 @@ class _Documents:
             raise _wrong_bytes(self.path(name), digest)
         try:
             return parse_json(data)
-        except ValueError:
-            raise cannot_read(self.path(name), "it isn't JSON") from None
+        except ValueError as problem:
+            raise cannot_read(self.path(name), str(problem)) from None
 
     @contextlib.contextmanager
     def shaped(self, name: str) -> Iterator[None]:
@@ -159,6 +163,9 @@ class _Documents:
     def configuration(self, name: str, digest: Digest | None, count: int) -> tuple[Document, list[Digest | None]]:
         """An image's configuration, and the digests of its layers' unpacked bytes where it has them."""
         value = self.read(name, digest)
+        problem = configuration_problem(value)
+        if problem:
+            raise cannot_read(self.path(name), problem)
         with self.shaped(name):
             configuration = dict(value.items())
             rootfs = configuration.get("rootfs")
@@ -258,6 +265,7 @@ class _Layout:
                 if self._members.size(_blob_in_layout(digest)) is None:
                     continue
                 stated = platform_of(descriptor.get("platform") or {}) or platform
+                require_texts(stated)
                 self._take(descriptor, digest, own, stated, depth)
 
     def _take(
@@ -289,13 +297,14 @@ def _image(
     with documents.shaped(name):
         listed = [(_digest_parts(layer["digest"]), _stated_size(layer)) for layer in manifest["layers"]]
         digest = _digest_parts(manifest["config"]["digest"])
-        if manifest.get("annotations"):
-            note("the image's manifest has annotations, which aren't kept")
+        annotations = dict((manifest.get("annotations") or {}).items())
+        _texts(list(annotations.values()))
     _require_count(documents, len(listed))
     configuration, unpacked = documents.configuration(blob(digest), digest, len(listed))
     return Image(
         [documents.layer(blob(own), own, size, inner) for (own, size), inner in zip(listed, unpacked)],
         with_platform(configuration, stated),
+        annotations={key: text for key, text in annotations.items() if not key.startswith(_BASE)},
     )
 
 
@@ -316,13 +325,14 @@ def _one_of(
     fitting = [choice for choice in by_digest.values() if choice.matches(platform, tag)]
     if len(fitting) == 1:
         return fitting[0]
-    raise _not_one(path, list(map(str, by_digest.values())), len(fitting))
+    asked = " and ".join([f"{word} {value}" for word, value in (("--tag", tag), ("--platform", platform)) if value])
+    raise _not_one(path, list(map(str, by_digest.values())), f"none of them is {asked}" if not fitting else None)
 
 
-def _not_one(path: str, there: list[str], fitting: int) -> ReadFault:
+def _not_one(path: str, there: list[str], none: str | None) -> ReadFault:
     if not there:
         return cannot_read(path, "it has no image whose manifest is there")
-    which = "none of them is meant" if not fitting else "say which by --platform or --tag"
+    which = none or "say which by --platform or --tag"
     more = "; .." if len(there) > _MOST_TOLD else ""
     return cannot_read(path, f"it has {len(there)} images ({'; '.join(there[:_MOST_TOLD])}{more}); {which}")
 

@@ -12,14 +12,14 @@ import re
 import stat
 from collections.abc import Callable, Iterable, Iterator
 from dataclasses import replace
-from json.decoder import scanstring
-from json.encoder import encode_basestring
+from json.decoder import scanstring  # type: ignore[attr-defined]
 
 from . import rules
 from .entries import DIRECTORY, Entry, is_whiteout
 from .faults import cannot_read, reading, reason_of
 from .outputs import write_text
 from .progress import counted, note_path
+from .texts import quoted
 
 SUFFIX = ".links"
 _HEAD = '{"layer-links":1,'
@@ -64,7 +64,7 @@ class LinkNames:
             if self._counts.get(entry.link, 0) < 2:
                 continue
             number = numbers.setdefault(entry.link, len(numbers) + 1)
-            text = f"{before}{encode_basestring(entry.path)}:{number}"
+            text = f"{before}{quoted(entry.path)}:{number}"
             left -= len(text.encode())
             if left < 0:
                 note_path(path, f"cut at {rules.MAX_MANIFEST_BYTES:,} bytes; names that follow are files of their own")

@@ -39,6 +39,10 @@ class Loss(Enum):
         "directory that no layer states, now of mode 0755, owner 0 and time 0",
         "directories that no layer states, now of mode 0755, owner 0 and time 0",
     )
+    ANEW = (
+        "directory that its layer has in place of a file hides that of the layers below",
+        "directories that their layer has in place of files hide those of the layers below",
+    )
     OVER_OTHER = (
         "directory left out by the layer hides a file or a link of those below",
         "directories left out by the layer hide files or links of those below",

@@ -13,7 +13,7 @@ from .archive_names import OPAQUE_NAME, WHITEOUT_PREFIX
 from .blobs import blob_path, opened_blob
 from .compression import NONE, media_type, packing, require_program
 from .configuration import (
-    USUAL_PLATFORM, Document, for_layers, platform_of, platform_text, read_configuration,
+    USUAL_PLATFORM, Document, for_layers, platform_of, platform_text, read_annotations, read_configuration,
 )
 from .contents import PIECE, digest_and_size
 from .entries import (
@@ -59,6 +59,7 @@ class PackOptions:
     config: str | None = None
     compress: str = NONE
     links: str | None = None
+    annotations: str | None = None
 
 
 @dataclass(frozen=True)
@@ -76,6 +77,7 @@ def pack(options: PackOptions) -> None:
         raise UsageFault(f"layers must be 1 to {rules.MAX_LAYERS}")
     require_program(options.compress)
     given = _given_configuration(options)
+    annotations = read_annotations(options.annotations) if options.annotations is not None else {}
     layers = [list(_packable(path, options)) for path in reversed(options.layers)]
     out = options.out
     if options.compress == NONE:
@@ -84,14 +86,14 @@ def pack(options: PackOptions) -> None:
 
         def fill(file: IO[bytes]) -> None:
             files = ArchiveFiles(file)
-            _write_image(files, layers, given, options)
+            _write_image(files, layers, (given, annotations), options)
             files.end()
 
         with writing(out.told):
             write_file_in_place(out.path, out.place, fill, _IMAGE_MODE)
         return
     with new_folder(out.path) as folder, writing(out.told):
-        _write_image(FolderFiles(folder, _blob_name(out, "")), layers, given, options)
+        _write_image(FolderFiles(folder, _blob_name(out, "")), layers, (given, annotations), options)
 
 
 def _given_configuration(options: PackOptions) -> Document:
@@ -154,15 +156,22 @@ def _drop_host_marks(entry: Entry) -> int:
     return len(found)
 
 
-def _write_image(files: ImageFiles, layers: list[list[Entry]], given: Document, options: PackOptions) -> None:
-    """The files of the image; nothing in them depends on when or where they are made."""
+def _write_image(
+    files: ImageFiles, layers: list[list[Entry]], given: tuple[Document, Document], options: PackOptions
+) -> None:
+    """The files of the image, with what is given as its configuration and annotations.
+
+    Nothing in them depends on when or where they are made.
+    """
     packed = [_write_layer(files, layer, options) for layer in layers]
-    configuration = for_layers(given, options.platform, [layer.unpacked_digest for layer in packed])
+    configuration = for_layers(given[0], options.platform, [layer.unpacked_digest for layer in packed])
     manifest = {
         "schemaVersion": 2, "mediaType": _MANIFEST_TYPE,
         "config": _put(files, options.out, _CONFIG_TYPE, configuration),
         "layers": [_descriptor(media_type(options.compress), layer.digest, layer.size) for layer in packed],
     }
+    if given[1]:
+        manifest["annotations"] = given[1]
     if options.out.form is Form.COPY:
         _write_copy(files, manifest, options)
     else:

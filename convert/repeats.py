@@ -5,13 +5,14 @@ import operator
 import tempfile
 from collections import Counter
 from collections.abc import Hashable, Iterator, Sequence
+from dataclasses import fields
 from typing import IO, Protocol
 
 from .faults import writing
 from .tar_headers import Header
 
 Contents = tuple[str, int]  # the digest of an entry's data, and how many bytes they are
-_members = operator.attrgetter(*Header.__slots__)
+_members = operator.attrgetter(*(member.name for member in fields(Header)))
 
 
 class Named(Protocol):

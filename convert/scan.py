@@ -147,8 +147,8 @@ class Survey:
         if self._options.userxattr:
             try:
                 attributes = marks_from_user(attributes)
-            except Unstated as problem:
-                raise cannot_read(self._path(found), problem.text) from None
+            except Unstated as fault:
+                raise cannot_read(self._path(found), fault.text) from None
         for name in list(attributes):
             problem = rules.attribute_problem(name)
             if problem:

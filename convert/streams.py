@@ -33,7 +33,19 @@ class Source(Protocol):
     def read(self, count: int, /) -> bytes: ...
 
 
-class Slice(io.RawIOBase):
+class Reader(io.RawIOBase):
+    """Bytes to read, which are there whenever they are asked for."""
+
+    def readable(self) -> bool:
+        """They are."""
+        return True
+
+    def read(self, count: int = -1, /) -> bytes:
+        """As many as are asked for at most; none only at the end."""
+        return super().read(count) or b""
+
+
+class Slice(Reader):
     """A part of a file, for reading; the file's own place isn't used."""
 
     def __init__(self, file: int, begin: int, size: int) -> None:
@@ -46,10 +58,6 @@ class Slice(io.RawIOBase):
     def again(self) -> "Slice":
         """The same part, from its front."""
         return Slice(self._file, self._begin, self._end - self._begin)
-
-    def readable(self) -> bool:
-        """It is."""
-        return True
 
     def readinto(self, buffer: memoryview) -> int:  # type: ignore[override]
         """Reads what fits."""
@@ -69,7 +77,7 @@ class SeekingSlice(Slice):
         self.place += count
 
 
-class Gunzip(io.RawIOBase):
+class Gunzip(Reader):
     """The bytes of a gzip stream, of all its members; zeros may stand after the last one."""
 
     def __init__(self, packed: io.BufferedReader) -> None:
@@ -77,10 +85,6 @@ class Gunzip(io.RawIOBase):
         self._packed = packed
         self._member = zlib.decompressobj(_GZIP_WINDOW)
         self._input = b""
-
-    def readable(self) -> bool:
-        """It is."""
-        return True
 
     def readinto(self, buffer: memoryview) -> int:  # type: ignore[override]
         """Unpacks what fits, never more."""
@@ -105,17 +109,13 @@ class Gunzip(io.RawIOBase):
                     raise EOFError("it ends too early")
 
 
-class Digesting(io.RawIOBase):
+class Digesting(Reader):
     """Reads from a stream and digests all that is read."""
 
     def __init__(self, stream: Source, algorithm: str) -> None:
         super().__init__()
         self._stream = stream
         self.digest = hashlib.new(algorithm)
-
-    def readable(self) -> bool:
-        """It is."""
-        return True
 
     def readinto(self, buffer: memoryview) -> int:  # type: ignore[override]
         """Reads what fits."""
@@ -127,7 +127,7 @@ class Digesting(io.RawIOBase):
 
 def buffered(stream: Source) -> Source:
     """A stream that gives as many bytes as are asked for, fewer at the end."""
-    return io.BufferedReader(stream, PIECE) if isinstance(stream, io.RawIOBase) else stream
+    return io.BufferedReader(stream, PIECE) if isinstance(stream, Reader) else stream
 
 
 def is_packed(file: int) -> bool:

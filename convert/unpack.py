@@ -8,7 +8,7 @@ from . import rules, stacks
 from .archives import LayerArchive, Taking
 from .below import Below, write_shown_links
 from .blobs import Writer, writers
-from .configuration import configuration_text
+from .configuration import text_of
 from .faults import cannot_read
 from .images import Image, ImageLayer, image_place, opened_image
 from .layer_tree import Held
@@ -35,7 +35,7 @@ class UnpackOptions:
 def unpack(options: UnpackOptions) -> Image:
     """Writes `l0.json`, the topmost, and so on, the folder `blobs`, and `config.json`. Gives the image.
 
-    Where digests are enough there is no folder `blobs`.
+    Where digests are enough there is no folder `blobs`. An image with annotations has them in `annotations.json`.
     """
     path, tag = image_place(options.image, options.tag)
     with contextlib.ExitStack() as opened:
@@ -46,7 +46,9 @@ def unpack(options: UnpackOptions) -> Image:
         stage = opened.enter_context(new_folder(options.out))
         with writers(None if options.digests_only else f"{stage}/{stacks.BLOBS}") as new_writer:
             _unpack_layers(options, image.layers, stage, new_writer())
-        write_text(f"{stage}/{stacks.CONFIG}", [configuration_text(image.configuration)])
+        write_text(f"{stage}/{stacks.CONFIG}", [text_of(image.configuration)])
+        if image.annotations:
+            write_text(f"{stage}/{stacks.ANNOTATIONS}", [text_of(image.annotations)])
     return image
 
 

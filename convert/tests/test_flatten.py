@@ -335,6 +335,7 @@ with mock.patch("convert.program.find_program", return_value={self.program!r}):
             result = subprocess.run(["sh"], input=script, capture_output=True, text=True, check=False)
             self.assertEqual(result.returncode, 0, result.stderr)
             self.assertEqual(self.calls(), calls)
+            self.assertEqual([name for name in os.listdir(self.hands) if name.startswith("tmp.")], [])
             written = []
             for name in ("flat", "wanted"):
                 written.append(sorted(os.listdir(self.path("all", name, "blobs", "sha256"))))

@@ -483,6 +483,9 @@ class Bomb(HostileTest):
         self.require_bounded("it has over 4,194,304 bytes")
         with open(f"{path}/index.json", "wb") as file:
             file.write(b'{"manifests":[' + b"[]," * 1_000_000 + b"[]]}")
+        self.require_bounded("it has over 262,144 objects and lists")
+        with open(f"{path}/index.json", "wb") as file:
+            file.write(b'{"manifests":[' + b"[]," * 260_000 + b"[]]}")
         self.require_bounded("it has a wrong shape")
 
     def _bomb(self) -> bytes:

@@ -78,8 +78,9 @@ class Parents(LayersTest):
         shown, notes = self.upper(member("a/c/d/new", b"y"))
         self.assertEqual(shown[2:], ["dir 755 0:0 0 /a/c", "dir 755 0:0 0 /a/c/d", "file 644 0:0 0 /a/c/d/new"])
         self.require_note(notes, "2 directories that no layer states, now of mode 0755")
-        _, notes = self.unpack([member("x", b"y")])
-        self.require_note(notes, "1 directory that no layer states, now of mode 0755, owner 0 and time 0: /")
+        _, notes = self.unpack([member("x/y", b"y")])
+        self.require_note(notes, "1 directory that no layer states, now of mode 0755, owner 0 and time 0: /x")
+        self.assertEqual(self.unpack([member("x", b"y")])[1], [])
 
     def test_of_opaque_directories(self) -> None:
         for members in ([member("a/.wh..wh..opq"), member("a/b/new")], [member("a/b/new"), member("a/.wh..wh..opq")]):
@@ -91,6 +92,16 @@ class Parents(LayersTest):
         self.assertEqual(shown[1:3], [f"dir 755 0:0 0 /a {OPAQUE}=y", "dir 755 0:0 0 /a/b"])
         layers, _ = self.unpack(self.LOWEST, [member("a/.wh.b")], [member("a/b/new")])
         self.assertEqual(list(map(told, layers[2]))[1:3], ["dir 700 1:2 10 /a user.k=v", "dir 755 0:0 0 /a/b"])
+
+    def test_in_place_of_a_file_of_the_same_layer(self) -> None:
+        """It hides the directories of the layers below, as in a folder where one comes after the other."""
+        for first in (member("a", b"f"), member("a", kind=tarfile.SYMTYPE, target="b")):
+            shown, notes = self.upper(first, owned(folder("a", 0o711), 7, 70), member("a/b/new", b"y"))
+            self.assertEqual(shown[1:3], [f"dir 711 7:8 70 /a {OPAQUE}=y", "dir 755 0:0 0 /a/b"])
+            self.require_note(notes, "1 directory that its layer has in place of a file hides that of the layers below: /a")
+        shown, notes = self.upper(member("file", b"f"), folder("file", 0o711), member("c", b"f"), folder("c", 0o711))
+        self.assertEqual([line.split()[-1] for line in shown[1:]], ["/c", "/file"])
+        self.assertEqual(notes, [])
 
     def test_of_what_was_made_anew(self) -> None:
         layers, _ = self.unpack(
