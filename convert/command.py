@@ -113,10 +113,10 @@ can state them. Run `ovl_layers deref` first, or `merge` down to one layer."""
 
 _FLATTEN = """\
 Writes an image with fewer layers that shows the same: its layers are merged from the topmost on, until N
-are left. The image's configuration, name and hard links stay. It is done by the proved program ovl_layers,
-which is found where it was built or installed, or on the PATH: after `unpack` it checks the layers (`fsck`),
-drops what changes nothing (`vacuum`), unfolds moved directories and metacopy files where there are any
-(`deref`), and merges (`merge`). Then `pack` writes the image. Each step is told with its time.
+are left. The image's configuration, name, annotations and hard links stay. It is done by the proved program
+ovl_layers, which is found where it was built or installed, or on the PATH: after `unpack` it checks the layers
+(`fsck`), drops what changes nothing (`vacuum`), unfolds moved directories and metacopy files where there are
+any (`deref`), and merges (`merge`). Then `pack` writes the image. Each step is told with its time.
 
 Nothing is written unless the merged layers, and the new image when it is read again, show what the given
 image shows, byte for byte. What the program refuses is told as it is, with its status. --out is as for
@@ -159,13 +159,13 @@ def _end(number: int, _: object) -> None:
 def _parser() -> argparse.ArgumentParser:
     parser = argparse.ArgumentParser(
         prog=NAME, description=_ABOUT, epilog=_MORE.format(name=NAME), allow_abbrev=False,
-        formatter_class=argparse.RawDescriptionHelpFormatter,
+        formatter_class=lambda prog: argparse.RawDescriptionHelpFormatter(prog, max_help_position=26),
     )
     parser.add_argument("--version", action="version", version=f"{NAME} {VERSION}", help="print the version and exit")
     commands = parser.add_subparsers(title="commands", metavar="COMMAND", required=True)
     _add_scan(_command(commands, "scan", "a layer's folder as a manifest and blobs", _SCAN, _scan))
-    _add_store(_command(commands, "store", "a layer of docker or podman with those below it", _STORE, _store))
-    _add_build(_command(commands, "build", "the folder of a manifest", _BUILD, _build))
+    _add_store(_command(commands, "store", "a layer of docker or podman with those below it", _STORE, _store, "import"))
+    _add_build(_command(commands, "build", "the folder of a manifest", _BUILD, _build, "extract"))
     _add_unpack(_command(commands, "unpack", "an image's layers as manifests and blobs", _UNPACK, _unpack))
     _add_pack(_command(commands, "pack", "manifests and blobs as an image", _PACK, _pack))
     _add_flatten(_command(commands, "flatten", "an image with fewer layers that shows the same", _FLATTEN, _flatten))
@@ -175,10 +175,10 @@ def _parser() -> argparse.ArgumentParser:
 
 def _command(
     commands: "argparse._SubParsersAction[argparse.ArgumentParser]", name: str, short: str, long: str,
-    run: Callable[[argparse.Namespace], None],
+    run: Callable[[argparse.Namespace], None], *others: str,
 ) -> argparse.ArgumentParser:
     parser = commands.add_parser(
-        name, help=short, description=long, allow_abbrev=False,
+        name, aliases=others, help=short, description=long, allow_abbrev=False,
         formatter_class=argparse.RawDescriptionHelpFormatter,
     )
     parser.set_defaults(run=run)
