@@ -159,13 +159,15 @@ def _end(number: int, _: object) -> None:
 def _parser() -> argparse.ArgumentParser:
     parser = argparse.ArgumentParser(
         prog=NAME, description=_ABOUT, epilog=_MORE.format(name=NAME), allow_abbrev=False,
-        formatter_class=lambda prog: argparse.RawDescriptionHelpFormatter(prog, max_help_position=26),
+        formatter_class=argparse.RawDescriptionHelpFormatter,
     )
     parser.add_argument("--version", action="version", version=f"{NAME} {VERSION}", help="print the version and exit")
     commands = parser.add_subparsers(title="commands", metavar="COMMAND", required=True)
     _add_scan(_command(commands, "scan", "a layer's folder as a manifest and blobs", _SCAN, _scan))
-    _add_store(_command(commands, "store", "a layer of docker or podman with those below it", _STORE, _store, "import"))
-    _add_build(_command(commands, "build", "the folder of a manifest", _BUILD, _build, "extract"))
+    for name, short in (("store", "a layer of docker or podman with those below it; or import"), ("import", None)):
+        _add_store(_command(commands, name, short, _STORE, _store))
+    for name, short in (("build", "the folder of a manifest; or extract"), ("extract", None)):
+        _add_build(_command(commands, name, short, _BUILD, _build))
     _add_unpack(_command(commands, "unpack", "an image's layers as manifests and blobs", _UNPACK, _unpack))
     _add_pack(_command(commands, "pack", "manifests and blobs as an image", _PACK, _pack))
     _add_flatten(_command(commands, "flatten", "an image with fewer layers that shows the same", _FLATTEN, _flatten))
@@ -174,12 +176,13 @@ def _parser() -> argparse.ArgumentParser:
 
 
 def _command(
-    commands: "argparse._SubParsersAction[argparse.ArgumentParser]", name: str, short: str, long: str,
-    run: Callable[[argparse.Namespace], None], *others: str,
+    commands: "argparse._SubParsersAction[argparse.ArgumentParser]", name: str, short: str | None, long: str,
+    run: Callable[[argparse.Namespace], None],
 ) -> argparse.ArgumentParser:
+    """A command. Another word for one has nothing short, and isn't listed."""
+    listed = {} if short is None else {"help": short}
     parser = commands.add_parser(
-        name, aliases=others, help=short, description=long, allow_abbrev=False,
-        formatter_class=argparse.RawDescriptionHelpFormatter,
+        name, description=long, allow_abbrev=False, formatter_class=argparse.RawDescriptionHelpFormatter, **listed
     )
     parser.set_defaults(run=run)
     return parser

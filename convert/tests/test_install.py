@@ -13,7 +13,7 @@ from convert import VERSION
 HELP = ROOT / "examples" / "help.txt"
 VERSION_TEXT = ROOT / "examples" / "version.txt"
 _OPTION = re.compile(r"(?<![\w-])--[a-z][a-z-]*")
-_HELP_COMMAND = re.compile(r"^ {2,4}([a-z]+)(?: \([a-z]+\))?  ", re.MULTILINE)
+_HELP_COMMAND = re.compile(r"^ {2,4}([a-z]+)  ", re.MULTILINE)
 _COMMANDS = ("scan", "store", "build", "unpack", "pack", "flatten", "mounted")
 INSTALLED = ["bin/layers", "bin/ovl_layers", "share/man/man1/layers.1", "share/man/man1/ovl_layers.1"]
 
