@@ -19,7 +19,7 @@ from .entries import (
     BLOCK, CHAR, DIRECTORY, FIFO, FILE, METACOPY, NO_ATTRIBUTES, OVERLAY, SYMLINK, WHITEOUT, Entry, is_whiteout,
 )
 from .faults import cannot_read, writing
-from .images import ImageLayer
+from .images import Digest, ImageLayer
 from .layer_tree import Attributes, Blocked, Gap, Held, LayerTree, Unfit, whiteout
 from .losses import Loss, Losses
 from .progress import Progress, note
@@ -78,7 +78,8 @@ class LayerArchive:
                 self._take_kept(kept, progress)
             else:
                 with layer.opened() as part, unpacked(part, layer.path) as stream:
-                    self._read_checked(stream, progress)
+                    is_checked = layer.unpacked_digest == layer.digest and not part.is_packed()
+                    self._read_checked(stream, None if is_checked else layer.unpacked_digest, progress)
             self._tree.settle(self._taking.below.root, lambda gap, path: self._losses.add(_GAPS[gap], path))
         except TooMuch as problem:
             raise cannot_read(layer.path, str(problem)) from None
@@ -94,11 +95,11 @@ class LayerArchive:
             self._take_fitting(header, _known(contents))
             progress.step()
 
-    def _read_checked(self, stream: Source, progress: Progress) -> None:
-        if self._layer.unpacked_digest is None:
+    def _read_checked(self, stream: Source, digest: Digest | None, progress: Progress) -> None:
+        if digest is None:
             self._read(stream, progress)
             return
-        algorithm, wanted = self._layer.unpacked_digest
+        algorithm, wanted = digest
         source = Digesting(stream, algorithm)
         self._read(source, progress)
         if source.digest.hexdigest() != wanted:

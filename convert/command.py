@@ -5,6 +5,7 @@ import os
 import signal
 import sys
 from collections.abc import Callable, Iterable, Sequence
+from typing import Any
 
 from . import VERSION
 from .build import BuildOptions, build
@@ -180,7 +181,7 @@ def _command(
     run: Callable[[argparse.Namespace], None],
 ) -> argparse.ArgumentParser:
     """A command. Another word for one has nothing short, and isn't listed."""
-    listed = {} if short is None else {"help": short}
+    listed: dict[str, Any] = {} if short is None else {"help": short}
     parser = commands.add_parser(
         name, description=long, allow_abbrev=False, formatter_class=argparse.RawDescriptionHelpFormatter, **listed
     )

@@ -24,7 +24,7 @@ from .pack import PackOptions, pack
 from .program import NAME, find_program, makes_layers, require_program, run_program, word_of_path, words_of
 from .progress import counted, note, note_path
 from .room import least_shown, require_room
-from .stages import tidy, told
+from .stages import removing, tidy, told
 from .targets import ARCHIVE_SUFFIX, Form, Target
 from .unpack import UnpackOptions, unpack
 
@@ -242,7 +242,8 @@ class _Doing:
                 annotations=self._path(_ANNOTATIONS) if self._has_annotations else None,
             ))
             words.append(counted(len(layers), "layer", "layers"))
-        with _timed("the new image, read again") as words:
+        needless = () if self._options.keep else (blobs,)
+        with _timed("the new image, read again") as words, removing(*needless):
             words.append(self._shown(self._image))
             self.compare(_SHOWN)
 

@@ -59,6 +59,10 @@ class Slice(Reader):
         """The same part, from its front."""
         return Slice(self._file, self._begin, self._end - self._begin)
 
+    def is_packed(self) -> bool:
+        """Whether its first bytes are those of a packed one."""
+        return is_packed(self._file, self._begin)
+
     def readinto(self, buffer: memoryview) -> int:  # type: ignore[override]
         """Reads what fits."""
         data = os.pread(self._file, min(len(buffer), self._end - self.place), self.place)
@@ -130,9 +134,9 @@ def buffered(stream: Source) -> Source:
     return io.BufferedReader(stream, PIECE) if isinstance(stream, Reader) else stream
 
 
-def is_packed(file: int) -> bool:
-    """Whether a file's first bytes are those of a packed one."""
-    return os.pread(file, _PEEK, 0).startswith((_GZIP, _ZSTD, *_OTHERS))
+def is_packed(file: int, begin: int = 0) -> bool:
+    """Whether a file's bytes from a place on are those of a packed one."""
+    return os.pread(file, _PEEK, begin).startswith((_GZIP, _ZSTD, *_OTHERS))
 
 
 @contextlib.contextmanager

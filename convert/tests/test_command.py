@@ -5,6 +5,7 @@ import contextlib
 import errno
 import fcntl
 import filecmp
+import gzip
 import hashlib
 import io
 import json
@@ -18,11 +19,13 @@ import subprocess
 import sys
 import time
 import unittest
+import zlib
 from unittest import mock
 
 from support import COMMAND, ROOT, FolderTest, call, links, run, run_as_anybody, why_no_trusted
 
 from convert import places
+from convert.compression import BLOCK, GZIP, packing
 from convert.entries import Entry
 from convert.manifests import read_manifest
 
@@ -69,6 +72,9 @@ class Words(FolderTest):
             status, printed, told = call(*words)
             self.assertEqual((status, told), (0, ""))
             self.assertTrue(printed.startswith("usage: layers"))
+        for name, other in (("build", "extract"), ("store", "import")):
+            told, others = (call(word, "-h")[1].split() for word in (name, other))
+            self.assertEqual(["layers", other, *told[3:]], others[1:])
 
     def test_older_pythons(self) -> None:
         with open(COMMAND, encoding="utf-8") as file:
@@ -536,6 +542,20 @@ class Packing(CommandTest):
             with open(self.path("image", "blobs", "sha256", described["digest"][7:]), "rb") as file:
                 self.assertTrue(file.read().startswith(magic))
             shutil.rmtree(self.path("image"))
+
+    def test_gzip_by_any_number_of_processors(self) -> None:
+        for size in (0, 1, BLOCK - 1, BLOCK, BLOCK + 1, 5 * BLOCK + 7):
+            data = os.urandom(1_000) * (size // 1_000) + bytes(size % 1_000)
+            found = set()
+            for processors in (1, 3):
+                out = io.BytesIO()
+                with mock.patch("os.sched_getaffinity", return_value=range(processors)), packing(GZIP, out) as write:
+                    for at in range(0, size, 100_000):
+                        write(data[at:at + 100_000])
+                found.add(out.getvalue())
+            (whole,) = found
+            self.assertEqual(gzip.decompress(whole), data)
+            self.assertLess(len(whole), 1.05 * len(zlib.compress(data)) + 30)
 
     def _manifest(self, image: str) -> dict[str, list[dict[str, str]]]:
         with open(f"{image}/index.json", encoding="utf-8") as file:

@@ -16,11 +16,13 @@ import tarfile
 import unittest
 import zlib
 from collections.abc import Iterator
+from unittest import mock
 
 from images import archive, folder, member, packed, put_index, put_manifest, write_layout, write_saved
 from support import FolderTest, call, run
 
 from convert import command
+from convert.streams import Digesting
 from convert.tar_headers import pax_record
 
 GIGABYTE = 1 << 30
@@ -192,6 +194,16 @@ class Broken(HostileTest):
         self.empty()
         write_layout(self.path("image"), [plain], [plain + b"x"])
         self.require_refused("its unpacked bytes aren't those")
+        self.empty()
+        write_layout(self.path("image"), [packed(plain)], [packed(plain)])
+        self.require_refused("its unpacked bytes aren't those")
+
+    def test_one_digest_of_a_plain_layer(self) -> None:
+        plain = archive([member("f", b"a")])
+        write_layout(self.path("image"), [plain, packed(plain)], [plain, plain])
+        with mock.patch("convert.archives.Digesting", wraps=Digesting) as digesting:
+            self.require_done(call("unpack", self.path("image"), "--out", self.path("out")))
+        self.assertEqual(digesting.call_count, 1)
 
     def test_documents(self) -> None:
         os.mkdir(self.path("image"))
