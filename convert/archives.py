@@ -14,9 +14,10 @@ from .archive_names import AUFS_LINKS, OPAQUE_NAME, WHITEOUT_PREFIX, Paths, is_o
 from .below import Below
 from .blobs import Digester, Writer
 from .budgets import TooMuch
-from .contents import PIECE, write_all
+from .contents import PIECE, ZEROS, write_all
 from .entries import (
-    BLOCK, CHAR, DIRECTORY, FIFO, FILE, METACOPY, NO_ATTRIBUTES, OVERLAY, SYMLINK, WHITEOUT, Entry, is_whiteout,
+    BLOCK, CHAR, DIRECTORY, FIFO, FILE, LINK_MODE, METACOPY, NO_ATTRIBUTES, OVERLAY, SYMLINK, WHITEOUT, Entry,
+    is_whiteout,
 )
 from .faults import cannot_read, writing
 from .images import Digest, ImageLayer
@@ -30,8 +31,6 @@ from .tar_headers import HARD_LINK, REGULAR_TYPES, Header
 from .tar_reader import TarReader
 from .times import ONE_SECOND
 
-_LINK_MODE = 0o777
-_ZEROS = bytes(PIECE)
 _KINDS = {
     tar.SYMLINK: SYMLINK, tar.CHAR: CHAR, tar.BLOCK: BLOCK, tar.DIRECTORY: DIRECTORY, tar.FIFO: FIFO,
     HARD_LINK: FILE, **{bytes([kind]): FILE for kind in REGULAR_TYPES},
@@ -181,7 +180,7 @@ class LayerArchive:
             raise Unfit(f"an entry of type {header.type!r}, which can't be stated")
         entry = Entry("", kind, header.mode, header.uid, header.gid, header.mtime_ns)
         if kind == SYMLINK:
-            entry.mode = _LINK_MODE
+            entry.mode = LINK_MODE
             entry.target = header.target.decode("utf-8", "surrogateescape")
         elif kind in (CHAR, BLOCK):
             entry.major, entry.minor = header.major, header.minor
@@ -247,7 +246,7 @@ class LayerArchive:
             digest.update(piece)
             size += len(piece)
             with self._writing():
-                if piece == _ZEROS[:len(piece)]:
+                if piece == ZEROS[:len(piece)]:
                     os.lseek(scratch, len(piece), os.SEEK_CUR)
                 else:
                     write_all(scratch, piece)

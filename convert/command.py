@@ -11,9 +11,10 @@ from . import VERSION
 from .build import BuildOptions, build
 from .compression import COMPRESSIONS, NONE
 from .configuration import USUAL_PLATFORM
-from .faults import OTHER, WRITING, Fault, UsageFault
+from .faults import OTHER, Fault, UsageFault
 from .flatten import FlattenOptions, flatten, flatten_commands
 from .mounted import report
+from .outputs import standard_output
 from .pack import PackOptions, pack
 from .rules import MAX_LAYERS
 from .scan import ScanOptions, scan
@@ -360,26 +361,30 @@ def _folder(path: str) -> str:
 
 def _scan(words: argparse.Namespace) -> None:
     scan(ScanOptions(
-        _folder(words.folder), words.out, None if words.digests_only else _folder(words.blobs), words.userxattr,
-        words.cross_file_systems, words.skip_unsupported, words.workers,
+        folder=_folder(words.folder), out=words.out, blobs=None if words.digests_only else _folder(words.blobs),
+        userxattr=words.userxattr, cross_file_systems=words.cross_file_systems,
+        skip_unsupported=words.skip_unsupported, workers=words.workers,
     ))
 
 
 def _store(words: argparse.Namespace) -> None:
     store(StoreOptions(
-        _folder(words.folder), _folder(words.out), words.userxattr, words.cross_file_systems,
-        words.skip_unsupported, words.digests_only, words.workers,
+        folder=_folder(words.folder), out=_folder(words.out), userxattr=words.userxattr,
+        cross_file_systems=words.cross_file_systems, skip_unsupported=words.skip_unsupported,
+        digests_only=words.digests_only, workers=words.workers,
     ))
 
 
 def _build(words: argparse.Namespace) -> None:
-    build(BuildOptions(words.layer, _folder(words.blobs), _folder(words.out), words.userxattr))
+    build(BuildOptions(
+        layer=words.layer, blobs=_folder(words.blobs), out=_folder(words.out), userxattr=words.userxattr
+    ))
 
 
 def _unpack(words: argparse.Namespace) -> None:
     unpack(UnpackOptions(
-        _folder(words.image), _folder(words.out), words.platform, words.tag, words.skip_unsupported,
-        words.overlay_marks, words.digests_only,
+        image=_folder(words.image), out=_folder(words.out), platform=words.platform, tag=words.tag,
+        skip_unsupported=words.skip_unsupported, overlay_marks=words.overlay_marks, digests_only=words.digests_only,
     ))
 
 
@@ -388,15 +393,17 @@ def _pack(words: argparse.Namespace) -> None:
     if None not in (out.tag, words.tag) and out.tag != words.tag:
         raise UsageFault(f"{words.out} and --tag give two names")
     pack(PackOptions(
-        words.layers, _folder(words.blobs), out, words.platform, out.tag or words.tag,
-        words.skip_unsupported, words.config, words.compress, words.links, words.annotations,
+        layers=words.layers, blobs=_folder(words.blobs), out=out, platform=words.platform, tag=out.tag or words.tag,
+        skip_unsupported=words.skip_unsupported, config=words.config, compress=words.compress, links=words.links,
+        annotations=words.annotations,
     ))
 
 
 def _flatten(words: argparse.Namespace) -> None:
     options = FlattenOptions(
-        _folder(words.image), _target(words.out, words.dry_run), words.layers, words.keep and _folder(words.keep),
-        words.platform, words.tag, words.skip_unsupported, words.overlay_marks, words.compress,
+        image=_folder(words.image), out=_target(words.out, words.dry_run), layers=words.layers,
+        keep=words.keep and _folder(words.keep), platform=words.platform, tag=words.tag,
+        skip_unsupported=words.skip_unsupported, overlay_marks=words.overlay_marks, compress=words.compress,
     )
     if words.dry_run:
         _print(flatten_commands(options))
@@ -417,13 +424,5 @@ def _mounted(words: argparse.Namespace) -> None:
 
 
 def _print(lines: Iterable[str]) -> None:
-    """Writes lines to standard output, or tells that this can't be done."""
-    try:
-        for line in lines:
-            sys.stdout.write(line)
-        sys.stdout.flush()
-    except OSError:
-        os.dup2(os.open(os.devnull, os.O_WRONLY), sys.stdout.fileno())
-        fault = Fault("cannot write standard output")
-        fault.status = WRITING
-        raise fault from None
+    with standard_output() as out:
+        out.writelines(lines)

@@ -7,6 +7,7 @@ import os
 import tempfile
 
 PIECE = 1 << 18
+ZEROS = bytes(PIECE)
 _COPY_AT_ONCE = 1 << 30
 _CLONE = 0x40049409  # FICLONE of linux/fs.h
 _REFUSED = (

@@ -40,7 +40,7 @@ _FOR_PACK = (stacks.BLOBS, stacks.CONFIG, stacks.SHOWN_LINKS)
 _TOOL = Path(__file__).resolve().parents[1] / "layers.py"
 
 
-@dataclass(frozen=True)
+@dataclass(frozen=True, kw_only=True)
 class FlattenOptions:
     """What the words of `flatten` say."""
 
@@ -119,9 +119,9 @@ def _new_image(out: Target) -> Iterator[str]:
 
 
 def _print_image(image: str) -> None:
-    with open(image, "rb") as file, standard_output() as write:
+    with open(image, "rb") as file, standard_output() as out:
         while piece := file.read(PIECE):
-            write(piece)
+            out.buffer.write(piece)
 
 
 class _Steps(Protocol):
@@ -193,8 +193,8 @@ class _Doing:
         options = self._options
         with _timed("unpack") as words:
             image = _unpacked(UnpackOptions(
-                options.image, self._path(_STACK), options.platform, options.tag, options.skip_unsupported,
-                options.overlay_marks,
+                image=options.image, out=self._path(_STACK), platform=options.platform, tag=options.tag,
+                skip_unsupported=options.skip_unsupported, overlay_marks=options.overlay_marks,
             ))
             self._name, self._has_annotations = _name_of(image, options), bool(image.annotations)
             words.append(counted(len(image.layers), "layer", "layers"))
@@ -237,8 +237,8 @@ class _Doing:
         blobs, config, links = (self._path(f"{_STACK}/{name}") for name in _FOR_PACK)
         with _timed("pack") as words:
             pack(PackOptions(
-                [self._path(layer) for layer in layers], blobs, self._target(), tag=self._name, config=config,
-                compress=self._options.compress, links=links,
+                layers=[self._path(layer) for layer in layers], blobs=blobs, out=self._target(), tag=self._name,
+                config=config, compress=self._options.compress, links=links,
                 annotations=self._path(_ANNOTATIONS) if self._has_annotations else None,
             ))
             words.append(counted(len(layers), "layer", "layers"))
@@ -255,7 +255,8 @@ class _Doing:
         """Writes what an image shows."""
         with passing_folder(self._path(_AGAIN)) as folder:
             again = f"{folder}/{_AGAIN}"
-            found = unpack(UnpackOptions(image, again, overlay_marks=self._options.overlay_marks, digests_only=True))
+            marks = self._options.overlay_marks
+            found = unpack(UnpackOptions(image=image, out=again, overlay_marks=marks, digests_only=True))
             return self._run("show", stacks.layer_paths(again, len(found.layers)), self._path(_SHOWN))
 
 

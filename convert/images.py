@@ -28,7 +28,7 @@ _INDEXES = (
     "application/vnd.docker.distribution.manifest.list.v2+json",
 )
 _TRANSPORTS = ("oci", "oci-archive", "docker-archive", "dir")
-_REF_NAME = "org.opencontainers.image.ref.name"
+REF_NAME = "org.opencontainers.image.ref.name"
 _FULL_NAME = "io.containerd.image.name"
 _BASE = "org.opencontainers.image.base."
 _ATTESTATION = "vnd.docker.reference.type"
@@ -257,7 +257,7 @@ class _Layout:
         with self._documents.shaped(name):
             for descriptor in index["manifests"]:
                 notes = descriptor.get("annotations") or {}
-                own = _texts([notes[key] for key in (_REF_NAME, _FULL_NAME) if key in notes]) or names
+                own = _texts([notes[key] for key in (REF_NAME, _FULL_NAME) if key in notes]) or names
                 digest = _digest_parts(descriptor["digest"])
                 if _ATTESTATION in notes or (descriptor["digest"], own) in self._visited:
                     continue

@@ -18,6 +18,7 @@ from . import rules
 from .entries import DIRECTORY, Entry, is_whiteout
 from .faults import cannot_read, reading, reason_of
 from .outputs import write_text
+from .places import READ_WHERE_IT_LEADS
 from .progress import counted, note_path
 from .texts import quoted
 
@@ -27,7 +28,6 @@ _OF = re.compile(r'"manifest":"([0-9a-f]{64})",')
 _NAMES = '"names":{'
 _NAME = re.compile(r'"((?:[^"\\]|\\.)*)":([1-9][0-9]{0,7})([,}])', re.DOTALL)
 _PIECE = 1 << 16  # letters; more than a name takes, each of its bytes escaped
-_READ = os.O_RDONLY | os.O_NONBLOCK | os.O_CLOEXEC
 
 
 class NotTaken(Exception):
@@ -161,7 +161,7 @@ def _is_same(entry: Entry, first: Entry) -> bool:
 def _names(path: str, manifest: str | None) -> Iterator[tuple[str, int]]:
     """The names and numbers in a file of links, which is of this digest of a manifest, or of none."""
     try:
-        file = os.open(path, _READ)
+        file = os.open(path, READ_WHERE_IT_LEADS)
         with open(file, encoding="utf-8", newline="") as text:
             status = os.fstat(file)
             if not stat.S_ISREG(status.st_mode):

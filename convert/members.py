@@ -12,6 +12,7 @@ from typing import Protocol
 from .budgets import Budget, TooMuch
 from .contents import PIECE, write_all
 from .faults import cannot_read, reading, writing
+from .places import READ_WHERE_IT_LEADS
 from .streams import SeekingSlice, Slice, Source, is_packed, unpacked
 from .tar_headers import HARD_LINK, REGULAR_TYPES, SYMLINK, TarFault
 from .tar_reader import TarReader
@@ -19,7 +20,6 @@ from .tar_reader import TarReader
 STANDARD_INPUT = "-"
 _MAX_MEMBERS = 100_000
 _MAX_LINKS = 8
-_READ = os.O_RDONLY | os.O_NONBLOCK | os.O_CLOEXEC
 
 
 class Members(Protocol):
@@ -110,7 +110,7 @@ class _Folder:
         if way is None:
             raise cannot_read(f"{self.path}/{name}", "the image has no such file")
         with reading(f"{self.path}/{name}"):
-            file = os.open(way, _READ)
+            file = os.open(way, READ_WHERE_IT_LEADS)
         try:
             with reading(f"{self.path}/{name}"):
                 size = os.fstat(file).st_size

@@ -6,7 +6,7 @@ import stat
 import sys
 import tempfile
 from collections.abc import Callable, Iterable, Iterator
-from typing import IO
+from typing import IO, TextIO
 
 from .contents import PIECE
 from .faults import cannot_write, reason_of, told_as, writing
@@ -100,19 +100,19 @@ def _is_standard_output(status: os.stat_result) -> bool:
 
 def _write_through(path: str, fill: Callable[[Write], None]) -> None:
     if path == STANDARD_OUTPUT or _is_standard_output(os.stat(path)):
-        with standard_output() as write:
-            fill(write)
+        with standard_output() as out:
+            fill(out.buffer.write)
     else:
         with open(os.open(path, os.O_WRONLY | os.O_CLOEXEC | os.O_NOCTTY), "wb", buffering=_AT_ONCE) as file:
             fill(file.write)
 
 
 @contextlib.contextmanager
-def standard_output() -> Iterator[Write]:
-    """Writes to standard output to its end, or tells that this can't be done."""
+def standard_output() -> Iterator[TextIO]:
+    """Standard output, written to its end, or a fault that tells that this can't be done."""
     try:
-        yield sys.stdout.buffer.write
-        sys.stdout.buffer.flush()
+        yield sys.stdout
+        sys.stdout.flush()
     except OSError as error:
         os.dup2(os.open(os.devnull, os.O_WRONLY), sys.stdout.fileno())
         raise cannot_write("standard output", reason_of(error)) from None

@@ -17,11 +17,12 @@ from .configuration import (
 )
 from .contents import PIECE, digest_and_size
 from .entries import (
-    BLOCK, CHAR, DIRECTORY, FIFO, FILE, HOST_MARKS, IS_OPAQUE, OPAQUE, SOCKET, SYMLINK, Entry, is_opaque,
+    BLOCK, CHAR, DIRECTORY, FIFO, FILE, HOST_MARKS, IS_OPAQUE, LINK_MODE, OPAQUE, SOCKET, SYMLINK, Entry, is_opaque,
     is_whiteout, needs_lower_layers,
 )
 from .faults import UsageFault, cannot_read, reading, writing
 from .image_files import BLOBS, ArchiveFiles, FolderFiles, ImageFiles
+from .images import REF_NAME
 from .links import FirstNames, take_links
 from .manifests import read_manifest
 from .outputs import new_folder, write_file_in_place
@@ -35,18 +36,16 @@ _TYPES = {
     DIRECTORY: tar.DIRECTORY, FILE: b"0", SYMLINK: tar.SYMLINK, CHAR: tar.CHAR, BLOCK: tar.BLOCK,
     FIFO: tar.FIFO,
 }
-_LINK_MODE = 0o777
 _IMAGE_MODE = 0o600  # an image holds what the files hold, secret ones too
 _CONFIG_TYPE = "application/vnd.oci.image.config.v1+json"
 _MANIFEST_TYPE = "application/vnd.oci.image.manifest.v1+json"
 _INDEX_TYPE = "application/vnd.oci.image.index.v1+json"
 _LAYOUT = {"imageLayoutVersion": "1.0.0"}
-_REF_NAME = "org.opencontainers.image.ref.name"
 _SAVED = "manifest.json"  # of docker's archives, and of skopeo's dir:
 _COPY = b"Directory Transport Version: 1.1\n"
 
 
-@dataclass(frozen=True)
+@dataclass(frozen=True, kw_only=True)
 class PackOptions:
     """What the words of `pack` say."""
 
@@ -141,7 +140,7 @@ def _problem(entry: Entry) -> str | None:
         return "archives have no sockets"
     if entry.path.rpartition("/")[2].startswith(WHITEOUT_PREFIX):
         return f"a name that begins with {WHITEOUT_PREFIX} is a whiteout in an image"
-    if entry.kind == SYMLINK and entry.mode != _LINK_MODE:
+    if entry.kind == SYMLINK and entry.mode != LINK_MODE:
         return f"a symlink of mode {entry.mode:04o}: Linux has them of mode 0777 alone"
     if any("=" in name for name in entry.attributes):
         return "the name of an attribute holds ="
@@ -190,7 +189,7 @@ def _write_layout(files: ImageFiles, manifest: Document, platform: Document, opt
     """What an OCI image layout has beside the blobs of layers, and an archive of it for docker."""
     listed = _put(files, options.out, _MANIFEST_TYPE, manifest) | {"platform": platform}
     if options.tag is not None:
-        listed["annotations"] = {_REF_NAME: options.tag}
+        listed["annotations"] = {REF_NAME: options.tag}
     index = {"schemaVersion": 2, "mediaType": _INDEX_TYPE, "manifests": [listed]}
     files.put("index.json", _json(index))
     if options.out.form is Form.ARCHIVE:

@@ -13,16 +13,15 @@ from .entries import BLOCK, CHAR, DIRECTORY, FILE, NO_ATTRIBUTES, SYMLINK, Entry
 from .faults import cannot_read, reading, reason_of
 from .links import LinkNames, links_path
 from .manifests import write_manifest
-from .places import Chain, open_root
+from .places import Chain, READ, open_root
 from .outputs import is_replaced
 from .progress import Progress, counted, note, note_path
 from .shares import give_blobs
 from .walks import Found, walk
 
-_READ = os.O_RDONLY | os.O_NOFOLLOW | os.O_NONBLOCK | os.O_CLOEXEC
 
 
-@dataclass(frozen=True)
+@dataclass(frozen=True, kw_only=True)
 class ScanOptions:
     """What the words of `scan` say. Without a folder of blobs contents are digested and not copied."""
 
@@ -203,7 +202,7 @@ def _stored(folder: str, chain: Chain, writer: Writer, entry: Entry) -> str:
     *names, name = entry.path[1:].split("/")
     file = -1
     try:
-        file = os.open(name, _READ, dir_fd=chain.folder(names))
+        file = os.open(name, READ, dir_fd=chain.folder(names))
         is_regular = stat.S_ISREG(os.fstat(file).st_mode)
         digest = writer.put(file, entry.size) if is_regular else None
     except OSError as error:

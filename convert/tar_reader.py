@@ -4,7 +4,7 @@ from collections.abc import Iterator
 from typing import Protocol, runtime_checkable
 
 from .budgets import Budget
-from .contents import PIECE
+from .contents import PIECE, ZEROS
 from .sparse import Places, old_places, record_places
 from .streams import Source
 from .tar_headers import (
@@ -15,7 +15,6 @@ from .tar_headers import (
 MAX_RECORDS = 1 << 20  # bytes of the PAX records and long names of an entry; real ones have a few thousand
 MAX_GLOBAL_RECORDS = 1 << 16  # bytes of the records for all entries
 _WITHOUT_DATA = b"123456"  # links, devices, directories and fifos, whatever size they state
-_ZEROS = bytes(PIECE)
 _SMALL = 1 << 12  # bytes of a piece that is put together with others
 
 
@@ -68,7 +67,7 @@ class TarReader:
         at = 0
         for begin, length in [*places, (self._size, 0)]:
             for start in range(at, begin, PIECE):
-                yield _ZEROS[:begin - start]
+                yield ZEROS[:begin - start]
             yield from self._stored(length)
             at = begin + length
 

@@ -19,7 +19,7 @@ from .repeats import Repeats
 from .room import require_room
 
 
-@dataclass(frozen=True)
+@dataclass(frozen=True, kw_only=True)
 class UnpackOptions:
     """What the words of `unpack` say."""
 

@@ -630,7 +630,7 @@ class Mounted(CommandTest):
                 stdout=full, stderr=subprocess.PIPE, check=False,
             )
         self.assertEqual(result.returncode, 4)
-        self.assertTrue(result.stderr.endswith(b"layers: cannot write standard output\n"), result.stderr)
+        self.assertTrue(result.stderr.endswith(b"layers: cannot write standard output: No space left on device\n"), result.stderr)
 
 
 if __name__ == "__main__":
