@@ -17,6 +17,7 @@ import socket
 import stat
 import subprocess
 import sys
+import tarfile
 import time
 import unittest
 import zlib
@@ -542,6 +543,18 @@ class Packing(CommandTest):
             with open(self.path("image", "blobs", "sha256", described["digest"][7:]), "rb") as file:
                 self.assertTrue(file.read().startswith(magic))
             shutil.rmtree(self.path("image"))
+
+    def test_layers_that_are_twice_in_an_archive(self) -> None:
+        layer = self.write_manifest({"path": "/f", "kind": "file", "size": 1, "blob": A})
+        for compress in ("none", "gzip"):
+            words = ("pack", layer, layer, "--blobs", self.path("blobs"), "--compress", compress, "--out")
+            self.require_done(call(*words, self.path("image.tar")))
+            with tarfile.open(self.path("image.tar")) as file:
+                names = file.getnames()
+            self.assertEqual(len(names), len(set(names)))
+            self.require_done(call("unpack", self.path("image.tar"), "--out", self.path("out")))
+            self.assertEqual(read_manifest(self.path("out", "l1.json")), read_manifest(layer))
+            shutil.rmtree(self.path("out"))
 
     def test_gzip_by_any_number_of_processors(self) -> None:
         for size in (0, 1, BLOCK - 1, BLOCK, BLOCK + 1, 5 * BLOCK + 7):
