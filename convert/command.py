@@ -2,9 +2,11 @@
 
 import argparse
 import os
+import re
 import signal
 import sys
 from collections.abc import Callable, Iterable, Sequence
+from fractions import Fraction
 from typing import Any
 
 from . import VERSION
@@ -19,6 +21,7 @@ from .pack import PackOptions, pack
 from .rules import MAX_LAYERS
 from .scan import ScanOptions, scan
 from .shares import MOST_WORKERS, usual_workers
+from .sizes import SizesOptions, sizes
 from .stores import StoreOptions, store
 from .texts import printable
 from .targets import Target, target_of
@@ -41,6 +44,7 @@ examples:
   {name} unpack image.tar --out stack          an image's layers: stack/l0.json is the topmost
   ovl_layers show stack/l0.json stack/l1.json  what the layers show together
   ovl_layers fsck --blobs stack/blobs stack/l0.json stack/l1.json
+  {name} sizes image.tar --html sizes.html       what each layer holds, and what of it isn't shown
   {name} pack stack/l0.json stack/l1.json --blobs stack/blobs --config stack/config.json --out new-image
   sudo {name} scan /srv/upper --out upper.json --blobs blobs
   sudo {name} store /var/lib/docker/overlay2/ID --out stack
@@ -50,6 +54,7 @@ examples:
 exit status:
   0  done
   1  flatten: the layers have faults; the report of ovl_layers fsck is on standard output
+     sizes --fail-over: more than so much isn't shown
   2  words that don't fit
   3  something can't be read, or can't be stated in a manifest or an image
   4  something can't be written
@@ -126,6 +131,17 @@ image shows, byte for byte. What the program refuses is told as it is, with its 
 
 --dry-run prints the commands that do the same by hand."""
 
+_SIZES = """\
+Prints where the bytes of an image's layers go, the topmost layer first: what each layer holds, what of it the
+layers together still show, what layers above hide (removed or replaced, and shipped all the same), and what
+repeats the contents of a lower layer. Then the sums, what one layer would take, and the largest contents that
+aren't shown, with the layer that hides them. convert/README.md defines each number.
+
+Contents are copied nowhere. What the layers show is told by the proved program ovl_layers, as in `flatten`.
+
+--stack takes layers in place of an image, the topmost first: manifests, and folders, whose marks root alone can
+read."""
+
 _MOUNTED = """\
 Prints what is in a folder, such as a mounted overlay, as `ovl_layers show` prints it, so that the two
 can be compared."""
@@ -173,6 +189,7 @@ def _parser() -> argparse.ArgumentParser:
     _add_unpack(_command(commands, "unpack", "an image's layers as manifests and blobs", _UNPACK, _unpack))
     _add_pack(_command(commands, "pack", "manifests and blobs as an image", _PACK, _pack))
     _add_flatten(_command(commands, "flatten", "an image with fewer layers that shows the same", _FLATTEN, _flatten))
+    _add_sizes(_command(commands, "sizes", "what each layer holds, and what of it isn't shown", _SIZES, _sizes))
     _add_mounted(_command(commands, "mounted", "the report of a mounted tree", _MOUNTED, _mounted))
     return parser
 
@@ -242,6 +259,11 @@ def _add_image(parser: argparse.ArgumentParser) -> None:
         "image", metavar="IMAGE",
         help="OCI image layout (folder or tar), or what docker save wrote; - is standard input",
     )
+    _add_choice(parser)
+
+
+def _add_choice(parser: argparse.ArgumentParser) -> None:
+    """Which of several images is read, and how."""
     parser.add_argument("--platform", metavar="OS/ARCH", help="which of several images, such as linux/amd64")
     parser.add_argument("--tag", metavar="NAME", help="which of several images, by its name in the image's index")
     parser.add_argument(
@@ -303,6 +325,27 @@ def _add_flatten(parser: argparse.ArgumentParser) -> None:
     )
 
 
+def _add_sizes(parser: argparse.ArgumentParser) -> None:
+    what = parser.add_mutually_exclusive_group(required=True)
+    what.add_argument(
+        "image", metavar="IMAGE", nargs="?",
+        help="OCI image layout (folder or tar), or what docker save wrote; - is standard input",
+    )
+    what.add_argument("--stack", metavar="LAYER", nargs="+", help="layers in place of an image, the topmost first")
+    _add_choice(parser)
+    _add_userxattr(parser, "of folders, reads")
+    parser.add_argument(
+        "--data-layers", metavar="K", type=int, default=0, help="how many layers, the lowest, are data-only [default: 0]"
+    )
+    parser.add_argument("--json", action="store_true", help="prints it all for a program")
+    parser.add_argument("--bytes", action="store_true", help="prints exact numbers of bytes")
+    parser.add_argument("--html", metavar="FILE", help="page to write besides; - is standard output, in its place")
+    parser.add_argument(
+        "--fail-over", metavar="PERCENT", type=_percent,
+        help="ends with status 1 where more than so much of the bytes isn't shown",
+    )
+
+
 def _add_mounted(parser: argparse.ArgumentParser) -> None:
     parser.add_argument("folder", metavar="DIR", help="mounted tree")
     _add_cross(parser)
@@ -338,6 +381,13 @@ def _layers(text: str) -> int:
     if not 1 <= number <= MAX_LAYERS:
         raise argparse.ArgumentTypeError(f"layers must be 1 to {MAX_LAYERS}")
     return number
+
+
+def _percent(text: str) -> Fraction:
+    share = Fraction(text) if re.fullmatch(r"\d{1,3}(\.\d{1,9})?", text) else Fraction(-1)
+    if not 0 <= share <= 100:
+        raise argparse.ArgumentTypeError("a share is a number from 0 to 100")
+    return share
 
 
 def _platform(text: str) -> str:
@@ -409,6 +459,19 @@ def _flatten(words: argparse.Namespace) -> None:
         _print(flatten_commands(options))
     else:
         flatten(options)
+
+
+def _sizes(words: argparse.Namespace) -> None:
+    if words.stack and (words.platform is not None or words.tag is not None or words.overlay_marks):
+        raise UsageFault("--platform, --tag and --overlay-marks are for images, and a stack is none")
+    if words.image is not None and (words.data_layers or words.userxattr):
+        raise UsageFault("--data-layers and --userxattr are for stacks, and an image is none")
+    sizes(SizesOptions(
+        image=None if words.image is None else _folder(words.image), stack=words.stack or (),
+        data_layers=words.data_layers, platform=words.platform, tag=words.tag,
+        skip_unsupported=words.skip_unsupported, overlay_marks=words.overlay_marks, userxattr=words.userxattr,
+        as_json=words.json, exact=words.bytes, page=words.html, fail_over=words.fail_over,
+    ), _print)
 
 
 def _target(word: str, is_told: bool = False) -> Target:

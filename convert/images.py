@@ -59,6 +59,11 @@ class ImageLayer:
                 _require_digest(self, part.again(), self.digest)
             yield part
 
+    def packed_size(self) -> int | None:
+        """How many bytes it has in the image, where these are compressed."""
+        with self.members.opened(self.name) as part, reading(self.path):
+            return self.size if part.is_packed() else None
+
 
 @dataclass(frozen=True)
 class Image:
@@ -201,7 +206,7 @@ def _wrong_bytes(path: str, digest: Digest) -> ReadFault:
 
 def _require_digest(layer: ImageLayer, part: Slice, digest: Digest) -> None:
     found = hashlib.new(digest[0])
-    progress = Progress(f"checking bytes of {layer.name[-20:]}")
+    progress = Progress(f"checking bytes of {layer.name[-20:]}", part.size())
     with reading(layer.path):
         while piece := part.read(PIECE):
             found.update(piece)

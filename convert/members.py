@@ -13,7 +13,7 @@ from .budgets import Budget, TooMuch
 from .contents import PIECE, write_all
 from .faults import cannot_read, reading, writing
 from .places import READ_WHERE_IT_LEADS
-from .streams import SeekingSlice, Slice, Source, is_packed, unpacked
+from .streams import HEAD_BYTES, SeekingSlice, Slice, Source, is_packed, unpacked
 from .tar_headers import HARD_LINK, REGULAR_TYPES, SYMLINK, TarFault
 from .tar_reader import TarReader
 
@@ -55,7 +55,7 @@ def opened_members(path: str) -> Iterator[Members]:
         is_pipe = stat.S_ISFIFO(status.st_mode) or stat.S_ISSOCK(status.st_mode)
         if not is_pipe and not stat.S_ISREG(status.st_mode):
             raise cannot_read(told, "it is neither a folder, nor a regular file, nor a pipe")
-        if is_pipe or is_packed(file):
+        if is_pipe or is_packed(os.pread(file, HEAD_BYTES, 0)):
             file = _copied(io.FileIO(file, closefd=False) if is_pipe else Slice(file, 0, status.st_size), told, files)
         yield _Archive(file, told)
 

@@ -1,6 +1,5 @@
 """`unpack`: the layers of an image as manifests and blobs, and its configuration."""
 
-import contextlib
 import os
 from dataclasses import dataclass
 
@@ -38,18 +37,22 @@ def unpack(options: UnpackOptions) -> Image:
     Where digests are enough there is no folder `blobs`. An image with annotations has them in `annotations.json`.
     """
     path, tag = image_place(options.image, options.tag)
-    with contextlib.ExitStack() as opened:
-        image = opened.enter_context(opened_image(path, options.platform, tag))
-        if not options.digests_only:
-            # Equal contents are kept once, in one layer and in several, so it isn't known that it takes more.
-            require_room(options.out, options.out, max(layer.size for layer in image.layers))
-        stage = opened.enter_context(new_folder(options.out))
+    with opened_image(path, options.platform, tag) as image:
+        unpack_opened(options, image)
+    return image
+
+
+def unpack_opened(options: UnpackOptions, image: Image) -> None:
+    """The same of an image that is open."""
+    if not options.digests_only:
+        # Equal contents are kept once, in one layer and in several, so it isn't known that it takes more.
+        require_room(options.out, options.out, max(layer.size for layer in image.layers))
+    with new_folder(options.out) as stage:
         with writers(None if options.digests_only else f"{stage}/{stacks.BLOBS}") as new_writer:
             _unpack_layers(options, image.layers, stage, new_writer())
         write_text(f"{stage}/{stacks.CONFIG}", [text_of(image.configuration)])
         if image.annotations:
             write_text(f"{stage}/{stacks.ANNOTATIONS}", [text_of(image.annotations)])
-    return image
 
 
 def _unpack_layers(options: UnpackOptions, layers: list[ImageLayer], stage: str, writer: Writer) -> None:
