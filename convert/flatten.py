@@ -15,10 +15,12 @@ from . import stacks
 from .compression import NONE
 from .contents import PIECE
 from .entries import METACOPY, REDIRECT
-from .faults import Fault, UsageFault, cannot_write, writing
+from .faults import Fault, UsageFault, cannot_write, reading, writing
 from .images import Image, image_place, opened_image, spellings
+from .links import links_path, names_in
 from .manifests import blobs_named_in, has_attribute
 from .members import STANDARD_INPUT
+from .mounted import escaped_path
 from .outputs import kept_folder, new_folder, passing_folder, standard_output
 from .pack import PackOptions, pack
 from .program import NAME, find_program, makes_layers, require_program, run_program, word_of_path, words_of
@@ -133,6 +135,10 @@ class _Steps(Protocol):
     def run(self, step: str, what: str, layers: Sequence[str], new: str) -> None:
         """Runs the program: its report is the file `new`, or where it makes layers, in a folder `new` with them."""
 
+    def vacuum(self, step: str, layers: Sequence[str], new: str) -> str:
+        """The topmost layer without what changes nothing, or as it is where that takes away a name of a hard link, or
+        shows one: below stands the same, but not as the same file."""
+
     def moved(self, layers: Sequence[str]) -> list[int]:
         """The layers with redirects or metacopy files, which no image can state; the lowest first."""
 
@@ -149,8 +155,7 @@ def _carry_out(steps: _Steps, wanted: int) -> tuple[int, int]:
     layers = stacks.layer_paths(_STACK, count)
     steps.run("show", "show", layers, _BEFORE)
     steps.run("fsck", "fsck", layers, f"fsck.{_REPORT}")
-    steps.run("vacuum", "vacuum", layers, "vacuum")
-    layers[0] = _new_layer("vacuum")
+    layers[0] = steps.vacuum("vacuum", layers, "vacuum")
     # Over layers without redirects each loses its own, and then no merge makes any.
     for number in steps.moved(layers):
         steps.run(f"deref of layer {number}", "deref", layers[number:], f"deref-{number}")
@@ -161,8 +166,7 @@ def _carry_out(steps: _Steps, wanted: int) -> tuple[int, int]:
         # The new topmost layer holds a root alone, which the one below it has too.
         layers[:2] = [_new_layer(f"merge-{number}", 1)]
     if merges and len(layers) > 1:
-        steps.run("vacuum of the merged layer", "vacuum", layers, "vacuum-merged")
-        layers[0] = _new_layer("vacuum-merged")
+        layers[0] = steps.vacuum("vacuum of the merged layer", layers, "vacuum-merged")
     steps.run("show of the new layers", "show", layers, _AFTER)
     steps.compare(_AFTER)
     steps.pack(layers)
@@ -183,6 +187,7 @@ class _Doing:
         self._image = image
         self._program = require_program()
         self._name: str | None = None
+        self._count = 0
         self._has_annotations = False
 
     def _path(self, name: str) -> str:
@@ -196,9 +201,10 @@ class _Doing:
                 image=options.image, out=self._path(_STACK), platform=options.platform, tag=options.tag,
                 skip_unsupported=options.skip_unsupported, overlay_marks=options.overlay_marks,
             ))
-            self._name, self._has_annotations = _name_of(image, options), bool(image.annotations)
-            words.append(counted(len(image.layers), "layer", "layers"))
-        return len(image.layers)
+            self._name, self._count = _name_of(image, options), len(image.layers)
+            self._has_annotations = bool(image.annotations)
+            words.append(counted(self._count, "layer", "layers"))
+        return self._count
 
     def run(self, step: str, what: str, layers: Sequence[str], new: str) -> None:
         """See `_Steps`."""
@@ -217,6 +223,21 @@ class _Doing:
             report = f"{new}/{_REPORT}"
         faults = sys.stderr if self._options.out.is_standard_output else sys.stdout
         return run_program(self._program, words, report, faults)
+
+    def vacuum(self, step: str, layers: Sequence[str], new: str) -> str:
+        """See `_Steps`."""
+        self.run(step, "vacuum", layers, new)
+        removed = _removed_in(self._path(f"{new}/{_REPORT}"))
+        if removed and any(escaped_path(name) in removed for name in self._linked()):
+            note(f"{step}: not used, since it takes away names of hard links")
+            return layers[0]
+        return _new_layer(new)
+
+    def _linked(self) -> Iterator[str]:
+        """The names of the hard links that the given layers have or show."""
+        yield from names_in(self._path(f"{_STACK}/{stacks.SHOWN_LINKS}"))
+        for layer in map(self._path, stacks.layer_paths(_STACK, self._count)):
+            yield from names_in(links_path(layer), layer)
 
     def moved(self, layers: Sequence[str]) -> list[int]:
         """See `_Steps`."""
@@ -258,6 +279,12 @@ class _Doing:
             marks = self._options.overlay_marks
             found = unpack(UnpackOptions(image=image, out=again, overlay_marks=marks, digests_only=True))
             return self._run("show", stacks.layer_paths(again, len(found.layers)), self._path(_SHOWN))
+
+
+def _removed_in(report: str) -> set[str]:
+    """The paths, as reports write them, that `vacuum` took away."""
+    with reading(report), open(report, encoding="ascii") as lines:
+        return {words[1] for words in map(str.split, lines) if words[0] == "removed" and words[1].startswith("/")}
 
 
 def _unpacked(options: UnpackOptions) -> Image:
@@ -338,6 +365,12 @@ class _Telling:
         blobs = self._path(f"{_STACK}/{stacks.BLOBS}")
         words = words_of(what, [self._path(layer) for layer in layers], blobs, self._path(new))
         self._add(self._program, *words, into=report)
+
+    def vacuum(self, step: str, layers: Sequence[str], new: str) -> str:
+        """See `_Steps`."""
+        self.run(step, "vacuum", layers, new)
+        self.lines.append("# where it takes away names that a file of links has, go on with the layer before it\n")
+        return _new_layer(new)
 
     def moved(self, layers: Sequence[str]) -> list[int]:
         """None: without marks of the image's own there are none, and with them nobody knows before it is unpacked."""

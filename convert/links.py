@@ -121,6 +121,15 @@ def take_links(layer: str, entries: list[Entry], shown: str | None = None) -> No
             raise cannot_read(shown, str(problem)) from None
 
 
+def names_in(path: str, layer: str | None = None) -> Iterator[str]:
+    """The names in a file of links, of a manifest or of what layers show together."""
+    try:
+        for name, _ in _names(path, layer and _digest(layer)):
+            yield name
+    except NotTaken as problem:
+        raise cannot_read(path, str(problem)) from None
+
+
 def _take_none(entries: Iterable[Entry]) -> None:
     for entry in entries:
         entry.link = 0

@@ -2,6 +2,7 @@
 
 import hashlib
 import io
+import json
 import os
 import random
 import resource
@@ -12,7 +13,8 @@ import tarfile
 import unittest
 
 from images import archive, folder, member, packed, write_layout
-from support import COMMAND, FolderTest, call, links, program_words
+from kernel_stacks import linked_names
+from support import COMMAND, FolderTest, call, links, program_words, why_no_trusted
 
 NAMES = [f"usr/lib/git-core/git-{number}" for number in range(140)]
 GIT = random.Random(1).randbytes(1 << 20)
@@ -20,6 +22,7 @@ LINK = tarfile.LNKTYPE
 REDIRECT = "SCHILY.xattr.trusted.overlay.redirect"
 MEMORY = 128 << 20  # bytes
 SECONDS = 20  # of processor time
+RANDOM_IMAGES = int(os.environ.get("LAYERS_TEST_IMAGES", "15"))
 
 
 def linked_in(image: str) -> dict[str, str]:
@@ -35,12 +38,43 @@ def linked_in(image: str) -> dict[str, str]:
     return found
 
 
+def random_layer(pick: random.Random) -> list[object]:
+    """Files, more names of them here and there, and whiteouts, in three directories."""
+    folders = ["a", "b", "a/c"]
+    members: list[object] = [folder("./"), *map(folder, folders)]
+    names = pick.sample([f"{way}/{name}" for way in folders for name in "12345"], pick.randint(2, 9))
+    firsts: list[str] = []
+    for name in names:
+        if firsts and pick.random() < 0.6:
+            members.append(member(name, kind=LINK, target=pick.choice(firsts)))
+        else:
+            members.append(member(name, pick.choice((b"1", b"22")), mode=pick.choice((0o644, 0o755))))
+        firsts.append(name)
+    hidden = [f"{way}/{name}" for way in folders for name in "12345"]
+    for name in pick.sample(sorted(set(hidden) - set(names)), pick.randint(0, 3)):
+        members.append(member(f"{os.path.dirname(name)}/.wh.{os.path.basename(name)}"))
+    if pick.random() < 0.2:
+        members.append(member("b/.wh..wh..opq"))
+    return members
+
+
+def named(image: str) -> None:
+    """Gives the image of a layout the name x, which umoci asks for."""
+    with open(f"{image}/index.json", "r+", encoding="utf-8") as file:
+        index = json.load(file)
+        index["manifests"][0]["annotations"] = {"org.opencontainers.image.ref.name": "x"}
+        index["manifests"][0]["mediaType"] = "application/vnd.oci.image.manifest.v1+json"
+        file.seek(0)
+        json.dump(index, file)
+
+
 class Links(FolderTest):
     """Images and folders whose files have several names."""
 
     def image(self, *layers: list[object]) -> str:
         """A layout of these layers."""
-        write_layout(self.path("image"), [archive(layer) for layer in layers])  # type: ignore[arg-type]
+        archives = [archive(layer) for layer in layers]  # type: ignore[arg-type]
+        write_layout(self.path("image"), archives, archives)
         return self.path("image")
 
     def git_core(self) -> list[object]:
@@ -233,6 +267,36 @@ class Links(FolderTest):
             self.require_done(call("flatten", image, "--out", out, "--overlay-marks", "--layers", layers))
             wanted = {"n/b": "n/a", "x": "n/a"} if layers == 1 else {"n/b": "n/a", "d/b": "d/a", "x": "d/a"}
             self.assertEqual(linked_in(out), wanted)
+
+    def test_random_images(self) -> None:
+        """What umoci unpacks of images with links, and of their flat forms: equal trees, and the same names one file."""
+        reason = why_no_trusted(self.folder) or (None if shutil.which("umoci") else "needs umoci")
+        if reason or not program_words():
+            self.skipTest(reason or "needs the built program")
+        linked = 0
+        for number in range(RANDOM_IMAGES):
+            pick = random.Random(number)
+            shutil.rmtree(self.path("image"), ignore_errors=True)
+            image = self.image(*(random_layer(pick) for _ in range(pick.randint(2, 5))))
+            named(image)
+            left = pick.randint(1, 3)
+            self.require_done(call("flatten", image, "--out", f"oci:{self.path('flat')}:x", "--layers", left))
+            given, flat = self.unpacked("image"), self.unpacked("flat")
+            self.assertEqual(flat, given, number)
+            linked += len(flat[1])
+        self.assertGreater(linked, RANDOM_IMAGES)
+
+    def unpacked(self, image: str) -> tuple[str, list[str]]:
+        """The tree that umoci makes of an image, and the names in it that are one file; the tree is taken away."""
+        bundle = self.path("bundle")
+        subprocess.run(["umoci", "unpack", "--image", f"{self.path(image)}:x", bundle], check=True)
+        status, printed, told = call("mounted", f"{bundle}/rootfs")
+        self.assertEqual(status, 0, told)
+        names = linked_names(f"{bundle}/rootfs")
+        shutil.rmtree(bundle)
+        if image != "image":
+            shutil.rmtree(self.path(image))
+        return printed, names
 
     def test_folders(self) -> None:
         layer, one, two = self.path("layer"), self.path("one.json"), self.path("two.json")
