@@ -17,7 +17,7 @@ def require_room(told: str, place: str, need: int) -> None:
     with writing(told):
         system = os.statvfs(existing(place))
     room = (system.f_bfree if os.geteuid() == 0 else system.f_bavail) * system.f_frsize
-    if need > room:
+    if system.f_blocks and need > room:  # some file systems know nothing of their room
         raise cannot_write(told, f"it takes at least {need:,} bytes, and {room:,} are free")
 
 

@@ -57,7 +57,7 @@ class Room(FolderTest):
             (self.building, "new", BYTES + 1), (("unpack", self.path("image")), "new", len(LAYER)),
             (("flatten", self.path("image")), "new.tar", len(LAYER)),
         ):
-            system = SimpleNamespace(f_bfree=1, f_bavail=1, f_frsize=FREE)
+            system = SimpleNamespace(f_blocks=1, f_bfree=1, f_bavail=1, f_frsize=FREE)
             with self.subTest(words=words, name=name), mock.patch("os.statvfs", return_value=system), \
                     mock.patch("convert.build.may_clone", return_value=False), \
                     mock.patch("convert.outputs.Stage", side_effect=AssertionError) as stage:
