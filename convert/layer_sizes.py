@@ -62,8 +62,10 @@ class _Stack:
         self._data: list[dict[str, LayerFile]] = [{} for _ in range(data_layers)]
         self.tree = ShownTree(self._data)
 
-    def take(self, number: int, entries: Sequence[Entry]) -> None:
-        """Puts the next layer on top."""
+    def take(self, number: int, layer: str) -> None:
+        """Puts the next layer on top, that of a manifest."""
+        entries = read_manifest(layer)
+        take_links(layer, entries)
         taking = _Layer(number, self.layers[number], self.files[number])
         if number < self._ordinary:
             self.tree.cover(number, entries, taking.file_of)
@@ -116,9 +118,7 @@ def sizes_of(layers: Sequence[str], data_layers: int, report: str) -> Sizes:
     """The sizes of manifests, the topmost first, whose show report is in a file."""
     stack = _Stack(len(layers), data_layers)
     for number in reversed(range(len(layers))):
-        entries = read_manifest(layers[number])
-        take_links(layers[number], entries)
-        stack.take(number, entries)
+        stack.take(number, layers[number])
     sizes = Sizes(stack.layers, tree=stack.tree)
     _take_merged(sizes, report)
     paying = _Paying(stack.files, stack.lowest)

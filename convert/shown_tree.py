@@ -1,7 +1,7 @@
 """What layers show together, and the file of which layer stands at each path: put together from the lowest layer up.
 
-Directories that layers show at several places, by redirects, stand once, and each node counts its uses: so a stack
-takes memory and time by its entries, however often its redirects repeat them.
+What layers show at several places, by redirects, stands once, and each node counts its uses. Only where a layer has
+redirects, or something in what an earlier one's repeat, the directories that it states are copied, within a bound.
 """
 
 from collections.abc import Callable, Iterator, Mapping, Sequence
@@ -9,6 +9,9 @@ from dataclasses import dataclass, field
 
 from . import rules
 from .entries import DIRECTORY, FILE, METACOPY, REDIRECT, Entry, is_opaque, is_whiteout
+from .faults import ReadFault
+
+MAX_COPIES = 1 << 24
 
 
 @dataclass(slots=True, eq=False)
@@ -52,16 +55,17 @@ class ShownTree:
     def __init__(self, data_layers: Sequence[Mapping[str, LayerFile]] = ()) -> None:
         self.root = Directory(uses=1)
         self._data_layers = data_layers
+        self._room = MAX_COPIES
 
     def cover(self, number: int, entries: Sequence[Entry], file_of: Callable[[Entry], LayerFile]) -> None:
         """Puts a layer of this number on top."""
         below = self.root
         if any(REDIRECT in entry.attributes for entry in entries):
             below.uses += 1  # what redirects lead to stays as it is until the layer is on top
-        covering = _Covering(number, below, self._data_layers)
+        covering = _Covering(number, below, self._data_layers, self._room)
         for entry in entries[1:]:
             covering.put(entry, file_of)
-        self.root = covering.root
+        self.root, self._room = covering.root, covering.room
         if self.root is not below:
             below.uses = 1
             self.root.uses = 1
@@ -102,11 +106,14 @@ class _Open:
 class _Covering:
     """One layer on its way onto those below."""
 
-    def __init__(self, number: int, below: Directory, data_layers: Sequence[Mapping[str, LayerFile]]) -> None:
+    def __init__(
+        self, number: int, below: Directory, data_layers: Sequence[Mapping[str, LayerFile]], room: int
+    ) -> None:
         self._number = number
         self._below = below
         self._data_layers = data_layers
-        self.root = _over(below, below)
+        self.room = room  # entries of directories that may be copied yet
+        self.root = self._over(below, below)
         self._open = [_Open(self.root, below)]
 
     def put(self, entry: Entry, file_of: Callable[[Entry], LayerFile]) -> None:
@@ -121,7 +128,7 @@ class _Covering:
         elif entry.kind == DIRECTORY:
             lower = None if is_opaque(entry) else self._next(entry, place, name)
             lower = lower if isinstance(lower, Directory) else None
-            folder = _over(place.folder.children.get(name), lower)
+            folder = self._over(place.folder.children.get(name), lower)
             self._place(place.folder, name, folder)
             self._open.append(_Open(folder, lower))
         elif entry.kind == FILE:
@@ -169,6 +176,20 @@ class _Covering:
         if before is not None:
             self.release(before)
 
+    def _over(self, before: Node | None, lower: Directory | None) -> Directory:
+        """The directory that stands over what those below show in its place: the same where nothing else uses it."""
+        if lower is None:
+            return Directory()
+        if lower is before and lower.uses == 1:
+            return lower
+        self.room -= len(lower.children)
+        if self.room < 0:
+            raise ReadFault(f"layer {self._number}: what redirects repeat has over {MAX_COPIES:,} entries")
+        for child in lower.children.values():
+            if not isinstance(child, Other):
+                child.uses += 1
+        return Directory(dict(lower.children))
+
     def release(self, node: Node) -> None:
         """Takes one use away from what this layer hides, and from all in it that nothing else uses."""
         todo = [node]
@@ -185,18 +206,6 @@ class _Covering:
                 node.hidden_by = self._number
                 if node.data is not None:
                     todo.append(node.data)
-
-
-def _over(before: Node | None, lower: Directory | None) -> Directory:
-    """The directory that stands over what those below show in its place: the same one where nothing else uses it."""
-    if lower is None:
-        return Directory()
-    if lower is before and lower.uses == 1:
-        return lower
-    for child in lower.children.values():
-        if not isinstance(child, Other):
-            child.uses += 1
-    return Directory(dict(lower.children))
 
 
 def read_redirect(value: bytes) -> str | list[str] | None:

@@ -1,5 +1,6 @@
 """`sizes`: its numbers beside the definitions, read plainly; its table, its refusals, and images."""
 
+import contextlib
 import json
 import os
 import unittest
@@ -11,10 +12,12 @@ from images import archive, folder, member, packed, put_index, put_manifest
 from plain_stacks import PlainSizes, PlainStack, random_stack
 from support import FolderTest, call, program_words, why_no_trusted
 
-from convert.entries import Entry
+from convert.entries import DIRECTORY, REDIRECT, SYMLINK, Entry
+from convert.faults import ReadFault
 from convert.layer_sizes import sizes_of
 from convert.links import count_links, links_path
 from convert.manifests import read_manifest, written
+from convert.shown_tree import ShownTree
 from convert.size_texts import Origin, json_text, size_text
 
 _STACKS = 200
@@ -131,6 +134,17 @@ class Definitions(FolderTest):
             with self.subTest(seed=seed):
                 self.assertEqual(told["one-layer"], wanted.one_layer())
                 self.assertEqual(told["not-shown"], wanted.not_shown())
+
+    def test_what_redirects_repeat_is_bounded(self) -> None:
+        lower = [Entry("/", DIRECTORY, 0o755), Entry("/d", DIRECTORY, 0o755)]
+        lower += [Entry(f"/d/{number}", SYMLINK, 0o777, target="a") for number in range(4)]
+        upper = [lower[0], *(Entry(f"/{name}", DIRECTORY, 0o755, attributes={REDIRECT: b"/d"}) for name in "abc")]
+        for room, is_refused in ((13, False), (12, True)):  # the root's one name, and thrice four
+            tree = ShownTree()
+            tree._room = room
+            tree.cover(1, lower, lambda _: self.fail())
+            with self.assertRaises(ReadFault) if is_refused else contextlib.nullcontext():
+                tree.cover(0, upper, lambda _: self.fail())
 
 
 class Telling(SizesTest):
