@@ -11,9 +11,13 @@ _PREFIX = WHITEOUT_PREFIX.encode()
 
 
 class Paths:
-    """Paths of an archive as lists of names. Those of one folder mostly follow one another."""
+    """Paths of an archive as lists of names. Those of one folder mostly follow one another.
 
-    def __init__(self) -> None:
+    In an image's layer names that begin with `.wh.` mean whiteouts.
+    """
+
+    def __init__(self, has_whiteouts: bool = True) -> None:
+        self._has_whiteouts = has_whiteouts
         self._folder = b""
         self._names: list[str] = []
 
@@ -21,13 +25,45 @@ class Paths:
         """The names of a path, which counts from the layer's root in any case, and never leads out of it."""
         folder, slash, last = path.rpartition(b"/")
         if last in (b"", b".", b".."):
-            return _all_names(path, what)
+            names = self._all_names(path, what)
+            self._require_no_whiteout(path, names[:-1], names)
+            return names
         if folder != self._folder or not slash:
-            names = _all_names(folder, what) if slash else []
-            if may_be_special(folder) and any(map(_is_whiteout_name, names)) and not is_of_aufs(names):
-                raise Unfit("its path leads through a whiteout")
+            names = self._all_names(folder, what) if slash else []
+            self._require_no_whiteout(folder, names, names)
             self._folder, self._names = folder, names
-        return [*self._names, _checked(_text(last))]
+        return [*self._names, self._checked(_text(last))]
+
+    def _all_names(self, path: bytes, what: str) -> list[str]:
+        parts: list[bytes] = []
+        for part in path.split(b"/"):
+            if part == b"..":
+                if not parts:
+                    raise Unfit(f"{what} leads out of the layer by ..")
+                parts.pop()
+            elif part not in (b"", b"."):
+                parts.append(part)
+        if len(parts) > rules.MAX_NAMES + 1:  # the last one may be a whiteout in the deepest directory
+            raise Unfit(f"it is {len(parts)} names deep, over {rules.MAX_NAMES}")
+        return self._checked_names(parts)
+
+    def _checked_names(self, parts: list[bytes]) -> list[str]:
+        """Parts of a path as names; refuses those that can't be names. Mostly all are plain, which is seen at once."""
+        way = b"/".join(parts)
+        if way.isascii() and b"\0" not in way and max(map(len, parts), default=0) <= rules.MAX_NAME_BYTES:
+            return way.decode().split("/") if parts else []
+        return [self._checked(_text(part)) for part in parts]
+
+    def _require_no_whiteout(self, path: bytes, way: list[str], names: list[str]) -> None:
+        is_way_special = self._has_whiteouts and may_be_special(path)
+        if is_way_special and any(map(_is_whiteout_name, way)) and not is_of_aufs(names):
+            raise Unfit("its path leads through a whiteout")
+
+    def _checked(self, name: str) -> str:
+        problem = rules.name_problem(_without_prefix(name) if self._has_whiteouts else name)
+        if problem:
+            raise Unfit(problem)
+        return name
 
 
 def may_be_special(path: bytes) -> bool:
@@ -44,40 +80,8 @@ def _is_whiteout_name(name: str) -> bool:
     return name.startswith(WHITEOUT_PREFIX)
 
 
-def _all_names(path: bytes, what: str) -> list[str]:
-    parts: list[bytes] = []
-    for part in path.split(b"/"):
-        if part == b"..":
-            if not parts:
-                raise Unfit(f"{what} leads out of the layer by ..")
-            parts.pop()
-        elif part not in (b"", b"."):
-            parts.append(part)
-    if len(parts) > rules.MAX_NAMES + 1:  # the last one may be a whiteout in the deepest directory
-        raise Unfit(f"it is {len(parts)} names deep, over {rules.MAX_NAMES}")
-    names = _checked_names(parts)
-    if may_be_special(path) and any(map(_is_whiteout_name, names[:-1])) and not is_of_aufs(names):
-        raise Unfit("its path leads through a whiteout")
-    return names
-
-
-def _checked_names(parts: list[bytes]) -> list[str]:
-    """Parts of a path as names; refuses those that can't be names. Mostly all are plain, which is seen at once."""
-    way = b"/".join(parts)
-    if way.isascii() and b"\0" not in way and max(map(len, parts), default=0) <= rules.MAX_NAME_BYTES:
-        return way.decode().split("/") if parts else []
-    return [_checked(_text(part)) for part in parts]
-
-
 def _text(name: bytes) -> str:
     return name.decode("utf-8", "surrogateescape")
-
-
-def _checked(name: str) -> str:
-    problem = rules.name_problem(_without_prefix(name))
-    if problem:
-        raise Unfit(problem)
-    return name
 
 
 def _without_prefix(name: str) -> str:

@@ -5,12 +5,14 @@ import copy
 import functools
 import hashlib
 import os
-from collections.abc import Callable, Mapping
+from collections.abc import Callable, Hashable, Mapping
 from dataclasses import dataclass, replace
+from typing import Protocol
 
 from . import rules
 from . import tar_headers as tar
 from .archive_names import AUFS_LINKS, OPAQUE_NAME, WHITEOUT_PREFIX, Paths, is_of_aufs, may_be_special
+from .attributes import Unstated, marks_from_user
 from .below import Below
 from .blobs import Digester, Writer
 from .budgets import TooMuch
@@ -20,13 +22,12 @@ from .entries import (
     is_whiteout,
 )
 from .faults import cannot_read, writing
-from .images import Digest, ImageLayer
 from .layer_tree import Attributes, Blocked, Gap, Held, LayerTree, Unfit, whiteout
 from .losses import Loss, Losses
 from .progress import Progress, note
 from .repeats import Contents, Kept, Repeats
 from .room import require_room
-from .streams import Digesting, Source, buffered, unpacked
+from .streams import Digesting, Source, buffered
 from .tar_headers import HARD_LINK, REGULAR_TYPES, Header
 from .tar_reader import TarReader
 from .times import ONE_SECOND
@@ -43,9 +44,38 @@ _GAPS = {
 }
 
 
+class Layer(Protocol):
+    """A layer whose archive can be read."""
+
+    @property
+    def name(self) -> str:
+        """What it is called in notes."""
+
+    @property
+    def path(self) -> str:
+        """What it is called in faults."""
+
+    @property
+    def unpacked_digest(self) -> tuple[str, str] | None:
+        """The algorithm and the digits of the digest of the archive's bytes, where they are known."""
+
+    def is_checked(self) -> bool:
+        """Whether these bytes are looked at before they are read."""
+
+    def identity(self) -> Hashable:
+        """The same for two layers of the same bytes."""
+
+    def archive(self) -> contextlib.AbstractContextManager[Source]:
+        """The bytes of its archive, unpacked. Tells what is wrong with them as a fault of its path."""
+
+
 @dataclass(frozen=True)
 class Taking:
-    """What is taken of an image's layers, and where they go."""
+    """What is taken of the archives of layers, and where it goes.
+
+    The archive of a layer's folder has whiteouts as the kernel has them, and no names with a meaning of their
+    own; its marks are those of a mount, with `userxattr` or without.
+    """
 
     out: str
     skip_unsupported: bool
@@ -53,32 +83,36 @@ class Taking:
     writer: Writer
     held: Held
     below: Below
-    repeats: Repeats
+    is_folder: bool = False
+    userxattr: bool = False
+    most_contents: int | None = None  # bytes of all its files, where they are bounded
+    repeats: Repeats | None = None  # of an image, which may name a layer again
 
 
 class LayerArchive:
     """One layer's archive."""
 
-    def __init__(self, layer: ImageLayer, taking: Taking) -> None:
+    def __init__(self, layer: Layer, taking: Taking) -> None:
         self._layer = layer
         self._taking = taking
         self._tree = LayerTree(taking.held)
-        self._paths = Paths()
+        self._paths = Paths(not taking.is_folder)
         self._losses = Losses()
+        self._contents = 0
         self._aufs_links: dict[str, Entry] = {}
 
     def tree(self) -> LayerTree:
         """The layer, where its bytes are those that the image names."""
         layer = self._layer
         progress = Progress(f"unpacking {layer.name[-20:]}")
-        kept = self._taking.repeats.kept(layer)
+        repeats = self._taking.repeats
+        kept = repeats.kept(layer) if repeats else None
         try:
             if kept is not None:
                 self._take_kept(kept, progress)
             else:
-                with layer.opened() as part, unpacked(part, layer.path) as stream:
-                    is_checked = layer.unpacked_digest == layer.digest and not part.is_packed()
-                    self._read_checked(stream, None if is_checked else layer.unpacked_digest, progress)
+                with layer.archive() as stream:
+                    self._read_checked(stream, progress)
             self._tree.settle(self._taking.below.root, lambda gap, path: self._losses.add(_GAPS[gap], path))
         except TooMuch as problem:
             raise cannot_read(layer.path, str(problem)) from None
@@ -94,11 +128,11 @@ class LayerArchive:
             self._take_fitting(header, _known(contents))
             progress.step()
 
-    def _read_checked(self, stream: Source, digest: Digest | None, progress: Progress) -> None:
-        if digest is None:
+    def _read_checked(self, stream: Source, progress: Progress) -> None:
+        if self._layer.unpacked_digest is None or self._layer.is_checked():
             self._read(stream, progress)
             return
-        algorithm, wanted = digest
+        algorithm, wanted = self._layer.unpacked_digest
         source = Digesting(stream, algorithm)
         self._read(source, progress)
         if source.digest.hexdigest() != wanted:
@@ -106,7 +140,8 @@ class LayerArchive:
 
     def _read(self, stream: Source, progress: Progress) -> None:
         archive = TarReader(buffered(stream), self._taking.held.budget)
-        keeping = self._taking.repeats.keeping(self._layer)
+        repeats = self._taking.repeats
+        keeping = repeats.keeping(self._layer) if repeats else None
         for header in archive:
             store: Store = functools.partial(self._store, archive, header)
             if keeping is not None:
@@ -121,20 +156,24 @@ class LayerArchive:
             self._take(header, store)
         except Unfit as problem:
             self._refuse_or_note(header, str(problem))
+        except Unstated as problem:
+            raise cannot_read(self._layer.path, f"{os.fsdecode(header.name)}: {problem.text}") from None
 
     def _take(self, header: Header, store: Store) -> None:
         names = self._paths.names(header.name)
         is_special = names and may_be_special(header.name)
         if is_special and (names[-1].startswith(WHITEOUT_PREFIX) or is_of_aufs(names)):
-            self._take_special(header, names, store)
-            return
+            if not self._taking.is_folder:
+                self._take_special(header, names, store)
+                return
+            self._losses.add(Loss.WHITEOUT_NAME, _path(names))
         entry = self._entry(header, names)
         self._tree.folder(names[:-1])
         if header.type == HARD_LINK:
             entry = self._linked(header, names)
         elif entry.kind == FILE:
             _fill(entry, store)
-        elif is_whiteout(entry):
+        elif is_whiteout(entry) and not self._taking.is_folder:
             self._losses.add(Loss.DEVICE, _path(names))
         self._tree.put(names, entry)
 
@@ -205,7 +244,11 @@ class LayerArchive:
         return found.kept
 
     def _decoded(self, raw: Mapping[bytes, bytes]) -> Attributes:
-        attributes = {name.decode("utf-8", "surrogateescape"): value for name, value in raw.items()}
+        attributes: Mapping[str, bytes] = {
+            name.decode("utf-8", "surrogateescape"): value for name, value in raw.items()
+        }
+        if self._taking.userxattr:
+            attributes = marks_from_user(attributes)
         takes_marks = self._taking.overlay_marks
         kept = {name: value for name, value in attributes.items() if takes_marks or not name.startswith(OVERLAY)}
         problem = next(filter(None, map(rules.attribute_problem, kept)), None) or rules.attributes_problem(kept)
@@ -215,27 +258,30 @@ class LayerArchive:
 
     def _linked(self, header: Header, names: list[str]) -> Entry:
         """One more name of a file of this layer, or a copy of one of the layers below."""
-        told = os.fsdecode(header.target)
-        linked = Paths().names(header.target, "the file that it links to")
+        told, is_folder = os.fsdecode(header.target), self._taking.is_folder
+        linked = Paths(not is_folder).names(header.target, "the file that it links to")
         aufs = self._aufs_links.get(_path(linked))
-        here = aufs or (self._tree.file_at(linked, None) if linked else None)
+        here = aufs or (self._tree.file_at(linked, None, is_folder) if linked else None)
         found = here or (self._tree.file_at(linked, self._taking.below.root) if linked else None)
         if found is None:
             raise Unfit(f"it links to {told}, which is no file of this layer so far or of those below")
-        if METACOPY in found.attributes:
+        if METACOPY in found.attributes and not is_folder:
             raise Unfit(f"it links to {told}, a file without its contents")
         self._taking.held.budget.attributes.take(len(found.attributes))
-        if here:
-            here.link = here.link or self._taking.held.new_link()
-        else:
+        if here is None:
             self._losses.add(Loss.LOWER_LINK, _path(names))
+        elif not is_whiteout(here):  # the kernel links the whiteouts of a mount to one another, which nothing shows
+            here.link = here.link or self._taking.held.new_link()
         own = copy.copy(found)
         own.link = here.link if here else 0
         return own
 
     def _store(self, archive: TarReader, header: Header) -> Contents:
         """Writes an entry's data as a blob, zeros as holes."""
-        writer = self._taking.writer
+        most, writer = self._taking.most_contents, self._taking.writer
+        self._contents += header.size
+        if most is not None and self._contents > most:
+            raise TooMuch(f"its files have over {most:,} bytes, which is more than its own size speaks for")
         if header.size == 0:
             return _NO_CONTENTS
         if isinstance(writer, Digester):

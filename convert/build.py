@@ -35,6 +35,13 @@ class BuildOptions:
     blobs: str
     out: str
     userxattr: bool = False
+    compress: str | None = None  # of a squashfs; where it isn't said, the program's default
+    name: str | None = None  # what it is called in faults and notes, where it isn't made at its place
+
+    @property
+    def told(self) -> str:
+        """What it is called in faults and notes."""
+        return self.name or self.out
 
 
 def build(options: BuildOptions) -> None:
@@ -43,15 +50,15 @@ def build(options: BuildOptions) -> None:
     take_links(options.layer, entries)
     need, firsts = 0, FirstNames()
     for entry in entries:
-        problem = _problem(entry, options.userxattr)
+        problem = entry_problem(entry, options.userxattr)
         if problem:
-            raise cannot_write(options.out + entry.path, problem)
+            raise cannot_write(options.told + entry.path, problem)
         if entry.names_contents():
             with opened_blob(options.blobs, str(entry.blob), entry.size) as file:
                 taken = min(entry.size, os.fstat(file).st_blocks * _STAT_BLOCK)
             need += taken if firsts.before(entry) is None else 0
     if not may_clone(options.blobs, existing(options.out)):
-        require_room(options.out, options.out, need)
+        require_room(options.told, options.out, need)
     with new_folder(options.out) as stage:
         with writing(options.out):
             root = open_root(stage)
@@ -62,7 +69,7 @@ def build(options: BuildOptions) -> None:
     _finish_root(options, entries)
 
 
-def _problem(entry: Entry, userxattr: bool) -> str | None:
+def entry_problem(entry: Entry, userxattr: bool) -> str | None:
     """Why Linux can't have this entry."""
     if entry.kind == SYMLINK and entry.mode != LINK_MODE:
         return f"a symlink of mode {entry.mode:04o}: Linux has them of mode 0777 alone"
@@ -170,7 +177,7 @@ class _Builder:
         hint = ""
         if isinstance(error, PermissionError):
             hint = "; owners, devices and trusted.* attributes need root, try sudo"
-        return cannot_write(self._options.out + entry.path, reason_of(error) + hint)
+        return cannot_write(self._options.told + entry.path, reason_of(error) + hint)
 
 
 def _make_other(entry: Entry, name: str, parent: int) -> None:

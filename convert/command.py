@@ -9,12 +9,15 @@ from collections.abc import Callable, Iterable, Sequence
 from fractions import Fraction
 from typing import Any
 
-from . import VERSION
-from .build import BuildOptions, build
+from . import VERSION, squashfs
+from .build import BuildOptions
+from .build_squashfs import SUFFIX as SQUASHFS_SUFFIX
+from .build_squashfs import build_layer
 from .compression import COMPRESSIONS, NONE
 from .configuration import USUAL_PLATFORM
 from .faults import OTHER, Fault, UsageFault
 from .flatten import FlattenOptions, flatten, flatten_commands
+from .flatten_stack import FlattenStackOptions, OutForm, flatten_stack
 from .mounted import report
 from .outputs import standard_output
 from .pack import PackOptions, pack
@@ -22,6 +25,7 @@ from .rules import MAX_LAYERS
 from .scan import ScanOptions, scan
 from .shares import MOST_WORKERS, usual_workers
 from .sizes import SizesOptions, sizes
+from .stack_layers import StackOptions
 from .stores import StoreOptions, store
 from .texts import printable
 from .targets import Target, target_of
@@ -29,6 +33,8 @@ from .unpack import UnpackOptions, unpack
 
 NAME = "layers"
 _INTERRUPTED = 128
+_OF_IMAGES = ("platform", "tag", "overlay_marks", "dry_run")  # words of `flatten`
+_OF_STACKS = ("blobs", "data_layers", "form", "userxattr", "cross_file_systems")
 
 _ABOUT = """\
 Turns real layers into manifests for ovl_layers, and manifests into real layers.
@@ -47,6 +53,7 @@ examples:
   {name} sizes image.tar --html sizes.html       what each layer holds, and what of it isn't shown
   {name} pack stack/l0.json stack/l1.json --blobs stack/blobs --config stack/config.json --out new-image
   sudo {name} scan /srv/upper --out upper.json --blobs blobs
+  sudo {name} flatten --stack /srv/upper live.squashfs --out new.squashfs
   sudo {name} store /var/lib/docker/overlay2/ID --out stack
   sudo {name} build upper.json --blobs blobs --out upper
   ovl_layers show l0.json l1.json | diff - <(sudo {name} mounted /mnt)
@@ -63,7 +70,10 @@ exit status:
 `{name} COMMAND --help` tells the words of a command."""
 
 _SCAN = """\
-Writes the manifest of a layer's folder, and the contents of its files into the folder of blobs.
+Writes the manifest of a layer, and the contents of its files into the folder of blobs. LAYER is the layer's
+folder, a squashfs file, or a tar archive of the folder with its attributes. In all of them a char device 0:0
+is a whiteout, trusted.overlay.* are marks, and names that begin with .wh. are names like others. A squashfs
+is read by sqfs2tar (in Debian's squashfs-tools-ng); it gives no sockets, which is counted and said.
 
 Links are never followed, and other file systems aren't entered. Anything that a manifest can't state
 is refused, before anything is written: names that aren't UTF-8, paths over 128 names or 4,095 bytes,
@@ -73,7 +83,7 @@ NAME.links beside NAME.json says so, for `build` and `pack`; for standard output
 With --digests-only in place of --blobs contents are read for their digests and copied nowhere, which is
 enough for `ovl_layers show`.
 
-Reading the marks of an overlay (trusted.overlay.*) needs root."""
+Reading the marks of an overlay (trusted.overlay.*) of a folder needs root; of a file it doesn't."""
 
 _STORE = """\
 Writes a layer that docker (overlay2) or podman and buildah (containers-storage) keep on this machine, and
@@ -87,10 +97,14 @@ DIR is the folder of the topmost layer, such as /var/lib/docker/overlay2/ID or
 Reading the marks of an overlay (trusted.overlay.*) needs root."""
 
 _BUILD = """\
-Makes the folder of a manifest: kinds, modes, owners, times, attributes, devices and whiteouts, as the
-kernel has them. Contents are checked against their digests. Names that are one file, by the LAYER.links
-that `scan` writes beside LAYER.json, become hard links. Owners, devices and trusted.overlay.* attributes
-need root."""
+Makes the folder of a manifest, or a squashfs where the name ends in .squashfs: kinds, modes, owners, times,
+attributes, devices and whiteouts, as the kernel has them. Contents are checked against their digests. Names
+that are one file, by the LAYER.links that `scan` writes beside LAYER.json, become hard links. Owners, devices
+and trusted.overlay.* attributes of a folder need root.
+
+A squashfs is made by tar2sqfs (in Debian's squashfs-tools-ng), without any rights, of the same bytes for the same
+input. It has no sockets, and times in whole seconds from 1970 to 2105, which is counted and said. It gets its
+name once it was read again and gives the manifest back."""
 
 _UNPACK = """\
 Writes the layers of an image as manifests: DIR/l0.json, the topmost, DIR/l1.json and so on, and the
@@ -129,7 +143,12 @@ Nothing is written unless the merged layers, and the new image when it is read a
 image shows, byte for byte. What the program refuses is told as it is, with its status. --out is as for
 `pack`: with -, an archive on standard output, nothing else goes there.
 
---dry-run prints the commands that do the same by hand."""
+--dry-run prints the commands that do the same by hand.
+
+With --stack LAYER.. layers on a disk take an image's place, the topmost first: folders, squashfs files, tar
+archives of folders, or manifests with --blobs. One layer is written: a squashfs where the name of --out ends
+in .squashfs, a folder otherwise; with --layers over 1, a folder of layers l0, the topmost, l1 and so on. The
+steps and comparisons are the same, but that a squashfs has no sockets and times in whole seconds alone."""
 
 _SIZES = """\
 Prints where the bytes of an image's layers go, the topmost layer first: what each layer holds, what of it the
@@ -139,12 +158,23 @@ aren't shown, with the layer that hides them. convert/README.md defines each num
 
 Contents are copied nowhere. What the layers show is told by the proved program ovl_layers, as in `flatten`.
 
---stack takes layers in place of an image, the topmost first: manifests, and folders, whose marks root alone can
-read."""
+--stack takes layers in place of an image, the topmost first: manifests, squashfs files, tar archives of folders,
+and folders, whose marks root alone can read."""
 
 _MOUNTED = """\
 Prints what is in a folder, such as a mounted overlay, as `ovl_layers show` prints it, so that the two
 can be compared."""
+
+
+_IMAGE = "OCI image layout (folder or tar), or what docker save wrote; - is standard input"
+_NEW_IMAGE = (
+    "folder to make, or a file whose name ends in .tar; - is such an archive on standard output; or as skopeo "
+    "names it: oci:DIR:TAG, oci-archive:FILE:TAG, docker-archive:FILE:NAME, dir:DIR"
+)
+_PACKS = (
+    "packs the layers; zstd needs the program of that name, and is read by podman, buildah, containerd and "
+    "docker from 23 on, not by umoci and older dockers [default: none]"
+)
 
 
 def main(words: Sequence[str]) -> int:
@@ -181,7 +211,7 @@ def _parser() -> argparse.ArgumentParser:
     )
     parser.add_argument("--version", action="version", version=f"{NAME} {VERSION}", help="print the version and exit")
     commands = parser.add_subparsers(title="commands", metavar="COMMAND", required=True)
-    _add_scan(_command(commands, "scan", "a layer's folder as a manifest and blobs", _SCAN, _scan))
+    _add_scan(_command(commands, "scan", "a layer as a manifest and blobs", _SCAN, _scan))
     for name, short in (("store", "a layer of docker or podman with those below it; or import"), ("import", None)):
         _add_store(_command(commands, name, short, _STORE, _store))
     for name, short in (("build", "the folder of a manifest; or extract"), ("extract", None)):
@@ -208,7 +238,7 @@ def _command(
 
 
 def _add_scan(parser: argparse.ArgumentParser) -> None:
-    parser.add_argument("folder", metavar="DIR", help="folder of a layer")
+    parser.add_argument("layer", metavar="LAYER", help="folder of a layer, a squashfs, or a tar archive of the folder")
     parser.add_argument("--out", metavar="FILE", required=True, help="manifest to write; - is standard output")
     contents = parser.add_mutually_exclusive_group(required=True)
     contents.add_argument("--blobs", metavar="DIR", help="folder of blobs, made where it is absent")
@@ -234,6 +264,10 @@ def _add_reading(parser: argparse.ArgumentParser) -> None:
     _add_userxattr(parser, "reads")
     _add_cross(parser)
     _add_skip(parser)
+    _add_workers(parser)
+
+
+def _add_workers(parser: argparse.ArgumentParser) -> None:
     parser.add_argument(
         "--workers", metavar="N", type=_workers, default=usual_workers(),
         help=f"how many processes read files, 1 to {MOST_WORKERS} [default: the processors, at most 4]",
@@ -243,7 +277,13 @@ def _add_reading(parser: argparse.ArgumentParser) -> None:
 def _add_build(parser: argparse.ArgumentParser) -> None:
     parser.add_argument("layer", metavar="LAYER", help="manifest of a layer")
     parser.add_argument("--blobs", metavar="DIR", required=True, help="folder with the contents of its files")
-    parser.add_argument("--out", metavar="DIR", required=True, help="folder to make, absent or empty")
+    parser.add_argument(
+        "--out", metavar="OUT", required=True,
+        help=f"folder to make, absent or empty, or a file whose name ends in {SQUASHFS_SUFFIX}",
+    )
+    parser.add_argument(
+        "--compress", choices=squashfs.COMPRESSIONS, help="packs the squashfs [default: as tar2sqfs does it]"
+    )
     _add_userxattr(parser, "writes")
 
 
@@ -253,12 +293,12 @@ def _add_unpack(parser: argparse.ArgumentParser) -> None:
     _add_digests_only(parser)
 
 
-def _add_image(parser: argparse.ArgumentParser) -> None:
+def _add_image(parser: argparse.ArgumentParser, may_be_absent: bool = False) -> None:
     """Which image is read, and how."""
-    parser.add_argument(
-        "image", metavar="IMAGE",
-        help="OCI image layout (folder or tar), or what docker save wrote; - is standard input",
-    )
+    if may_be_absent:
+        parser.add_argument("image", metavar="IMAGE", nargs="?", help=_IMAGE)
+    else:
+        parser.add_argument("image", metavar="IMAGE", help=_IMAGE)
     _add_choice(parser)
 
 
@@ -299,21 +339,21 @@ def _add_pack(parser: argparse.ArgumentParser) -> None:
 
 def _add_new_image(parser: argparse.ArgumentParser) -> None:
     """Which image is written."""
-    parser.add_argument(
-        "--out", metavar="IMAGE", required=True,
-        help="folder to make, or a file whose name ends in .tar; - is such an archive on standard output; or as skopeo "
-        "names it: oci:DIR:TAG, oci-archive:FILE:TAG, docker-archive:FILE:NAME, dir:DIR",
-    )
-    parser.add_argument(
-        "--compress", choices=COMPRESSIONS, default=NONE,
-        help="packs the layers; zstd needs the program of that name, and is read by podman, buildah, containerd and "
-        "docker from 23 on, not by umoci and older dockers [default: none]",
-    )
+    _add_out(parser, _NEW_IMAGE)
+    parser.add_argument("--compress", choices=COMPRESSIONS, default=NONE, help=_PACKS)
+
+
+def _add_out(parser: argparse.ArgumentParser, told: str) -> None:
+    parser.add_argument("--out", metavar="IMAGE", required=True, help=told)
 
 
 def _add_flatten(parser: argparse.ArgumentParser) -> None:
-    _add_image(parser)
-    _add_new_image(parser)
+    _add_image(parser, may_be_absent=True)
+    _add_out(parser, f"{_NEW_IMAGE}; with --stack a folder, or a file whose name ends in {SQUASHFS_SUFFIX}")
+    parser.add_argument(
+        "--compress", choices=dict.fromkeys((*COMPRESSIONS, *squashfs.COMPRESSIONS)),
+        help=f"{_PACKS}; xz and lz4 are for a squashfs, which is packed by default as tar2sqfs does it",
+    )
     parser.add_argument(
         "--layers", metavar="N", type=_layers, default=1, help="how many layers are left at most [default: 1]"
     )
@@ -323,14 +363,32 @@ def _add_flatten(parser: argparse.ArgumentParser) -> None:
     parser.add_argument(
         "--dry-run", action="store_true", help="prints the commands, as a shell takes them, and runs none"
     )
+    _add_stack(parser)
+
+
+def _add_stack(parser: argparse.ArgumentParser) -> None:
+    """Which layers are read in place of an image's, and how."""
+    parser.add_argument(
+        "--stack", metavar="LAYER", nargs="+",
+        help="layers in place of an image, the topmost first: folders, squashfs files, tar archives or manifests",
+    )
+    parser.add_argument("--blobs", metavar="DIR", help="with --stack: folder with the contents of manifests")
+    parser.add_argument(
+        "--data-layers", metavar="K", type=_data_layers, default=0,
+        help="with --stack: how many of the layers, the lowest ones, are data-only [default: 0]",
+    )
+    parser.add_argument(
+        "--form", choices=[form.value for form in OutForm],
+        help="with --stack: what layers are written as [default: what the name of --out says]",
+    )
+    _add_userxattr(parser, "with --stack: reads and writes")
+    _add_cross(parser)
+    _add_workers(parser)
 
 
 def _add_sizes(parser: argparse.ArgumentParser) -> None:
     what = parser.add_mutually_exclusive_group(required=True)
-    what.add_argument(
-        "image", metavar="IMAGE", nargs="?",
-        help="OCI image layout (folder or tar), or what docker save wrote; - is standard input",
-    )
+    what.add_argument("image", metavar="IMAGE", nargs="?", help=_IMAGE)
     what.add_argument("--stack", metavar="LAYER", nargs="+", help="layers in place of an image, the topmost first")
     _add_choice(parser)
     _add_userxattr(parser, "of folders, reads")
@@ -383,6 +441,13 @@ def _layers(text: str) -> int:
     return number
 
 
+def _data_layers(text: str) -> int:
+    number = int(text)
+    if not 0 <= number < MAX_LAYERS:
+        raise argparse.ArgumentTypeError(f"data-only layers must be 0 to {MAX_LAYERS - 1}")
+    return number
+
+
 def _percent(text: str) -> Fraction:
     share = Fraction(text) if re.fullmatch(r"\d{1,3}(\.\d{1,9})?", text) else Fraction(-1)
     if not 0 <= share <= 100:
@@ -411,7 +476,7 @@ def _folder(path: str) -> str:
 
 def _scan(words: argparse.Namespace) -> None:
     scan(ScanOptions(
-        folder=_folder(words.folder), out=words.out, blobs=None if words.digests_only else _folder(words.blobs),
+        layer=_folder(words.layer), out=words.out, blobs=None if words.digests_only else _folder(words.blobs),
         userxattr=words.userxattr, cross_file_systems=words.cross_file_systems,
         skip_unsupported=words.skip_unsupported, workers=words.workers,
     ))
@@ -426,8 +491,9 @@ def _store(words: argparse.Namespace) -> None:
 
 
 def _build(words: argparse.Namespace) -> None:
-    build(BuildOptions(
-        layer=words.layer, blobs=_folder(words.blobs), out=_folder(words.out), userxattr=words.userxattr
+    build_layer(BuildOptions(
+        layer=words.layer, blobs=_folder(words.blobs), out=_folder(words.out), userxattr=words.userxattr,
+        compress=words.compress,
     ))
 
 
@@ -450,15 +516,46 @@ def _pack(words: argparse.Namespace) -> None:
 
 
 def _flatten(words: argparse.Namespace) -> None:
+    if (words.image is None) == (words.stack is None):
+        raise UsageFault("name an IMAGE, or layers by --stack LAYER..")
+    strange = _OF_STACKS if words.stack is None else _OF_IMAGES
+    for name in strange:
+        if getattr(words, name):
+            told = "--stack alone" if words.stack is None else "images alone"
+            raise UsageFault(f"--{name.replace('_', '-')} is for {told}")
+    if words.stack is None:
+        _flatten_image(words)
+    else:
+        _flatten_stack(words)
+
+
+def _flatten_image(words: argparse.Namespace) -> None:
+    compress = words.compress or NONE
+    if compress not in COMPRESSIONS:
+        raise UsageFault(f"--compress {compress} is for a squashfs alone")
     options = FlattenOptions(
         image=_folder(words.image), out=_target(words.out, words.dry_run), layers=words.layers,
         keep=words.keep and _folder(words.keep), platform=words.platform, tag=words.tag,
-        skip_unsupported=words.skip_unsupported, overlay_marks=words.overlay_marks, compress=words.compress,
+        skip_unsupported=words.skip_unsupported, overlay_marks=words.overlay_marks, compress=compress,
     )
     if words.dry_run:
         _print(flatten_commands(options))
     else:
         flatten(options)
+
+
+def _flatten_stack(words: argparse.Namespace) -> None:
+    if words.compress == NONE:
+        raise UsageFault("--compress none is for images alone")
+    flatten_stack(FlattenStackOptions(
+        stack=StackOptions(
+            layers=[_folder(layer) for layer in words.stack], blobs=words.blobs and _folder(words.blobs),
+            userxattr=words.userxattr, cross_file_systems=words.cross_file_systems,
+            skip_unsupported=words.skip_unsupported, workers=words.workers,
+        ),
+        out=_folder(words.out), form=words.form and OutForm(words.form), layers=words.layers,
+        data_layers=words.data_layers, keep=words.keep and _folder(words.keep), compress=words.compress,
+    ))
 
 
 def _sizes(words: argparse.Namespace) -> None:

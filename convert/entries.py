@@ -74,3 +74,11 @@ def needs_lower_layers(entry: Entry) -> str | None:
     if entry.kind == FILE and METACOPY in entry.attributes:
         return "a file without its contents (trusted.overlay.metacopy)"
     return None
+
+
+def drop_host_marks(entry: Entry) -> int:
+    """Leaves out what means something on the host alone that the layer comes from; tells how many marks."""
+    found = [name for name in entry.attributes if name in HOST_MARKS]
+    if found:
+        entry.attributes = {name: value for name, value in entry.attributes.items() if name not in HOST_MARKS}
+    return len(found)

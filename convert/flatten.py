@@ -1,7 +1,6 @@
 """`flatten`: an image with fewer layers that shows the same."""
 
 import contextlib
-import filecmp
 import os
 import shlex
 import sys
@@ -9,35 +8,26 @@ import time
 from collections.abc import Iterator, Sequence
 from dataclasses import dataclass, replace
 from pathlib import Path
-from typing import Protocol
 
 from . import stacks
 from .compression import NONE
 from .contents import PIECE
-from .entries import METACOPY, REDIRECT
-from .faults import Fault, UsageFault, cannot_write, reading, writing
+from .faults import UsageFault, cannot_write, writing
+from .flatten_steps import AGAIN, BEFORE, REPORT, STACK, Doing, carry_out, drop_unnamed, new_layer, timed
 from .images import Image, image_place, opened_image, spellings
-from .links import links_path, names_in
-from .manifests import blobs_named_in, has_attribute
 from .members import STANDARD_INPUT
-from .mounted import escaped_path
 from .outputs import kept_folder, new_folder, passing_folder, standard_output
 from .pack import PackOptions, pack
-from .program import NAME, find_program, makes_layers, require_program, run_program, word_of_path, words_of
+from .program import NAME, find_program, makes_layers, word_of_path, words_of
 from .progress import counted, note, note_path
 from .room import least_shown, require_room
 from .stages import removing, tidy, told
 from .targets import ARCHIVE_SUFFIX, Form, Target
 from .unpack import UnpackOptions, unpack
 
-_STACK = "stack"
-_AGAIN = "again"
-_BEFORE = "before.show"
-_AFTER = "after.show"
 _IMAGE = "image"
 _SHOWN = f"{_IMAGE}.show"
-_REPORT = "report"
-_ANNOTATIONS = f"{_STACK}/{stacks.ANNOTATIONS}"
+_ANNOTATIONS = f"{STACK}/{stacks.ANNOTATIONS}"
 _FOR_PACK = (stacks.BLOBS, stacks.CONFIG, stacks.SHOWN_LINKS)
 _TOOL = Path(__file__).resolve().parents[1] / "layers.py"
 
@@ -67,7 +57,7 @@ def flatten(options: FlattenOptions) -> None:
     begun = time.monotonic()
     with _new_image(options.out) as image:
         with passing_folder(image) if options.keep is None else kept_folder(options.keep) as folder:
-            before, after = _carry_out(_Doing(options, folder, image), options.layers)
+            before, after = carry_out(_Doing(options, folder, image), options.layers)
     seconds = time.monotonic() - begun
     note_path(options.out.told, f"{counted(after, 'layer', 'layers')} in place of {before}, {seconds:.2f} s in all")
 
@@ -75,7 +65,7 @@ def flatten(options: FlattenOptions) -> None:
 def flatten_commands(options: FlattenOptions) -> list[str]:
     """The commands that do the same by hand, each a line for a shell."""
     telling = _Telling(_with_place(options))
-    _carry_out(telling, options.layers)
+    carry_out(telling, options.layers)
     return telling.lines
 
 
@@ -126,145 +116,49 @@ def _print_image(image: str) -> None:
             out.buffer.write(piece)
 
 
-class _Steps(Protocol):
-    """The steps, by names in the folder of the work."""
-
-    def unpack(self) -> int:
-        """Unpacks the image into the folder `stack`. Gives the number of its layers."""
-
-    def run(self, step: str, what: str, layers: Sequence[str], new: str) -> None:
-        """Runs the program: its report is the file `new`, or where it makes layers, in a folder `new` with them."""
-
-    def vacuum(self, step: str, layers: Sequence[str], new: str) -> str:
-        """The topmost layer without what changes nothing, or as it is where that takes away a name of a hard link, or
-        shows one: below stands the same, but not as the same file."""
-
-    def moved(self, layers: Sequence[str]) -> list[int]:
-        """The layers with redirects or metacopy files, which no image can state; the lowest first."""
-
-    def compare(self, report: str) -> None:
-        """Goes on only where a report is that of the given image."""
-
-    def pack(self, layers: Sequence[str]) -> None:
-        """Writes the image, where it shows the same when it is read again."""
-
-
-def _carry_out(steps: _Steps, wanted: int) -> tuple[int, int]:
-    """Does it all. Gives how many layers there were, and how many there are."""
-    count = steps.unpack()
-    layers = stacks.layer_paths(_STACK, count)
-    steps.run("show", "show", layers, _BEFORE)
-    steps.run("fsck", "fsck", layers, f"fsck.{_REPORT}")
-    layers[0] = steps.vacuum("vacuum", layers, "vacuum")
-    # Over layers without redirects each loses its own, and then no merge makes any.
-    for number in steps.moved(layers):
-        steps.run(f"deref of layer {number}", "deref", layers[number:], f"deref-{number}")
-        layers[number] = _new_layer(f"deref-{number}")
-    merges = max(0, count - wanted)
-    for number in range(1, merges + 1):
-        steps.run(f"merge {number} of {merges}", "merge", layers, f"merge-{number}")
-        # The new topmost layer holds a root alone, which the one below it has too.
-        layers[:2] = [_new_layer(f"merge-{number}", 1)]
-    if merges and len(layers) > 1:
-        layers[0] = steps.vacuum("vacuum of the merged layer", layers, "vacuum-merged")
-    steps.run("show of the new layers", "show", layers, _AFTER)
-    steps.compare(_AFTER)
-    steps.pack(layers)
-    return count, len(layers)
-
-
-def _new_layer(folder: str, number: int = 0) -> str:
-    """Where the program writes a new layer."""
-    return f"{folder}/layer-{number}.json"
-
-
-class _Doing:
-    """Does the steps, and tells each with its time."""
+class _Doing(Doing):
+    """Does the steps of an image, and tells each with its time."""
 
     def __init__(self, options: FlattenOptions, folder: str, image: str) -> None:
+        super().__init__(
+            folder, options.keep is not None, sys.stderr if options.out.is_standard_output else sys.stdout
+        )
         self._options = options
-        self._folder = folder
         self._image = image
-        self._program = require_program()
         self._name: str | None = None
-        self._count = 0
         self._has_annotations = False
 
-    def _path(self, name: str) -> str:
-        return f"{self._folder}/{name}"
-
     def unpack(self) -> int:
-        """See `_Steps`."""
+        """See `Steps`."""
         options = self._options
-        with _timed("unpack") as words:
+        with timed("unpack") as words:
             image = _unpacked(UnpackOptions(
-                image=options.image, out=self._path(_STACK), platform=options.platform, tag=options.tag,
+                image=options.image, out=self.path(STACK), platform=options.platform, tag=options.tag,
                 skip_unsupported=options.skip_unsupported, overlay_marks=options.overlay_marks,
             ))
-            self._name, self._count = _name_of(image, options), len(image.layers)
+            self._name, self.count = _name_of(image, options), len(image.layers)
             self._has_annotations = bool(image.annotations)
-            words.append(counted(self._count, "layer", "layers"))
-        return self._count
+            words.append(counted(self.count, "layer", "layers"))
+        return self.count
 
     def run(self, step: str, what: str, layers: Sequence[str], new: str) -> None:
-        """See `_Steps`."""
-        with _timed(step) as words:
-            words.append(self._run(what, [self._path(layer) for layer in layers], self._path(new)))
-        if new == _BEFORE and self._options.compress == NONE:
-            require_room(self._options.out.told, self._image, least_shown(self._path(new)))
-
-    def _run(self, what: str, layers: Sequence[str], new: str) -> str:
-        blobs = self._path(f"{_STACK}/{stacks.BLOBS}")
-        words = words_of(what, layers, blobs, new)
-        report = new
-        if makes_layers(what):
-            with writing(new):
-                os.mkdir(new)
-            report = f"{new}/{_REPORT}"
-        faults = sys.stderr if self._options.out.is_standard_output else sys.stdout
-        return run_program(self._program, words, report, faults)
-
-    def vacuum(self, step: str, layers: Sequence[str], new: str) -> str:
-        """See `_Steps`."""
-        self.run(step, "vacuum", layers, new)
-        removed = _removed_in(self._path(f"{new}/{_REPORT}"))
-        if removed and any(escaped_path(name) in removed for name in self._linked()):
-            note(f"{step}: not used, since it takes away names of hard links")
-            return layers[0]
-        return _new_layer(new)
-
-    def _linked(self) -> Iterator[str]:
-        """The names of the hard links that the given layers have or show."""
-        yield from names_in(self._path(f"{_STACK}/{stacks.SHOWN_LINKS}"))
-        for layer in map(self._path, stacks.layer_paths(_STACK, self._count)):
-            yield from names_in(links_path(layer), layer)
-
-    def moved(self, layers: Sequence[str]) -> list[int]:
-        """See `_Steps`."""
-        return [
-            number for number in reversed(range(len(layers)))
-            if has_attribute(self._path(layers[number]), (REDIRECT, METACOPY))
-        ]
-
-    def compare(self, report: str) -> None:
-        """See `_Steps`."""
-        if not filecmp.cmp(self._path(_BEFORE), self._path(report), shallow=False):
-            kept = f"see {_BEFORE} and {report} in {self._folder}"
-            hint = kept if self._options.keep else "--keep DIR keeps both reports"
-            raise Fault(f"the new layers show something else, so nothing is written; {hint}")
+        """See `Steps`."""
+        super().run(step, what, layers, new)
+        if new == BEFORE and self._options.compress == NONE:
+            require_room(self._options.out.told, self._image, least_shown(self.path(new)))
 
     def pack(self, layers: Sequence[str]) -> None:
-        """See `_Steps`."""
-        blobs, config, links = (self._path(f"{_STACK}/{name}") for name in _FOR_PACK)
-        with _timed("pack") as words:
+        """See `Steps`."""
+        blobs, config, links = (self.path(f"{STACK}/{name}") for name in _FOR_PACK)
+        with timed("pack") as words:
             pack(PackOptions(
-                layers=[self._path(layer) for layer in layers], blobs=blobs, out=self._target(), tag=self._name,
+                layers=[self.path(layer) for layer in layers], blobs=blobs, out=self._target(), tag=self._name,
                 config=config, compress=self._options.compress, links=links,
-                annotations=self._path(_ANNOTATIONS) if self._has_annotations else None,
+                annotations=self.path(_ANNOTATIONS) if self._has_annotations else None,
             ))
             words.append(counted(len(layers), "layer", "layers"))
         needless = () if self._options.keep else (blobs,)
-        with _timed("the new image, read again") as words, removing(*needless):
+        with timed("the new image, read again") as words, removing(*needless):
             words.append(self._shown(self._image))
             self.compare(_SHOWN)
 
@@ -274,32 +168,16 @@ class _Doing:
 
     def _shown(self, image: str) -> str:
         """Writes what an image shows."""
-        with passing_folder(self._path(_AGAIN)) as folder:
-            again = f"{folder}/{_AGAIN}"
-            marks = self._options.overlay_marks
+        with passing_folder(self.path(AGAIN)) as folder:
+            again, marks = f"{folder}/{AGAIN}", self._options.overlay_marks
             found = unpack(UnpackOptions(image=image, out=again, overlay_marks=marks, digests_only=True))
-            return self._run("show", stacks.layer_paths(again, len(found.layers)), self._path(_SHOWN))
-
-
-def _removed_in(report: str) -> set[str]:
-    """The paths, as reports write them, that `vacuum` took away."""
-    with reading(report), open(report, encoding="ascii") as lines:
-        return {words[1] for words in map(str.split, lines) if words[0] == "removed" and words[1].startswith("/")}
+            return self.run_on("show", stacks.layer_paths(again, len(found.layers)), self.path(_SHOWN))
 
 
 def _unpacked(options: UnpackOptions) -> Image:
-    """Unpacks an image, without blobs that no manifest names.
-
-    Such are those of files that a later entry of the same layer replaced; the program would read them too.
-    """
+    """Unpacks an image, without blobs that no manifest names."""
     image = unpack(options)
-    layers = stacks.layer_paths(options.out, len(image.layers))
-    named = {blob for layer in layers for blob in blobs_named_in(layer)}
-    blobs = f"{options.out}/{stacks.BLOBS}"
-    with writing(blobs):
-        for blob in os.listdir(blobs):
-            if blob not in named:
-                os.unlink(f"{blobs}/{blob}")
+    drop_unnamed(options.out, len(image.layers))
     return image
 
 
@@ -307,19 +185,6 @@ def _name_of(image: Image, options: FlattenOptions) -> str | None:
     """The name of the new image: the one that was asked for, as the given image spells it, or else its first."""
     asked = spellings(options.tag) if options.tag else image.names
     return options.out.tag or next((name for name in image.names if name in asked), options.tag)
-
-
-@contextlib.contextmanager
-def _timed(step: str) -> Iterator[list[str]]:
-    """Tells a step that ended well, with the words that it gives and its time."""
-    begun = time.monotonic()
-    words: list[str] = []
-    yield words
-    _tell(step, words, begun)
-
-
-def _tell(step: str, words: Sequence[str], begun: float) -> None:
-    note(f"{step}: {', '.join([*words, f'{time.monotonic() - begun:.2f} s'])}")
 
 
 class _InWork(str):
@@ -345,7 +210,7 @@ class _Telling:
             self._add("mkdir", "-p", "--", _InWork(""))
 
     def unpack(self) -> int:
-        """See `_Steps`."""
+        """See `Steps`."""
         options = self._options
         with opened_image(options.image, options.platform, options.tag) as image:
             count, self._name = len(image.layers), _name_of(image, options)
@@ -353,24 +218,24 @@ class _Telling:
         words = _given("--platform", options.platform) + _given("--tag", options.tag)
         if options.skip_unsupported:
             words.append("--skip-unsupported")
-        self._add_tool("unpack", _word_of_image(options.image), "--out", self._path(_STACK), *words, *self._marks)
+        self._add_tool("unpack", _word_of_image(options.image), "--out", self._path(STACK), *words, *self._marks)
         return count
 
     def run(self, step: str, what: str, layers: Sequence[str], new: str) -> None:
-        """See `_Steps`."""
+        """See `Steps`."""
         report = self._path(new)
         if makes_layers(what):
             self._add("mkdir", report)
-            report = self._path(f"{new}/{_REPORT}")
-        blobs = self._path(f"{_STACK}/{stacks.BLOBS}")
+            report = self._path(f"{new}/{REPORT}")
+        blobs = self._path(f"{STACK}/{stacks.BLOBS}")
         words = words_of(what, [self._path(layer) for layer in layers], blobs, self._path(new))
         self._add(self._program, *words, into=report)
 
     def vacuum(self, step: str, layers: Sequence[str], new: str) -> str:
-        """See `_Steps`."""
+        """See `Steps`."""
         self.run(step, "vacuum", layers, new)
         self.lines.append("# where it takes away names that a file of links has, go on with the layer before it\n")
-        return _new_layer(new)
+        return new_layer(new)
 
     def moved(self, layers: Sequence[str]) -> list[int]:
         """None: without marks of the image's own there are none, and with them nobody knows before it is unpacked."""
@@ -379,21 +244,21 @@ class _Telling:
         return []
 
     def compare(self, report: str) -> None:
-        """See `_Steps`."""
-        self._add("cmp", self._path(_BEFORE), self._path(report))
+        """See `Steps`."""
+        self._add("cmp", self._path(BEFORE), self._path(report))
 
     def pack(self, layers: Sequence[str]) -> None:
-        """See `_Steps`."""
+        """See `Steps`."""
         paths, target = [self._path(layer) for layer in layers], self._options.out
         out = self._path(f"{_IMAGE}{ARCHIVE_SUFFIX}") if target.is_standard_output else word_of_path(target.word)
-        blobs, config, links = (self._path(f"{_STACK}/{name}") for name in _FOR_PACK)
+        blobs, config, links = (self._path(f"{STACK}/{name}") for name in _FOR_PACK)
         self._add_tool(
             "pack", *paths, "--blobs", blobs, "--config", config, "--links", links, "--out", out,
             "--compress", self._options.compress, *_given("--tag", self._name),
             *_given("--annotations", self._path(_ANNOTATIONS) if self._has_annotations else None),
         )
-        self._add_tool("unpack", out, "--out", self._path(_AGAIN), "--digests-only", *self._marks)
-        again = [self._path(layer) for layer in stacks.layer_paths(_AGAIN, len(layers))]
+        self._add_tool("unpack", out, "--out", self._path(AGAIN), "--digests-only", *self._marks)
+        again = [self._path(layer) for layer in stacks.layer_paths(AGAIN, len(layers))]
         self._add(self._program, "show", *again, into=self._path(_SHOWN))
         self.compare(_SHOWN)
         if target.is_standard_output:

@@ -17,7 +17,7 @@ from .contents import PIECE
 from .faults import ReadFault, UsageFault, cannot_read, reading
 from .members import Members, opened_members
 from .progress import Progress
-from .streams import Slice
+from .streams import Slice, Source, unpacked
 
 MAX_DOCUMENTS = 1 << 24  # bytes of an image's documents together, each as often as it is named
 _DIGEST = re.compile(r"(sha256|sha384|sha512):([0-9a-f]{64,128})\Z")
@@ -58,6 +58,16 @@ class ImageLayer:
             if self.digest is not None:
                 _require_digest(self, part.again(), self.digest)
             yield part
+
+    @contextlib.contextmanager
+    def archive(self) -> Iterator[Source]:
+        """The same, unpacked."""
+        with self.opened() as part, unpacked(part, self.path) as stream:
+            yield stream
+
+    def is_checked(self) -> bool:
+        """Whether the digest of its bytes, which are looked at before they are read, is that of the unpacked ones."""
+        return self.digest is not None and self.digest == self.unpacked_digest and self.packed_size() is None
 
     def packed_size(self) -> int | None:
         """How many bytes it has in the image, where these are compressed."""

@@ -174,7 +174,7 @@ class LayerTree:
         self._way, self._last = names, folder
         return folder
 
-    def file_at(self, names: list[str], below: "Folder | None") -> Entry | None:
+    def file_at(self, names: list[str], below: "Folder | None", with_whiteouts: bool = False) -> Entry | None:
         """What isn't a directory at a path: of this layer as far as it has come, or of what is below it."""
         here: Folder | None = self.root
         for name in names[:-1]:
@@ -187,7 +187,9 @@ class LayerTree:
         found = here.children.get(name) if here else None
         if found is None:
             found = here.lower(below, name) if here else below.children.get(name) if below else None
-        return None if found is None or isinstance(found, Folder) or is_whiteout(found) else found
+        if found is None or isinstance(found, Folder) or (is_whiteout(found) and not with_whiteouts):
+            return None
+        return found
 
     def settle(self, below: "Folder | None", tell: Callable[[Gap, str], None]) -> None:
         """Gives directories that the archive leaves out what the layers below show there.

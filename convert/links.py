@@ -17,7 +17,8 @@ from json.decoder import scanstring  # type: ignore[attr-defined]
 from . import rules
 from .entries import DIRECTORY, Entry, is_whiteout
 from .faults import cannot_read, reading, reason_of
-from .outputs import write_text
+from .manifests import write_manifest
+from .outputs import is_replaced, write_text
 from .places import READ_WHERE_IT_LEADS
 from .progress import counted, note_path
 from .texts import quoted
@@ -53,7 +54,11 @@ class LinkNames:
 
     def has_any(self) -> bool:
         """Whether any file has two names."""
-        return any(count > 1 for count in self._counts.values())
+        return self.count() > 0
+
+    def count(self) -> int:
+        """How many names the files have together that have two or more."""
+        return sum(count for count in self._counts.values() if count > 1)
 
     def _text(self, path: str, entries: Iterable[Entry], layer: str | None) -> Iterator[str]:
         yield _HEAD if layer is None else f'{_HEAD}"manifest":"{_digest(layer)}",'
@@ -74,12 +79,36 @@ class LinkNames:
         yield "}}\n"
 
 
+def write_layer(out: str, entries: Callable[[], Iterable[Entry]], layer: str, is_of_stack: bool) -> int:
+    """Writes the manifest of a layer, and its file of links: where there are any, where one stands there, and in a stack.
+
+    Tells how many names of links are lost, where what is written is no file that another could stand beside.
+    """
+    names, beside = LinkNames(), links_path(out)
+    write_manifest(out, names.passing(entries()), layer)
+    if not is_replaced(out):
+        return names.count()
+    if is_of_stack or names.has_any() or os.path.lexists(beside):
+        names.write(beside, entries, out)
+    return 0
+
+
 def count_links(entries: Iterable[Entry]) -> LinkNames:
     """The same of entries that go nowhere else."""
     names = LinkNames()
     for _ in names.passing(entries):
         pass
     return names
+
+
+def renumber(entries: Iterable[Entry], links: Iterator[int]) -> None:
+    """Gives files of several names other numbers, such as no other layer of a stack has."""
+    numbers: dict[int, int] = {}
+    for entry in entries:
+        if entry.link:
+            if entry.link not in numbers:
+                numbers[entry.link] = next(links)
+            entry.link = numbers[entry.link]
 
 
 def links_path(layer: str) -> str:

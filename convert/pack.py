@@ -17,7 +17,7 @@ from .configuration import (
 )
 from .contents import PIECE, digest_and_size
 from .entries import (
-    BLOCK, CHAR, DIRECTORY, FIFO, FILE, HOST_MARKS, IS_OPAQUE, LINK_MODE, OPAQUE, SOCKET, SYMLINK, Entry, is_opaque,
+    BLOCK, CHAR, DIRECTORY, FIFO, FILE, IS_OPAQUE, LINK_MODE, OPAQUE, SOCKET, SYMLINK, Entry, drop_host_marks, is_opaque,
     is_whiteout, needs_lower_layers,
 )
 from .faults import UsageFault, cannot_read, reading, writing
@@ -124,7 +124,7 @@ def _packable(path: str, options: PackOptions) -> Iterator[Entry]:
             )
         problem = _problem(entry)
         if problem is None:
-            marks += _drop_host_marks(entry)
+            marks += drop_host_marks(entry)
             yield entry
         elif options.skip_unsupported:
             note_path(path, f"{entry.path}: left out: {problem}")
@@ -145,14 +145,6 @@ def _problem(entry: Entry) -> str | None:
     if any("=" in name for name in entry.attributes):
         return "the name of an attribute holds ="
     return None
-
-
-def _drop_host_marks(entry: Entry) -> int:
-    """Leaves out what means something on the host alone that the layer comes from; tells how many marks."""
-    found = [name for name in entry.attributes if name in HOST_MARKS]
-    if found:
-        entry.attributes = {name: value for name, value in entry.attributes.items() if name not in HOST_MARKS}
-    return len(found)
 
 
 def _write_image(
@@ -236,7 +228,7 @@ def _write_archive(entries: list[Entry], blobs: str, write: Callable[[bytes], ob
         first = firsts.before(entry)
         archive.entry(_header(entry) if first is None else _link_header(entry, first))
         if first is None and entry.names_contents():
-            for piece in _contents(entry, blobs):
+            for piece in contents_of(entry, blobs):
                 archive.data(piece)
             archive.end_data(entry.size)
         if is_opaque(entry):
@@ -270,7 +262,7 @@ def _link_header(entry: Entry, first: str) -> Header:
     return replace(_header(entry), type=tar.HARD_LINK, target=first[1:].encode(), size=0, major=0, minor=0)
 
 
-def _contents(entry: Entry, blobs: str) -> Iterator[bytes]:
+def contents_of(entry: Entry, blobs: str) -> Iterator[bytes]:
     """A file's contents, which are those of its digest."""
     digest, left, path = hashlib.sha256(), entry.size, blob_path(blobs, str(entry.blob))
     with opened_blob(blobs, str(entry.blob), entry.size) as file:

@@ -56,9 +56,11 @@ def makes_layers(what: str) -> bool:
     return what not in ("show", "fsck")
 
 
-def words_of(what: str, layers: Sequence[str], blobs: str, out: str) -> list[str]:
+def words_of(what: str, layers: Sequence[str], blobs: str, out: str, data_layers: int = 0) -> list[str]:
     """A command of the program with its words: the folders are given to those that take them."""
     words = [what]
+    if data_layers:
+        words += ["--data-layers", str(data_layers)]
     if what != "show":
         words += [*_WORDS_ON_CONTENTS, "--blobs", word_of_path(blobs)]
     if makes_layers(what):

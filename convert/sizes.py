@@ -12,6 +12,7 @@ from . import stacks
 from .configuration import Document
 from .faults import FAULTY, Fault
 from .images import image_place, opened_image
+from .layer_files import Form, form_of
 from .layer_sizes import Sizes, sizes_of
 from .outputs import STANDARD_OUTPUT, passing_folder
 from .program import require_program, run_program
@@ -91,13 +92,13 @@ def _given_image(options: SizesOptions, word: str, folder: str) -> _Given:
 
 
 def _given_stack(options: SizesOptions, folder: str) -> _Given:
-    """The layers of a stack, of which folders are scanned."""
+    """The layers of a stack, of which all that aren't manifests are scanned."""
     layers = []
     for number, layer in enumerate(options.stack):
-        if os.path.isdir(layer):
+        if form_of(layer) is not Form.MANIFEST:
             manifest = f"{folder}/{stacks.layer_name(number)}"
             scan(ScanOptions(
-                folder=layer, out=manifest, blobs=None, userxattr=options.userxattr,
+                layer=layer, out=manifest, blobs=None, userxattr=options.userxattr,
                 skip_unsupported=options.skip_unsupported,
             ))
             layer = manifest

@@ -15,9 +15,10 @@ from . import rules, stacks
 from .attributes import require_trusted
 from .below import Below, tree_of, write_shown_links
 from .faults import cannot_read, reading
+from .losses import ScanLosses
 from .outputs import new_folder
 from .progress import note_path
-from .scan import Losses, ScanOptions, scan_folder
+from .scan import ScanOptions, scan_folder
 
 _DIFF = "diff"
 _MERGED = "merged"
@@ -53,11 +54,11 @@ def store(options: StoreOptions) -> None:
     layers = chain(options.folder)
     if len(layers) > rules.MAX_LAYERS:
         raise cannot_read(options.folder, f"it has {len(layers)} layers, over {rules.MAX_LAYERS}")
-    losses, below, links = Losses(), Below(), itertools.count(1)
+    losses, below, links = ScanLosses(), Below(), itertools.count(1)
     with new_folder(options.out) as stage:
         for number, layer in reversed(list(enumerate(layers))):
             entries = scan_folder(ScanOptions(
-                folder=layer, out=f"{stage}/{stacks.layer_name(number)}",
+                layer=layer, out=f"{stage}/{stacks.layer_name(number)}",
                 blobs=None if options.digests_only else f"{stage}/{stacks.BLOBS}",
                 userxattr=options.userxattr, cross_file_systems=options.cross_file_systems,
                 skip_unsupported=options.skip_unsupported, workers=options.workers,

@@ -57,7 +57,9 @@ def unpack_opened(options: UnpackOptions, image: Image) -> None:
 
 def _unpack_layers(options: UnpackOptions, layers: list[ImageLayer], stage: str, writer: Writer) -> None:
     held, below, repeats = Held(), Below(), Repeats(layers, stage, options.out)
-    taking = Taking(options.out, options.skip_unsupported, options.overlay_marks, writer, held, below, repeats)
+    taking = Taking(
+        options.out, options.skip_unsupported, options.overlay_marks, writer, held, below, repeats=repeats
+    )
     written = 0
     try:
         for number, layer in zip(reversed(range(len(layers))), layers):

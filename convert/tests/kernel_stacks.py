@@ -321,12 +321,12 @@ class StackOverData(Stack):
 
 def linked_names(root: str) -> list[str]:
     """The names of each file below a folder that has several, a line each."""
-    found: dict[int, list[str]] = {}
+    found: dict[tuple[int, int], list[str]] = {}
     for folder, directories, files in os.walk(root):
         for path in (os.path.join(folder, name) for name in [*files, *directories]):
             about = os.lstat(path)
             if not stat.S_ISDIR(about.st_mode):
-                found.setdefault(about.st_ino, []).append(path[len(root):])
+                found.setdefault((about.st_dev, about.st_ino), []).append(path[len(root):])
     return lines_of(found.values())
 
 

@@ -3,7 +3,7 @@ use Rattle.std.proofs.Common.{◌≡◌, ℕ, zero, suc, ◌-◌, ◌<◌, ◌�
 use Rattle.std.specs.Prelude.{◌||◌, ◌==◌, not}
 use Rattle.std.specs.List.{All, list_any, list_all}
 use Rattle.std.proofs.Math.Seq.{take-append_seam, drop-append_seam}
-use Rattle.std.proofs.lemmas.List.{length-map, length-take, take-append-drop, drop-append-le}
+use Rattle.std.proofs.lemmas.List.{append-nil, length-map, length-take, take-append-drop, drop-append-le}
 use Rattle.std.proofs.lemmas.List.Elements.{All-head, All-tail}
 use Rattle.std.proofs.lemmas.List.Folds.{sum_by-zero}
 use Rattle.ovl_names.specs.Paths.{PathNames}
@@ -29,11 +29,13 @@ use Rattle.ovl_merge.specs.Laws.{MergeKeepsTree}
 use Rattle.ovl_engine.specs.declared.faults.EngineFault.{EngineFault}
 use Rattle.ovl_engine.specs.declared.faults.EngineFault.TheVariants.{Layer}
 use Rattle.ovl_engine.specs.declared.requests.Answer.{Answer}
+use Rattle.ovl_engine.specs.declared.requests.Command.{Command}
+use Rattle.ovl_engine.specs.Commands.{stands_alone}
 use Rattle.ovl_engine.specs.FsckReports.{is_clean}
 use Rattle.ovl_engine.specs.Refusals.{layers_from, under_layer, stated_layers, first_unread}
 use Rattle.ovl_engine.specs.Requests.{Request}
 use Rattle.ovl_engine.specs.Outcomes.{stack_of, new_manifests, left_by_vacuum}
-use Rattle.ovl_engine.specs.Kept.{KeepsTreeOf, KeepsSoundness, IsRequestOf, manifests_after, after}
+use Rattle.ovl_engine.specs.Kept.{KeepsTreeOf, KeepsSoundness, FindsBlobsAlone, FindsNothing, IsQuietOf, IsRequestOf, manifests_after, after}
 
 -- ---- a stack without faults is sound
 
@@ -47,6 +49,21 @@ no_layer_fault (one ∷ found) none = by (no_layer_fault found parts.1) (is_laye
     by : list_any (λ one. is_layer_fault one.code) found ≡ false → (b : Bool) → is_layer_fault one.code ≡ b → (b || list_any (λ one. is_layer_fault one.code) found) ≡ false
     by later false e = later
     by later true e = let bad : false ≡ true = sym (ap (λ b. cond (b || is_blob_fault one.code) 1 0 == 0) e) ∙ parts.0 in cc
+
+-- no finding of a clean check is a fault
+no_fault : (found : List Finding) → list_all (λ one. cond (is_fault one.code) 1 0 == 0) found ≡ true → list_any (λ one. is_fault one.code) found ≡ false
+no_fault [] none = refl
+no_fault (one ∷ found) none = by (no_fault found parts.1) (is_fault one.code) refl
+  where
+    parts : ((cond (is_fault one.code) 1 0 == 0) ≡ true) × (list_all (λ one. cond (is_fault one.code) 1 0 == 0) found ≡ true)
+    parts = both {a = cond (is_fault one.code) 1 0 == 0} {b = list_all (λ one. cond (is_fault one.code) 1 0 == 0) found} none
+
+    by : list_any (λ one. is_fault one.code) found ≡ false → (b : Bool) → is_fault one.code ≡ b → (b || list_any (λ one. is_fault one.code) found) ≡ false
+    by later false e = later
+    by later true e = let bad : false ≡ true = sym (ap (λ b. cond b 1 0 == 0) e) ∙ parts.0 in cc
+
+pub clean-faultless : (found : List Finding) → is_clean found ≡ true → list_any (λ one. is_fault one.code) found ≡ false
+clean-faultless found clean = no_fault found (sym (sum_by-zero (λ (one : Finding). cond (is_fault one.code) 1 0) found) ∙ clean)
 
 pub clean-sound : FindingsTellSoundness → (blobs : List BlobView) (stack : StackView) → is_clean (findings blobs stack) ≡ true → IsSoundStack stack
 clean-sound tell blobs stack clean =
@@ -163,7 +180,7 @@ all_stated manifests read = by (layers_from 0 manifests) refl
     by (Ok layers) e = e ∙ ap Ok (sym (rw (e, stated_layers) refl))
     by (Err fault) e = let bad : Some fault ≡ None = rw (e, first_unread) at read in cc
 
-module _ (answer : Answer) (new : List Entries) (stack : StackView) (reads : map read_layer (new_manifests answer) ≡ map stated_as new) (few : length new ≤ length stack.layers) (request : Request) (of : IsRequestOf stack request) where
+module _ (answer : Answer) (new : List Entries) (stack : StackView) (reads : map read_layer (new_manifests answer) ≡ map stated_as new) (few : length new ≤ length stack.layers) (request : Request) (others : stands_alone request.what ≡ false) (of : IsRequestOf stack request) where
   abbrev layers : List Entries
   layers = stated_layers request.manifests
 
@@ -172,12 +189,13 @@ module _ (answer : Answer) (new : List Entries) (stack : StackView) (reads : map
       sym (length-map (new_manifests answer) read_layer)
       ∙ (ap length reads ∙ length-map new stated_as)
 
-  after_read : layers_from 0 (manifests_after request.manifests answer) ≡ Ok (new ++ drop (length new) layers)
+  after_read : layers_from 0 (manifests_after request.what request.manifests answer) ≡ Ok (new ++ drop (length new) layers)
   after_read =
-      of_new 0 (new_manifests answer) new (drop (length (new_manifests answer)) request.manifests) (drop (length new) layers) reads
+      ap (λ b. layers_from 0 (new_manifests answer ++ cond b [] (drop (length (new_manifests answer)) request.manifests))) others
+      ∙ of_new 0 (new_manifests answer) new (drop (length (new_manifests answer)) request.manifests) (drop (length new) layers) reads
       (λ j. of_last j (length (new_manifests answer)) 0 request.manifests layers (all_stated request.manifests of.read) ∙ ap (λ (n : ℕ). Ok (drop n layers)) new_number)
 
-  after_stated : stated_layers (manifests_after request.manifests answer) ≡ new ++ drop (length new) layers
+  after_stated : stated_layers (manifests_after request.what request.manifests answer) ≡ new ++ drop (length new) layers
   after_stated = rw (after_read, stated_layers) refl
 
   few_stated : length new ≤ length layers - request.bottom
@@ -185,23 +203,63 @@ module _ (answer : Answer) (new : List Entries) (stack : StackView) (reads : map
 
   stack_after : stack_of (after request answer) ≡ renewed new stack
   stack_after =
-      ap (λ (ls : List Entries). stack_with ls request.bottom) after_stated
+      (λ j. stack_with (after_stated j) (cond (others j) 0 request.bottom))
       ∙ (with_new new layers request.bottom few_stated
       ∙ ap (renewed new) (sym of.same))
 
 pub keeps_tree : (answer : Answer) (new : List Entries) (stack : StackView) → map read_layer (new_manifests answer) ≡ map stated_as new → length new ≤ length stack.layers
-    → ((path : PathNames) → look (renewed new stack) path ≡ look stack path) → KeepsTreeOf stack answer
-keeps_tree answer new stack reads few same request of = record {
-  read = rw (after_read answer new stack reads few request of, first_unread) refl;
+    → ((path : PathNames) → look (renewed new stack) path ≡ look stack path) → (what : Command) → stands_alone what ≡ false → KeepsTreeOf what stack answer
+keeps_tree answer new stack reads few same what others request asked of = record {
+  read = rw (after_read answer new stack reads few request (ap stands_alone asked ∙ others) of, first_unread) refl;
   same = λ path.
-      ap (λ (s : StackView). look s path) (stack_after answer new stack reads few request of)
+      ap (λ (s : StackView). look s path) (stack_after answer new stack reads few request (ap stands_alone asked ∙ others) of)
       ∙ (same path ∙ ap (λ (s : StackView). look s path) of.same);
 }
 
 pub keeps_soundness : (answer : Answer) (new : List Entries) (stack : StackView) → map read_layer (new_manifests answer) ≡ map stated_as new → length new ≤ length stack.layers
-    → IsSoundStack (renewed new stack) → KeepsSoundness stack answer
-keeps_soundness answer new stack reads few sound request of =
-    subst IsSoundStack (sym (stack_after answer new stack reads few request of)) sound
+    → IsSoundStack (renewed new stack) → (what : Command) → stands_alone what ≡ false → KeepsSoundness what stack answer
+keeps_soundness answer new stack reads few sound what others request asked of =
+    subst IsSoundStack (sym (stack_after answer new stack reads few request (ap stands_alone asked ∙ others) of)) sound
+
+-- ---- new layers in place of all
+
+module _ (answer : Answer) (new : List Entries) (reads : map read_layer (new_manifests answer) ≡ map stated_as new) (request : Request) (alone : stands_alone request.what ≡ true) where
+  whole_read : layers_from 0 (manifests_after request.what request.manifests answer) ≡ Ok new
+  whole_read =
+      ap (λ b. layers_from 0 (new_manifests answer ++ cond b [] (drop (length (new_manifests answer)) request.manifests))) alone
+      ∙ (of_new 0 (new_manifests answer) new [] [] reads (λ j. refl)
+      ∙ ap Ok (append-nil new))
+
+  whole_stated : stated_layers (manifests_after request.what request.manifests answer) ≡ new
+  whole_stated = rw (whole_read, stated_layers) refl
+
+  whole_after : stack_of (after request answer) ≡ under [] new
+  whole_after =
+      (λ j. stack_with (whole_stated j) (cond (alone j) 0 request.bottom))
+      ∙ (ap (λ (ls : List Entries). stack_with ls 0) (sym (append-nil new)) ∙ split_here new [] 0 (omega (arith, length-append new [])))
+
+pub keeps_whole_tree : (answer : Answer) (new : List Entries) (stack : StackView) → map read_layer (new_manifests answer) ≡ map stated_as new
+    → ((path : PathNames) → look (under [] new) path ≡ look stack path) → (what : Command) → stands_alone what ≡ true → KeepsTreeOf what stack answer
+keeps_whole_tree answer new stack reads same what alone request asked of = record {
+  read = rw (whole_read answer new reads request (ap stands_alone asked ∙ alone), first_unread) refl;
+  same = λ path.
+      ap (λ (s : StackView). look s path) (whole_after answer new reads request (ap stands_alone asked ∙ alone))
+      ∙ (same path ∙ ap (λ (s : StackView). look s path) of.same);
+}
+
+pub whole_soundness : (answer : Answer) (new : List Entries) (stack : StackView) → map read_layer (new_manifests answer) ≡ map stated_as new
+    → IsSoundStack (under [] new) → (what : Command) → stands_alone what ≡ true → KeepsSoundness what stack answer
+whole_soundness answer new stack reads sound what alone request asked of =
+    subst IsSoundStack (sym (whole_after answer new reads request (ap stands_alone asked ∙ alone))) sound
+
+pub whole_quiet : (answer : Answer) (new : List Entries) (stack : StackView) → map read_layer (new_manifests answer) ≡ map stated_as new
+    → FindsBlobsAlone (under [] new) → FindsNothing stack (under [] new) → (what : Command) → stands_alone what ≡ true → IsQuietOf what stack answer
+whole_quiet answer new stack reads quiet nothing what alone request asked of =
+    let same = sym (whole_after answer new reads request (ap stands_alone asked ∙ alone)) in
+    record {
+      blobs_alone = subst FindsBlobsAlone same quiet;
+      nothing = subst (λ (s : StackView). FindsNothing s (stack_of (after request answer))) of.same (subst (FindsNothing stack) same nothing);
+    }
 
 -- ---- the laws of vacuum, deref and merge, of a stack's lists of layers
 

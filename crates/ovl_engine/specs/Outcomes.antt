@@ -24,13 +24,16 @@ use Rattle.ovl_merge.specs.Places.{merge_of}
 use Rattle.ovl_merge.specs.MergeDown.{IsMergedDown, merged_top}
 use Rattle.ovl_merge.specs.Directories.{merge_kids, merge_root}
 use Rattle.ovl_merge.specs.Limits.{PassesLimit as PassesLimitMerged}
+use Rattle.ovl_flatten.specs.Flatten.{IsFlattened}
+use Rattle.ovl_flatten.specs.Directories.{flatten_kids, flatten_root}
+use Rattle.ovl_flatten.specs.Limits.{PassesLimit as PassesLimitFlattened}
 use Rattle.ovl_engine.specs.Reports.{show_report}
 use Rattle.ovl_engine.specs.FsckReports.{fsck_report, is_clean}
 use Rattle.ovl_engine.specs.VacuumReports.{vacuum_report}
 use Rattle.ovl_engine.specs.LayerReports.{layer_report}
 use Rattle.ovl_engine.specs.Directories.{show_kids, show_root}
 use Rattle.ovl_engine.specs.declared.requests.Command.{Command}
-use Rattle.ovl_engine.specs.declared.requests.Command.TheVariants.{Show, Fsck, Vacuum, Deref, Merge}
+use Rattle.ovl_engine.specs.declared.requests.Command.TheVariants.{Show, Fsck, Vacuum, Deref, Merge, Flatten}
 use Rattle.ovl_engine.specs.declared.requests.Answer.{Answer}
 use Rattle.ovl_engine.specs.declared.faults.EngineFault.{EngineFault}
 use Rattle.ovl_engine.specs.declared.faults.EngineFault.TheVariants.{Workers, Layers, Layer, BlobOrder, BlobSize, NoLower, Faulty, LimitOut, Run, Memory, DataLayers}
@@ -86,6 +89,14 @@ pub record IsMergedInto (stack : StackView) (answer : Answer) : Type 0 where
   pub within : PassesLimitMerged (merge_of stack) → ⊥
   pub rewritten : IsRewritten (layer_report lower) (merged_top (merge_of stack) ∷ lower ∷ []) answer
 
+-- the answer of flatten has and tells what this stack shows, as one layer
+pub record IsFlattenedInto (stack : StackView) (answer : Answer) : Type 0 where
+  pub new : Entries
+  pub is_layer : IsLayer new
+  pub flattened : IsFlattened new stack
+  pub within : PassesLimitFlattened stack → ⊥
+  pub rewritten : IsRewritten (layer_report new) (new ∷ []) answer
+
 -- the answer of a command over this stack, of which this is found
 abbrev pub IsAnswerOf : Command → StackView → List Finding → Answer → Type 0
 IsAnswerOf Show stack found answer = IsShowReport stack answer.report.items × (answer.layers.items ≡ []) × (answer.clean ≡ true)
@@ -96,6 +107,7 @@ IsAnswerOf Fsck stack found answer =
 IsAnswerOf Vacuum stack found answer = (is_clean found ≡ true) × IsVacuumed stack answer
 IsAnswerOf Deref stack found answer = (is_clean found ≡ true) × IsUnfolded stack answer
 IsAnswerOf Merge stack found answer = (is_clean found ≡ true) × IsMergedInto stack answer
+IsAnswerOf Flatten stack found answer = (is_clean found ≡ true) × IsFlattenedInto stack answer
 
 -- the answer of a command over this stack and blobs
 abbrev pub IsAnswer : Command → StackView → List BlobView → Answer → Type 0
@@ -130,6 +142,7 @@ MayRefuseOwn Fsck stack may_refuse = ⊥
 MayRefuseOwn Vacuum stack may_refuse = MayBeRefused (vacuum_kids stack) may_refuse vacuum_root
 MayRefuseOwn Deref stack may_refuse = MayBeRefused (deref_kids stack) may_refuse deref_root
 MayRefuseOwn Merge stack may_refuse = MayBeRefused (merge_kids stack) may_refuse merge_root
+MayRefuseOwn Flatten stack may_refuse = MayBeRefused (flatten_kids stack) may_refuse flatten_root
 
 -- the gate may refuse a piece that is reached where the command is run over this stack and blobs
 abbrev pub MayRefuse : Command → StackView → List BlobView → (Piece → Type 0) → Type 0
@@ -154,6 +167,7 @@ PassesNewLimit Fsck stack = ⊥
 PassesNewLimit Vacuum stack = ⊥
 PassesNewLimit Deref stack = PassesLimit stack
 PassesNewLimit Merge stack = PassesLimitMerged (merge_of stack)
+PassesNewLimit Flatten stack = PassesLimitFlattened stack
 
 abbrev pub IsLimitedOut : Command → StackView → List Finding → Type 0
 IsLimitedOut command stack found = (is_clean found ≡ true) × PassesNewLimit command stack

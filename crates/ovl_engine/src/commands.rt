@@ -11,12 +11,13 @@ ghost use Rattle.ovl_engine.specs.declared.faults.EngineFault.TheVariants.{Worke
 ghost use Rattle.ovl_engine.specs.Requests.{request_of};
 ghost use Rattle.ovl_engine.specs.Refusals.{is_outside as outside_test, blob_limit, blob_bytes, blob_refusal};
 ghost use Rattle.ovl_engine.specs.Outcomes.{IsAccepted, IsRefusal, IsOutcome, IsRun, IsFailedWalk, MayRefuse, MayRefuseCheck, MayRefuseOwn};
-ghost use Rattle.ovl_engine.specs.Commands.{checks as checks_test, makes_layers, stays_sound, wants_lower as lower_test};
-ghost use Rattle.ovl_engine.specs.Kept.{KeepsTree, KeepsTreeOf, KeepsSoundness, HasSoundStack, IsRequestOf, after};
+ghost use Rattle.ovl_engine.specs.Commands.{checks as checks_test, makes_layers, stays_sound, stands_alone, wants_lower as lower_test};
+ghost use Rattle.ovl_engine.specs.Kept.{KeepsTree, KeepsTreeOf, KeepsSoundness, HasSoundStack, IsQuiet, IsQuietOf, IsRequestOf, after};
 
 use crate::checks::findings_of;
 use crate::derefs::deref;
 use crate::faults::EngineFault;
+use crate::flattens::flatten;
 use crate::fsck_reports::{fsck_report_by, is_clean};
 use crate::listings::report_by;
 use crate::manifests::Manifests;
@@ -44,7 +45,8 @@ use std::thread::Threads;
 /// [`BLOB_LIMIT`] bytes in all, else where a merge has fewer than two layers that aren't data-only. A command that makes new
 /// layers first checks as [`Command::Fsck`] does, and is refused with that report where it tells a fault, else with
 /// `LimitOut` where a new layer passes a limit of manifests. Else the manifests with the new ones in place of the topmost,
-/// as many of them data-only as before, show the same merged tree, and after vacuum and deref have no fault of a layer.
+/// as many of them data-only as before, show the same merged tree, and after vacuum and deref have no fault of a layer;
+/// after flatten so does the new one in place of all, none data-only.
 /// `Run` comes only where the gate refuses a piece that the command reaches; `Memory` can come at any time but before the
 /// first three refusals. It waits for its workers, and returns only where each question to the gate does. The merged tree,
 /// what is checked and the new layers are those of `docs/PROFILE.md`, the reports those of `docs/FORMATS.md`.
@@ -64,6 +66,8 @@ pub fn command<G: Gate + Sync, R: Threads + Wait + Sync>(
         → let request = request_of what manifests.now bottom blobs.now workers in KeepsTree request (after request answer)) }
     ensures sound { IfOk result (λ answer. stays_sound what ≡ true
         → HasSoundStack (after (request_of what manifests.now bottom blobs.now workers) answer)) }
+    ensures quiet { IfOk result (λ answer. stands_alone what ≡ true
+        → let request = request_of what manifests.now bottom blobs.now workers in IsQuiet request (after request answer)) }
     ensures workers { (result ≡ Err Workers) ↔ (outside_test worker_limit workers ≡ true) }
     ensures layers { (result ≡ Err Layers)
         ↔ ((outside_test worker_limit workers ≡ false) × (outside_test layer_limit (length manifests.now) ≡ true)) }
@@ -98,6 +102,8 @@ pub fn command_of<G: Gate + Sync, R: Threads + Wait + Sync>(
         → let request = request_of what manifests.items bottom blobs.now workers in KeepsTree request (after request answer)) }
     ensures sound { IfOk result (λ answer. stays_sound what ≡ true
         → HasSoundStack (after (request_of what manifests.items bottom blobs.now workers) answer)) }
+    ensures quiet { IfOk result (λ answer. stands_alone what ≡ true
+        → let request = request_of what manifests.items bottom blobs.now workers in IsQuiet request (after request answer)) }
     ensures workers { (result ≡ Err Workers) ↔ (outside_test worker_limit workers ≡ true) }
     ensures layers { (result ≡ Err Layers)
         ↔ ((outside_test worker_limit workers ≡ false) × (outside_test layer_limit (length manifests.items) ≡ true)) }
@@ -169,8 +175,9 @@ fn answer_of<G: Gate + Sync, R: Threads + Wait + Sync>(
     requires ascend { are_in_order (blob_views blobs.now) ≡ true }
     requires several { lower_test what ≡ true → 1 < length stack.layers }
     ensures outcome { IsRun what stack (findings (blob_views blobs.now) stack) (MayRefuse what stack (blob_views blobs.now) (G.may_refuse team.now.gate.now)) result }
-    ensures keeps { IfOk result (λ answer. makes_layers what ≡ true → KeepsTreeOf stack answer) }
-    ensures sound { IfOk result (λ answer. stays_sound what ≡ true → KeepsSoundness stack answer) }
+    ensures keeps { IfOk result (λ answer. makes_layers what ≡ true → KeepsTreeOf what stack answer) }
+    ensures sound { IfOk result (λ answer. stays_sound what ≡ true → KeepsSoundness what stack answer) }
+    ensures quiet { IfOk result (λ answer. stands_alone what ≡ true → IsQuietOf what stack answer) }
 {
     let found = found_in(team, what, &stack, blobs)?;
     answer(team, what, stack, found)
@@ -208,8 +215,9 @@ pub(crate) fn answer<G: Gate + Sync, R: Threads + Wait + Sync>(
     requires sound { checks_test what ≡ true → clean_test found.items ≡ true → IsSoundStack stack }
     ensures outcome { (all : List Finding) → (checks_test what ≡ true → found.items ≡ all)
         → IsRun what stack all (MayRefuseOwn what stack (G.may_refuse team.now.gate.now)) result }
-    ensures keeps { IfOk result (λ answer. makes_layers what ≡ true → KeepsTreeOf stack answer) }
-    ensures sound { IfOk result (λ answer. stays_sound what ≡ true → KeepsSoundness stack answer) }
+    ensures keeps { IfOk result (λ answer. makes_layers what ≡ true → KeepsTreeOf what stack answer) }
+    ensures sound { IfOk result (λ answer. stays_sound what ≡ true → KeepsSoundness what stack answer) }
+    ensures quiet { IfOk result (λ answer. stands_alone what ≡ true → IsQuietOf what stack answer) }
 {
     match what {
         Command::Show => show(team, stack),
@@ -217,6 +225,7 @@ pub(crate) fn answer<G: Gate + Sync, R: Threads + Wait + Sync>(
         Command::Vacuum => vacuum(team, stack, found),
         Command::Deref => deref(team, stack, found),
         Command::Merge => merge(team, stack, found),
+        Command::Flatten => flatten(team, stack, found),
     }
 }
 
@@ -226,7 +235,8 @@ pub(crate) fn checks(what: Command) -> bool
 {
     match what {
         Command::Show => false,
-        Command::Fsck | Command::Vacuum | Command::Deref | Command::Merge => true,
+        Command::Fsck | Command::Vacuum | Command::Deref | Command::Merge | Command::Flatten =>
+            true,
     }
 }
 
@@ -242,7 +252,8 @@ fn wants_lower(what: Command) -> bool
     ensures { result ≡ lower_test what }
 {
     match what {
-        Command::Show | Command::Fsck | Command::Vacuum | Command::Deref => false,
+        Command::Show | Command::Fsck | Command::Vacuum | Command::Deref | Command::Flatten =>
+            false,
         Command::Merge => true,
     }
 }

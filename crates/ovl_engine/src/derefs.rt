@@ -38,8 +38,8 @@ pub(crate) fn deref<G: Gate + Sync, R: Threads + Wait + Sync>(
     requires number { (0 < team.now.workers) × (team.now.workers ≤ worker_limit) }
     requires sound { is_clean found.items ≡ true → IsSoundStack stack }
     ensures outcome { IsRun Deref stack found.items (MayRefuseOwn Deref stack (G.may_refuse team.now.gate.now)) result }
-    ensures tree { IfOk result (KeepsTreeOf stack) }
-    ensures sound { IfOk result (KeepsSoundness stack) }
+    ensures tree { IfOk result (KeepsTreeOf Deref stack) }
+    ensures sound { IfOk result (KeepsSoundness Deref stack) }
 {
     let _layers = stack.ordinary();
     deref_keeps_the_tree();

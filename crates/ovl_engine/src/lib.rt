@@ -8,6 +8,7 @@ mod contents;
 mod derefs;
 mod emits;
 mod faults;
+mod flattens;
 mod fsck_reports;
 mod layer_reports;
 mod listings;

@@ -38,7 +38,7 @@ pub(crate) fn merge<G: Gate + Sync, R: Threads + Wait + Sync>(
     requires sound { is_clean found.items ≡ true → IsSoundStack stack }
     requires several { 1 < length stack.layers }
     ensures outcome { IsRun Merge stack found.items (MayRefuseOwn Merge stack (G.may_refuse team.now.gate.now)) result }
-    ensures tree { IfOk result (KeepsTreeOf stack) }
+    ensures tree { IfOk result (KeepsTreeOf Merge stack) }
 {
     let _layers = stack.ordinary();
     merge_keeps_the_tree();

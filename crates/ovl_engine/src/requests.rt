@@ -12,6 +12,8 @@ pub enum Command {
     /// The new layers are a topmost one that has its root alone, and under it the two topmost ones as one; the report
     /// lists what that has.
     Merge,
+    /// The new layer is what the stack shows, as one layer for the whole stack, and the report lists what it has.
+    Flatten,
 }
 
 /// What a command gives.

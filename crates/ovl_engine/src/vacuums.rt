@@ -33,8 +33,8 @@ pub(crate) fn vacuum<G: Gate + Sync, R: Threads + Wait + Sync>(
     requires number { (0 < team.now.workers) × (team.now.workers ≤ worker_limit) }
     requires sound { is_clean found.items ≡ true → IsSoundStack stack }
     ensures outcome { IsRun Vacuum stack found.items (MayRefuseOwn Vacuum stack (G.may_refuse team.now.gate.now)) result }
-    ensures tree { IfOk result (KeepsTreeOf stack) }
-    ensures sound { IfOk result (KeepsSoundness stack) }
+    ensures tree { IfOk result (KeepsTreeOf Vacuum stack) }
+    ensures sound { IfOk result (KeepsSoundness Vacuum stack) }
 {
     let _layers = stack.ordinary();
     vacuum_keeps_the_tree();

@@ -1,9 +1,8 @@
 -- Views of directories over a stack, place by place.
-use Rattle.std.proofs.Common.{◌≡◌, ℕ, ◌+◌, ◌<◌, length, arith, Bool, true, false, cond, Option, Some, None, is_some, get_or, List, [], ◌∷◌, ◌++◌, take, drop, refl, sym, ap, ◌∙◌, subst, append_assoc, inl, inr, ◌⊎◌}
-use Rattle.std.specs.Prelude.{◌||◌, unwrap_or, slice_get, IsSomeAnd}
+use Rattle.std.proofs.Common.{◌≡◌, ℕ, ◌+◌, ◌<◌, length, arith, Bool, true, false, cond, Option, Some, None, get_or, List, [], ◌∷◌, ◌++◌, drop, refl, sym, ap, ◌∙◌, subst, append_assoc}
+use Rattle.std.specs.Prelude.{unwrap_or, slice_get, IsSomeAnd}
 use Rattle.std.specs.Option.{option_map}
-use Rattle.std.proofs.lemmas.Option.{get_or_from_slice_get, slice_get-map, slice_get-get_or, slice_get_within}
-use Rattle.std.proofs.Math.Bool.{or-true}
+use Rattle.std.proofs.lemmas.Option.{slice_get-map, slice_get-get_or, slice_get_within}
 use Rattle.std.proofs.lemmas.List.{map_push}
 use Rattle.std.proofs.lemmas.List.Elements.{All-push}
 use Rattle.std.specs.List.{All}
@@ -14,23 +13,19 @@ use Rattle.ovl_inode.specs.Marks.{mark_of, is_directory}
 use Rattle.ovl_inode.specs.declared.marks.Mark.{Mark}
 use Rattle.ovl_inode.specs.declared.marks.Mark.TheVariants.{Whiteout, DirOpaque, DirMoved, DirBad, DirPlain, Meta, MetaBad, Leaf}
 use Rattle.ovl_inode.specs.declared.marks.Redirect.TheVariants.{To, Beside}
-use Rattle.ovl_manifest.specs.Layers.{Entries, entry_at, is_directory_at}
+use Rattle.ovl_manifest.specs.Layers.{Entries, entry_at}
 use Rattle.ovl_manifest.specs.Sheets.{path_at}
-use Rattle.ovl_lookup.specs.declared.steps.Descent.{Descent}
 use Rattle.ovl_lookup.specs.declared.steps.Step.{Step}
-use Rattle.ovl_lookup.specs.declared.steps.Arrival.TheVariants.{Directory}
 use Rattle.ovl_lookup.specs.declared.views.DirPlace.{DirPlace}
 use Rattle.ovl_lookup.specs.declared.views.PlaceEntry.{PlaceEntry}
-use Rattle.ovl_lookup.specs.Walk.{walk, walk_beyond, turn, is_shut, mark_at}
-use Rattle.ovl_lookup.specs.Passes.{IsDescent, IsNumberAt, IsArrival}
+use Rattle.ovl_lookup.specs.Walk.{turn, is_shut, mark_at}
+use Rattle.ovl_lookup.specs.Passes.{IsArrivalAt}
 use Rattle.ovl_lookup.specs.Stacks.{StackView}
 use Rattle.ovl_lookup.specs.Views.{Reached, reached, is_reached, entry_in, entered, below_entry, reached_below}
 use Rattle.ovl_lookup.specs.Onwards.{path_on, name_on}
 use Rattle.ovl_lookup.specs.DirViews.{IsEntryIn, place_below, place_in, places_in, IsPlaceOver}
-use Rattle.ovl_lookup.proofs.ViewSteps.{arrives-directory, below-directory}
-use Rattle.ovl_lookup.proofs.WalkFacts.{cut, drop-head, stopped, walk-ends}
-use Rattle.ovl_lookup.proofs.ViewLemmas.{NothingAt, FileAt, past}
-use Rattle.ovl_lookup.proofs.LawsOfWalks.{Beyond, entry-of_row, is_shut-entered, mark_at-child, no-directory-below, turn-entered, walk-whole}
+use Rattle.ovl_lookup.proofs.ViewSteps.{arrives-directory, arrives-past, below-directory}
+use Rattle.ovl_lookup.proofs.LawsOfWalks.{is_shut-entered, mark_at-child, turn-entered, walk-whole}
 
 same_some : {X : Type 0} (one other : X) → Some one ≡ Some other → one ≡ other
 same_some one other e = ap (λ o. unwrap_or o one) e
@@ -38,75 +33,6 @@ same_some one other e = ap (λ o. unwrap_or o one) e
 -- what stands at a name in a place, by the place's layer
 pub entry-here : (stack : StackView) (name : PathName) (place : DirPlace) (layer : Entries) → slice_get stack.layers place.layer ≡ Some layer → entry_in stack.layers name (place_in stack place) ≡ entry_at layer (child_path (path_at layer place.row) name)
 entry-here stack name place layer at = λ j. elim (at j) as (λ _. Option Inode) [ Some own ↦ entry_at own (child_path (elim (at j) as (λ _. PathNames) [ Some entries ↦ path_at entries place.row | None ↦ [] ]) name) | None ↦ None ]
-
--- ---- where the walk of a path leads, by how far it goes through directories
-
-module _ (layer : Entries) (path : PathNames) (descent : Descent) (name : PathName) (is : IsDescent layer path descent) (inside : descent.depth < length path) (at : name ≡ get_or path descent.depth name) where
-  abbrev above : PathNames
-  above = take descent.depth path
-
-  abbrev onward : PathNames
-  onward = unwrap_or descent.turned above
-
-  whole : above ++ name ∷ drop (descent.depth + 1) path ≡ path
-  whole = cut layer path descent.depth name inside at
-
-  none : is_directory_at layer (child_path above name) ≡ false
-  none = stopped layer path descent name is inside at
-
-  walked : (found : Option Inode) → entry_at layer (child_path above name) ≡ found → walk_beyond found onward descent.closed name (drop (descent.depth + 1) path) ≡ walk layer path
-  walked found here = walk-ends layer path descent.depth name inside at is.layered is.directory none found onward descent.closed (sym here) is.turned is.shut
-
-  pub not-directory : is_directory_at layer path ≡ false
-  not-directory = ap (is_directory_at layer) (sym whole) ∙ no-directory-below layer above name is.layered none (drop (descent.depth + 1) path)
-
-  pub ends-there : (found : Option Inode) → entry_at layer (child_path above name) ≡ found → (is_some found || descent.closed) ≡ true → (is_some (entry_at layer path) || (walk layer path).closed) ≡ true
-  ends-there None here shut = ap (λ (s : Step). is_some (entry_at layer path) || s.closed) (sym (walked None here)) ∙ (ap (λ b. is_some (entry_at layer path) || b) shut ∙ or-true (is_some (entry_at layer path)))
-  ends-there (Some inode) here shut = by (drop (descent.depth + 1) path) refl
-    where
-      by : (rest : PathNames) → drop (descent.depth + 1) path ≡ rest → (is_some (entry_at layer path) || (walk layer path).closed) ≡ true
-      by [] e =
-          ap (λ (o : Option Inode). is_some o || (walk layer path).closed) (ap (entry_at layer) (sym whole ∙ ap (λ (r : PathNames). above ++ name ∷ r) e) ∙ here)
-      by (other ∷ rest) e =
-          ap (λ (s : Step). is_some (entry_at layer path) || s.closed) (sym (walked (Some inode) here) ∙ ap (walk_beyond (Some inode) onward descent.closed name) e)
-          ∙ or-true (is_some (entry_at layer path))
-
-  pub goes-past : entry_at layer (child_path above name) ≡ None → descent.closed ≡ false → (entry_at layer path ≡ None) × ((walk layer path).closed ≡ false) × (onward ++ drop descent.depth path ≡ (walk layer path).next)
-  goes-past here open_ = (by (past layer path is.layered beyond), closed, next)
-    where
-      beyond : Beyond layer path
-      beyond = record { directory = above; name = name; rest = drop (descent.depth + 1) path; whole = whole; holds = is.directory; stops = none }
-
-      closed : (walk layer path).closed ≡ false
-      closed = ap (λ (s : Step). s.closed) (sym (walked None here)) ∙ open_
-
-      next : onward ++ drop descent.depth path ≡ (walk layer path).next
-      next = ap (λ (r : PathNames). onward ++ r) (drop-head path descent.depth name inside at) ∙ ap (λ (s : Step). s.next) (walked None here)
-
-      by : NothingAt layer path ⊎ FileAt layer path → entry_at layer path ≡ None
-      by (inl nothing) = nothing.none
-      by (inr file) = absurd (never file.finds)
-        where
-          never : ((walk layer path).found ≡ Some file.inode) ⊎ (((walk layer path).found ≡ None) × ((walk layer path).closed ≡ true)) → ⊥
-          never (inl found) = let bad : None ≡ Some file.inode = ap (λ (s : Step). s.found) (walked None here) ∙ found in cc
-          never (inr shut) = let bad : false ≡ true = sym closed ∙ shut.1 in cc
-
-  -- where something stands at the name, or the layers below are hidden, the walk leads no further
-  pub stops-there : (number : Option ℕ) → IsNumberAt layer (child_path above name) number → (is_some number || descent.closed) ≡ true → (is_some (entry_at layer path) || (walk layer path).closed) ≡ true
-  stops-there None nothing shut = ends-there None nothing shut
-  stops-there (Some number) here shut =
-      let found = entry-of_row layer number is.layered here.0 in
-      ends-there (Some found.0) (sym (ap (entry_at layer) here.1) ∙ found.1) refl
-
-  pub passes-there : (number : Option ℕ) → IsNumberAt layer (child_path above name) number → (is_some number || descent.closed) ≡ false → (entry_at layer path ≡ None) × ((walk layer path).closed ≡ false) × (onward ++ drop descent.depth path ≡ (walk layer path).next)
-  passes-there None nothing open_ = goes-past nothing open_
-  passes-there (Some number) here open_ = cc
-
--- a walk that ends before the path does comes to no directory
-pub short-descent : (layer : Entries) (path : PathNames) (descent : Descent) → IsDescent layer path descent → descent.depth < length path → is_directory_at layer path ≡ false
-short-descent layer path descent is inside =
-    let name : PathName = get_or path descent.depth [] in
-    not-directory layer path descent name is inside (sym (get_or_from_slice_get path descent.depth name name (slice_get-get_or path descent.depth [] inside)))
 
 -- ---- places that were added
 
@@ -139,22 +65,27 @@ module _ (stack : StackView) where
       ap (placed_by place) at
       ∙ (λ j. record { layer = place.layer; path = is j; next = turn layer (is j); closed = is_shut layer (is j) })
 
-  -- a layer that has the directory, and then the layers below it
-  pub directory-step : (i : ℕ) (layer : Entries) (path : PathNames) (row : ℕ) (told : Option PathNames) (closed : Bool) → slice_get stack.layers i ≡ Some layer → IsArrival layer path (Directory row told closed)
+  -- a layer that has the directory, or doesn't, and then the layers below it
+  pub directory-step : (i : ℕ) (layer : Entries) (path : PathNames) (row : ℕ) (next : PathNames) (closed : Bool) → slice_get stack.layers i ≡ Some layer → IsArrivalAt layer path (Some row) next closed
       → (old so_far new : List DirPlace) (more : List Reached) → new ≡ so_far ++ (record { layer = i; row = row }) ∷ [] → places_in stack so_far ++ reached (drop i stack.layers) i path ≡ places_in stack old ++ more
-      → places_in stack new ++ cond closed [] (reached (drop (i + 1) stack.layers) (i + 1) (unwrap_or told path)) ≡ places_in stack old ++ more
-  directory-step i layer path row told closed at arrival old so_far new more is same =
+      → places_in stack new ++ cond closed [] (reached (drop (i + 1) stack.layers) (i + 1) next) ≡ places_in stack old ++ more
+  directory-step i layer path row next closed at arrival old so_far new more is same =
       let own : DirPlace = record { layer = i; row = row } in
-      let next : PathNames = unwrap_or told path in
       let rest : List Reached = cond closed [] (reached (drop (i + 1) stack.layers) (i + 1) next) in
-      let step = walk-whole layer path arrival.0 in
-      let turned : turn layer path ≡ next = sym (arrival.3 ∙ ap (λ (s : Step). s.next) step) in
-      let shut : is_shut layer path ≡ closed = sym (arrival.4 ∙ ap (λ (s : Step). s.closed) step) in
+      let step = walk-whole layer path arrival.directory in
+      let turned : turn layer path ≡ next = sym (arrival.next ∙ ap (λ (s : Step). s.next) step) in
+      let shut : is_shut layer path ≡ closed = sym (arrival.closed ∙ ap (λ (s : Step). s.closed) step) in
       pushed old so_far new own rest more is
-      ((λ j. places_in stack so_far ++ place-is own layer path at arrival.2 j ∷ rest)
+      ((λ j. places_in stack so_far ++ place-is own layer path at arrival.here j ∷ rest)
       ∙ ((λ j. places_in stack so_far ++ (record { layer = i; path = path; next = turned j; closed = shut j }) ∷ rest)
-      ∙ (ap (λ (ps : List Reached). places_in stack so_far ++ ps) (sym (arrives-directory stack.layers i layer at path next closed arrival.0 arrival.3 arrival.4))
+      ∙ (ap (λ (ps : List Reached). places_in stack so_far ++ ps) (sym (arrives-directory stack.layers i layer at path next closed arrival.directory arrival.next arrival.closed))
       ∙ same)))
+
+  pub past-step : (i : ℕ) (layer : Entries) (path : PathNames) (next : PathNames) (closed : Bool) → slice_get stack.layers i ≡ Some layer → IsArrivalAt layer path None next closed
+      → (old so_far : List DirPlace) (more : List Reached) → places_in stack so_far ++ reached (drop i stack.layers) i path ≡ places_in stack old ++ more
+      → places_in stack so_far ++ cond closed [] (reached (drop (i + 1) stack.layers) (i + 1) next) ≡ places_in stack old ++ more
+  past-step i layer path next closed at arrival old so_far more same =
+      ap (λ (ps : List Reached). places_in stack so_far ++ ps) (sym (arrives-past stack.layers i layer at path next closed arrival)) ∙ same
 
   pub over-push : (old so_far new : List DirPlace) (own : DirPlace) (layer : Entries) → slice_get stack.layers own.layer ≡ Some layer → own.row < length layer → new ≡ so_far ++ own ∷ [] → (All (IsPlaceOver stack) old → All (IsPlaceOver stack) so_far) → All (IsPlaceOver stack) old → All (IsPlaceOver stack) new
   over-push old so_far new own layer at inside is over all =

@@ -1,35 +1,35 @@
 -- Laws of walks: how a walk goes on by one name, what it depends on, and where it ends.
 use Rattle.std.proofs.Common.{◌≡◌, ℕ, Bool, true, false, cond, Option, Some, None, is_some, List, [], ◌∷◌, ◌++◌, length, drop, refl, sym, ap, ◌∙◌, subst, append_assoc, arith, ◌<◌, ◌≤◌, inl, inr, ◌⊎◌}
-use Rattle.std.specs.Prelude.{◌||◌, unwrap_or, nat_le, slice_get}
+use Rattle.std.specs.Prelude.{◌&&◌, ◌||◌, unwrap_or, nat_le, slice_get}
 use Rattle.std.specs.Option.{option_map}
 use Rattle.std.specs.List.{cons_option, list_any}
 use Rattle.std.specs.Cmp.Lexicographic.{pointwise_decides, bytes_decides}
 use Rattle.std.proofs.Math.Seq.{drop-append_seam}
 use Rattle.std.proofs.lemmas.List.{append-nil}
 use Rattle.std.proofs.lemmas.Bool.{leb-true}
-use Rattle.std.proofs.Math.Bool.{or-true}
+use Rattle.std.proofs.Math.Bool.{or-true, or-false}
 use Rattle.ovl_names.specs.Names.{PathName, name_eq}
 use Rattle.ovl_names.specs.Paths.{PathNames, path_eq, child_path, parent_path, longest, is_root, path_text, depth_limit, text_limit}
 use Rattle.ovl_names.proofs.Ascending.{both}
 use Rattle.ovl_inode.specs.declared.inodes.Inode.{Inode}
 use Rattle.ovl_inode.specs.declared.marks.Mark.{Mark}
-use Rattle.ovl_inode.specs.Marks.{mark_of, is_directory, is_whiteout, is_metacopy, is_metacopy_mark}
-use Rattle.ovl_inode.specs.declared.marks.Mark.TheVariants.{Meta}
+use Rattle.ovl_inode.specs.Marks.{mark_of, is_directory, is_whiteout, is_metacopy, is_metacopy_mark, is_regular, has_opaque, has_metacopy, redirect_reading, directory_mark, metacopy_mark}
+use Rattle.ovl_inode.specs.declared.marks.Mark.TheVariants.{Whiteout, DirOpaque, DirMoved, DirBad, DirPlain, Meta, MetaBad, Leaf}
 use Rattle.ovl_inode.specs.declared.marks.Redirect.TheVariants.{To, Beside}
 use Rattle.ovl_manifest.specs.Layers.{Entries, entry_at, is_directory_at, IsLayer, has_parent, Entry, name_below, names_below, is_within_limits}
 use Rattle.ovl_manifest.proofs.NodeLemmas.{name_eq-same}
 use Rattle.ovl_manifest.specs.Sheets.{path_at, path_of}
 use Rattle.ovl_manifest.proofs.SheetLemmas.{none-past, entry_at-number}
 use Rattle.ovl_lookup.specs.Walk.{mark_at, origin_path, name_in_lower, is_closing, nothing_found, turn, is_shut, walk, walk_from, walk_beyond, natural_path, walk_to_file}
-use Rattle.ovl_lookup.specs.Passes.{entered_path, entered_closed, IsOwnDirectory}
+use Rattle.ovl_lookup.specs.Onwards.{next_on, closed_on}
+use Rattle.ovl_lookup.specs.Passes.{entered_path, entered_closed}
 use Rattle.ovl_lookup.specs.declared.steps.Step.{Step}
 use Rattle.ovl_lookup.specs.Words.{SameMarks, SameEntries}
-use Rattle.ovl_lookup.specs.declared.steps.OwnDirectory.{OwnDirectory}
-use Rattle.ovl_lookup.specs.WalkLaws.{is_directory_or_none, PassesOver}
+use Rattle.ovl_lookup.specs.WalkLaws.{is_directory_or_none, PassesOver, WalksPass}
 use Rattle.ovl_lookup.proofs.Turns.{turn-child, turn-moved, is_shut-child, is_shut-moved, rest-child}
 use Rattle.ovl_lookup.proofs.Longest.{longest-holds, longest-rest, longest-child}
 use Rattle.ovl_lookup.proofs.LawsOfPaths.{by_child, last-name, length-child, lookup-all, parent_path-child}
-use Rattle.ovl_lookup.proofs.LawsOfInodes.{directory-no_whiteout}
+use Rattle.ovl_lookup.proofs.LawsOfInodes.{is_directory_mark, mark-directory, directory-marked, directory-no_whiteout}
 
 longest-whole : (test : PathNames → Bool) (path : PathNames) → test path ≡ true → longest test path ≡ path
 longest-whole test [] holds = refl
@@ -350,6 +350,14 @@ entry-above layer path name (other ∷ rest) inode is here =
     directory-parent layer path name is
     (entry-above layer (child_path path name) other rest inode is (ap (entry_at layer) (append_assoc path (name ∷ []) (other ∷ rest)) ∙ here))
 
+-- below no directory nothing stands
+pub nothing-below : (layer : Entries) (path : PathNames) (name : PathName) (rest : PathNames) → IsLayer layer → is_directory_at layer path ≡ false → entry_at layer (path ++ name ∷ rest) ≡ None
+nothing-below layer path name rest is none = by (entry_at layer (path ++ name ∷ rest)) refl
+  where
+    by : (found : Option Inode) → entry_at layer (path ++ name ∷ rest) ≡ found → found ≡ None
+    by None e = refl
+    by (Some inode) e = let bad : true ≡ false = sym (entry-above layer path name rest inode is e) ∙ none in cc
+
 -- a directory is an entry
 pub directory-entry : (layer : Entries) (path : PathNames) → is_directory_at layer path ≡ true → (inode : Inode) × (entry_at layer path ≡ Some inode)
 directory-entry layer path holds = by (entry_at layer path) refl holds
@@ -386,23 +394,28 @@ module _ (layer : Entries) (path : PathNames) (name : PathName) (is : IsLayer la
       walk-stop layer path name rest is holds (ap directory_found here ∙ file)
       ∙ (λ j. walk_beyond (here j) (sym (walk-whole layer path holds) j).next (sym (walk-whole layer path holds) j).closed name rest)
 
+-- past a name that is no directory
+pub walks-pass : WalksPass
+walks-pass layer path name other is rest holds stops = by (entry_at layer (child_path path name)) refl
+  where
+    next : PathNames
+    next = (walk layer path).next
+
+    closed : Bool
+    closed = (walk layer path).closed
+
+    beyond : (found : Option Inode) → walk_beyond found next closed name (other ∷ rest) ≡ nothing_found (next ++ name ∷ other ∷ rest) (closed || is_some found)
+    beyond None = ap (nothing_found (next ++ name ∷ other ∷ rest)) (sym (or-false closed))
+    beyond (Some inode) = ap (nothing_found (next ++ name ∷ other ∷ rest)) (sym (or-true closed))
+
+    by : (found : Option Inode) → entry_at layer (child_path path name) ≡ found → walk layer (path ++ name ∷ other ∷ rest) ≡ nothing_found (next ++ name ∷ other ∷ rest) (closed || is_some (entry_at layer (child_path path name)))
+    by found here =
+        walk-child_end layer path name is found holds here (ap directory_found (sym here) ∙ stops) (other ∷ rest)
+        ∙ (beyond found ∙ ap (λ (o : Option Inode). nothing_found (next ++ name ∷ other ∷ rest) (closed || is_some o)) (sym here))
+
 -- the mark of a row, by its inode
 pub own-mark : (inode : Inode) (mark : Mark) → Some (mark_of inode) ≡ Some mark → mark ≡ mark_of inode
 own-mark inode mark same = sym (ap (λ o. unwrap_or o mark) same)
-
-module _ (layer : Entries) (path : PathNames) (name : PathName) (is : IsLayer layer) (own : OwnDirectory) (stands : IsOwnDirectory layer path own) where
-  -- what is there, no directory and a directory
-  pub own-file : (inode : Inode) → entry_at layer (child_path path name) ≡ Some inode → is_directory inode ≡ false
-      → walk_beyond (Some inode) (unwrap_or own.turned path) own.closed name [] ≡ walk layer (child_path path name)
-  own-file inode here file =
-      (λ j. walk_beyond (Some inode) (stands.next j) (stands.closed j) name [])
-      ∙ sym (walk-child_end layer path name is (Some inode) stands.directory here file [])
-
-  pub own-entered : (inode : Inode) → entry_at layer (child_path path name) ≡ Some inode → is_directory inode ≡ true
-      → record { found = Some inode; next = entered_path (mark_of inode) (unwrap_or own.turned path) name; closed = entered_closed (mark_of inode) own.closed } ≡ walk layer (child_path path name)
-  own-entered inode here directory =
-      (λ j. record { found = Some inode; next = entered_path (mark_of inode) (stands.next j) name; closed = entered_closed (mark_of inode) (stands.closed j) })
-      ∙ sym (walk-child_directory layer path name is inode here directory)
 
 -- ---- beyond a directory
 
@@ -576,3 +589,96 @@ entry-of_row layer number is inside = by (slice_get layer number) refl
     by : (o : Option Entry) → slice_get layer number ≡ o → (inode : Inode) × (entry_at layer (path_at layer number) ≡ Some inode)
     by None e = absurd (omega (arith, none-past layer number e, inside))
     by (Some entry) e = (entry.1, ap (λ o. entry_at layer (path_of o)) e ∙ entry_at-number layer number entry is.in_order e)
+
+-- ---- what stands at one more name says by its mark alone where the walk goes on
+
+pub marked-whiteout : (inode : Inode) → is_whiteout inode ≡ true → mark_of inode ≡ Whiteout
+marked-whiteout inode white =
+    ap (λ (b : Bool). cond b Whiteout (cond (is_directory inode && has_opaque inode) DirOpaque (cond (is_directory inode) (directory_mark (redirect_reading inode)) (cond (is_regular inode && has_metacopy inode) (metacopy_mark (redirect_reading inode)) Leaf)))) white
+
+pub marked-directory : (inode : Inode) → is_directory_mark (mark_of inode) ≡ true → is_directory inode ≡ true
+marked-directory inode is = by (is_whiteout inode) refl
+  where
+    by : (b : Bool) → is_whiteout inode ≡ b → is_directory inode ≡ true
+    by true white = let bad : false ≡ true = sym (ap is_directory_mark (marked-whiteout inode white)) ∙ is in cc
+    by false none = sym (mark-directory inode none) ∙ is
+
+module _ (next : PathNames) (name : PathName) where
+  pub entered-on : (mark : Mark) → is_directory_mark mark ≡ true → (closed : Bool) → (entered_path mark next name ≡ next_on mark next name) × (entered_closed mark closed ≡ closed_on mark name closed)
+  entered-on DirPlain is true = (refl, refl)
+  entered-on DirPlain is false = (refl, refl)
+  entered-on (DirMoved (To origin)) is closed = (refl, refl)
+  entered-on (DirMoved (Beside own)) is true = (refl, refl)
+  entered-on (DirMoved (Beside own)) is false = (refl, refl)
+  entered-on DirOpaque is true = (refl, refl)
+  entered-on DirOpaque is false = (refl, refl)
+  entered-on DirBad is true = (refl, refl)
+  entered-on DirBad is false = (refl, refl)
+  entered-on Whiteout is closed = let bad : false ≡ true = is in cc
+  entered-on (Meta redirect) is closed = let bad : false ≡ true = is in cc
+  entered-on MetaBad is closed = let bad : false ≡ true = is in cc
+  entered-on Leaf is closed = let bad : false ≡ true = is in cc
+
+  file-on : (inode : Inode) (mark : Mark) → is_directory_mark mark ≡ false → (closed : Bool) → walk_to_file inode mark next closed name ≡ record { found = Some inode; next = next_on mark next name; closed = closed_on mark name closed }
+  file-on inode (Meta None) is closed = refl
+  file-on inode (Meta (Some (To origin))) is closed = refl
+  file-on inode (Meta (Some (Beside own))) is closed = refl
+  file-on inode MetaBad is closed = refl
+  file-on inode Leaf is closed = refl
+  file-on inode Whiteout is closed = refl
+  file-on inode DirPlain is closed = let bad : true ≡ false = is in cc
+  file-on inode (DirMoved redirect) is closed = let bad : true ≡ false = is in cc
+  file-on inode DirOpaque is closed = let bad : true ≡ false = is in cc
+  file-on inode DirBad is closed = let bad : true ≡ false = is in cc
+
+pub walk-child : (layer : Entries) (path : PathNames) (name : PathName) → IsLayer layer → (inode : Inode) → entry_at layer (child_path path name) ≡ Some inode
+    → walk layer (child_path path name) ≡ record { found = cond (is_whiteout inode) None (Some inode); next = next_on (mark_of inode) (walk layer path).next name; closed = closed_on (mark_of inode) name (walk layer path).closed }
+walk-child layer path name is inode here = by (is_directory inode) refl
+  where
+    next : PathNames
+    next = (walk layer path).next
+
+    closed : Bool
+    closed = (walk layer path).closed
+
+    white : is_directory inode ≡ false → (b : Bool) → is_whiteout inode ≡ b → walk_beyond (Some inode) next closed name [] ≡ record { found = cond (is_whiteout inode) None (Some inode); next = next_on (mark_of inode) next name; closed = closed_on (mark_of inode) name closed }
+    white d true w =
+        let mark = marked-whiteout inode w in
+        whiteout-closes inode next closed name w ∙ (λ j. record { found = cond (sym w j) None (Some inode); next = next_on (sym mark j) next name; closed = closed_on (sym mark j) name closed })
+    white d false w =
+        file-found inode next closed name w
+        ∙ (file-on next name inode (mark_of inode) (mark-directory inode w ∙ d) closed
+        ∙ ap (λ (b : Bool). record { found = cond b None (Some inode); next = next_on (mark_of inode) next name; closed = closed_on (mark_of inode) name closed }) (sym w))
+
+    by : (b : Bool) → is_directory inode ≡ b → walk layer (child_path path name) ≡ record { found = cond (is_whiteout inode) None (Some inode); next = next_on (mark_of inode) next name; closed = closed_on (mark_of inode) name closed }
+    by true d =
+        let on = entered-on next name (mark_of inode) (directory-marked inode d) closed in
+        walk-child_directory layer path name is inode here d ∙ (λ j. record { found = cond (sym (directory-no_whiteout inode d) j) None (Some inode); next = on.0 j; closed = on.1 j })
+    by false d = walk-child_end layer path name is (Some inode) (entry-parent layer path name inode is here) here d [] ∙ white d (is_whiteout inode) refl
+
+-- what stands at a path and isn't found is a whiteout, which closes the walk
+unfound-closed : (layer : Entries) (path : PathNames) (inode : Inode) → IsLayer layer → entry_at layer path ≡ Some inode → (walk layer path).found ≡ None → (walk layer path).closed ≡ true
+unfound-closed layer path inode is here none = by (last-name path)
+  where
+    by : (path ≡ []) ⊎ ((directory : PathNames) × (name : PathName) × (path ≡ child_path directory name)) → (walk layer path).closed ≡ true
+    by (inl e) =
+        let holds : is_directory_at layer path ≡ true = ap (is_directory_at layer) e ∙ is.rooted in
+        let bad : Some inode ≡ None = sym here ∙ (ap (λ (s : Step). s.found) (sym (walk-whole layer path holds)) ∙ none) in cc
+    by (inr (directory, name, e)) = white (is_whiteout inode) refl
+      where
+        step : walk layer path ≡ record { found = cond (is_whiteout inode) None (Some inode); next = next_on (mark_of inode) (walk layer directory).next name; closed = closed_on (mark_of inode) name (walk layer directory).closed }
+        step = ap (walk layer) e ∙ walk-child layer directory name is inode (ap (entry_at layer) (sym e) ∙ here)
+
+        white : (b : Bool) → is_whiteout inode ≡ b → (walk layer path).closed ≡ true
+        white true w = ap (λ (s : Step). s.closed) step ∙ ap (λ (m : Mark). closed_on m name (walk layer directory).closed) (marked-whiteout inode w)
+        white false w = let bad : Some inode ≡ None = ap (λ (b : Bool). cond b None (Some inode)) (sym w) ∙ (ap (λ (s : Step). s.found) (sym step) ∙ none) in cc
+
+-- the layers below are hidden alike by what stands at a path and by what its walk finds there
+pub hides-alike : (layer : Entries) (path : PathNames) → IsLayer layer → (is_some (entry_at layer path) || (walk layer path).closed) ≡ (is_some (walk layer path).found || (walk layer path).closed)
+hides-alike layer path is = by (entry_at layer path) refl (walk layer path).found refl
+  where
+    by : (entry : Option Inode) → entry_at layer path ≡ entry → (found : Option Inode) → (walk layer path).found ≡ found → (is_some entry || (walk layer path).closed) ≡ (is_some found || (walk layer path).closed)
+    by None e None f = refl
+    by None e (Some inode) f = let bad : None ≡ Some inode = sym e ∙ (walk-finds layer path inode is f).0 in cc
+    by (Some inode) e None f = sym (unfound-closed layer path inode is e f)
+    by (Some inode) e (Some other) f = refl

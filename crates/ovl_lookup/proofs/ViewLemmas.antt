@@ -1,8 +1,7 @@
 -- Views of directories: how they go on with one more name, and what they show.
-use Rattle.std.proofs.Common.{◌≡◌, ℕ, zero, suc, Bool, true, false, cond, Option, Some, None, is_some, List, [], ◌∷◌, ◌++◌, drop, refl, sym, ap, ◌∙◌, append_assoc, inl, inr, ◌⊎◌}
+use Rattle.std.proofs.Common.{◌≡◌, ℕ, zero, suc, Bool, true, false, cond, Option, Some, None, is_some, List, [], ◌∷◌, drop, refl, sym, ap, ◌∙◌, inl, inr, ◌⊎◌}
 use Rattle.std.specs.Prelude.{◌||◌, ◌&&◌, slice_get}
 use Rattle.std.specs.List.{cons_option, All}
-use Rattle.std.proofs.Math.Bool.{or-true, or-false}
 use Rattle.ovl_names.specs.Names.{PathName}
 use Rattle.ovl_names.specs.Paths.{PathNames, child_path}
 use Rattle.ovl_inode.specs.declared.inodes.Inode.{Inode}
@@ -12,17 +11,19 @@ use Rattle.ovl_inode.specs.declared.marks.Redirect.TheVariants.{To, Beside}
 use Rattle.ovl_inode.specs.Marks.{mark_of, is_directory, is_whiteout, has_metacopy}
 use Rattle.ovl_manifest.specs.Layers.{Entries, IsLayer, entry_at, is_directory_at}
 use Rattle.ovl_lookup.specs.declared.steps.Step.{Step}
-use Rattle.ovl_lookup.specs.Walk.{walk, walk_beyond, walk_to_file, nothing_found, turn, is_shut}
+use Rattle.ovl_lookup.specs.Walk.{walk, nothing_found}
 use Rattle.ovl_lookup.specs.Trace.{things_found}
 use Rattle.ovl_lookup.specs.Merged.{shown_of, is_shown_directory}
 use Rattle.ovl_lookup.specs.Laws.{ViewsGoOn, ViewsFind, ViewsShow}
-use Rattle.ovl_lookup.specs.Passes.{entered_path, entered_closed}
+use Rattle.ovl_lookup.specs.Onwards.{next_on, closed_on}
+use Rattle.ovl_lookup.specs.Passes.{IsPast, entered_path, entered_closed}
 use Rattle.ovl_lookup.specs.Views.{Reached, reached, is_reached, entry_in, entered, below_entry, reached_below, found_below}
 use Rattle.ovl_lookup.proofs.LawsOfPaths.{all-first, all-rest}
-use Rattle.ovl_lookup.proofs.LawsOfInodes.{directory-kind, directory-marked, directory-no_whiteout, is_directory_mark, mark-directory}
-use Rattle.ovl_lookup.proofs.LawsOfWalks.{Beyond, directory-entry, directory_found, entry-above, entry-parent, found-file, no-directory-below, walk-child_directory, walk-child_end, walk-end, walk-past, walk-stop, walk-whole}
+use Rattle.ovl_lookup.proofs.LawsOfInodes.{directory-kind, directory-marked}
+use Rattle.ovl_lookup.proofs.LawsOfWalks.{Beyond, directory-entry, directory_found, entered-on, hides-alike, marked-whiteout, nothing-below, walk-child, walk-child_directory, walk-child_end, walk-end, walk-finds, walk-whole}
 use Rattle.ovl_lookup.proofs.LawsOfFound.{shown_of-full, things_found-step}
 use Rattle.ovl_lookup.proofs.LawsOfLooks.{file-shown, found-by, found_by}
+use Rattle.ovl_lookup.proofs.WalkFacts.{past-beyond}
 
 -- ---- the first of the layers from a number on
 
@@ -32,11 +33,6 @@ layer-here [] (suc i) x xs e = let bad : x ∷ xs ≡ [] = e in cc
 layer-here (y ∷ all) zero x xs e = let same : x ≡ y = cc in (ap Some (sym same), ap (drop 1) e)
 layer-here (y ∷ all) (suc i) x xs e = layer-here all i x xs e
 
--- ---- the marks of directories
-
-pub file-marked : (inode : Inode) → is_whiteout inode ≡ false → is_directory inode ≡ false → is_directory_mark (mark_of inode) ≡ false
-file-marked inode none file = mark-directory inode none ∙ file
-
 -- ---- below an entry, by its mark: `f` goes on in the layers below, `h` in the view
 
 module _ {X : Type 0} (f : PathNames → List X) (h : PathName → List Reached → List X) (r : PathNames → List Reached) (none : (name : PathName) → h name [] ≡ []) (later : (path : PathNames) (name : PathName) → f (child_path path name) ≡ h name (r path)) where
@@ -44,129 +40,18 @@ module _ {X : Type 0} (f : PathNames → List X) (h : PathName → List Reached 
   goes-on true next name = sym (none name)
   goes-on false next name = later next name
 
-  stays : (shut : Bool) (next : PathNames) (name : PathName) → cond (shut || false) [] (f (child_path next name)) ≡ h name (cond shut [] (r next))
-  stays shut next name = ap (λ b. cond b [] (f (child_path next name))) (or-false shut) ∙ goes-on shut next name
-
-  ends : (shut : Bool) (next : PathNames) → cond (shut || true) [] (f next) ≡ []
-  ends shut next = ap (λ b. cond b [] (f next)) (or-true shut)
-
-  directory-on : (mark : Mark) (shut : Bool) (next : PathNames) (name : PathName) → is_directory_mark mark ≡ true → cond (entered_closed mark shut) [] (f (entered_path mark next name)) ≡ below_entry mark name f (λ other. h other (cond shut [] (r next)))
-  directory-on DirPlain shut next name is = stays shut next name
-  directory-on (DirMoved (Beside other)) shut next name is = stays shut next other
-  directory-on (DirMoved (To origin)) shut next name is = refl
-  directory-on DirOpaque shut next name is = ends shut (child_path next name)
-  directory-on DirBad shut next name is = ends shut (child_path next name)
-  directory-on Whiteout shut next name is = let bad : false ≡ true = is in cc
-  directory-on (Meta redirect) shut next name is = let bad : false ≡ true = is in cc
-  directory-on MetaBad shut next name is = let bad : false ≡ true = is in cc
-  directory-on Leaf shut next name is = let bad : false ≡ true = is in cc
-
-module _ (f : PathNames → List Inode) (h : PathName → List Reached → List Inode) (r : PathNames → List Reached) (none : (name : PathName) → h name [] ≡ []) (later : (path : PathNames) (name : PathName) → f (child_path path name) ≡ h name (r path)) where
-  file-on : (inode : Inode) (mark : Mark) (shut : Bool) (next : PathNames) (name : PathName) → is_directory_mark mark ≡ false → cons_option (walk_to_file inode mark next shut name).found (cond (walk_to_file inode mark next shut name).closed [] (f (walk_to_file inode mark next shut name).next)) ≡ inode ∷ below_entry mark name f (λ other. h other (cond shut [] (r next)))
-  file-on inode (Meta None) shut next name is = ap (λ found. inode ∷ found) (goes-on f h r none later shut next name)
-  file-on inode (Meta (Some (Beside other))) shut next name is = ap (λ found. inode ∷ found) (goes-on f h r none later shut next other)
-  file-on inode (Meta (Some (To origin))) shut next name is = refl
-  file-on inode Whiteout shut next name is = refl
-  file-on inode MetaBad shut next name is = refl
-  file-on inode Leaf shut next name is = refl
-  file-on inode DirOpaque shut next name is = let bad : true ≡ false = is in cc
-  file-on inode (DirMoved redirect) shut next name is = let bad : true ≡ false = is in cc
-  file-on inode DirBad shut next name is = let bad : true ≡ false = is in cc
-  file-on inode DirPlain shut next name is = let bad : true ≡ false = is in cc
-
--- ---- a path at which a layer has no directory
-
--- nothing stands there: with one more name the walk goes on as it does
-pub record NothingAt (layer : Entries) (path : PathNames) : Type 0 where
-  pub none : entry_at layer path ≡ None
-  pub finds : (walk layer path).found ≡ None
-  pub below : (name : PathName) → walk layer (child_path path name) ≡ nothing_found (child_path (walk layer path).next name) (walk layer path).closed
-
--- a file or a whiteout stands there: with one more name the walk is closed
-pub record FileAt (layer : Entries) (path : PathNames) : Type 0 where
-  pub inode : Inode
-  pub here : entry_at layer path ≡ Some inode
-  pub file : is_directory inode ≡ false
-  pub finds : ((walk layer path).found ≡ Some inode) ⊎ (((walk layer path).found ≡ None) × ((walk layer path).closed ≡ true))
-  pub below : (name : PathName) → (next : PathNames) × (walk layer (child_path path name) ≡ nothing_found next true)
-
-module _ (layer : Entries) (path : PathNames) (is : IsLayer layer) (b : Beyond layer path) where
-  abbrev turned : PathNames
-  turned = turn layer b.directory
-
-  abbrev shut : Bool
-  shut = is_shut layer b.directory
-
-  abbrev stop : PathNames
-  stop = child_path b.directory b.name
-
-  below-past : (name : PathName) → walk layer (child_path path name) ≡ walk_beyond (entry_at layer stop) turned shut b.name (child_path b.rest name)
-  below-past name =
-      ap (λ (p : PathNames). walk layer (child_path p name)) (sym b.whole)
-      ∙ (ap (walk layer) (append_assoc b.directory (b.name ∷ b.rest) (name ∷ []))
-      ∙ walk-stop layer b.directory b.name (child_path b.rest name) is b.holds b.stops)
-
-  -- no entry stands deeper than where the walk stops
-  none-past : (other : PathName) (rest : PathNames) → b.rest ≡ other ∷ rest → entry_at layer path ≡ None
-  none-past other rest r = by (entry_at layer path) refl
-    where
-      whole : stop ++ other ∷ rest ≡ path
-      whole = append_assoc b.directory (b.name ∷ []) (other ∷ rest) ∙ (ap (λ (more : PathNames). b.directory ++ b.name ∷ more) (sym r) ∙ b.whole)
-
-      by : (found : Option Inode) → entry_at layer path ≡ found → found ≡ None
-      by None e = refl
-      by (Some inode) e =
-          let above : is_directory_at layer stop ≡ true = entry-above layer stop other rest inode is (ap (entry_at layer) whole ∙ e) in
-          let bad : true ≡ false = sym above ∙ b.stops in cc
-
-  -- where both walks find nothing
-  nothing-past : (closed : Bool) → entry_at layer path ≡ None → walk layer path ≡ nothing_found (turned ++ b.name ∷ b.rest) closed → ((name : PathName) → walk layer (child_path path name) ≡ nothing_found (turned ++ b.name ∷ child_path b.rest name) closed) → NothingAt layer path
-  nothing-past closed none walked inner = record {
-    none = none;
-    finds = ap (λ (s : Step). s.found) walked;
-    below = λ name.
-        inner name
-        ∙ (ap (λ (p : PathNames). nothing_found p closed) (sym (append_assoc turned (b.name ∷ b.rest) (name ∷ [])))
-        ∙ ap (λ (s : Step). nothing_found (child_path s.next name) s.closed) (sym walked));
-  }
-
-  pub no-directory : is_directory_at layer path ≡ false
-  no-directory = ap (is_directory_at layer) (sym b.whole) ∙ no-directory-below layer b.directory b.name is b.stops b.rest
-
-  pub past : NothingAt layer path ⊎ FileAt layer path
-  past = by (entry_at layer stop) refl b.rest refl
-    where
-      walked : walk layer path ≡ walk_beyond (entry_at layer stop) turned shut b.name b.rest
-      walked = walk-past layer path is b
-
-      by : (found : Option Inode) → entry_at layer stop ≡ found → (rest : PathNames) → b.rest ≡ rest → NothingAt layer path ⊎ FileAt layer path
-      by None e [] r = inl (nothing-past shut
-          (ap (entry_at layer) (sym b.whole ∙ ap (λ (more : PathNames). b.directory ++ b.name ∷ more) r) ∙ e)
-          (walked ∙ (λ j. walk_beyond (e j) turned shut b.name b.rest))
-          (λ name. below-past name ∙ (λ j. walk_beyond (e j) turned shut b.name (child_path b.rest name))))
-      by None e (other ∷ rest) r = inl (nothing-past shut
-          (none-past other rest r)
-          (walked ∙ (λ j. walk_beyond (e j) turned shut b.name b.rest))
-          (λ name. below-past name ∙ (λ j. walk_beyond (e j) turned shut b.name (child_path b.rest name))))
-      by (Some inode) e (other ∷ rest) r = inl (nothing-past true
-          (none-past other rest r)
-          (walked ∙ ((λ j. walk_beyond (e j) turned shut b.name (r j)) ∙ ap (λ (more : PathNames). nothing_found (turned ++ b.name ∷ more) true) (sym r)))
-          (λ name. below-past name ∙ ((λ j. walk_beyond (e j) turned shut b.name (child_path (r j) name)) ∙ ap (λ (more : PathNames). nothing_found (turned ++ b.name ∷ child_path more name) true) (sym r))))
-      by (Some inode) e [] r = inr (record {
-        inode = inode;
-        here = ap (entry_at layer) (sym b.whole ∙ ap (λ (more : PathNames). b.directory ++ b.name ∷ more) r) ∙ e;
-        file = ap directory_found (sym e) ∙ b.stops;
-        finds = ended (is_whiteout inode) refl;
-        below = λ name. (turned ++ b.name ∷ name ∷ [], below-past name ∙ (λ j. walk_beyond (e j) turned shut b.name (child_path (r j) name)));
-      })
-        where
-          ended : (w : Bool) → is_whiteout inode ≡ w → ((walk layer path).found ≡ Some inode) ⊎ (((walk layer path).found ≡ None) × ((walk layer path).closed ≡ true))
-          ended true w =
-              let out : walk layer path ≡ nothing_found (child_path turned b.name) true = walked ∙ ((λ j. walk_beyond (e j) turned shut b.name (r j)) ∙ ap (λ c. cond c (nothing_found (child_path turned b.name) true) (walk_to_file inode (mark_of inode) turned shut b.name)) w) in
-              inr (ap (λ (s : Step). s.found) out, ap (λ (s : Step). s.closed) out)
-          ended false w =
-              let out : walk layer path ≡ walk_to_file inode (mark_of inode) turned shut b.name = walked ∙ ((λ j. walk_beyond (e j) turned shut b.name (r j)) ∙ ap (λ c. cond c (nothing_found (child_path turned b.name) true) (walk_to_file inode (mark_of inode) turned shut b.name)) w) in
-              inl (ap (λ (s : Step). s.found) out ∙ found-file inode (mark_of inode) turned shut b.name)
+  mark-on : (mark : Mark) (shut : Bool) (next : PathNames) (name : PathName) → cond (closed_on mark name shut) [] (f (next_on mark next name)) ≡ below_entry mark name f (λ other. h other (cond shut [] (r next)))
+  mark-on DirPlain shut next name = goes-on shut next name
+  mark-on (DirMoved (Beside other)) shut next name = goes-on shut next other
+  mark-on (DirMoved (To origin)) shut next name = refl
+  mark-on (Meta None) shut next name = goes-on shut next name
+  mark-on (Meta (Some (Beside other))) shut next name = goes-on shut next other
+  mark-on (Meta (Some (To origin))) shut next name = refl
+  mark-on Whiteout shut next name = refl
+  mark-on DirOpaque shut next name = refl
+  mark-on DirBad shut next name = refl
+  mark-on MetaBad shut next name = refl
+  mark-on Leaf shut next name = refl
 
 -- ---- a view, and what is found, layer by layer
 
@@ -178,6 +63,19 @@ reached_by layers i path entry step =
 
 pub reached-by : (layer : Entries) (layers : List Entries) (i : ℕ) (path : PathNames) (entry : Option Inode) (step : Step) → entry_at layer path ≡ entry → walk layer path ≡ step → reached (layer ∷ layers) i path ≡ reached_by layers i path entry step
 reached-by layer layers i path entry step here walked = λ j. reached_by layers i path (here j) (walked j)
+
+-- past a path at which a layer has no directory it goes on in the layers below, unless they are hidden there
+pub reached-past : (layer : Entries) (layers : List Entries) (i : ℕ) (path next : PathNames) (hidden : Bool) → IsPast layer path next hidden → reached (layer ∷ layers) i path ≡ cond hidden [] (reached layers (suc i) next)
+reached-past layer layers i path next hidden past =
+    (λ j. cond (past.none j) (record { layer = i; path = path; next = step.next; closed = step.closed } ∷ cond step.closed [] (reached layers (suc i) step.next)) (cond (sym past.ended j) [] (reached layers (suc i) step.next)))
+    ∙ by hidden past.next
+  where
+    step : Step
+    step = walk layer path
+
+    by : (b : Bool) → (b ≡ false → next ≡ step.next) → cond b [] (reached layers (suc i) step.next) ≡ cond b [] (reached layers (suc i) next)
+    by true on = refl
+    by false on = ap (reached layers (suc i)) (sym (on refl))
 
 -- a view with one more name, and what is found, by what stands at the name in the first place
 abbrev pub reached_below_by : List Entries → PathName → Reached → List Reached → Option Inode → List Reached
@@ -205,6 +103,9 @@ module _ (all : List Entries) (layer : Entries) (layers : List Entries) (i : ℕ
   entry-in : entry_in all name place ≡ entry_at layer (child_path path name)
   entry-in = ap (λ (o : Option Entries). elim o as (λ _. Option Inode) [ Some own ↦ entry_at own (child_path path name) | None ↦ None ]) here
 
+  abbrev step-at : Inode → Bool → Mark → Step
+  step-at inode white mark = record { found = cond white None (Some inode); next = next_on mark (walk layer path).next name; closed = closed_on mark name (walk layer path).closed }
+
   pub reached-here : is_directory_at layer path ≡ true → reached (layer ∷ layers) i path ≡ place ∷ rest_of
   reached-here holds = ap (λ b. cond b (place ∷ rest_of) (cond (is_some (entry_at layer path) || (walk layer path).closed) [] (reached layers (suc i) (walk layer path).next))) holds
 
@@ -224,12 +125,13 @@ module _ (all : List Entries) (layer : Entries) (layers : List Entries) (i : ℕ
 
     view-entry : is_directory_at layer path ≡ true → (inode : Inode) → entry_at layer (child_path path name) ≡ Some inode → (d : Bool) → is_directory inode ≡ d → reached (layer ∷ layers) i (child_path path name) ≡ reached_below all name (reached (layer ∷ layers) i path)
     view-entry holds inode e true d =
-        let mark = directory-marked inode d in
+        let on = entered-on (walk layer path).next name (mark_of inode) (directory-marked inode d) (walk layer path).closed in
         let step : Step = record { found = Some inode; next = entered_path (mark_of inode) (walk layer path).next name; closed = entered_closed (mark_of inode) (walk layer path).closed } in
         reached-by layer layers i (child_path path name) (Some inode) step e (walk-child_directory layer path name is inode e d)
         ∙ (ap (λ b. cond b (entered name (mark_of inode) place ∷ cond step.closed [] (reached layers (suc i) step.next)) []) d
         ∙ (ap (λ views. entered name (mark_of inode) place ∷ views)
-        (directory-on (reached layers (suc i)) (reached_below all) (reached layers (suc i)) (λ n. refl) later (mark_of inode) (walk layer path).closed (walk layer path).next name mark
+        ((λ j. cond (on.1 j) [] (reached layers (suc i) (on.0 j)))
+        ∙ mark-on (reached layers (suc i)) (reached_below all) (reached layers (suc i)) (λ n. refl) later (mark_of inode) (walk layer path).closed (walk layer path).next name
         ∙ ap (λ (more : List Entries). below_entry (mark_of inode) name (reached more (suc i)) (λ other. reached_below all other rest_of)) rest)
         ∙ sym (view-here (Some inode) holds e
         ∙ ap (λ b. cond b (entered name (mark_of inode) place ∷ below_entry (mark_of inode) name (reached (drop (suc i) all) (suc i)) (λ other. reached_below all other rest_of)) []) d)))
@@ -239,23 +141,11 @@ module _ (all : List Entries) (layer : Entries) (layers : List Entries) (i : ℕ
         ∙ sym (view-here (Some inode) holds e
         ∙ ap (λ b. cond b (entered name (mark_of inode) place ∷ below_entry (mark_of inode) name (reached (drop (suc i) all) (suc i)) (λ other. reached_below all other rest_of)) []) d))
 
-    -- below no directory nothing stands
-    none-below : is_directory_at layer path ≡ false → entry_at layer (child_path path name) ≡ None
-    none-below none = by (entry_at layer (child_path path name)) refl
-      where
-        by : (found : Option Inode) → entry_at layer (child_path path name) ≡ found → found ≡ None
-        by None e = refl
-        by (Some inode) e = let bad : true ≡ false = sym (entry-parent layer path name inode is e) ∙ none in cc
-
-    view-past : NothingAt layer path ⊎ FileAt layer path → is_directory_at layer path ≡ false → reached (layer ∷ layers) i (child_path path name) ≡ reached_below all name (reached (layer ∷ layers) i path)
-    view-past (inl nothing) none =
-        reached-by layer layers i (child_path path name) None (nothing_found (child_path (walk layer path).next name) (walk layer path).closed) (none-below none) (nothing.below name)
-        ∙ (goes-on (reached layers (suc i)) (reached_below all) (reached layers (suc i)) (λ n. refl) later (walk layer path).closed (walk layer path).next name
-        ∙ ap (reached_below all name) (sym (reached-by layer layers i path None (walk layer path) nothing.none refl)))
-    view-past (inr file) none =
-        reached-by layer layers i (child_path path name) None (nothing_found (file.below name).0 true) (none-below none) (file.below name).1
-        ∙ ap (reached_below all name) (sym (reached-by layer layers i path (Some file.inode) (walk layer path) file.here refl
-        ∙ ap (λ b. cond b (place ∷ rest_of) []) file.file))
+    view-past : (onward : PathNames) (hidden : Bool) → IsPast layer path onward hidden → reached (layer ∷ layers) i (child_path path name) ≡ reached_below all name (reached (layer ∷ layers) i path)
+    view-past onward hidden past =
+        reached-by layer layers i (child_path path name) None (nothing_found (child_path onward name) hidden) (nothing-below layer path name [] is past.none) (past.below name [])
+        ∙ (goes-on (reached layers (suc i)) (reached_below all) (reached layers (suc i)) (λ n. refl) later hidden onward name
+        ∙ ap (reached_below all name) (sym (reached-past layer layers i path onward hidden past)))
 
   -- ---- what is found with one more name
   module _ (later : (p : PathNames) (n : PathName) → things_found layers (child_path p n) ≡ found_below all n (reached layers (suc i) p)) where
@@ -276,33 +166,22 @@ module _ (all : List Entries) (layer : Entries) (layers : List Entries) (i : ℕ
         ∙ sym (found-here (Some inode) holds e
         ∙ ap (λ b. cond b [] (inode ∷ below_entry (mark_of inode) name (things_found (drop (suc i) all)) (λ other. found_below all other rest_of))) w))
 
-    found-entry : is_directory_at layer path ≡ true → (inode : Inode) → entry_at layer (child_path path name) ≡ Some inode → (d : Bool) → is_directory inode ≡ d → (w : Bool) → is_whiteout inode ≡ w → things_found (layer ∷ layers) (child_path path name) ≡ found_below all name (reached (layer ∷ layers) i path)
-    found-entry holds inode e true d w h =
-        let mark = directory-marked inode d in
-        found-inode holds inode e (directory-no_whiteout inode d)
-        (found-by layer layers (child_path path name) (record { found = Some inode; next = entered_path (mark_of inode) (walk layer path).next name; closed = entered_closed (mark_of inode) (walk layer path).closed }) (walk-child_directory layer path name is inode e d)
-        ∙ ap (λ found. inode ∷ found) (directory-on (things_found layers) (found_below all) (reached layers (suc i)) (λ n. refl) later (mark_of inode) (walk layer path).closed (walk layer path).next name mark))
-    found-entry holds inode e false d true w =
-        found-by layer layers (child_path path name) (walk_beyond (Some inode) (walk layer path).next (walk layer path).closed name []) (walk-child_end layer path name is (Some inode) holds e d [])
-        ∙ (ap (λ b. found_by (cond b (nothing_found (child_path (walk layer path).next name) true) (walk_to_file inode (mark_of inode) (walk layer path).next (walk layer path).closed name)) layers) w
+    found-entry : is_directory_at layer path ≡ true → (inode : Inode) → entry_at layer (child_path path name) ≡ Some inode → (w : Bool) → is_whiteout inode ≡ w → things_found (layer ∷ layers) (child_path path name) ≡ found_below all name (reached (layer ∷ layers) i path)
+    found-entry holds inode e true w =
+        found-by layer layers (child_path path name) (step-at inode (is_whiteout inode) (mark_of inode)) (walk-child layer path name is inode e)
+        ∙ ((λ j. found_by (step-at inode (w j) (marked-whiteout inode w j)) layers)
         ∙ sym (found-here (Some inode) holds e
         ∙ ap (λ b. cond b [] (inode ∷ below_entry (mark_of inode) name (things_found (drop (suc i) all)) (λ other. found_below all other rest_of))) w))
-    found-entry holds inode e false d false w =
-        let mark = file-marked inode w d in
+    found-entry holds inode e false w =
         found-inode holds inode e w
-        (found-by layer layers (child_path path name) (walk_beyond (Some inode) (walk layer path).next (walk layer path).closed name []) (walk-child_end layer path name is (Some inode) holds e d [])
-        ∙ (ap (λ b. found_by (cond b (nothing_found (child_path (walk layer path).next name) true) (walk_to_file inode (mark_of inode) (walk layer path).next (walk layer path).closed name)) layers) w
-        ∙ file-on (things_found layers) (found_below all) (reached layers (suc i)) (λ n. refl) later inode (mark_of inode) (walk layer path).closed (walk layer path).next name mark))
+        (found-by layer layers (child_path path name) (step-at inode (is_whiteout inode) (mark_of inode)) (walk-child layer path name is inode e)
+        ∙ (ap (λ b. found_by (step-at inode b (mark_of inode)) layers) w
+        ∙ ap (λ found. inode ∷ found) (mark-on (things_found layers) (found_below all) (reached layers (suc i)) (λ n. refl) later (mark_of inode) (walk layer path).closed (walk layer path).next name)))
 
-    found-past : NothingAt layer path ⊎ FileAt layer path → things_found (layer ∷ layers) (child_path path name) ≡ found_below all name (reached (layer ∷ layers) i path)
-    found-past (inl nothing) =
-        found-by layer layers (child_path path name) (nothing_found (child_path (walk layer path).next name) (walk layer path).closed) (nothing.below name)
-        ∙ (found-on (walk layer path).closed (walk layer path).next
-        ∙ ap (found_below all name) (sym (reached-by layer layers i path None (walk layer path) nothing.none refl)))
-    found-past (inr file) =
-        found-by layer layers (child_path path name) (nothing_found (file.below name).0 true) (file.below name).1
-        ∙ ap (found_below all name) (sym (reached-by layer layers i path (Some file.inode) (walk layer path) file.here refl
-        ∙ ap (λ b. cond b (place ∷ rest_of) []) file.file))
+    found-past : (onward : PathNames) (hidden : Bool) → IsPast layer path onward hidden → things_found (layer ∷ layers) (child_path path name) ≡ found_below all name (reached (layer ∷ layers) i path)
+    found-past onward hidden past =
+        found-by layer layers (child_path path name) (nothing_found (child_path onward name) hidden) (past.below name [])
+        ∙ (found-on hidden onward ∙ ap (found_below all name) (sym (reached-past layer layers i path onward hidden past)))
 
 pub reached-child : (all ls : List Entries) (i : ℕ) (path : PathNames) (name : PathName) → ls ≡ drop i all → All IsLayer ls → reached ls i (child_path path name) ≡ reached_below all name (reached ls i path)
 reached-child all [] i path name whole each = refl
@@ -317,7 +196,9 @@ reached-child all (layer ∷ layers) i path name whole each = by (λ p n. reache
         inside : (found : Option Inode) → entry_at layer (child_path path name) ≡ found → reached (layer ∷ layers) i (child_path path name) ≡ reached_below all name (reached (layer ∷ layers) i path)
         inside None e = view-none all layer layers i path name is (layer-here all i layer layers whole).0 (layer-here all i layer layers whole).1 later holds e
         inside (Some inode) e = view-entry all layer layers i path name is (layer-here all i layer layers whole).0 (layer-here all i layer layers whole).1 later holds inode e (is_directory inode) refl
-    by later (inr b) = view-past all layer layers i path name is (layer-here all i layer layers whole).0 (layer-here all i layer layers whole).1 later (past layer path is b) (no-directory layer path is b)
+    by later (inr b) =
+        let past = past-beyond layer path is b in
+        view-past all layer layers i path name is (layer-here all i layer layers whole).0 (layer-here all i layer layers whole).1 later past.0 past.1 past.2
 
 pub found-child : (all ls : List Entries) (i : ℕ) (path : PathNames) (name : PathName) → ls ≡ drop i all → All IsLayer ls → things_found ls (child_path path name) ≡ found_below all name (reached ls i path)
 found-child all [] i path name whole each = refl
@@ -331,8 +212,10 @@ found-child all (layer ∷ layers) i path name whole each = by (λ p n. found-ch
       where
         inside : (found : Option Inode) → entry_at layer (child_path path name) ≡ found → things_found (layer ∷ layers) (child_path path name) ≡ found_below all name (reached (layer ∷ layers) i path)
         inside None e = found-none all layer layers i path name is (layer-here all i layer layers whole).0 (layer-here all i layer layers whole).1 later holds e
-        inside (Some inode) e = found-entry all layer layers i path name is (layer-here all i layer layers whole).0 (layer-here all i layer layers whole).1 later holds inode e (is_directory inode) refl (is_whiteout inode) refl
-    by later (inr b) = found-past all layer layers i path name is (layer-here all i layer layers whole).0 (layer-here all i layer layers whole).1 later (past layer path is b)
+        inside (Some inode) e = found-entry all layer layers i path name is (layer-here all i layer layers whole).0 (layer-here all i layer layers whole).1 later holds inode e (is_whiteout inode) refl
+    by later (inr b) =
+        let past = past-beyond layer path is b in
+        found-past all layer layers i path name is (layer-here all i layer layers whole).0 (layer-here all i layer layers whole).1 later past.0 past.1 past.2
 
 -- ---- a directory is shown exactly where some layer has one
 
@@ -359,36 +242,32 @@ directory-reached data_only (layer ∷ layers) i path each = by (λ p. directory
         (things_found-step layer layers path ∙ ap (λ (o : Option Inode). cons_option o (cond (walk layer path).closed [] (things_found layers (walk layer path).next))) finds)
         ∙ first-shown data_only inode (cond (walk layer path).closed [] (things_found layers (walk layer path).next))
 
-    past_by : (later : (p : PathNames) → is_shown_directory (shown_of data_only (things_found layers p)) ≡ is_reached (reached layers (suc i) p)) → (closed : Bool) → is_shown_directory (shown_of data_only (cond closed [] (things_found layers next))) ≡ is_reached (cond closed [] (reached layers (suc i) next))
-    past_by later true = refl
-    past_by later false = later next
-
     by : ((p : PathNames) → is_shown_directory (shown_of data_only (things_found layers p)) ≡ is_reached (reached layers (suc i) p)) → (is_directory_at layer path ≡ true) ⊎ Beyond layer path → is_shown_directory (shown_of data_only (things_found (layer ∷ layers) path)) ≡ is_reached (reached (layer ∷ layers) i path)
     by later (inl holds) =
         let entry = directory-entry layer path holds in
         first entry.0 (ap (λ (s : Step). s.found) (walk-whole layer path holds) ∙ entry.1)
         ∙ (ap directory_found (sym entry.1) ∙ (holds
         ∙ sym (ap is_reached (reached-by layer layers i path (Some entry.0) (walk layer path) entry.1 refl ∙ ap (λ b. cond b (record { layer = i; path = path; next = (walk layer path).next; closed = (walk layer path).closed } ∷ cond (walk layer path).closed [] (reached layers (suc i) (walk layer path).next)) []) (ap directory_found (sym entry.1) ∙ holds)))))
-    by later (inr b) = ending (past layer path is b)
+    by later (inr b) = let past = past-beyond layer path is b in ending past.0 past.1 past.2
       where
-        file_reached : (file : FileAt layer path) → reached (layer ∷ layers) i path ≡ []
-        file_reached file =
-            reached-by layer layers i path (Some file.inode) (walk layer path) file.here refl
-            ∙ ap (λ b. cond b (record { layer = i; path = path; next = (walk layer path).next; closed = (walk layer path).closed } ∷ cond (walk layer path).closed [] (reached layers (suc i) (walk layer path).next)) []) file.file
+        ending : (onward : PathNames) (hidden : Bool) → IsPast layer path onward hidden → is_shown_directory (shown_of data_only (things_found (layer ∷ layers) path)) ≡ is_reached (reached (layer ∷ layers) i path)
+        ending onward hidden past = found (walk layer path).found refl ∙ ap is_reached (sym (reached-past layer layers i path onward hidden past))
+          where
+            goes : (closed : Bool) → (closed ≡ false → onward ≡ next) → is_shown_directory (shown_of data_only (cond closed [] (things_found layers next))) ≡ is_reached (cond closed [] (reached layers (suc i) onward))
+            goes true on = refl
+            goes false on = later next ∙ ap (λ (p : PathNames). is_reached (reached layers (suc i) p)) (sym (on refl))
 
-        file_shown : (file : FileAt layer path) → ((walk layer path).found ≡ Some file.inode) ⊎ (((walk layer path).found ≡ None) × ((walk layer path).closed ≡ true)) → is_shown_directory (shown_of data_only (things_found (layer ∷ layers) path)) ≡ false
-        file_shown file (inl finds) = first file.inode finds ∙ file.file
-        file_shown file (inr (finds, closed)) =
-            ap (λ found. is_shown_directory (shown_of data_only found))
-            (things_found-step layer layers path ∙ (λ j. cons_option (finds j) (cond (closed j) [] (things_found layers (walk layer path).next))))
-
-        ending : NothingAt layer path ⊎ FileAt layer path → is_shown_directory (shown_of data_only (things_found (layer ∷ layers) path)) ≡ is_reached (reached (layer ∷ layers) i path)
-        ending (inl nothing) =
-            ap (λ found. is_shown_directory (shown_of data_only found))
-            (things_found-step layer layers path ∙ ap (λ (o : Option Inode). cons_option o (cond (walk layer path).closed [] (things_found layers (walk layer path).next))) nothing.finds)
-            ∙ (past_by later (walk layer path).closed
-            ∙ ap is_reached (sym (reached-by layer layers i path None (walk layer path) nothing.none refl)))
-        ending (inr file) = file_shown file file.finds ∙ ap is_reached (sym (file_reached file))
+            found : (o : Option Inode) → (walk layer path).found ≡ o → is_shown_directory (shown_of data_only (things_found (layer ∷ layers) path)) ≡ is_reached (cond hidden [] (reached layers (suc i) onward))
+            found (Some inode) finds =
+                let here = (walk-finds layer path inode is finds).0 in
+                first inode finds
+                ∙ (ap directory_found (sym here) ∙ past.none
+                ∙ ap (λ (b : Bool). is_reached (cond b [] (reached layers (suc i) onward))) (sym (past.ended ∙ ap (λ (o : Option Inode). is_some o || (walk layer path).closed) here)))
+            found None finds =
+                let shut : (walk layer path).closed ≡ hidden = sym (past.ended ∙ (hides-alike layer path is ∙ ap (λ (o : Option Inode). is_some o || (walk layer path).closed) finds)) in
+                ap (λ things. is_shown_directory (shown_of data_only things))
+                (things_found-step layer layers path ∙ (λ j. cons_option (finds j) (cond (shut j) [] (things_found layers next))))
+                ∙ goes hidden past.next
 
 -- ---- the laws
 

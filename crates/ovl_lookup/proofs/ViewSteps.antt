@@ -11,12 +11,12 @@ use Rattle.ovl_inode.specs.Marks.{mark_of, is_directory, is_whiteout}
 use Rattle.ovl_manifest.specs.Layers.{Entries, entry_at, is_directory_at}
 use Rattle.ovl_lookup.specs.Stacks.{StackView}
 use Rattle.ovl_lookup.specs.Walk.{walk}
+use Rattle.ovl_lookup.specs.Passes.{IsPast}
 use Rattle.ovl_lookup.specs.Trace.{things_found}
 use Rattle.ovl_lookup.specs.Views.{Reached, reached, entry_in, entered, below_entry, reached_below, found_below}
 use Rattle.ovl_lookup.specs.Merged.{is_nothing}
 use Rattle.ovl_lookup.specs.ViewPasses.{First, look_from_top, looks_from_tops}
-use Rattle.ovl_lookup.proofs.LawsOfWalks.{directory_found}
-use Rattle.ovl_lookup.proofs.ViewLemmas.{reached_below_by, found_below_by}
+use Rattle.ovl_lookup.proofs.ViewLemmas.{reached-past, reached_below_by, found_below_by}
 
 -- what a list has from a place on
 drop-next : {X : Type 0} (xs : List X) (i : ℕ) (x : X) → slice_get xs i ≡ Some x → drop i xs ≡ x ∷ drop (suc i) xs
@@ -29,23 +29,18 @@ drop-here xs i x here = rw add-one (drop-next xs i x here)
 
 -- ---- the layers from `i` on, of which the first is `layer`
 module _ (layers : List Entries) (i : ℕ) (layer : Entries) (here : slice_get layers i ≡ Some layer) (path : PathNames) where
-  first-reached : (d : Bool) (e : Bool) (closed : Bool) (next : PathNames) → is_directory_at layer path ≡ d → (is_some (entry_at layer path) || (walk layer path).closed) ≡ e → closed ≡ (walk layer path).closed → next ≡ (walk layer path).next → reached (drop i layers) i path ≡ cond d (record { layer = i; path = path; next = next; closed = closed } ∷ cond closed [] (reached (drop (i + 1) layers) (i + 1) next)) (cond e [] (reached (drop (i + 1) layers) (i + 1) next))
-  first-reached d e closed next is_d is_e is_closed is_next =
-      ap (λ (ls : List Entries). reached ls i path) (drop-here layers i layer here)
-      ∙ ((λ j. cond (is_d j) (record { layer = i; path = path; next = sym is_next j; closed = sym is_closed j } ∷ cond (sym is_closed j) [] (reached (drop (i + 1) layers) (suc i) (sym is_next j))) (cond (is_e j) [] (reached (drop (i + 1) layers) (suc i) (sym is_next j))))
-      ∙ rw add-one refl)
-
   -- it has a directory there
   pub arrives-directory : (next : PathNames) (closed : Bool) → is_directory_at layer path ≡ true → next ≡ (walk layer path).next → closed ≡ (walk layer path).closed → reached (drop i layers) i path ≡ record { layer = i; path = path; next = next; closed = closed } ∷ cond closed [] (reached (drop (i + 1) layers) (i + 1) next)
-  arrives-directory next closed holds is_next is_closed = first-reached true (is_some (entry_at layer path) || (walk layer path).closed) closed next holds refl is_closed is_next
+  arrives-directory next closed holds is_next is_closed =
+      ap (λ (ls : List Entries). reached ls i path) (drop-here layers i layer here)
+      ∙ ((λ j. cond (holds j) (record { layer = i; path = path; next = sym is_next j; closed = sym is_closed j } ∷ cond (sym is_closed j) [] (reached (drop (i + 1) layers) (suc i) (sym is_next j))) (cond (is_some (entry_at layer path) || (walk layer path).closed) [] (reached (drop (i + 1) layers) (suc i) (walk layer path).next)))
+      ∙ rw add-one refl)
 
-  -- nothing is there, and the walk goes on
-  pub arrives-past : (next : PathNames) → entry_at layer path ≡ None → (walk layer path).closed ≡ false → next ≡ (walk layer path).next → reached (drop i layers) i path ≡ reached (drop (i + 1) layers) (i + 1) next
-  arrives-past next none opens is_next = first-reached false false false next (ap directory_found none) (λ j. is_some (none j) || opens j) (sym opens) is_next
-
-  -- a file or a whiteout is there, or the walk is closed
-  pub arrives-end : is_directory_at layer path ≡ false → (is_some (entry_at layer path) || (walk layer path).closed) ≡ true → reached (drop i layers) i path ≡ []
-  arrives-end none over = first-reached false true (walk layer path).closed (walk layer path).next none over refl refl
+  -- it has none, and the walk goes on in the layers below, unless they are hidden there
+  pub arrives-past : (next : PathNames) (hidden : Bool) → IsPast layer path next hidden → reached (drop i layers) i path ≡ cond hidden [] (reached (drop (i + 1) layers) (i + 1) next)
+  arrives-past next hidden past =
+      ap (λ (ls : List Entries). reached ls i path) (drop-here layers i layer here)
+      ∙ (reached-past layer (drop (i + 1) layers) i path next hidden past ∙ rw add-one refl)
 
 -- ---- the places from `k` on, of which the first is `place`
 module _ (all : List Entries) (name : PathName) (places : List Reached) (k : ℕ) (place : Reached) (here : slice_get places k ≡ Some place) where

@@ -1,7 +1,7 @@
 -- Where walks go on in the layer below one that has an entry.
-use Rattle.std.specs.Prelude.{◌≡◌, Option, Some, None}
+use Rattle.std.specs.Prelude.{◌≡◌, Bool, true, false, Option, Some, None, if◌then◌else◌, is_some, is_none, unwrap_or}
 use Rattle.ovl_names.specs.Names.{PathName}
-use Rattle.ovl_names.specs.Paths.{PathNames}
+use Rattle.ovl_names.specs.Paths.{PathNames, child_path}
 use Rattle.ovl_inode.specs.declared.marks.Mark.{Mark}
 use Rattle.ovl_inode.specs.declared.marks.Mark.TheVariants.{DirMoved, DirPlain, Meta}
 use Rattle.ovl_inode.specs.declared.marks.Redirect.TheVariants.{To, Beside as ByName}
@@ -20,6 +20,13 @@ name_on (DirMoved (ByName own)) name = Some own
 name_on (Meta None) name = Some name
 name_on (Meta (Some (ByName own))) name = Some own
 name_on _ name = None
+
+-- the path and the flag at an entry of this mark and name, by those of the directory that it stands in
+abbrev pub next_on : Mark → PathNames → PathName → PathNames
+next_on mark next name = unwrap_or (path_on mark) (child_path next (unwrap_or (name_on mark name) name))
+
+abbrev pub closed_on : Mark → PathName → Bool → Bool
+closed_on mark name closed = if is_some (path_on mark) then false else if is_none (name_on mark name) then true else closed
 
 -- the same as the program tells it
 abbrev pub path_told : Onward → Option PathNames

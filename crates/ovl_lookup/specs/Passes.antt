@@ -1,9 +1,9 @@
 -- What the passes over names and layers keep.
-use Rattle.std.specs.Prelude.{◌≡◌, IsTrue, ℕ, zero, suc, ◌<◌, ◌≤◌, Bool, true, false, ◌||◌, Option, Some, None, List, [], ◌∷◌, ◌++◌, if◌then◌else◌, is_some, unwrap_or, length, take, drop, filter, map, slice_get, IfSome}
+use Rattle.std.specs.Prelude.{◌≡◌, ℕ, zero, suc, ◌<◌, Bool, true, false, ◌||◌, Option, Some, None, List, [], ◌∷◌, ◌++◌, if◌then◌else◌, is_some, unwrap_or, length, drop, filter, map, IfSome}
 use Rattle.std.specs.Option.{option_map}
 use Rattle.std.specs.List.{flat_map}
 use Rattle.std.specs.BTreeSet.{insert_key}
-use Rattle.ovl_names.specs.Names.{PathName, name_cmp, is_name}
+use Rattle.ovl_names.specs.Names.{PathName, name_cmp}
 use Rattle.ovl_names.specs.Paths.{PathNames, child_path}
 use Rattle.ovl_inode.specs.declared.inodes.Inode.{Inode}
 use Rattle.ovl_inode.specs.declared.marks.Mark.{Mark}
@@ -11,16 +11,12 @@ use Rattle.ovl_inode.specs.Marks.{mark_of, is_metacopy, is_data}
 use Rattle.ovl_manifest.specs.Layers.{Entries, IsLayer, entry_at, is_directory_at, names_below}
 use Rattle.ovl_manifest.specs.Sheets.{path_at}
 use Rattle.ovl_lookup.specs.declared.steps.Descent.{Descent}
-use Rattle.ovl_lookup.specs.declared.steps.Stop.{Stop}
-use Rattle.ovl_lookup.specs.declared.steps.Below.{Below}
-use Rattle.ovl_lookup.specs.declared.steps.Below.TheVariants.{Directory as DirectoryBelow, Other}
 use Rattle.ovl_lookup.specs.declared.steps.OwnDirectory.{OwnDirectory}
 use Rattle.ovl_lookup.specs.declared.steps.Step.{Step}
 use Rattle.ovl_lookup.specs.declared.steps.TrailStep.{TrailStep}
 use Rattle.ovl_lookup.specs.declared.steps.Arrival.{Arrival}
-use Rattle.ovl_lookup.specs.declared.steps.Arrival.TheVariants.{Directory, Past, End}
 use Rattle.ovl_lookup.specs.declared.looks.Look.{Look}
-use Rattle.ovl_lookup.specs.Walk.{walk, turn, is_shut, origin_path, name_in_lower, is_closing}
+use Rattle.ovl_lookup.specs.Walk.{walk, nothing_found, origin_path, name_in_lower, is_closing}
 use Rattle.ovl_lookup.specs.Stacks.{StackView}
 use Rattle.ovl_lookup.specs.Trace.{things_found}
 use Rattle.ovl_lookup.specs.declared.looks.Look.TheVariants.{Shown, Broken}
@@ -32,34 +28,6 @@ abbrev pub IsNumberAt : Entries → PathNames → Option ℕ → Type 0
 IsNumberAt layer path None = entry_at layer path ≡ None
 IsNumberAt layer path (Some number) = (number < length layer) × (path_at layer number ≡ path)
 
--- what a layer has at a name in a directory: another directory, or something else, if anything
-abbrev pub IsBelow : Entries → PathNames → PathName → Below → Type 0
-IsBelow layer dir name (DirectoryBelow number own) =
-    (number < length layer) × (path_at layer number ≡ child_path dir name)
-    × (is_directory_at layer (child_path dir name) ≡ true) × (own.now ≡ name)
-IsBelow layer dir name (Other number) =
-    (is_directory_at layer (child_path dir name) ≡ false) × IsNumberAt layer (child_path dir name) number
-
--- where a path that leads through so many directories of a layer stops, if it goes further
-abbrev pub IsStop : Entries → PathNames → ℕ → Option Stop → Type 0
-IsStop layer path depth None = length path ≤ depth
-IsStop layer path depth (Some stop) =
-    (Some stop.name.now ≡ slice_get path depth) × IsTrue (is_name stop.name.now)
-    × IsNumberAt layer (child_path (take depth path) stop.name.now) stop.number
-
--- how far a path goes through directories of a layer: the row of the last of them, and how the layers below know it: by
--- the same names, where none are told
-pub record IsDescent (layer : Entries) (path : PathNames) (descent : Descent) : Type 0 where
-  pub layered : IsLayer layer
-  pub inside : descent.row < length layer
-  pub within : descent.depth ≤ length path
-  pub here : path_at layer descent.row ≡ take descent.depth path
-  pub directory : is_directory_at layer (take descent.depth path) ≡ true
-  pub turned : unwrap_or descent.turned (take descent.depth path) ≡ turn layer (take descent.depth path)
-  pub shut : descent.closed ≡ is_shut layer (take descent.depth path)
-  pub stops : IfSome (slice_get path descent.depth) (λ name. is_directory_at layer (child_path (take descent.depth path) name) ≡ false)
-  pub stop : IsStop layer path descent.depth descent.stop
-
 -- a directory of a layer at a path, and how its walk goes on: by another path only where marks turn its own
 pub record IsOwnDirectory (layer : Entries) (path : PathNames) (own : OwnDirectory) : Type 0 where
   pub inside : own.row < length layer
@@ -68,6 +36,29 @@ pub record IsOwnDirectory (layer : Entries) (path : PathNames) (own : OwnDirecto
   pub next : unwrap_or own.turned path ≡ (walk layer path).next
   pub closed : own.closed ≡ (walk layer path).closed
 
+-- what a layer has at a path, a directory or something else, and how the walk goes on there
+pub record IsOwnEntry (layer : Entries) (path : PathNames) (own : OwnDirectory) : Type 0 where
+  pub inside : own.row < length layer
+  pub here : path_at layer own.row ≡ path
+  pub next : unwrap_or own.turned path ≡ (walk layer path).next
+  pub closed : own.closed ≡ (walk layer path).closed
+
+-- where a path stops that leads to a directory of a layer and goes on by these names
+abbrev pub IsStop : Entries → PathNames → PathNames → Option ℕ → Type 0
+IsStop layer above [] number = number ≡ None
+IsStop layer above (name ∷ rest) number =
+    (is_directory_at layer (child_path above name) ≡ false) × IsNumberAt layer (child_path above name) number
+
+-- how far a path goes through directories of a layer
+pub record IsDescent (layer : Entries) (path : PathNames) (descent : Descent) : Type 0 where
+  pub layered : IsLayer layer
+  pub above : PathNames
+  pub rest : PathNames
+  pub whole : above ++ rest ≡ path
+  pub depth : descent.depth ≡ length above
+  pub own : IsOwnDirectory layer above descent.own
+  pub stop : IsStop layer above rest descent.number
+
 -- the step that a walk along a trail gives, and that what it found has its mark
 abbrev pub step_of : TrailStep → Step
 step_of step = record { found = option_map (λ found. found.inode.now) step.found; next = step.next; closed = step.closed }
@@ -75,16 +66,20 @@ step_of step = record { found = option_map (λ found. found.inode.now) step.foun
 abbrev pub IsMarked : TrailStep → Type 0
 IsMarked step = IfSome step.found (λ found. found.mark.now ≡ mark_of found.inode.now)
 
--- where the walk of a path in a layer leads: to a directory, past the layer where nothing is there, or no further; it
--- goes on by the same names, where none are told
+-- where the walk of a path leads that is no directory: nothing is found below, which goes on by its own names
+pub record IsPast (layer : Entries) (path onward : PathNames) (hidden : Bool) : Type 0 where
+  pub none : is_directory_at layer path ≡ false
+  pub ended : hidden ≡ (is_some (entry_at layer path) || (walk layer path).closed)
+  pub next : hidden ≡ false → onward ≡ (walk layer path).next
+  pub below : (name : PathName) (names : PathNames) → walk layer (path ++ name ∷ names) ≡ nothing_found (onward ++ name ∷ names) hidden
+
+-- where the walk of a path in a layer leads
+abbrev pub IsArrivalAt : Entries → PathNames → Option ℕ → PathNames → Bool → Type 0
+IsArrivalAt layer path (Some row) next closed = IsOwnDirectory layer path (record { row = row; turned = Some next; closed = closed })
+IsArrivalAt layer path None next closed = IsPast layer path next closed
+
 abbrev pub IsArrival : Entries → PathNames → Arrival → Type 0
-IsArrival layer path (Directory row next closed) =
-    (is_directory_at layer path ≡ true) × (row < length layer) × (path_at layer row ≡ path)
-    × (unwrap_or next path ≡ (walk layer path).next) × (closed ≡ (walk layer path).closed)
-IsArrival layer path (Past next) =
-    (entry_at layer path ≡ None) × ((walk layer path).closed ≡ false) × (unwrap_or next path ≡ (walk layer path).next)
-IsArrival layer path End =
-    (is_directory_at layer path ≡ false) × ((is_some (entry_at layer path) || (walk layer path).closed) ≡ true)
+IsArrival layer path arrival = IsArrivalAt layer path arrival.row arrival.next arrival.closed
 
 -- the path and the flag in a directory of this mark, by those of its parent
 abbrev pub entered_path : Mark → PathNames → PathName → PathNames

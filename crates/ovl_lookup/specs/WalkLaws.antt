@@ -1,11 +1,11 @@
 -- Laws of walks in one layer: how they go on with one more name, where they end, and what they keep.
-use Rattle.std.specs.Prelude.{◌≡◌, Bool, true, false, Option, Some, None, ◌∷◌, ◌++◌}
+use Rattle.std.specs.Prelude.{◌≡◌, Bool, true, false, ◌||◌, Option, Some, None, ◌∷◌, ◌++◌, is_some}
 use Rattle.ovl_names.specs.Names.{PathName}
 use Rattle.ovl_names.specs.Paths.{PathNames, child_path, is_root, has_names}
 use Rattle.ovl_inode.specs.declared.inodes.Inode.{Inode}
 use Rattle.ovl_inode.specs.Marks.{mark_of, is_directory, is_metacopy}
 use Rattle.ovl_manifest.specs.Layers.{Entries, IsLayer, entry_at, is_directory_at}
-use Rattle.ovl_lookup.specs.Walk.{walk, walk_beyond}
+use Rattle.ovl_lookup.specs.Walk.{walk, walk_beyond, nothing_found}
 use Rattle.ovl_lookup.specs.Passes.{entered_path, entered_closed}
 
 -- a walk goes on into a directory by the mark of that: where the layers below have it, and whether they are closed
@@ -23,6 +23,14 @@ abbrev pub WalksEnd : Type 0
 WalksEnd = (layer : Entries) (path : PathNames) (name : PathName) → IsLayer layer → (rest : PathNames) →
     is_directory_at layer path ≡ true → is_directory_at layer (child_path path name) ≡ false →
     walk layer (path ++ name ∷ rest) ≡ walk_beyond (entry_at layer (child_path path name)) (walk layer path).next (walk layer path).closed name rest
+
+-- past such a name nothing is found: all names are kept behind the directory's next path, and what stands at it hides the
+-- layers below
+abbrev pub WalksPass : Type 0
+WalksPass = (layer : Entries) (path : PathNames) (name other : PathName) → IsLayer layer → (rest : PathNames) →
+    is_directory_at layer path ≡ true → is_directory_at layer (child_path path name) ≡ false →
+    walk layer (path ++ name ∷ other ∷ rest)
+    ≡ nothing_found ((walk layer path).next ++ name ∷ other ∷ rest) ((walk layer path).closed || is_some (entry_at layer (child_path path name)))
 
 -- a directory, or nothing
 abbrev pub is_directory_or_none : Option Inode → Bool

@@ -1,6 +1,7 @@
 //! Laws of walks and of the merged tree; the contract of each is its statement.
 ghost use Rattle.ovl_lookup.specs.Laws.{ShowsParents, ShowsWithinDepth, ViewsGoOn, ViewsFind, ViewsShow, ViewsStand, ViewsLook};
-ghost use Rattle.ovl_lookup.specs.WalkLaws.{WalksEnter, WalksEnd, WalksPassOver, FilesClose, WalksKeepNames, WalksStayBelowRoot};
+ghost use Rattle.ovl_lookup.specs.WalkSplits.{WalksStep, WalksSplit, AbsoluteRedirectsLead, RelativeRedirectsLead};
+ghost use Rattle.ovl_lookup.specs.WalkLaws.{WalksEnter, WalksEnd, WalksPass, WalksPassOver, FilesClose, WalksKeepNames, WalksStayBelowRoot};
 
 /// The merged tree is closed under parents: where something is shown in a directory, that directory is shown.
 pub fn merged_tree_has_parents()
@@ -48,6 +49,11 @@ pub fn walks_end()
     ensures { WalksEnd }
 {}
 
+/// Past a name that is no directory nothing is found, and the names are kept.
+pub fn walks_pass()
+    ensures { WalksPass }
+{}
+
 /// A layer that is passed with one more name is passed without it.
 pub fn walks_pass_over()
     ensures { WalksPassOver }
@@ -66,4 +72,24 @@ pub fn walks_keep_names()
 /// The walk of a path below the root goes on below the root.
 pub fn walks_stay_below_root()
     ensures { WalksStayBelowRoot }
+{}
+
+/// What stands at one more name says by its mark where the walk goes on.
+pub fn walks_step()
+    ensures { WalksStep }
+{}
+
+/// A walk splits at a directory.
+pub fn walks_split()
+    ensures { WalksSplit }
+{}
+
+/// Everything under an absolute redirect goes on from there.
+pub fn absolute_redirects_lead()
+    ensures { AbsoluteRedirectsLead }
+{}
+
+/// Everything under a relative redirect goes on beside it.
+pub fn relative_redirects_lead()
+    ensures { RelativeRedirectsLead }
 {}

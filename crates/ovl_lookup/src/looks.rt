@@ -6,6 +6,7 @@ ghost use Rattle.ovl_lookup.specs.Stacks.{from_layer};
 ghost use Rattle.ovl_lookup.specs.Trace.{things_found};
 ghost use Rattle.ovl_lookup.specs.Merged.{look as the_look, shown_of, data_of as the_data, place_of_data as the_place, place_told as the_place_told, data_at_place, is_full_file as full_file_test, full_file_in as the_file, is_nothing as nothing_test, is_shown_directory as directory_test, without_blob as kind_without_blob};
 ghost use Rattle.ovl_lookup.specs.Walk.{walk as the_walk};
+ghost use Rattle.ovl_lookup.specs.ShownInodes.{inode_shown};
 ghost use Rattle.ovl_lookup.specs.Passes.{IsMarked, step_of, found_on, shown_with, data_below};
 ghost use Rattle.ovl_lookup.specs.Equal.{look_eq};
 ghost use Rattle.ovl_lookup.specs.EqualLaws.{look_eq_equiv};
@@ -67,6 +68,16 @@ impl Look {
             Look::Nothing | Look::Broken(_) => false,
         }
     }
+
+    /// The inode that is shown, whole or broken.
+    pub fn into_inode(self) -> Option<Inode>
+        ensures { result ≡ inode_shown self }
+    {
+        match self {
+            Look::Shown(inode) | Look::Broken(inode) => Some(inode),
+            Look::Nothing => None,
+        }
+    }
 }
 
 impl Stack {
@@ -83,7 +94,7 @@ impl Stack {
                 found,
                 next: below,
                 closed,
-            } = self.followed(alloc, i, &next)?;
+            } = self.followed(alloc, i, next)?;
             if let Some(found) = found {
                 return self.shown(alloc, found, i + 1, below, closed);
             }
@@ -100,10 +111,10 @@ impl Stack {
         &'a self,
         alloc: Global,
         i: usize,
-        trail: &Trail<'a>,
+        trail: Trail<'a>,
     ) -> Result<TrailStep<'a>, AllocError>
         requires { i < length self.now.layers }
-        ensures value { IfSome (slice_get self.now.layers i) (λ layer. IfOk result (λ step. step_of step ≡ the_walk layer trail.now)) }
+        ensures value { IfSome (slice_get self.now.layers i) (λ layer. IfOk result (λ step. step_of step ≡ the_walk layer trail.entry)) }
         ensures marked { IfOk result IsMarked }
     {
         follow(alloc, &self.layers[i], trail)
@@ -175,7 +186,7 @@ impl Stack {
                 found,
                 next: lower,
                 closed,
-            } = self.followed(alloc, place, &next)?;
+            } = self.followed(alloc, place, next)?;
             if let Some(found) = found {
                 if is_data(found.inode) {
                     return Ok(Some(found.inode.copy(alloc)?));
@@ -205,7 +216,7 @@ impl Stack {
                 found,
                 next: lower,
                 closed,
-            } = self.followed(alloc, i, &next)?;
+            } = self.followed(alloc, i, next)?;
             if let Some(found) = found {
                 if !is_well_formed_metacopy(found.mark) {
                     return Ok(None);

@@ -1,11 +1,12 @@
-ghost use Rattle.std.specs.Prelude.{◌≡◌, ◌<◌, ◌++◌, [], false, true, Some, length, take, drop, unwrap_or, IsTrue, IfOk, MatchOption};
-ghost use Rattle.ovl_names.specs.Names.{is_name};
-ghost use Rattle.ovl_names.specs.Paths.{child_path};
+ghost use Rattle.std.specs.Prelude.{◌≡◌, ◌<◌, ◌++◌, [], false, Some, length, take, drop, unwrap_or, IfOk, MatchOption};
+ghost use Rattle.ovl_names.specs.Names.{PathName};
+ghost use Rattle.ovl_names.specs.Paths.{PathNames, child_path};
 ghost use Rattle.ovl_inode.specs.Marks.{mark_of as the_mark};
 ghost use Rattle.ovl_manifest.specs.Layers.{entry_at, is_directory_at};
 ghost use Rattle.ovl_manifest.specs.Sheets.{path_at};
-ghost use Rattle.ovl_lookup.specs.Passes.{IsDescent, IsBelow, IsArrival, IsOwnDirectory, IsMarked, step_of, entered_path, entered_closed};
-ghost use Rattle.ovl_lookup.specs.Walk.{walk as the_walk, walk_beyond, walk_to_file};
+ghost use Rattle.ovl_lookup.specs.Onwards.{next_on, closed_on};
+ghost use Rattle.ovl_lookup.specs.Passes.{IsDescent, IsArrival, IsOwnDirectory, IsOwnEntry, IsMarked, step_of};
+ghost use Rattle.ovl_lookup.specs.Walk.{walk as the_walk};
 
 use crate::trails::Trail;
 use ovl_inode::{Inode, Mark, Redirect, is_directory, is_whiteout};
@@ -31,8 +32,7 @@ pub struct Step {
 pub fn walk(alloc: Global, sheet: &Sheet, path: &Path) -> Result<Step, AllocError>
     ensures { IfOk result (λ step. step ≡ the_walk sheet.now path.now) }
 {
-    let trail = Trail::of(alloc, &path.names())?;
-    let step = follow(alloc, sheet, &trail)?;
+    let step = follow(alloc, sheet, Trail::of(alloc, &path.names())?)?;
     step.copied(alloc)
 }
 
@@ -94,101 +94,163 @@ impl<'a> TrailStep<'a> {
 pub(crate) fn follow<'a>(
     alloc: Global,
     sheet: &'a Sheet,
-    trail: &Trail<'a>,
+    trail: Trail<'a>,
 ) -> Result<TrailStep<'a>, AllocError>
-    ensures value { IfOk result (λ step. step_of step ≡ the_walk sheet.now trail.now) }
+    ensures value { IfOk result (λ step. step_of step ≡ the_walk sheet.now trail.entry) }
     ensures marked { IfOk result IsMarked }
 {
-    let Descent {
+    let Descent { own, depth, number } = descend(alloc, sheet, &trail)?;
+    let OwnDirectory {
         row,
-        depth,
         turned,
         closed,
-        stop,
-    } = descend(alloc, sheet, trail)?;
-    let next = turned_or_own(alloc, sheet, turned, row, depth)?;
-    let Some(stop) = stop else {
+    } = own;
+    if depth == trail.len() {
         return Ok(TrailStep {
             found: Some(Found::in_row(sheet, row)),
-            next,
+            next: turned.unwrap_or(trail),
+            closed,
+        });
+    }
+    let Some(number) = number else {
+        return Ok(TrailStep {
+            found: None,
+            next: past(turned, trail, depth)?,
             closed,
         });
     };
-    let Some(number) = stop.number else {
+    if depth + 1 < trail.len() {
         return Ok(TrailStep {
             found: None,
-            next: trail.onward(next, depth)?,
-            closed,
-        });
-    };
-    if trail.len() > depth + 1 {
-        return Ok(TrailStep {
-            found: None,
-            next: trail.onward(next, depth)?,
+            next: past(turned, trail, depth)?,
             closed: true,
         });
     }
-    beyond(alloc, Found::in_row(sheet, number), next, closed, stop.name)
+    let own = OwnDirectory {
+        row,
+        turned,
+        closed,
+    };
+    let OwnDirectory { turned, closed, .. } = own.enter(alloc, sheet, number, depth)?;
+    let next = turned.unwrap_or(trail);
+    let found = Found::in_row(sheet, number);
+    if is_whiteout(found.inode) {
+        return Ok(TrailStep {
+            found: None,
+            next,
+            closed,
+        });
+    }
+    Ok(TrailStep {
+        found: Some(found),
+        next,
+        closed,
+    })
 }
 
-// How far a path goes through directories of a layer: the row of the last of them, how many names lead to it, the path
-// by which the layer below knows it, if that has other names, whether the layers below are hidden there, and where it
-// stops, if it goes further.
-#[derive(Drop)]
-pub(crate) struct Descent<'a, 't> {
-    pub(crate) row: u32,
-    pub(crate) depth: usize,
-    pub(crate) turned: Option<Trail<'a>>,
-    pub(crate) closed: bool,
-    pub(crate) stop: Option<Stop<'t>>,
-}
-
-// The name of a path that is no directory of a layer, and the number of what the layer has there, if it has anything.
-#[derive(Drop)]
-pub(crate) struct Stop<'t> {
-    pub(crate) name: &'t str,
-    pub(crate) number: Option<u32>,
-}
-
-// How far a path goes through directories. No name is kept while no mark turns the path.
-pub(crate) fn descend<'a, 't>(
-    alloc: Global,
-    sheet: &'a Sheet,
-    trail: &Trail<'t>,
-) -> Result<Descent<'a, 't>, AllocError>
-    ensures { IfOk result (λ descent. IsDescent sheet.now trail.now descent) }
+// The path that goes on past so many names of the trail, which lead to a directory that is known by another path, if
+// marks turn it.
+fn past<'a>(
+    turned: Option<Trail<'a>>,
+    trail: Trail<'a>,
+    depth: usize,
+) -> Result<Trail<'a>, AllocError>
+    ensures { IfOk result (λ next. next ≡ unwrap_or turned.entry (take depth trail.entry) ++ drop depth trail.entry) }
 {
-    let mut row = sheet.root_number();
-    let mut turned = None;
-    let mut closed = false;
-    let mut depth = 0;
-    for name in trail.names() {
-        match thing_below(sheet, row, name) {
-            Below::Directory { number, own } => {
-                let mark = sheet.mark(number);
-                turned = turned_by(alloc, sheet, mark, own, turned, row, depth)?;
-                closed = closed_by(mark, closed);
-                row = number;
-                depth += 1;
+    match turned {
+        Some(next) => trail.onward(next, depth),
+        None => Ok(trail),
+    }
+}
+
+/// A directory of one layer, and how its walk goes on.
+#[derive(Debug, Drop)]
+pub struct OwnDirectory<'a> {
+    /// The number of its row in the layer's sheet.
+    pub row: u32,
+    /// The path by which the layer below knows it, where marks turn it from its own.
+    pub turned: Option<Trail<'a>>,
+    /// Whether the layers below are hidden there.
+    pub closed: bool,
+}
+
+impl<'a> OwnDirectory<'a> {
+    // What stands at a name in this directory, which lies so deep, by the number of its row: a directory or something
+    // else.
+    fn enter(
+        self,
+        alloc: Global,
+        sheet: &'a Sheet,
+        number: u32,
+        depth: usize,
+    ) -> Result<OwnDirectory<'a>, AllocError>
+        requires inside { self.row < length sheet.now }
+        requires number { number < length sheet.now }
+        requires depth { depth ≡ length (path_at sheet.now self.row) }
+        ensures { IfOk result (λ entered. (path : PathNames) (name : PathName) → IsOwnDirectory sheet.now path self.entry
+            → path_at sheet.now number ≡ child_path path name → IsOwnEntry sheet.now (child_path path name) entered) }
+    {
+        // Each sheet is a layer.
+        let _root = sheet.root_number();
+        let Some(name) = sheet.name(number) else {
+            // The root alone has no name.
+            return Ok(self);
+        };
+        let (turned, closed) = self.turned_by(alloc, sheet, sheet.mark(number), name, depth)?;
+        Ok(OwnDirectory {
+            row: number,
+            turned,
+            closed,
+        })
+    }
+
+    // How the walk goes on at an entry of this mark and name in this directory, which lies so deep.
+    fn turned_by(
+        self,
+        alloc: Global,
+        sheet: &'a Sheet,
+        mark: &'a Mark,
+        name: &'a Name,
+        depth: usize,
+    ) -> Result<(Option<Trail<'a>>, bool), AllocError>
+        requires inside { self.row < length sheet.now }
+        requires depth { depth ≡ length (path_at sheet.now self.row) }
+        ensures next { IfOk result (λ entered. unwrap_or entered.0 (child_path (path_at sheet.now self.entry.row) name.now)
+            ≡ next_on mark.now (unwrap_or self.entry.turned (path_at sheet.now self.entry.row)) name.now) }
+        ensures closed { IfOk result (λ entered. entered.1 ≡ closed_on mark.now name.now self.entry.closed) }
+    {
+        let OwnDirectory {
+            row,
+            turned,
+            closed,
+        } = self;
+        match mark {
+            Mark::DirMoved(Redirect::To(origin)) | Mark::Meta(Some(Redirect::To(origin))) => {
+                Ok((Some(Trail::of(alloc, &origin.names())?), false))
             }
-            Below::Other(number) => {
-                return Ok(Descent {
-                    row,
-                    depth,
-                    turned,
-                    closed,
-                    stop: Some(Stop { name, number }),
-                });
+            Mark::DirMoved(Redirect::Beside(own)) | Mark::Meta(Some(Redirect::Beside(own))) => {
+                let next = turned_or_own(alloc, sheet, turned, row, depth)?;
+                Ok((Some(next.child(own.as_str())?), closed))
+            }
+            Mark::DirPlain | Mark::Meta(None) => Ok((turned_child(turned, name)?, closed)),
+            Mark::Whiteout | Mark::DirOpaque | Mark::DirBad | Mark::MetaBad | Mark::Leaf => {
+                Ok((turned_child(turned, name)?, true))
             }
         }
     }
-    Ok(Descent {
-        row,
-        depth,
-        turned,
-        closed,
-        stop: None,
-    })
+}
+
+// The path of the entry `name` in a directory that is known by this path, if marks turn it.
+fn turned_child<'a>(
+    turned: Option<Trail<'a>>,
+    name: &'a Name,
+) -> Result<Option<Trail<'a>>, AllocError>
+    ensures { (dir : PathNames) → IfOk result (λ child. unwrap_or child (child_path dir name.now) ≡ child_path (unwrap_or turned.entry dir) name.now) }
+{
+    match turned {
+        Some(next) => Ok(Some(next.child(name.as_str())?)),
+        None => Ok(None),
+    }
 }
 
 // The path by which the layer below knows the directory of a row, which lies so deep.
@@ -233,15 +295,69 @@ fn trail_of_row<'a>(
     trail_of_row(alloc, sheet, *parent, depth - 1)?.child(name.as_str())
 }
 
-/// A directory of one layer, and how its walk goes on.
-#[derive(Debug, Drop)]
-pub struct OwnDirectory<'a> {
-    /// The number of its row in the layer's sheet.
-    pub row: u32,
-    /// The path by which the layer below knows it, where marks turn it from its own.
-    pub turned: Option<Trail<'a>>,
-    /// Whether the layers below are hidden there.
-    pub closed: bool,
+// How far a path goes through directories of a layer: the last of them, how many names lead to it, and the number of what
+// the layer has at the next name, if it has anything.
+#[derive(Drop)]
+pub(crate) struct Descent<'a> {
+    pub(crate) own: OwnDirectory<'a>,
+    pub(crate) depth: usize,
+    pub(crate) number: Option<u32>,
+}
+
+// How far a path goes through directories. No name is kept while no mark turns the path.
+pub(crate) fn descend<'a>(
+    alloc: Global,
+    sheet: &'a Sheet,
+    trail: &Trail<'_>,
+) -> Result<Descent<'a>, AllocError>
+    ensures { IfOk result (λ descent. IsDescent sheet.now trail.now descent) }
+{
+    let mut row = sheet.root_number();
+    let mut turned = None;
+    let mut closed = false;
+    let mut depth = 0;
+    for name in trail.names() {
+        let number = sheet.child(row, name);
+        let Some(child) = number else {
+            return Ok(Descent {
+                own: OwnDirectory {
+                    row,
+                    turned,
+                    closed,
+                },
+                depth,
+                number,
+            });
+        };
+        if turned.is_none() && matches!(sheet.mark(child), Mark::DirPlain) {
+            // The layer below knows it by its own path, as it does the directory above.
+            row = child;
+            depth += 1;
+            continue;
+        }
+        let own = OwnDirectory {
+            row,
+            turned,
+            closed,
+        };
+        if !is_directory(sheet.inode(child)) {
+            return Ok(Descent { own, depth, number });
+        }
+        let entered = own.enter(alloc, sheet, child, depth)?;
+        row = child;
+        turned = entered.turned;
+        closed = entered.closed;
+        depth += 1;
+    }
+    Ok(Descent {
+        own: OwnDirectory {
+            row,
+            turned,
+            closed,
+        },
+        depth,
+        number: None,
+    })
 }
 
 // The directory that a layer has at a path.
@@ -255,210 +371,47 @@ pub(crate) fn directory_in<'a>(
         (IsOwnDirectory sheet.now path.now)) }
 {
     let trail = Trail::of(alloc, &path.names())?;
-    let Descent {
-        row,
-        depth,
-        turned,
-        closed,
-        ..
-    } = descend(alloc, sheet, &trail)?;
+    let Descent { own, depth, .. } = descend(alloc, sheet, &trail)?;
     if depth < trail.len() {
         return Ok(None);
     }
-    Ok(Some(OwnDirectory {
-        row,
-        turned,
-        closed,
-    }))
+    Ok(Some(own))
 }
 
-// Where the walk of a path in one layer leads: to a directory's row, past the layer, or no further. `next` is the path
-// that goes on, if it has other names.
-#[derive(Drop)]
-pub(crate) enum Arrival<'a> {
-    Directory {
-        row: u32,
-        next: Option<Trail<'a>>,
-        closed: bool,
-    },
-    Past {
-        next: Option<Trail<'a>>,
-    },
-    End,
+/// Where the walk of a path leads in one layer.
+#[derive(Debug, Drop)]
+pub struct Arrival<'a> {
+    /// The number of the row of its directory, if the layer has one there.
+    pub row: Option<u32>,
+    /// The path by which the layer below knows it.
+    pub next: Trail<'a>,
+    /// Whether the layers below are hidden there, and at every path below it.
+    pub closed: bool,
 }
 
-// Where the walk of a path leads.
-pub(crate) fn arrive<'a>(
-    alloc: Global,
-    sheet: &'a Sheet,
-    trail: &Trail<'a>,
-) -> Result<Arrival<'a>, AllocError>
-    ensures { IfOk result (λ arrival. IsArrival sheet.now trail.now arrival) }
-{
-    let Descent {
-        row,
-        depth,
-        turned,
-        closed,
-        stop,
-    } = descend(alloc, sheet, trail)?;
-    let Some(stop) = stop else {
-        return Ok(Arrival::Directory {
+impl<'a> Arrival<'a> {
+    /// Where the walk of a trail leads. Fails only when out of memory.
+    pub fn at(alloc: Global, sheet: &'a Sheet, trail: Trail<'a>) -> Result<Arrival<'a>, AllocError>
+        ensures { IfOk result (IsArrival sheet.now trail.entry) }
+    {
+        let Descent { own, depth, number } = descend(alloc, sheet, &trail)?;
+        let OwnDirectory {
             row,
-            next: turned,
+            turned,
             closed,
-        });
-    };
-    if stop.number.is_some() || closed {
-        return Ok(Arrival::End);
-    }
-    let next = turned_onward(turned, trail, depth)?;
-    Ok(Arrival::Past { next })
-}
-
-// The path that goes on past so many names of the trail, if it has other names.
-fn turned_onward<'a>(
-    turned: Option<Trail<'a>>,
-    trail: &Trail<'a>,
-    depth: usize,
-) -> Result<Option<Trail<'a>>, AllocError>
-    ensures { IfOk result (λ next. unwrap_or next trail.now ≡ unwrap_or turned.entry (take depth trail.now) ++ drop depth trail.now) }
-{
-    match turned {
-        Some(next) => Ok(Some(trail.onward(next, depth)?)),
-        None => Ok(None),
-    }
-}
-
-// What a layer has at a name in a directory: a directory, with the number of its row and its name, or the number of
-// something else, if there is anything.
-#[derive(Drop)]
-pub(crate) enum Below<'a> {
-    Directory { number: u32, own: &'a Name },
-    Other(Option<u32>),
-}
-
-// What stands at `name` in the directory of a row.
-fn thing_below<'a>(sheet: &'a Sheet, row: u32, name: &str) -> Below<'a>
-    requires { row < length sheet.now }
-    ensures { IsBelow sheet.now (path_at sheet.now row) name.now result }
-{
-    let Some(number) = sheet.child(row, name) else {
-        return Below::Other(None);
-    };
-    if !is_directory(sheet.inode(number)) {
-        return Below::Other(Some(number));
-    }
-    match sheet.name(number) {
-        Some(own) => Below::Directory { number, own },
-        // The root alone has no name.
-        None => Below::Other(Some(number)),
-    }
-}
-
-// The path by which the layer below knows the directory `name` in that of a row, by its mark and by the path by which it
-// knows that one, where these have other names than their own.
-fn turned_by<'a>(
-    alloc: Global,
-    sheet: &'a Sheet,
-    mark: &'a Mark,
-    name: &'a Name,
-    turned: Option<Trail<'a>>,
-    row: u32,
-    depth: usize,
-) -> Result<Option<Trail<'a>>, AllocError>
-    requires inside { row < length sheet.now }
-    requires depth { depth ≡ length (path_at sheet.now row) }
-    ensures { IfOk result (λ entered. unwrap_or entered (child_path (path_at sheet.now row) name.now)
-        ≡ entered_path mark.now (unwrap_or turned.entry (path_at sheet.now row)) name.now) }
-{
-    match mark {
-        Mark::DirMoved(Redirect::To(origin)) => Ok(Some(Trail::of(alloc, &origin.names())?)),
-        Mark::DirMoved(Redirect::Beside(other)) => {
-            let next = turned_or_own(alloc, sheet, turned, row, depth)?;
-            Ok(Some(next.child(other.as_str())?))
+        } = own;
+        if depth == trail.len() {
+            return Ok(Arrival {
+                row: Some(row),
+                next: turned.unwrap_or(trail),
+                closed,
+            });
         }
-        Mark::Whiteout
-        | Mark::DirOpaque
-        | Mark::DirBad
-        | Mark::DirPlain
-        | Mark::Meta(_)
-        | Mark::MetaBad
-        | Mark::Leaf => match turned {
-            Some(next) => Ok(Some(next.child(name.as_str())?)),
-            None => Ok(None),
-        },
-    }
-}
-
-// Whether the layers below are hidden in a directory of this mark, by whether they are in the one above it.
-fn closed_by(mark: &Mark, closed: bool) -> bool
-    ensures { result ≡ entered_closed mark.now closed }
-{
-    match mark {
-        Mark::DirMoved(Redirect::To(_)) => false,
-        Mark::DirOpaque | Mark::DirBad => true,
-        Mark::DirMoved(Redirect::Beside(_))
-        | Mark::Whiteout
-        | Mark::DirPlain
-        | Mark::Meta(_)
-        | Mark::MetaBad
-        | Mark::Leaf => closed,
-    }
-}
-
-// The walk's end at `name`, which is no directory and the last of its path.
-fn beyond<'a>(
-    alloc: Global,
-    found: Found<'a>,
-    next: Trail<'a>,
-    closed: bool,
-    name: &'a str,
-) -> Result<TrailStep<'a>, AllocError>
-    requires marked { found.mark.now ≡ the_mark found.inode.now }
-    requires name { IsTrue (is_name name.now) }
-    ensures value { IfOk result (λ step. step_of step ≡ walk_beyond (Some found.entry.inode.now) next.entry closed name.now []) }
-    ensures marked { IfOk result IsMarked }
-{
-    if is_whiteout(found.inode) {
-        let next = next.child(name)?;
-        return Ok(TrailStep {
-            found: None,
+        let next = past(turned, trail, depth)?;
+        Ok(Arrival {
+            row: None,
             next,
-            closed: true,
-        });
+            closed: closed || number.is_some(),
+        })
     }
-    file_step(alloc, found, next, closed, name)
-}
-
-// The walk's end at a non-directory that is found.
-fn file_step<'a>(
-    alloc: Global,
-    found: Found<'a>,
-    next: Trail<'a>,
-    closed: bool,
-    name: &'a str,
-) -> Result<TrailStep<'a>, AllocError>
-    requires marked { found.mark.now ≡ the_mark found.inode.now }
-    requires name { IsTrue (is_name name.now) }
-    ensures value { IfOk result (λ step. step_of step ≡ walk_to_file found.entry.inode.now found.entry.mark.now next.entry closed name.now) }
-    ensures marked { IfOk result IsMarked }
-{
-    let (next, closed) = match found.mark {
-        Mark::Meta(Some(Redirect::To(origin))) => (Trail::of(alloc, &origin.names())?, false),
-        Mark::Meta(Some(Redirect::Beside(own))) => (next.child(own.as_str())?, closed),
-        Mark::Meta(None) => (next.child(name)?, closed),
-        Mark::Whiteout
-        | Mark::DirOpaque
-        | Mark::DirMoved(_)
-        | Mark::DirBad
-        | Mark::DirPlain
-        | Mark::MetaBad
-        | Mark::Leaf => (next.child(name)?, true),
-    };
-    Ok(TrailStep {
-        found: Some(found),
-        next,
-        closed,
-    })
 }

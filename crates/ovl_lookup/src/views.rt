@@ -6,9 +6,7 @@ ghost use Rattle.ovl_lookup.specs.Merged.{shows_directory};
 ghost use Rattle.ovl_lookup.specs.Views.{reached, entry_in, reached_below};
 ghost use Rattle.ovl_lookup.specs.DirViews.{IsViewOver, IsViewOf, IsPlaceOver, IsEntryIn, AddsPlaces, place_in, places_in};
 
-use crate::steps::{Arrival, arrive};
-use crate::trails::Trail;
-use crate::{Onward, Stack};
+use crate::{Arrival, Onward, Stack, Trail};
 use ovl_inode::{Inode, Mark, is_directory};
 use ovl_names::{Name, Path};
 use std::alloc::{AllocError, Global};
@@ -130,17 +128,14 @@ fn push_reached<'a>(
 {
     let mut trail = Trail::of(alloc, &path.names())?;
     for layer in from..stack.ordinary() {
-        match arrive(alloc, stack.sheet(layer), &trail)? {
-            Arrival::Directory { row, next, closed } => {
-                places.push(DirPlace { layer, row })?;
-                if closed {
-                    return Ok(());
-                }
-                trail = next.unwrap_or(trail);
-            }
-            Arrival::Past { next } => trail = next.unwrap_or(trail),
-            Arrival::End => return Ok(()),
+        let Arrival { row, next, closed } = Arrival::at(alloc, stack.sheet(layer), trail)?;
+        if let Some(row) = row {
+            places.push(DirPlace { layer, row })?;
         }
+        if closed {
+            return Ok(());
+        }
+        trail = next;
     }
     Ok(())
 }

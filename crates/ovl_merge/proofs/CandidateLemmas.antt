@@ -32,7 +32,7 @@ use Rattle.ovl_merge.specs.Candidates.{Rowed, AreCandidates, AreMerged, AreRowsO
 use Rattle.ovl_merge.proofs.Firsts.{first_hit-steps, first_step}
 use Rattle.ovl_merge.proofs.NameLists.{put-none, put-unentered}
 use Rattle.ovl_merge.proofs.RowLists.{at, each-own, names-unrowed, or-nothing, rows-unrowed}
-use Rattle.ovl_merge.proofs.StandLemmas.{unnamed}
+use Rattle.ovl_merge.proofs.StandLemmas.{own-onward, unnamed}
 use Rattle.ovl_merge.proofs.VisitLemmas.{own-names}
 
 -- ---- in one layer
@@ -45,16 +45,17 @@ module _ (layer : Entries) (is : IsLayer layer) (path : PathNames) (name : PathN
   -- a name that the layer doesn't have there is passed
   passed-by : (row : Option ℕ) → StandsAt layer path row (Some place) → entry_at layer (child_path path name) ≡ None
       → ((walk layer (child_path path name)).found ≡ None) × ((walk layer (child_path path name)).closed ≡ false)
-  passed-by (Some row) stands none =
-      let step : walk layer (child_path path name) ≡ nothing_found (child_path (walk layer path).next name) (walk layer path).closed = walk-child_end layer path name is None stands.directory none refl [] in (
-        ap (λ (s : Step). s.found) step,
-        ap (λ (s : Step). s.closed) step ∙ opened (walk layer path).closed (walk layer path).next stands.onward,
-      )
-  passed-by None stands none = (stands.nothing name [], goes (walk layer (child_path path name)).closed (stands.below name []))
+  passed-by row stands none = passed (step row stands)
     where
-      goes : (closed : Bool) → onward_on (walk layer (child_path path name)).next closed ≡ Some (child_path place name) → closed ≡ false
-      goes true e = let bad : None ≡ Some (child_path place name) = e in cc
-      goes false e = refl
+      Goes : Type 0
+      Goes = (next : PathNames) × (closed : Bool) × (Some place ≡ onward_on next closed) × (walk layer (child_path path name) ≡ nothing_found (child_path next name) closed)
+
+      step : (row : Option ℕ) → StandsAt layer path row (Some place) → Goes
+      step (Some row) stands = ((walk layer path).next, (walk layer path).closed, own-onward layer path row (Some place) stands, walk-child_end layer path name is None stands.arrival.directory none refl [])
+      step None stands = (stands.onward, stands.closed, stands.told, stands.arrival.below name [])
+
+      passed : Goes → ((walk layer (child_path path name)).found ≡ None) × ((walk layer (child_path path name)).closed ≡ false)
+      passed (next, closed, told, walked) = (ap (λ (s : Step). s.found) walked, ap (λ (s : Step). s.closed) walked ∙ opened closed next told)
 
 -- ---- in both
 

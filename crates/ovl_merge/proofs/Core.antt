@@ -1,6 +1,6 @@
 -- The core of the law that a merge keeps the merged tree: where the walks of the new lower layer go on.
-use Rattle.std.proofs.Common.{◌≡◌, arith, Bool, true, false, cond, Option, Some, None, is_some, List, [], ◌∷◌, suc, length, refl, sym, ap, ◌∙◌, subst, inl, inr, ◌⊎◌}
-use Rattle.std.specs.Prelude.{not, ◌&&◌, ◌||◌, is_none, IfSome, codes}
+use Rattle.std.proofs.Common.{◌≡◌, ℕ, arith, Bool, true, false, cond, Option, Some, None, is_some, List, [], ◌∷◌, suc, length, refl, sym, ap, ◌∙◌, subst, inl, inr, ◌⊎◌}
+use Rattle.std.specs.Prelude.{not, ◌&&◌, is_none, IfSome, codes}
 use Rattle.std.specs.List.{cons_option, list_all, All}
 use Rattle.std.proofs.lemmas.List.Elements.{All-cons}
 use Rattle.std.specs.Cmp.Lexicographic.{pointwise_decides, bytes_decides}
@@ -9,22 +9,24 @@ use Rattle.ovl_names.specs.Paths.{PathNames, path_eq, path_text, child_path, par
 use Rattle.ovl_names.proofs.Ascending.{both, not_true}
 use Rattle.ovl_inode.specs.declared.inodes.Inode.{Inode}
 use Rattle.ovl_inode.specs.declared.marks.Mark.{Mark}
-use Rattle.ovl_inode.specs.declared.marks.Mark.TheVariants.{DirPlain, Meta}
+use Rattle.ovl_inode.specs.declared.marks.Mark.TheVariants.{DirMoved, DirPlain, Meta}
+use Rattle.ovl_inode.specs.declared.marks.Redirect.{Redirect}
 use Rattle.ovl_inode.specs.declared.marks.Redirect.TheVariants.{To, Beside}
 use Rattle.ovl_inode.specs.Attributes.{redirect_name, opaque_name}
-use Rattle.ovl_inode.specs.Marks.{mark_of, is_directory, is_regular, is_metacopy, is_metacopy_mark, has_metacopy}
+use Rattle.ovl_inode.specs.Marks.{mark_of, is_directory, is_regular, is_metacopy, is_metacopy_mark, is_whiteout, has_metacopy}
+use Rattle.ovl_inode.specs.Redirects.{read_redirect}
 use Rattle.ovl_inode.specs.Inodes.{visible}
 use Rattle.ovl_manifest.specs.Layers.{Entries, IsLayer, entry_at, is_directory_at}
 use Rattle.ovl_lookup.specs.declared.steps.Step.{Step}
-use Rattle.ovl_lookup.specs.Walk.{walk, walk_to_file, nothing_found}
+use Rattle.ovl_lookup.specs.Walk.{walk, nothing_found}
 use Rattle.ovl_lookup.specs.Trace.{things_found}
 use Rattle.ovl_lookup.specs.Merged.{look, shows, shows_directory, last_place, full_file_in}
-use Rattle.ovl_lookup.specs.Passes.{entered_path, entered_closed}
+use Rattle.ovl_lookup.specs.Onwards.{next_on, closed_on}
 use Rattle.ovl_lookup.specs.WalkLaws.{PassesOver}
 use Rattle.ovl_lookup.proofs.LawsOfPaths.{length-child, parent_path-child, lookup-all, all-first, all-rest, by_child}
 use Rattle.ovl_lookup.proofs.LawsOfFound.{things_found-step, child_found, any_found, starts_directory}
 use Rattle.ovl_lookup.proofs.LawsOfInodes.{metacopy-file}
-use Rattle.ovl_lookup.proofs.LawsOfWalks.{walk-below, Below, directory_found, walk-child_directory, walk-child_end, walk-child_beyond, file-found, file-is_found, whiteout-closes, passes-over}
+use Rattle.ovl_lookup.proofs.LawsOfWalks.{walk-below, Below, directory_found, walk-child, walk-child_end, walk-child_beyond, whiteout-closes, passes-over}
 use Rattle.ovl_lookup.proofs.LawsOfLooks.{shows-found, ShowsParents-holds}
 use Rattle.ovl_merge.specs.Places.{Merge, whole, two_layers, lower_path, rest_path, is_open, first_of, first_hit, passes, shows_own_directory, is_nothing_or, is_shown_regular, goes_on, reach, reach_of, shows_directory_at, shows_at, base_at, child_of, natural, base, gets_opaque, natural_at, last_name}
 use Rattle.ovl_merge.specs.MergeDown.{with_value, redirected, redirected_from, merged_directory, merged_metacopy, unreached_metacopy, has_data_alone, kept_if_alone, kept_place, merged_inode, new_whiteout, needs_whiteout, merged_entry_of, IsMergedDown}
@@ -64,72 +66,86 @@ abbrev pub GoesOn : Step → Option PathNames → Type 0
 GoesOn step None = step.closed ≡ true
 GoesOn step (Some place) = (step.closed ≡ false) × (step.next ≡ place)
 
--- a walk of a directory of this mark in a directory with this walk
+-- the walk of a thing of this mark and name in a directory with this walk
 abbrev pub entered : Mark → Step → PathName → Option Inode → Step
-entered mark step name found = record { found = found; next = entered_path mark step.next name; closed = entered_closed mark step.closed }
+entered mark step name found = record { found = found; next = next_on mark step.next name; closed = closed_on mark name step.closed }
 
-or_true : (b : Bool) → (b || true) ≡ true
-or_true true = refl
-or_true false = refl
+-- the marks of a directory and of a metacopy file that the layers below have: without a redirect, and with one
+abbrev bare_mark : Bool → Mark
+bare_mark directory = cond directory DirPlain (Meta None)
 
-redirected-goes : (inode : Inode) (found : Option Inode) (place : PathNames) (own : PathName) (step : Step) (above : Option PathNames) → is_directory inode ≡ true → has_names place ≡ true → is_root place ≡ false
-    → IfSome above (λ a. (step.closed ≡ false) × (step.next ≡ a)) → GoesOn (entered (mark_of (redirected_from above own (visible inode) place)) step own found) (Some place)
-redirected-goes inode found place own step None is named below goes =
-    let mark = mark-moved inode (path_text place) (To place) is (redirect-absolute place named below) in
-    (ap (λ (k : Mark). entered_closed k step.closed) mark, ap (λ (k : Mark). entered_path k step.next own) mark)
-redirected-goes inode found place own step (Some above) is named below goes = by (path_eq place (child_path above own)) refl (path_eq place (child_path above (last_name place))) refl
+abbrev moved_mark : Bool → Redirect → Mark
+moved_mark directory redirect = cond directory (DirMoved redirect) (Meta (Some redirect))
+
+-- such a thing's inode before a redirect is written for it
+record TakesRedirect (directory : Bool) (inode : Inode) : Type 0 where
+  bare : mark_of inode ≡ bare_mark directory
+  moved : (value : List ℕ) (redirect : Redirect) → read_redirect value ≡ Some redirect → mark_of (with_value inode redirect_name value) ≡ moved_mark directory redirect
+
+-- one of this mark goes on at the place
+abbrev IsRedirected : Bool → Option Inode → Mark → Step → PathName → PathNames → Type 0
+IsRedirected directory found mark step own place = (GoesOn (entered mark step own found) (Some place)) × (is_metacopy_mark mark ≡ not directory)
+
+-- it goes on at the place that is written for it
+redirected-goes : (directory : Bool) (inode : Inode) (found : Option Inode) (place : PathNames) (own : PathName) (step : Step) (above : Option PathNames) → TakesRedirect directory inode → has_names place ≡ true → is_root place ≡ false
+    → IfSome above (λ a. (step.closed ≡ false) × (step.next ≡ a)) → IsRedirected directory found (mark_of (redirected_from above own inode place)) step own place
+redirected-goes directory inode found place own step above takes named below goes = by above goes
   where
-    by : (one : Bool) → path_eq place (child_path above own) ≡ one → (other : Bool) → path_eq place (child_path above (last_name place)) ≡ other → GoesOn (entered (mark_of (redirected_from (Some above) own (visible inode) place)) step own found) (Some place)
-    by true e other k =
-        let same : redirected_from (Some above) own (visible inode) place ≡ visible inode = ap (λ b. cond b (visible inode) (cond (path_eq place (child_path above (last_name place))) (with_value (visible inode) redirect_name (last_name place)) (with_value (visible inode) redirect_name (path_text place)))) e in
-        let mark : mark_of (redirected_from (Some above) own (visible inode) place) ≡ DirPlain = ap mark_of same ∙ mark-plain inode is in
-        let at : place ≡ child_path above own = (pointwise_decides bytes_decides place (child_path above own)).0 e in
-        ((λ j. entered_closed (mark j) (goes.0 j)), (λ j. entered_path (mark j) (goes.1 j) own) ∙ sym at)
-    by false e true k =
-        let same : redirected_from (Some above) own (visible inode) place ≡ with_value (visible inode) redirect_name (last_name place) = λ j. cond (e j) (visible inode) (cond (k j) (with_value (visible inode) redirect_name (last_name place)) (with_value (visible inode) redirect_name (path_text place))) in
-        let mark = ap mark_of same ∙ mark-moved inode (last_name place) (Beside (last_name place)) is (redirect-beside (last_name place) (last_name-named place named below)) in
-        let at : place ≡ child_path above (last_name place) = (pointwise_decides bytes_decides place (child_path above (last_name place))).0 k in
-        ((λ j. entered_closed (mark j) (goes.0 j)), (λ j. entered_path (mark j) (goes.1 j) own) ∙ sym at)
-    by false e false k =
-        let same : redirected_from (Some above) own (visible inode) place ≡ with_value (visible inode) redirect_name (path_text place) = λ j. cond (e j) (visible inode) (cond (k j) (with_value (visible inode) redirect_name (last_name place)) (with_value (visible inode) redirect_name (path_text place))) in
-        let mark = ap mark_of same ∙ mark-moved inode (path_text place) (To place) is (redirect-absolute place named below) in
-        (ap (λ (k : Mark). entered_closed k step.closed) mark, ap (λ (k : Mark). entered_path k step.next own) mark)
+    -- by the redirect that stands there
+    anywhere : (d : Bool) → IsRedirected d found (moved_mark d (To place)) step own place
+    anywhere true = ((refl, refl), refl)
+    anywhere false = ((refl, refl), refl)
+
+    beside : (d : Bool) (name : PathName) → (step.closed ≡ false) × (child_path step.next name ≡ place) → IsRedirected d found (moved_mark d (Beside name)) step own place
+    beside true name on = (on, refl)
+    beside false name on = (on, refl)
+
+    alone : (d : Bool) → (step.closed ≡ false) × (child_path step.next own ≡ place) → IsRedirected d found (bare_mark d) step own place
+    alone true on = (on, refl)
+    alone false on = (on, refl)
+
+    At : Inode → Type 0
+    At own_inode = IsRedirected directory found (mark_of own_inode) step own place
+
+    as_marked : (mark : Mark) (own_inode : Inode) → mark_of own_inode ≡ mark → IsRedirected directory found mark step own place → At own_inode
+    as_marked mark own_inode is on = subst (λ (k : Mark). IsRedirected directory found k step own place) (sym is) on
+
+    moved_to : At (with_value inode redirect_name (path_text place))
+    moved_to = as_marked (moved_mark directory (To place)) (with_value inode redirect_name (path_text place)) (takes.moved (path_text place) (To place) (redirect-absolute place named below)) (anywhere directory)
+
+    by : (above : Option PathNames) → IfSome above (λ a. (step.closed ≡ false) × (step.next ≡ a)) → At (redirected_from above own inode place)
+    by None goes = moved_to
+    by (Some above) goes = test (path_eq place (child_path above own)) refl (path_eq place (child_path above (last_name place))) refl
+      where
+        written : Bool → Bool → Inode
+        written one other = cond one inode (cond other (with_value inode redirect_name (last_name place)) (with_value inode redirect_name (path_text place)))
+
+        there : (name : PathName) → path_eq place (child_path above name) ≡ true → (step.closed ≡ false) × (child_path step.next name ≡ place)
+        there name e = (goes.0, ap (λ (p : PathNames). child_path p name) goes.1 ∙ sym ((pointwise_decides bytes_decides place (child_path above name)).0 e))
+
+        test : (one : Bool) → path_eq place (child_path above own) ≡ one → (other : Bool) → path_eq place (child_path above (last_name place)) ≡ other → At (written (path_eq place (child_path above own)) (path_eq place (child_path above (last_name place))))
+        test true e other k =
+            subst At (ap (λ b. written b (path_eq place (child_path above (last_name place)))) (sym e)) (as_marked (bare_mark directory) inode takes.bare (alone directory (there own e)))
+        test false e true k =
+            let moved = takes.moved (last_name place) (Beside (last_name place)) (redirect-beside (last_name place) (last_name-named place named below)) in
+            subst At (λ j. written (sym e j) (sym k j))
+            (as_marked (moved_mark directory (Beside (last_name place))) (with_value inode redirect_name (last_name place)) moved (beside directory (last_name place) (there (last_name place) k)))
+        test false e false k = subst At (λ j. written (sym e j) (sym k j)) moved_to
+
+directory-takes : (inode : Inode) → is_directory inode ≡ true → TakesRedirect true (visible inode)
+directory-takes inode is = record { bare = mark-plain inode is; moved = λ value redirect reads. mark-moved inode value redirect is reads }
+
+metacopy-takes : (inode : Inode) → is_regular inode ≡ true → TakesRedirect false (with_metacopy inode)
+metacopy-takes inode is = record { bare = mark-copied inode is; moved = λ value redirect reads. mark-copied_moved inode value redirect is reads }
 
 -- a plain directory goes on below where its own goes on
 plain-goes : (inode : Inode) (found : Option Inode) (own : PathName) (step : Step) (above : Option PathNames) → is_directory inode ≡ true → GoesOn step above → GoesOn (entered (mark_of (visible inode)) step own found) (child_of above own)
-plain-goes inode found own step None is goes = λ j. entered_closed (mark-plain inode is j) (goes j)
+plain-goes inode found own step None is goes = λ j. closed_on (mark-plain inode is j) own (goes j)
 plain-goes inode found own step (Some above) is goes =
-    ((λ j. entered_closed (mark-plain inode is j) (goes.0 j)), (λ j. entered_path (mark-plain inode is j) (goes.1 j) own))
+    ((λ j. closed_on (mark-plain inode is j) own (goes.0 j)), (λ j. next_on (mark-plain inode is j) (goes.1 j) own))
 
 opaque-goes : (inode : Inode) (found : Option Inode) (own : PathName) (step : Step) → is_directory inode ≡ true → GoesOn (entered (mark_of (with_value (visible inode) opaque_name (codes "y"))) step own found) None
-opaque-goes inode found own step is = ap (λ (k : Mark). entered_closed k step.closed) (mark-opaque inode is) ∙ or_true step.closed
-
--- a metacopy file goes on at the place that is written for it
-abbrev IsCopied : Inode → Mark → Step → PathName → PathNames → Type 0
-IsCopied found mark step own place = (GoesOn (walk_to_file found mark step.next step.closed own) (Some place)) × (is_metacopy_mark mark ≡ true)
-
-copied-goes : (inode found : Inode) (place : PathNames) (own : PathName) (step : Step) (above : Option PathNames) → is_regular inode ≡ true → has_names place ≡ true → is_root place ≡ false
-    → IfSome above (λ a. (step.closed ≡ false) × (step.next ≡ a)) → IsCopied found (mark_of (redirected_from above own (with_metacopy inode) place)) step own place
-copied-goes inode found place own step None is named below goes =
-    let mark = mark-copied_moved inode (path_text place) (To place) is (redirect-absolute place named below) in
-    subst (λ (k : Mark). IsCopied found k step own place) (sym mark) ((refl, refl), refl)
-copied-goes inode found place own step (Some above) is named below goes = by (path_eq place (child_path above own)) refl (path_eq place (child_path above (last_name place))) refl
-  where
-    by : (one : Bool) → path_eq place (child_path above own) ≡ one → (other : Bool) → path_eq place (child_path above (last_name place)) ≡ other → IsCopied found (mark_of (redirected_from (Some above) own (with_metacopy inode) place)) step own place
-    by true e other k =
-        let same : redirected_from (Some above) own (with_metacopy inode) place ≡ with_metacopy inode = ap (λ b. cond b (with_metacopy inode) (cond (path_eq place (child_path above (last_name place))) (with_value (with_metacopy inode) redirect_name (last_name place)) (with_value (with_metacopy inode) redirect_name (path_text place)))) e in
-        let mark = ap mark_of same ∙ mark-copied inode is in
-        let at : place ≡ child_path above own = (pointwise_decides bytes_decides place (child_path above own)).0 e in
-        subst (λ (k : Mark). IsCopied found k step own place) (sym mark) ((goes.0, ap (λ (p : PathNames). child_path p own) goes.1 ∙ sym at), refl)
-    by false e true k =
-        let same : redirected_from (Some above) own (with_metacopy inode) place ≡ with_value (with_metacopy inode) redirect_name (last_name place) = λ j. cond (e j) (with_metacopy inode) (cond (k j) (with_value (with_metacopy inode) redirect_name (last_name place)) (with_value (with_metacopy inode) redirect_name (path_text place))) in
-        let mark = ap mark_of same ∙ mark-copied_moved inode (last_name place) (Beside (last_name place)) is (redirect-beside (last_name place) (last_name-named place named below)) in
-        let at : place ≡ child_path above (last_name place) = (pointwise_decides bytes_decides place (child_path above (last_name place))).0 k in
-        subst (λ (k : Mark). IsCopied found k step own place) (sym mark) ((goes.0, ap (λ (p : PathNames). child_path p (last_name place)) goes.1 ∙ sym at), refl)
-    by false e false k =
-        let same : redirected_from (Some above) own (with_metacopy inode) place ≡ with_value (with_metacopy inode) redirect_name (path_text place) = λ j. cond (e j) (with_metacopy inode) (cond (k j) (with_value (with_metacopy inode) redirect_name (last_name place)) (with_value (with_metacopy inode) redirect_name (path_text place))) in
-        let mark = ap mark_of same ∙ mark-copied_moved inode (path_text place) (To place) is (redirect-absolute place named below) in
-        subst (λ (k : Mark). IsCopied found k step own place) (sym mark) ((refl, refl), refl)
+opaque-goes inode found own step is = ap (λ (k : Mark). closed_on k own step.closed) (mark-opaque inode is)
 
 -- ---- the core
 
@@ -330,43 +346,49 @@ module _ (m : Merge) (new : Entries) (each : All IsLayer (whole m).layers) (laye
         here : entry_at new (child_path path name) ≡ Some (merged_inode m (child_path path name) inode)
         here = entry-hit (child_path path name) (Some inode) hit
 
-        step : walk new (child_path path name) ≡ entered (mark_of (merged_inode m (child_path path name) inode)) (walk new path) name (Some (merged_inode m (child_path path name) inode))
-        step = walk-child_directory new path name layered (merged_inode m (child_path path name) inode) here (merged-is_directory m (child_path path name) inode dir)
+        found : Option Inode
+        found = cond (is_whiteout x) None (Some x)
 
-        by : (o : Option PathNames) → reach m (child_path path name) ≡ o → GoesOn (entered (mark_of (merged_inode m (child_path path name) inode)) (walk new path) name (Some (merged_inode m (child_path path name) inode))) (base m (child_path path name))
+        step : walk new (child_path path name) ≡ entered (mark_of x) (walk new path) name found
+        step = walk-child new path name layered x here
+
+        by : (o : Option PathNames) → reach m (child_path path name) ≡ o → GoesOn (entered (mark_of x) (walk new path) name found) (base m (child_path path name))
         by (Some place) e =
             let at : place ≡ rest_path m (child_path path name) = reach-is m (child_path path name) place e in
-            let facts = place-facts (child_path path name) (merged_inode m (child_path path name) inode) here (length-child path name) in
-            let written : merged_inode m (child_path path name) inode ≡ redirected_from (reach m path) name (visible inode) place =
+            let facts = place-facts (child_path path name) (x) here (length-child path name) in
+            let written : x ≡ redirected_from (reach m path) name (visible inode) place =
             merged-directory m (child_path path name) inode dir ∙ (ap (merged_directory m (child_path path name) inode) e ∙ redirected-child m path name (visible inode) place) in
-            let goes_there = redirected-goes inode (Some (merged_inode m (child_path path name) inode)) place name (walk new path) (reach m path) dir (ap has_names at ∙ facts.0) (ap is_root at ∙ facts.1) (reach-goes m path (walk new path) goes) in
-            subst (GoesOn (entered (mark_of (merged_inode m (child_path path name) inode)) (walk new path) name (Some (merged_inode m (child_path path name) inode)))) (sym (base-reach m (child_path path name) place e))
-            (subst (λ (i : Inode). GoesOn (entered (mark_of i) (walk new path) name (Some (merged_inode m (child_path path name) inode))) (Some place)) (sym written) goes_there)
+            let goes_there = redirected-goes true (visible inode) found place name (walk new path) (reach m path) (directory-takes inode dir) (ap has_names at ∙ facts.0) (ap is_root at ∙ facts.1) (reach-goes m path (walk new path) goes) in
+            subst (GoesOn (entered (mark_of x) (walk new path) name found)) (sym (base-reach m (child_path path name) place e))
+            (subst (λ (i : Inode). GoesOn (entered (mark_of i) (walk new path) name found) (Some place)) (sym written) goes_there.0)
         by None e = opaque (gets_opaque m (child_path path name)) refl
           where
-            written : merged_inode m (child_path path name) inode ≡ cond (gets_opaque m (child_path path name)) (with_value (visible inode) opaque_name (codes "y")) (visible inode)
+            written : x ≡ cond (gets_opaque m (child_path path name)) (with_value (visible inode) opaque_name (codes "y")) (visible inode)
             written = merged-directory m (child_path path name) inode dir ∙ ap (merged_directory m (child_path path name) inode) e
 
-            opaque : (b : Bool) → gets_opaque m (child_path path name) ≡ b → GoesOn (entered (mark_of (merged_inode m (child_path path name) inode)) (walk new path) name (Some (merged_inode m (child_path path name) inode))) (base m (child_path path name))
+            opaque : (b : Bool) → gets_opaque m (child_path path name) ≡ b → GoesOn (entered (mark_of x) (walk new path) name found) (base m (child_path path name))
             opaque true g =
-                subst (GoesOn (entered (mark_of (merged_inode m (child_path path name) inode)) (walk new path) name (Some (merged_inode m (child_path path name) inode))))
+                subst (GoesOn (entered (mark_of x) (walk new path) name found))
                 (sym (base-none m (child_path path name) e ∙ ap (λ b. cond b None (natural m (child_path path name))) g))
-                (subst (λ (i : Inode). GoesOn (entered (mark_of i) (walk new path) name (Some (merged_inode m (child_path path name) inode))) None) (sym (written ∙ ap (λ b. cond b (with_value (visible inode) opaque_name (codes "y")) (visible inode)) g))
-                (opaque-goes inode (Some (merged_inode m (child_path path name) inode)) name (walk new path) dir))
+                (subst (λ (i : Inode). GoesOn (entered (mark_of i) (walk new path) name found) None) (sym (written ∙ ap (λ b. cond b (with_value (visible inode) opaque_name (codes "y")) (visible inode)) g))
+                (opaque-goes inode found name (walk new path) dir))
             opaque false g =
-                subst (GoesOn (entered (mark_of (merged_inode m (child_path path name) inode)) (walk new path) name (Some (merged_inode m (child_path path name) inode))))
+                subst (GoesOn (entered (mark_of x) (walk new path) name found))
                 (sym (base-none m (child_path path name) e ∙ (ap (λ b. cond b None (natural m (child_path path name))) g ∙ natural-child m path name)))
-                (subst (λ (i : Inode). GoesOn (entered (mark_of i) (walk new path) name (Some (merged_inode m (child_path path name) inode))) (child_of (base m path) name)) (sym (written ∙ ap (λ b. cond b (with_value (visible inode) opaque_name (codes "y")) (visible inode)) g))
-                (plain-goes inode (Some (merged_inode m (child_path path name) inode)) name (walk new path) (base m path) dir goes))
+                (subst (λ (i : Inode). GoesOn (entered (mark_of i) (walk new path) name found) (child_of (base m path) name)) (sym (written ∙ ap (λ b. cond b (with_value (visible inode) opaque_name (codes "y")) (visible inode)) g))
+                (plain-goes inode found name (walk new path) (base m path) dir goes))
 
-    -- another shown thing
-    file-step : (inode : Inode) → first_hit m (child_path path name) ≡ Some inode → is_directory inode ≡ false → (walk new (child_path path name)).found ≡ Some (merged_inode m (child_path path name) inode)
-    file-step inode hit none =
-        let above = parent-shown path name inode hit in
+    -- the walk of another shown thing
+    other-step : (inode : Inode) → first_hit m (child_path path name) ≡ Some inode → is_directory inode ≡ false
+        → walk new (child_path path name) ≡ entered (mark_of (merged_inode m (child_path path name) inode)) (walk new path) name (Some (merged_inode m (child_path path name) inode))
+    other-step inode hit none =
         let x : Inode = merged_inode m (child_path path name) inode in
         let other = merged-is_other m (child_path path name) inode none hit (hit-no_whiteout m (child_path path name) inode upper lower hit) in
-        ap (λ (s : Step). s.found) (walk-child_end new path name layered (Some x) (directory-in_new path above) (entry-hit (child_path path name) (Some inode) hit) other.0 [])
-        ∙ file-is_found x (walk new path).next (walk new path).closed name other.1
+        walk-child new path name layered x (entry-hit (child_path path name) (Some inode) hit)
+        ∙ ap (λ b. entered (mark_of x) (walk new path) name (cond b None (Some x))) other.1
+
+    file-step : (inode : Inode) → first_hit m (child_path path name) ≡ Some inode → is_directory inode ≡ false → (walk new (child_path path name)).found ≡ Some (merged_inode m (child_path path name) inode)
+    file-step inode hit none = ap (λ (s : Step). s.found) (other-step inode hit none)
 
     -- a metacopy file with a reach
     copy-step : (inode : Inode) → first_hit m (child_path path name) ≡ Some inode → is_metacopy inode ≡ true → (place : PathNames) → reach m (child_path path name) ≡ Some place → (GoesOn (walk new (child_path path name)) (Some place)) × (is_metacopy (merged_inode m (child_path path name) inode) ≡ true)
@@ -376,17 +398,13 @@ module _ (m : Merge) (new : Entries) (each : All IsLayer (whole m).layers) (laye
         let above = parent-shown path name inode hit in
         let goes : GoesOn (walk new path) (base m path) = core.directory above.inode above.hit above.directory in
         let x : Inode = merged_inode m (child_path path name) inode in
-        let here : entry_at new (child_path path name) ≡ Some x = entry-hit (child_path path name) (Some inode) hit in
-        let other = merged-is_other m (child_path path name) inode file.0 hit (hit-no_whiteout m (child_path path name) inode upper lower hit) in
         let at : place ≡ rest_path m (child_path path name) = reach-is m (child_path path name) place e in
-        let facts = place-facts (child_path path name) x here (length-child path name) in
+        let facts = place-facts (child_path path name) x (entry-hit (child_path path name) (Some inode) hit) (length-child path name) in
         let written : x ≡ redirected_from (reach m path) name (with_metacopy inode) place =
         merged-metacopy m (child_path path name) inode file.0 meta ∙ (ap (merged_metacopy m (child_path path name) inode) e ∙ redirected-child m path name (with_metacopy inode) place) in
-        let step : walk new (child_path path name) ≡ walk_to_file x (mark_of x) (walk new path).next (walk new path).closed name =
-        walk-child_end new path name layered (Some x) (directory-in_new path above) here other.0 [] ∙ file-found x (walk new path).next (walk new path).closed name other.1 in
-        let copied = copied-goes inode x place name (walk new path) (reach m path) regular (ap has_names at ∙ facts.0) (ap is_root at ∙ facts.1) (reach-goes m path (walk new path) goes) in (
-          subst (λ (s : Step). GoesOn s (Some place)) (sym step)
-              (subst (λ (i : Inode). GoesOn (walk_to_file x (mark_of i) (walk new path).next (walk new path).closed name) (Some place)) (sym written) copied.0),
+        let copied = redirected-goes false (with_metacopy inode) (Some x) place name (walk new path) (reach m path) (metacopy-takes inode regular) (ap has_names at ∙ facts.0) (ap is_root at ∙ facts.1) (reach-goes m path (walk new path) goes) in (
+          subst (λ (s : Step). GoesOn s (Some place)) (sym (other-step inode hit file.0))
+              (subst (λ (i : Inode). GoesOn (entered (mark_of i) (walk new path) name (Some x)) (Some place)) (sym written) copied.0),
           ap is_metacopy written ∙ copied.1,
         )
 
@@ -396,18 +414,13 @@ module _ (m : Merge) (new : Entries) (each : All IsLayer (whole m).layers) (laye
     kept-step inode hit meta e place k =
         let file = metacopy-file inode meta in
         let regular : is_regular inode ≡ true = (both {a = is_regular inode} {b = has_metacopy inode} file.1).0 in
-        let above = parent-shown path name inode hit in
         let x : Inode = merged_inode m (child_path path name) inode in
-        let here : entry_at new (child_path path name) ≡ Some x = entry-hit (child_path path name) (Some inode) hit in
-        let other = merged-is_other m (child_path path name) inode file.0 hit (hit-no_whiteout m (child_path path name) inode upper lower hit) in
         let facts = kept-named m (child_path path name) place k in
         let written : x ≡ with_value (with_metacopy inode) redirect_name (path_text place) =
         merged-metacopy m (child_path path name) inode file.0 meta ∙ (ap (merged_metacopy m (child_path path name) inode) e ∙ ap (unreached_metacopy m (child_path path name) inode) k) in
-        let mark : mark_of x ≡ Meta (Some (To place)) = ap mark_of written ∙ mark-copied_moved inode (path_text place) (To place) regular (redirect-absolute place facts.0 facts.1) in
-        let step : walk new (child_path path name) ≡ walk_to_file x (mark_of x) (walk new path).next (walk new path).closed name =
-        walk-child_end new path name layered (Some x) (directory-in_new path above) here other.0 [] ∙ file-found x (walk new path).next (walk new path).closed name other.1 in (
-          subst (λ (s : Step). GoesOn s (Some place)) (sym step)
-              (subst (λ (k : Mark). GoesOn (walk_to_file x k (walk new path).next (walk new path).closed name) (Some place)) (sym mark) (refl, refl)),
+        let mark : mark_of x ≡ Meta (Some (To place)) = ap mark_of written ∙ mark-copied_moved inode (path_text place) (To place) regular (redirect-absolute place facts.0 facts.1) in (
+          subst (λ (s : Step). GoesOn s (Some place)) (sym (other-step inode hit file.0))
+              (subst (λ (k : Mark). GoesOn (entered k (walk new path) name (Some x)) (Some place)) (sym mark) (refl, refl)),
           mark,
         )
 

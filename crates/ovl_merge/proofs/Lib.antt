@@ -14,7 +14,6 @@ pub mod NameLists
 pub mod RowLists
 pub mod VisitLemmas
 pub mod StandLemmas
-pub mod WayLemmas
 pub mod RowLemmas
 pub mod ShownLemmas
 pub mod BaseLemmas

@@ -9,16 +9,17 @@ use Rattle.std.proofs.lemmas.List.{length-map, map-append, take_more}
 use Rattle.ovl_names.specs.Names.{PathName, name_eq}
 use Rattle.ovl_names.specs.Paths.{PathNames, child_path}
 use Rattle.ovl_names.proofs.Ascending.{both}
-use Rattle.ovl_manifest.specs.Layers.{Entries, IsLayer, has_parent, is_directory_at, name_below, names_below}
+use Rattle.ovl_manifest.specs.Layers.{Entries, has_parent, is_directory_at, name_below, names_below}
 use Rattle.ovl_manifest.specs.Sheets.{last_name, path_at}
 use Rattle.ovl_manifest.proofs.SheetLemmas.{last_name-child}
 use Rattle.ovl_lookup.proofs.LawsOfPaths.{length-child, parent_path-child}
+use Rattle.ovl_lookup.proofs.LawsOfWalks.{nothing-below}
 use Rattle.ovl_merge.specs.declared.candidates.Candidate.{Candidate}
 use Rattle.ovl_merge.specs.declared.candidates.Side.{Side}
 use Rattle.ovl_merge.specs.declared.candidates.Side.TheVariants.{Upper, Lower}
-use Rattle.ovl_merge.specs.Stands.{IsPast, IsRowAt}
+use Rattle.ovl_merge.specs.Stands.{IsRowAt, StandsAt}
 use Rattle.ovl_merge.specs.Candidates.{Rows, Rowed, AreRowsOf, candidate_told, candidates_told, names_of, other_side, row_at, row_on, rows_on}
-use Rattle.ovl_merge.proofs.StandLemmas.{no-directory, past-entry, unnamed}
+use Rattle.ovl_merge.proofs.StandLemmas.{unnamed}
 
 -- a name with the row that a layer has by it in a directory
 pub record IsOwnRow (side : Side) (layer : Entries) (path : PathNames) (named : PathName × Rows) : Type 0 where
@@ -158,9 +159,9 @@ names-none layer path none (entry ∷ entries) closed = by (names-none layer pat
         sym ((λ j. length-child path name j || is_directory_at layer (parent_path-child path name j)) ∙ none)
         ∙ (ap (has_parent layer) (sym (below-path path entry.0 name e)) ∙ parts.0) in cc
 
-pub rows-none : (side : Side) (layer : Entries) → IsLayer layer → (path : PathNames) (next : Option PathNames) → IsPast layer path next → AreRowsOf side layer path []
-rows-none side layer layered path next is = record {
-  below = sym (names-none layer path (no-directory layer path is.no_directory) layer layered.closed);
-  own = past-entry layer layered path next is;
+pub rows-none : (side : Side) (layer : Entries) (path : PathNames) (next : Option PathNames) → StandsAt layer path None next → AreRowsOf side layer path []
+rows-none side layer path next is = record {
+  below = sym (names-none layer path is.arrival.none layer is.layered.closed);
+  own = λ name. nothing-below layer path name [] is.layered is.arrival.none;
   other = λ name. refl;
 }

@@ -17,7 +17,7 @@ use Rattle.ovl_merge.specs.Stands.{IsStand, StandsAt, onward_on, step_onward}
 use Rattle.ovl_merge.specs.Reckoned.{IsBelow, IsVisited, is_inside_at, onward_at, reach_from, upper_onward}
 use Rattle.ovl_merge.proofs.Firsts.{first_step, first_hit-steps}
 use Rattle.ovl_merge.proofs.Core.{root-shown, base-none}
-use Rattle.ovl_merge.proofs.StandLemmas.{inside-found, stand-found}
+use Rattle.ovl_merge.proofs.StandLemmas.{inside-found, own-onward, past-found, past-onward, past_onward, stand-found}
 
 -- ---- in one layer
 
@@ -26,12 +26,12 @@ nothing-or None e = refl
 nothing-or (Some inode) e = e
 
 -- where a walk goes on past a path, nothing is found there and it is open
-shut-past : (found : Option Inode) (next : PathNames) (closed : Bool) → None ≡ cond (is_some found) None (onward_on next closed) → true ≡ (is_some found || closed)
+shut-past : (found : Option Inode) (next : PathNames) (closed : Bool) → None ≡ past_onward found next closed → true ≡ (is_some found || closed)
 shut-past (Some inode) next closed e = refl
 shut-past None next true e = refl
 shut-past None next false e = let bad : None ≡ Some next = e in cc
 
-open-past : (found : Option Inode) (next : PathNames) (closed : Bool) (onward : PathNames) → Some onward ≡ cond (is_some found) None (onward_on next closed) → (found ≡ None) × (closed ≡ false) × (onward ≡ next)
+open-past : (found : Option Inode) (next : PathNames) (closed : Bool) (onward : PathNames) → Some onward ≡ past_onward found next closed → (found ≡ None) × (closed ≡ false) × (onward ≡ next)
 open-past (Some inode) next closed onward e = let bad : Some onward ≡ None = e in cc
 open-past None next true onward e = let bad : Some onward ≡ None = e in cc
 open-past None next false onward e = let same : onward ≡ next = cc in (refl, refl, same)
@@ -59,14 +59,14 @@ module _ (m : Merge) (path : PathNames) where
   pub shown-by : (row : Option ℕ) (next : Option PathNames) → StandsAt m.upper path row next → (lower : Option Stand) → IsBelow m.lower next lower
       → shows_own_directory m path ≡ (is_some row || is_inside_at lower)
   shown-by (Some row) next here lower there =
-      ap (passes is_directory) (first_hit-steps m path) ∙ first-directory (walk m.upper path).found (walk m.upper path).closed below_first (inside-found m.upper path here.directory)
+      ap (passes is_directory) (first_hit-steps m path) ∙ first-directory (walk m.upper path).found (walk m.upper path).closed below_first (inside-found m.upper path here.arrival.directory)
   shown-by None None here None there =
       ap (passes is_directory) (first_hit-steps m path)
-      ∙ first-shut (walk m.upper path).found (walk m.upper path).closed below_first here.no_directory (shut-past (walk m.upper path).found (walk m.upper path).next (walk m.upper path).closed here.onward)
+      ∙ first-shut (walk m.upper path).found (walk m.upper path).closed below_first (past-found m.upper path None here) (shut-past (walk m.upper path).found (walk m.upper path).next (walk m.upper path).closed (past-onward m.upper path None here))
   shown-by None None here (Some below) there = absurd there
   shown-by None (Some next) here None there = let bad : Some next ≡ None = there in cc
   shown-by None (Some next) here (Some below) there =
-      let o = open-past (walk m.upper path).found (walk m.upper path).next (walk m.upper path).closed next here.onward in
+      let o = open-past (walk m.upper path).found (walk m.upper path).next (walk m.upper path).closed next (past-onward m.upper path (Some next) here) in
       ap (passes is_directory) (first_hit-steps m path ∙ (λ j. first_step (o.0 j) (o.1 j) below_first))
       ∙ (first-last (walk m.lower (lower_path m path)).found (walk m.lower (lower_path m path)).closed
       ∙ stand-found m.lower (lower_path m path) below.row below.next (subst (λ (p : PathNames). IsStand m.lower p below) o.2 there))
@@ -74,11 +74,11 @@ module _ (m : Merge) (path : PathNames) where
   -- where the lower layer knows a shown directory
   pub lower-by : (row : Option ℕ) (next : Option PathNames) → StandsAt m.upper path row next → (lower : Option Stand) → IsBelow m.lower next lower → (is_some row || is_inside_at lower) ≡ true
       → next ≡ step_onward (walk m.upper path)
-  lower-by (Some row) next here lower there shown = here.onward
+  lower-by (Some row) next here lower there shown = own-onward m.upper path row next here
   lower-by None None here None there shown = let bad : false ≡ true = shown in cc
   lower-by None None here (Some below) there shown = absurd there
   lower-by None (Some next) here lower there shown =
-      let o = open-past (walk m.upper path).found (walk m.upper path).next (walk m.upper path).closed next here.onward in
+      let o = open-past (walk m.upper path).found (walk m.upper path).next (walk m.upper path).closed next (past-onward m.upper path (Some next) here) in
       λ j. onward_on (o.2 j) (sym o.1 j)
 
 -- ---- where it goes on in the rest
@@ -107,15 +107,15 @@ module _ (m : Merge) (path : PathNames) where
       inside true found e = refl
       inside false found e = ap (λ (b : Bool). cond (b && shows_directory m.rest low.next) (Some low.next) None) e
 
-      past : (closed : Bool) (found : Option Inode) → passes is_directory found ≡ false → cond (not closed && (is_nothing_or is_directory found && shows_directory m.rest low.next)) (Some low.next) None ≡ reach_from m.rest (cond (is_some found) None (onward_on low.next closed))
+      past : (closed : Bool) (found : Option Inode) → passes is_directory found ≡ false → cond (not closed && (is_nothing_or is_directory found && shows_directory m.rest low.next)) (Some low.next) None ≡ reach_from m.rest (past_onward found low.next closed)
       past true None e = refl
       past false None e = refl
       past true (Some inode) e = refl
       past false (Some inode) e = ap (λ (b : Bool). cond (b && shows_directory m.rest low.next) (Some low.next) None) e
 
       by : (row : Option ℕ) → StandsAt m.lower (lower_path m path) row next → cond (not low.closed && (is_nothing_or is_directory low.found && shows_directory m.rest low.next)) (Some low.next) None ≡ reach_from m.rest next
-      by (Some r) is = inside low.closed low.found (nothing-or low.found (inside-found m.lower (lower_path m path) is.directory)) ∙ ap (reach_from m.rest) (sym is.onward)
-      by None is = past low.closed low.found is.no_directory ∙ ap (reach_from m.rest) (sym is.onward)
+      by (Some r) is = inside low.closed low.found (nothing-or low.found (inside-found m.lower (lower_path m path) is.arrival.directory)) ∙ ap (reach_from m.rest) (sym (own-onward m.lower (lower_path m path) r next is))
+      by None is = past low.closed low.found (past-found m.lower (lower_path m path) next is) ∙ ap (reach_from m.rest) (sym (past-onward m.lower (lower_path m path) next is))
 
   shut-goes : (upper lower : Step) → upper.closed ≡ true → goes upper lower ≡ None
   shut-goes upper lower shut = ap (λ (b : Bool). cond ((not b && not lower.closed) && (is_nothing_or is_directory lower.found && shows_directory m.rest lower.next)) (Some lower.next) None) shut

@@ -1,20 +1,20 @@
 -- Where the walks of a directory and of the names in it stand and end in a layer, as the program reckons it.
-use Rattle.std.specs.Prelude.{◌≡◌, ℕ, ◌<◌, Bool, true, false, Option, Some, None, ◌∷◌, ◌++◌, if◌then◌else◌, length, is_some, IfSome, MatchOption}
+use Rattle.std.specs.Prelude.{◌≡◌, ℕ, ◌<◌, Bool, Option, Some, None, if◌then◌else◌, length, IfSome, MatchOption}
 use Rattle.std.specs.Option.{option_map}
 use Rattle.ovl_names.specs.Names.{PathName}
 use Rattle.ovl_names.specs.Paths.{PathNames, child_path}
 use Rattle.ovl_inode.specs.declared.inodes.Inode.{Inode}
-use Rattle.ovl_inode.specs.Marks.{mark_of, is_directory, is_whiteout}
-use Rattle.ovl_manifest.specs.Layers.{Entries, entry_at, is_directory_at}
+use Rattle.ovl_inode.specs.Marks.{mark_of, is_whiteout}
+use Rattle.ovl_manifest.specs.Layers.{Entries, IsLayer, entry_at}
 use Rattle.ovl_manifest.specs.Sheets.{path_at}
 use Rattle.ovl_lookup.specs.declared.onward.Onward.{Onward}
 use Rattle.ovl_lookup.specs.declared.onward.Onward.TheVariants.{Beside, At, Nowhere}
 use Rattle.ovl_lookup.specs.declared.steps.Step.{Step}
 use Rattle.ovl_lookup.specs.Onwards.{IsOnward}
+use Rattle.ovl_lookup.specs.Passes.{IsArrivalAt}
 use Rattle.ovl_lookup.specs.Walk.{walk}
 use Rattle.ovl_merge.specs.declared.stands.Stand.{Stand}
 use Rattle.ovl_merge.specs.declared.stands.Passing.{Passing}
-use Rattle.ovl_merge.specs.Places.{passes}
 
 -- ---- where a walk goes on
 
@@ -37,28 +37,13 @@ onward_to next Nowhere = None
 
 -- ---- where the walk of a directory's path stands
 
--- in a directory of the layer
-pub record IsInside (layer : Entries) (path : PathNames) (row : ℕ) (next : Option PathNames) : Type 0 where
-  pub inside : row < length layer
-  pub here : path_at layer row ≡ path
-  pub directory : is_directory_at layer path ≡ true
-  pub onward : next ≡ step_onward (walk layer path)
-
--- where a walk goes on past a path at which there is no directory: a thing hides all under it
-abbrev pub past_onward : Step → Option PathNames
-past_onward step = if is_some step.found then None else step_onward step
-
--- past what the layer has: nothing is found at any path below, and the layers below know that by the same names below
--- `next`
-pub record IsPast (layer : Entries) (path : PathNames) (next : Option PathNames) : Type 0 where
-  pub no_directory : passes is_directory (walk layer path).found ≡ false
-  pub onward : next ≡ past_onward (walk layer path)
-  pub nothing : (name : PathName) (names : PathNames) → (walk layer (path ++ name ∷ names)).found ≡ None
-  pub below : (name : PathName) (names : PathNames) → step_onward (walk layer (path ++ name ∷ names)) ≡ option_map (λ above. above ++ name ∷ names) next
-
-abbrev pub StandsAt : Entries → PathNames → Option ℕ → Option PathNames → Type 0
-StandsAt layer path (Some row) next = IsInside layer path row next
-StandsAt layer path None next = IsPast layer path next
+-- where it arrives in the layer, and the path that goes on there, unless it is hidden in the layers below
+pub record StandsAt (layer : Entries) (path : PathNames) (row : Option ℕ) (next : Option PathNames) : Type 0 where
+  pub layered : IsLayer layer
+  pub onward : PathNames
+  pub closed : Bool
+  pub arrival : IsArrivalAt layer path row onward closed
+  pub told : next ≡ onward_on onward closed
 
 abbrev pub IsStand : Entries → PathNames → Stand → Type 0
 IsStand layer path stand = StandsAt layer path stand.row stand.next
@@ -79,13 +64,10 @@ pub record IsThing (layer : Entries) (row : ℕ) (name : PathName) (passing : Pa
   pub here : entry_at layer (path_at layer row) ≡ Some inode
   pub found : option_map (λ found. found.inode.now) passing.found ≡ (if is_whiteout inode then None else Some inode)
   pub marked : IfSome passing.found (λ found. found.mark.now ≡ mark_of found.inode.now)
-  pub directory : passing.row ≡ (if is_directory inode then Some row else None)
   pub onward : IsOnward (mark_of inode) name passing.onward
 
 -- the walk of a path, by where the layer below knows the directory above
 pub record IsPassing (layer : Entries) (path : PathNames) (next : Option PathNames) (passing : Passing) : Type 0 where
   pub found : option_map (λ found. found.inode.now) passing.found ≡ (walk layer path).found
   pub marked : IfSome passing.found (λ found. found.mark.now ≡ mark_of found.inode.now)
-  pub row : MatchOption passing.row (passes is_directory (walk layer path).found ≡ false)
-      (λ row. (row < length layer) × (path_at layer row ≡ path) × (is_directory_at layer path ≡ true))
   pub onward : onward_to next passing.onward ≡ step_onward (walk layer path)

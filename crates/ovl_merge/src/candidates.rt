@@ -130,8 +130,6 @@ fn rows_of<'a>(
     ensures { IfOk result (λ rows. (path : PathNames) (next : Option PathNames) → StandsAt sheet.now path directory next
         → AreRowsOf side sheet.now path (candidates_told rows.items)) }
 {
-    // Each sheet is a layer.
-    let _root = sheet.root_number();
     match directory {
         Some(row) => rows_in(alloc, sheet, row, side),
         None => Ok(Vec::new(alloc)),

@@ -22,7 +22,7 @@ use Rattle.ovl_program.specs.Commands.{any_size_rule, blobs_rule, data_layers_ru
 use Rattle.ovl_program.specs.Lines.{HasNumber, IsFlag, IsGiven, name_of}
 use Rattle.ovl_engine.specs.declared.requests.Command.{Command}
 use Rattle.ovl_engine.specs.Commands.{checks, makes_layers}
-use Rattle.ovl_engine.specs.declared.requests.Command.TheVariants.{Show, Fsck, Vacuum, Deref, Merge}
+use Rattle.ovl_engine.specs.declared.requests.Command.TheVariants.{Show, Fsck, Vacuum, Deref, Merge, Flatten}
 use Rattle.ovl_program.proofs.Taken.{AllFit, AllPass, Each, Fits, IsOwn, each_find, no_kinds, values_fit, walk_fits, settled_fits}
 
 -- ---- searches
@@ -362,7 +362,7 @@ makes = (
   (λ words e. (Show, rows_after (leaf show_shape).rules [] words, refl, show_given words e)),
   (
     (λ words e. (Fsck, rows_after (leaf fsck_shape).rules [] words, refl, fsck_given words e)),
-    (rewrites Vacuum refl refl, (rewrites Deref refl refl, (rewrites Merge refl refl, tt))),
+    (rewrites Vacuum refl refl, (rewrites Deref refl refl, (rewrites Merge refl refl, (rewrites Flatten refl refl, tt)))),
   ),
 )
 

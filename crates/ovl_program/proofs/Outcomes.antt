@@ -13,7 +13,7 @@ use Rattle.clap.proofs.OnLiterals.{clap_on_literals}
 use Rattle.ovl_program.specs.Commands.{tool_app}
 use Rattle.ovl_program.specs.Lines.{IsFaultBy, IsFaultOf, IsGiven, name_of}
 use Rattle.ovl_engine.specs.declared.requests.Command.{Command}
-use Rattle.ovl_engine.specs.declared.requests.Command.TheVariants.{Show, Fsck, Vacuum, Deref, Merge}
+use Rattle.ovl_engine.specs.declared.requests.Command.TheVariants.{Show, Fsck, Vacuum, Deref, Merge, Flatten}
 use Rattle.ovl_program.specs.declared.command_line.options.LineFault.{LineFault}
 use Rattle.ovl_program.specs.declared.command_line.options.LineFault.TheVariants.{Help, Usage, Memory}
 use Rattle.ovl_program.proofs.Accepted.{accepted}
@@ -35,20 +35,25 @@ fault_by kinds error (Usage text) (inl memory) is = absurd (is.1 memory)
 fault_by kinds error (Usage text) (inr among) is = (kind_of error, (is.0, among))
 fault_by kinds error Memory has is = tt
 
--- the command whose name begins with this letter
+-- the command whose name has this second letter
 abbrev by_letter : ℕ → Command
-by_letter letter = if letter == 115 then Show else if letter == 118 then Vacuum else if letter == 100 then Deref else if letter == 109 then Merge else Fsck
+by_letter letter = if letter == 104 then Show else if letter == 97 then Vacuum else if letter == 101 then Deref else if letter == 108 then Flatten else Fsck
 
-by_its_letter : (what : Command) → by_letter (slice_index (name_of what) 0) ≡ what
-by_its_letter Show = refl
-by_its_letter Fsck = refl
-by_its_letter Vacuum = refl
-by_its_letter Deref = refl
-by_its_letter Merge = refl
+-- the command whose name begins with these letters
+abbrev by_letters : ℕ → ℕ → Command
+by_letters first second = if first == 109 then Merge else by_letter second
+
+by_its_letters : (what : Command) → by_letters (slice_index (name_of what) 0) (slice_index (name_of what) 1) ≡ what
+by_its_letters Show = refl
+by_its_letters Fsck = refl
+by_its_letters Vacuum = refl
+by_its_letters Deref = refl
+by_its_letters Merge = refl
+by_its_letters Flatten = refl
 
 -- two commands of one name are one
 pub same_name : (a b : Command) → name_of a ≡ name_of b → a ≡ b
-same_name a b same = sym (by_its_letter a) ∙ ap (λ (name : Text). by_letter (slice_index name 0)) same ∙ by_its_letter b
+same_name a b same = sym (by_its_letters a) ∙ ap (λ (name : Text). by_letters (slice_index name 0) (slice_index name 1)) same ∙ by_its_letters b
 
 first_mapped : {B : Type 0} (f : B → Text × List Row) (o : Option B) (name : Text) (rows : List Row) → option_map f o ≡ Some (name, rows) → option_map (λ b. (f b).0) o ≡ Some name
 first_mapped f None name rows e = cc

@@ -9,7 +9,7 @@ use Rattle.ovl_check.specs.declared.findings.Finding.{Finding}
 use Rattle.ovl_check.specs.Blobs.{BlobView}
 use Rattle.ovl_engine.specs.Outcomes.{IsAnswerOf, IsRewritten}
 use Rattle.ovl_engine.specs.declared.requests.Command.{Command}
-use Rattle.ovl_engine.specs.declared.requests.Command.TheVariants.{Show, Fsck, Vacuum, Deref, Merge}
+use Rattle.ovl_engine.specs.declared.requests.Command.TheVariants.{Show, Fsck, Vacuum, Deref, Merge, Flatten}
 use Rattle.ovl_engine.specs.Requests.{Request}
 use Rattle.ovl_engine.specs.declared.requests.Answer.{Answer}
 use Rattle.ovl_engine.specs.declared.faults.EngineFault.{EngineFault}
@@ -119,6 +119,7 @@ few_layers Fsck stack found answer is = omega (arith, ap length is.1)
 few_layers Vacuum stack found answer is = few_written _ _ answer is.1 (omega arith)
 few_layers Deref stack found answer is = few_written _ _ answer is.1.rewritten (omega arith)
 few_layers Merge stack found answer is = few_written _ _ answer is.1.rewritten (omega arith)
+few_layers Flatten stack found answer is = few_written _ _ answer is.1.rewritten (omega arith)
 
 pub few_coming : (request : Request) (answered : Result Answer EngineFault) → IsComing request answered → IfOk answered (λ answer. length answer.layers.items ≤ 255)
 few_coming request (Ok answer) is = few_layers _ _ _ answer is.1

@@ -105,5 +105,5 @@ tool_app = record {
     disable_help_subcommand = true;
     subcommand_required = true;
   };
-  subs = show_shape ∷ fsck_shape ∷ rewriting_shape (codes "vacuum") ∷ rewriting_shape (codes "deref") ∷ rewriting_shape (codes "merge") ∷ [];
+  subs = show_shape ∷ fsck_shape ∷ rewriting_shape (codes "vacuum") ∷ rewriting_shape (codes "deref") ∷ rewriting_shape (codes "merge") ∷ rewriting_shape (codes "flatten") ∷ [];
 }

@@ -14,7 +14,7 @@ use Rattle.ovl_lookup.specs.Stacks.{layer_limit}
 use Rattle.ovl_board.specs.Machine.{worker_limit}
 use Rattle.ovl_program.specs.Commands.{tool_app}
 use Rattle.ovl_engine.specs.declared.requests.Command.{Command}
-use Rattle.ovl_engine.specs.declared.requests.Command.TheVariants.{Show, Fsck, Vacuum, Deref, Merge}
+use Rattle.ovl_engine.specs.declared.requests.Command.TheVariants.{Show, Fsck, Vacuum, Deref, Merge, Flatten}
 use Rattle.ovl_engine.specs.Commands.{checks, makes_layers}
 use Rattle.ovl_program.specs.declared.command_line.options.Line.{Line}
 use Rattle.ovl_program.specs.declared.command_line.options.LineFault.{LineFault}
@@ -27,6 +27,7 @@ name_of Fsck = codes "fsck"
 name_of Vacuum = codes "vacuum"
 name_of Deref = codes "deref"
 name_of Merge = codes "merge"
+name_of Flatten = codes "flatten"
 
 -- the name is a command's
 abbrev pub NamesCommand : Text → Type 0

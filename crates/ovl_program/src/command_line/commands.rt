@@ -26,7 +26,7 @@ const VERSION: &str = "0.1.0";
 
 const ABOUT: &str = "\
 Tells what a stack of overlay layers shows and what is wrong with it, and makes layers that show the same: without what
-changes nothing, without redirects and metacopy files, or two as one. All by JSON manifests; nothing is mounted.
+changes nothing, without redirects and metacopy files, or two or all as one. All by JSON manifests; nothing is mounted.
 Without words it shows the layer whose manifest is on standard input.";
 
 const SHOW: &str = "Lists each path that the overlay of the layers shows, with what is there";
@@ -41,6 +41,8 @@ const DEREF: &str =
     "Unfolds moved directories and metacopy files of the topmost layer; the overlay shows the same";
 
 const MERGE: &str = "Puts the topmost layer into the one below it; the overlay shows the same";
+
+const FLATTEN: &str = "Writes all that the overlay shows as one layer; alone it shows the same";
 
 const WORKERS: &str = "How many workers share the directories, 1 to 64";
 
@@ -63,7 +65,7 @@ What the commands take:
   --data-layers <K>  How many of the layers, the lowest ones, are data-only, 0 to 127 [default: 0]
   --blobs <DIR>      For all but show: folder with the contents of the layers' files, each file named by its SHA-256 digest
   --any-size         For all but show: read the contents in parts, those that the layers name alone, whatever their size
-  --out <DIR>        For vacuum, deref and merge: folder for the new layers, written there as layer-0.json and so on
+  --out <DIR>        For vacuum, deref, merge and flatten: folder for the new layers, written there as layer-0.json and so on
 
 A data-only layer shows no path of its own. It has contents for metacopy files of the layers over it that name it by an
 absolute redirect, as in the mount option lowerdir=a:b::c, where c is one.
@@ -84,6 +86,10 @@ merge is for an upper layer that is to be taken into the layer below it: it writ
 layer of a root alone to go over it, layer-0.json. With these in place of the two the overlay shows the same as before. It
 tells what the one layer has, as deref does, and first checks, as vacuum does.
 
+flatten is for a stack that is to be one layer: it writes all that the overlay shows as one, with no whiteout, no mark, and
+nothing under it; data-only layers aren't needed any more. It tells what that has, as deref does, and first checks, as vacuum
+does.
+
 All contents together have at most 268,435,456 bytes, those in the folder that no layer names too. With --any-size there is
 no such limit: what the layers name is read in parts, each once, and not held.
 
@@ -94,7 +100,8 @@ Examples:
   ovl_layers fsck --blobs contents --any-size upper.json lower.json
   ovl_layers vacuum --blobs contents --out new upper.json lower.json
   ovl_layers deref --blobs contents --out new upper.json lower.json
-  ovl_layers merge --blobs contents --out new upper.json lower.json";
+  ovl_layers merge --blobs contents --out new upper.json lower.json
+  ovl_layers flatten --blobs contents --out new upper.json lower.json";
 
 const SHOW_EXAMPLE: &str = "\
 Example:
@@ -116,6 +123,10 @@ const MERGE_EXAMPLE: &str = "\
 Example:
   ovl_layers merge --blobs contents --out new upper.json lower.json";
 
+const FLATTEN_EXAMPLE: &str = "\
+Example:
+  ovl_layers flatten --blobs contents --out new upper.json lower.json";
+
 /// The whole command line after the program's name.
 pub fn tool<'a>(alloc: Global) -> Result<Command<'a>, AllocError>
     ensures { IfOk result (λ command. app_of command ≡ tool_app) }
@@ -125,7 +136,8 @@ pub fn tool<'a>(alloc: Global) -> Result<Command<'a>, AllocError>
         .subcommand(fsck(alloc)?)?
         .subcommand(rewriting(alloc, "vacuum", VACUUM, VACUUM_EXAMPLE)?)?
         .subcommand(rewriting(alloc, "deref", DEREF, DEREF_EXAMPLE)?)?
-        .subcommand(rewriting(alloc, "merge", MERGE, MERGE_EXAMPLE)?)
+        .subcommand(rewriting(alloc, "merge", MERGE, MERGE_EXAMPLE)?)?
+        .subcommand(rewriting(alloc, "flatten", FLATTEN, FLATTEN_EXAMPLE)?)
 }
 
 // The program's own level, without its commands.

@@ -36,6 +36,7 @@ fn command_of(name: &str) -> Command
         "vacuum" => Command::Vacuum,
         "deref" => Command::Deref,
         "merge" => Command::Merge,
+        "flatten" => Command::Flatten,
         _ => unreachable!(),
     }
 }

@@ -22,7 +22,7 @@ returns-clause-tree g c =
     keeps_tree c.in_ok-rewritten.field-0 (merged_top (merge_of stack) ∷ lower ∷ []) stack
     (c.in_ok-rewritten.ensures.back ∙ ap (λ (top : Entries). Ok top ∷ Ok lower ∷ []) c.in_ok-top.ensures.top) c.requires.several
     (merge_same stack c.ordinary-layers.ensures.each c.merge_keeps_the_tree.ensures c.requires.several (c.requires.sound c.in_ok-expect_clean.ensures.clean)
-    lower c.in_ok-rewritten.ensures.report.1 c.in_ok-top.ensures.lower)
+    lower c.in_ok-rewritten.ensures.report.1 c.in_ok-top.ensures.lower) Merge refl
 
 pub returns-in_err-top-clause-outcome : goal.returns-in_err-top-clause-outcome
 returns-in_err-top-clause-outcome g c =

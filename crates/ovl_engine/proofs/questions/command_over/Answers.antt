@@ -1,7 +1,7 @@
 use Rattle.std.proofs.Common.{◌≡◌, [], Ok, Err, true, sym, subst}
 use Rattle.std.proofs.lemmas.Result.{err_from_is_err_and}
 use Rattle.ovl_engine.specs.declared.requests.Command.{Command}
-use Rattle.ovl_engine.specs.Commands.{makes_layers, stays_sound}
+use Rattle.ovl_engine.specs.Commands.{makes_layers, stays_sound, stands_alone}
 use Rattle.ovl_engine.specs.Requests.{Request, request_of}
 use Rattle.ovl_engine.proofs.LawsOfTold.{outcome_told, run_told}
 use Rattle.ovl_engine.proofs.questions.command_over.Goals as goal
@@ -31,10 +31,16 @@ pub returns-clause-keeps : goal.returns-clause-keeps
 returns-clause-keeps g c makes =
     let request : Request = request_of c.args.what c.args.manifests.items c.args.bottom [] c.args.workers in
     let of = c.in_ok-question.ensures.question in
-    c.in_ok-answer_told.ensures.keeps (subst (λ (what : Command). makes_layers what ≡ true) (sym of.what) makes) request of.stack
+    c.in_ok-answer_told.ensures.keeps (subst (λ (what : Command). makes_layers what ≡ true) (sym of.what) makes) request (sym of.what) of.stack
 
 pub returns-clause-sound : goal.returns-clause-sound
 returns-clause-sound g c stays =
     let request : Request = request_of c.args.what c.args.manifests.items c.args.bottom [] c.args.workers in
     let of = c.in_ok-question.ensures.question in
-    c.in_ok-answer_told.ensures.sound (subst (λ (what : Command). stays_sound what ≡ true) (sym of.what) stays) request of.stack
+    c.in_ok-answer_told.ensures.sound (subst (λ (what : Command). stays_sound what ≡ true) (sym of.what) stays) request (sym of.what) of.stack
+
+pub returns-clause-quiet : goal.returns-clause-quiet
+returns-clause-quiet g c alone =
+    let request : Request = request_of c.args.what c.args.manifests.items c.args.bottom [] c.args.workers in
+    let of = c.in_ok-question.ensures.question in
+    c.in_ok-answer_told.ensures.quiet (subst (λ (what : Command). stands_alone what ≡ true) (sym of.what) alone) request (sym of.what) of.stack

@@ -25,7 +25,7 @@ returns-clause-tree g c =
     let some = subst (λ (n : ℕ). 0 < n) c.ordinary-layers.ensures.value c.ordinary-layers.ensures.some in
     keeps_tree c.in_ok-rewritten.field-0 (left_by_vacuum stack ∷ []) stack
     (c.in_ok-rewritten.ensures.back ∙ ap (λ (left : Entries). Ok left ∷ []) c.in_ok-done.ensures.0) some
-    (vacuum_same stack c.ordinary-layers.ensures.each c.vacuum_keeps_the_tree.ensures some)
+    (vacuum_same stack c.ordinary-layers.ensures.each c.vacuum_keeps_the_tree.ensures some) Vacuum refl
 
 pub returns-clause-sound : goal.returns-clause-sound
 returns-clause-sound g c =
@@ -33,4 +33,4 @@ returns-clause-sound g c =
     let some = subst (λ (n : ℕ). 0 < n) c.ordinary-layers.ensures.value c.ordinary-layers.ensures.some in
     keeps_soundness c.in_ok-rewritten.field-0 (left_by_vacuum stack ∷ []) stack
     (c.in_ok-rewritten.ensures.back ∙ ap (λ (left : Entries). Ok left ∷ []) c.in_ok-done.ensures.0) some
-    (vacuum_sound stack c.ordinary-layers.ensures.each c.vacuum_keeps_soundness.ensures some (c.requires.sound c.in_ok-expect_clean.ensures.clean))
+    (vacuum_sound stack c.ordinary-layers.ensures.each c.vacuum_keeps_soundness.ensures some (c.requires.sound c.in_ok-expect_clean.ensures.clean)) Vacuum refl

@@ -1,95 +1,112 @@
-use Rattle.std.proofs.Common.{◌≡◌, ◌∙◌, Bool, false, Option, IfSome, length, take, unwrap_or, sym, ap, subst, arith}
-use Rattle.std.specs.Option.{option_map}
-use Rattle.std.proofs.lemmas.List.{length-take-le}
+use Rattle.std.proofs.Common.{◌≡◌, ◌+◌, ◌∙◌, ◌++◌, ◌∷◌, [], Option, Some, None, true, false, length, append_assoc, refl, sym, ap, subst, arith}
+use Rattle.std.proofs.lemmas.List.{length_push}
 use Rattle.ovl_names.specs.Names.{PathName}
 use Rattle.ovl_names.specs.Paths.{PathNames, child_path}
-use Rattle.ovl_inode.specs.Marks.{mark_of}
-use Rattle.ovl_manifest.specs.Layers.{Entries, is_directory_at, entry_at}
-use Rattle.ovl_manifest.specs.Sheets.{path_at}
-use Rattle.ovl_lookup.specs.declared.steps.Below.{Below}
-use Rattle.ovl_lookup.specs.Passes.{IsBelow, entered_path, entered_closed}
-use Rattle.ovl_lookup.proofs.WalkFacts.{taken, turn-next, shut-next}
-use Rattle.ovl_lookup.proofs.TrailLemmas.{name-read, name-past}
-use Rattle.ovl_lookup.proofs.TrailNameLemmas.{head-read, end-read, named-at}
+use Rattle.ovl_inode.specs.declared.marks.Mark.TheVariants.{DirPlain}
+use Rattle.ovl_manifest.specs.Layers.{Entries, is_directory_at}
+use Rattle.ovl_lookup.specs.Passes.{IsNumberAt, IsOwnDirectory}
+use Rattle.ovl_lookup.proofs.LawsOfWalks.{directory_found}
+use Rattle.ovl_lookup.proofs.WalkFacts.{none-is, plain-entered, root-own, sought, length-seam}
+use Rattle.ovl_lookup.proofs.steps.descend.Goals.{in-DirPlain, in_default-matches}
 use Rattle.ovl_lookup.proofs.steps.descend.Goals as goal
+
+pub loop-name-init : goal.loop-name-init
+loop-name-init c = (
+  [],
+  c.into_iter-name-iterator.ensures.into_iter_gives ∙ c.names-name-items.ensures.value,
+  refl,
+  root-own c.args.sheet.now c.root_number-row.ensures.layer c.root_number-row.result c.root_number-row.ensures.inside c.root_number-row.ensures.path,
+)
+
+pub returns-in_default : goal.returns-in_default
+returns-in_default c =
+    let layer : Entries = c.args.sheet.now in
+    let way = c.loop-name.invariant in
+    let name : PathName = c.in-Some.name.now in
+    let stop = sought layer way.0 name c.loop-name.row way.3.here c.child-number.result c.child-number.ensures in
+    record {
+      layered = c.root_number-row.ensures.layer;
+      above = way.0;
+      rest = name ∷ c.next.new.self;
+      whole = ap (λ (names : PathNames). way.0 ++ names) (sym c.in-Some.ensures.steps) ∙ way.1;
+      depth = way.2;
+      own = way.3;
+      stop = (ap directory_found (subst (IsNumberAt layer (child_path way.0 name)) c.in_default.is stop), stop);
+    }
+
+pub returns-then-not-is_directory : goal.returns-then-not-is_directory
+returns-then-not-is_directory c =
+    let layer : Entries = c.args.sheet.now in
+    let way = c.loop-name.invariant in
+    let name : PathName = c.in-Some.name.now in
+    let stop = sought layer way.0 name c.loop-name.row way.3.here c.child-number.result c.child-number.ensures in
+    let there = subst (IsNumberAt layer (child_path way.0 name)) c.in-Some-number.is stop in
+    record {
+      layered = c.root_number-row.ensures.layer;
+      above = way.0;
+      rest = name ∷ c.next.new.self;
+      whole = ap (λ (names : PathNames). way.0 ++ names) (sym c.in-Some.ensures.steps) ∙ way.1;
+      depth = way.2;
+      own = way.3;
+      stop = (ap (is_directory_at layer) (sym there.1) ∙ (ap directory_found c.inode.ensures ∙ (sym c.is_directory.ensures ∙ c.if-not-is_directory.true)), there);
+    }
 
 pub loop-name-preserved : goal.loop-name-preserved
 loop-name-preserved c =
     let layer : Entries = c.args.sheet.now in
-    let names : PathNames = c.args.trail.now in
-    let i = c.loop-name.depth in
+    let way = c.loop-name.invariant in
     let name : PathName = c.in-Some.name.now in
-    let head = head-read names i name c.next.new.self (sym c.loop-name.invariant.ahead ∙ c.in-Some.ensures.steps) in
-    let at = name-read names i name (sym head.0) in
-    let more = taken layer names i name at.0 at.1 in
-    let below = subst (λ (below : Below). IsBelow layer (path_at layer c.loop-name.row) name below) c.in-Directory.is c.thing_below.ensures in
-    let own : c.in-Directory.own.now ≡ name = below.3 in
-    let path : path_at layer c.in-Directory.number ≡ child_path (take i names) name =
-    below.1 ∙ ap (λ (p : PathNames). child_path p name) c.loop-name.invariant.here in
-    let marked = sym (ap (λ (p : PathNames). option_map mark_of (entry_at layer p)) path) ∙ c.mark-mark.ensures in
-    record {
-      ahead = sym head.1;
-      inside = below.0;
-      within = omega (arith, at.0);
-      here = path ∙ more;
-      directory = sym (ap (is_directory_at layer) (path ∙ more)) ∙ (ap (is_directory_at layer) below.1 ∙ below.2);
-      turned =
-          ap (unwrap_or c.in_ok-turned-in-Directory.turned) (sym more ∙ (λ j. child_path (sym c.loop-name.invariant.here j) (sym own j)))
-          ∙ (c.in_ok-turned-in-Directory.ensures
-          ∙ ((λ j. entered_path c.mark-mark.result.now (unwrap_or c.loop-name.turned (c.loop-name.invariant.here j)) (own j))
-          ∙ (ap (λ (p : PathNames). entered_path c.mark-mark.result.now p name) c.loop-name.invariant.turned
-          ∙ turn-next layer names i name at.0 at.1 c.mark-mark.result.now marked)));
-      shut =
-          c.closed_by-closed.ensures
-          ∙ (ap (λ (b : Bool). entered_closed c.mark-mark.result.now b) c.loop-name.invariant.shut
-          ∙ shut-next layer names i name at.0 at.1 c.mark-mark.result.now marked);
-    }
+    let there = subst (IsNumberAt layer (child_path way.0 name)) c.in-Some-number.is (sought layer way.0 name c.loop-name.row way.3.here c.child-number.result c.child-number.ensures) in
+    let entered = c.in_ok-entered.ensures way.0 name way.3 there.1 in (
+      child_path way.0 name,
+      append_assoc way.0 (name ∷ []) c.next.new.self ∙ (ap (λ (names : PathNames). way.0 ++ names) (sym c.in-Some.ensures.steps) ∙ way.1),
+      ap (λ n. n + 1) way.2 ∙ sym (length_push way.0 name),
+      record {
+        inside = there.0;
+        here = there.1;
+        directory = ap (is_directory_at layer) (sym there.1) ∙ (ap directory_found c.inode.ensures ∙ (sym c.is_directory.ensures ∙ c.if-not-is_directory.false));
+        next = entered.next;
+        closed = entered.closed;
+      },
+    )
+
+pub loop-name-preserved-then-matches : goal.loop-name-preserved-then-matches
+loop-name-preserved-then-matches c =
+    let layer : Entries = c.args.sheet.now in
+    let way = c.loop-name.invariant in
+    let name : PathName = c.in-Some.name.now in
+    let there = subst (IsNumberAt layer (child_path way.0 name)) c.in-Some-number.is (sought layer way.0 name c.loop-name.row way.3.here c.child-number.result c.child-number.ensures) in
+    let unturned : c.loop-name.turned ≡ None = none-is c.loop-name.turned c.if-is_none.ensures in
+    let plain : c.mark.result.now ≡ DirPlain = elim c.match-matches.branch [
+      | in-DirPlain w ↦ w.in-DirPlain.is
+      | in_default-matches w ↦ let bad : false ≡ true = sym w.matches-is ∙ c.if-matches.true in cc
+    ] in
+    let own = subst (λ (turned : Option PathNames). IsOwnDirectory layer way.0 (record { row = c.loop-name.row; turned = turned; closed = c.loop-name.closed })) unturned way.3 in (
+      child_path way.0 name,
+      append_assoc way.0 (name ∷ []) c.next.new.self ∙ (ap (λ (names : PathNames). way.0 ++ names) (sym c.in-Some.ensures.steps) ∙ way.1),
+      ap (λ n. n + 1) way.2 ∙ sym (length_push way.0 name),
+      subst (λ (turned : Option PathNames). IsOwnDirectory layer (child_path way.0 name) (record { row = c.in-Some-number.child; turned = turned; closed = c.loop-name.closed })) (sym unturned)
+          (plain-entered layer way.0 name c.root_number-row.ensures.layer c.loop-name.row c.loop-name.closed own c.in-Some-number.child there.0 there.1 (c.mark.ensures ∙ ap Some plain)),
+    )
 
 pub overflow_add-depth : goal.overflow_add-depth
 overflow_add-depth c =
-    let head = head-read c.args.trail.now c.loop-name.depth c.in-Some.name.now c.next.new.self (sym c.loop-name.invariant.ahead ∙ c.in-Some.ensures.steps) in
-    let at = name-read c.args.trail.now c.loop-name.depth c.in-Some.name.now (sym head.0) in
-    omega (arith, at.0, c.names-name-items.ensures.few)
+    let way = c.loop-name.invariant in
+    let whole : length c.args.trail.now ≡ length way.0 + 1 + length c.next.new.self = sym (ap length (ap (λ (names : PathNames). way.0 ++ names) (sym c.in-Some.ensures.steps) ∙ way.1)) ∙ length-seam way.0 c.in-Some.name.now c.next.new.self in
+    omega (arith, whole, way.2, c.names-name-items.ensures.few)
 
-pub returns-in-Other : goal.returns-in-Other
-returns-in-Other c =
-    let layer : Entries = c.args.sheet.now in
-    let names : PathNames = c.args.trail.now in
-    let i = c.loop-name.depth in
-    let name : PathName = c.in-Some.name.now in
-    let so_far = c.loop-name.invariant in
-    let head = head-read names i name c.next.new.self (sym so_far.ahead ∙ c.in-Some.ensures.steps) in
-    let other = subst (λ (below : Below). IsBelow layer (take i names) name below) c.in-Other.is (subst (λ (dir : PathNames). IsBelow layer dir name c.thing_below.result) so_far.here c.thing_below.ensures) in
-    record {
-      layered = c.root_number-row.ensures.layer;
-      inside = so_far.inside;
-      within = so_far.within;
-      here = so_far.here;
-      directory = so_far.directory;
-      turned = so_far.turned;
-      shut = so_far.shut;
-      stops = subst (λ (o : Option PathName). IfSome o (λ name. is_directory_at layer (child_path (take i names) name) ≡ false)) (sym head.0) other.0;
-      stop = (sym head.0, named-at names i name head.0 c.names-name-items.ensures.names, other.1);
-    }
+pub enter-requires-clause-depth : goal.enter-requires-clause-depth
+enter-requires-clause-depth c = c.loop-name.invariant.2 ∙ ap length (sym c.loop-name.invariant.3.here)
 
 pub returns : goal.returns
 returns c =
-    let layer : Entries = c.args.sheet.now in
-    let names : PathNames = c.args.trail.now in
-    let i = c.loop-name.depth in
-    let so_far = c.loop-name.invariant in
+    let way = c.loop-name.invariant in
     record {
       layered = c.root_number-row.ensures.layer;
-      inside = so_far.inside;
-      within = so_far.within;
-      here = so_far.here;
-      directory = so_far.directory;
-      turned = so_far.turned;
-      shut = so_far.shut;
-      stops = subst (λ (o : Option PathName). IfSome o (λ name. is_directory_at layer (child_path (take i names) name) ≡ false)) (sym (end-read names i (sym so_far.ahead ∙ c.in-None.ensures.steps.0))) tt;
-      stop = name-past names i (sym (end-read names i (sym so_far.ahead ∙ c.in-None.ensures.steps.0)));
+      above = way.0;
+      rest = [];
+      whole = ap (λ (names : PathNames). way.0 ++ names) (sym c.in-None.ensures.steps.0) ∙ way.1;
+      depth = way.2;
+      own = way.3;
+      stop = refl;
     }
-
-pub turned_by-requires-clause-depth : goal.turned_by-requires-clause-depth
-turned_by-requires-clause-depth c =
-    sym (ap length c.loop-name.invariant.here ∙ length-take-le c.loop-name.depth c.args.trail.now c.loop-name.invariant.within)

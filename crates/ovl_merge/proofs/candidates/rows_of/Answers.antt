@@ -12,10 +12,10 @@ returns-in-Some c =
     let layer = c.args.sheet.now in
     IfOk-weaker c.rows_in.result _ _ (λ rows are. λ path next is.
     (let inside = subst (λ (o : Option ℕ). StandsAt layer path o next) c.in-Some.is is in
-    subst (λ (p : PathNames). AreRowsOf c.args.side layer p (candidates_told rows.items)) inside.here are)) c.rows_in.ensures
+    subst (λ (p : PathNames). AreRowsOf c.args.side layer p (candidates_told rows.items)) inside.arrival.here are)) c.rows_in.ensures
 
 pub returns-in-None : goal.returns-in-None
 returns-in-None c path next is =
     let layer = c.args.sheet.now in
     let past = subst (λ (o : Option ℕ). StandsAt layer path o next) c.in-None.is is in
-    subst (λ (rows : List Candidate). AreRowsOf c.args.side layer path (candidates_told rows)) (sym c.new.ensures.items) (rows-none c.args.side layer c.root_number-root.ensures.layer path next past)
+    subst (λ (rows : List Candidate). AreRowsOf c.args.side layer path (candidates_told rows)) (sym c.new.ensures.items) (rows-none c.args.side layer path next past)

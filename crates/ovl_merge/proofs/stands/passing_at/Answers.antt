@@ -9,11 +9,11 @@ returns-in-Some c path there directory next is =
     let layer = c.args.sheet.now in
     let name = c.args.name.now in
     let row = subst (IsRowAt layer (child_path path name)) c.in-Some.is there in
-    pass-row layer c.root_number-root.ensures.layer path name directory next is c.in-Some.row row.0 row.1 c.thing_at.result c.thing_at.ensures
+    pass-row layer path name directory next is c.in-Some.row row.0 row.1 c.thing_at.result c.thing_at.ensures
 
 pub returns-in-None : goal.returns-in-None
 returns-in-None c path there directory next is =
     let layer = c.args.sheet.now in
     let name = c.args.name.now in
     let end = c.nothing_at in
-    pass-none layer path name next end.result end.ensures.found end.ensures.row end.ensures.onward c.root_number-root.ensures.layer directory is (subst (IsRowAt layer (child_path path name)) c.in-None.is there)
+    pass-none layer path name next end.result end.ensures.found end.ensures.onward directory is (subst (IsRowAt layer (child_path path name)) c.in-None.is there)

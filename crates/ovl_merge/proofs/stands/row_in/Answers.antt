@@ -5,7 +5,8 @@ use Rattle.ovl_names.specs.Paths.{child_path}
 use Rattle.ovl_manifest.specs.LayerTrees.{entries_under}
 use Rattle.ovl_manifest.specs.Sheets.{path_at}
 use Rattle.ovl_merge.specs.Stands.{StandsAt}
-use Rattle.ovl_merge.proofs.StandLemmas.{past-entry, sought-inside, sought-row}
+use Rattle.ovl_lookup.proofs.LawsOfWalks.{nothing-below}
+use Rattle.ovl_merge.proofs.StandLemmas.{sought-inside, sought-row}
 use Rattle.ovl_merge.proofs.stands.row_in.Goals as goal
 
 pub returns-in-Some-clause-inside : goal.returns-in-Some-clause-inside
@@ -19,4 +20,5 @@ returns-in-Some-clause-row c path next is =
 
 pub returns-in-None-clause-row : goal.returns-in-None-clause-row
 returns-in-None-clause-row c path next is =
-    past-entry c.args.sheet.now c.root_number-root.ensures.layer path next (subst (λ (o : Option ℕ). StandsAt c.args.sheet.now path o next) c.in-None.is is) c.args.name.now
+    let past = subst (λ (o : Option ℕ). StandsAt c.args.sheet.now path o next) c.in-None.is is in
+    nothing-below c.args.sheet.now path c.args.name.now [] past.layered past.arrival.none

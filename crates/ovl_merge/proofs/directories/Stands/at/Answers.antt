@@ -1,22 +1,40 @@
-use Rattle.std.proofs.Common.{◌∙◌}
+use Rattle.std.proofs.Common.{◌∙◌, Bool, Some, None, refl, sym, subst}
+use Rattle.ovl_names.specs.Paths.{PathNames}
+use Rattle.ovl_manifest.specs.Layers.{Entries}
+use Rattle.ovl_lookup.specs.Passes.{IsArrivalAt}
 use Rattle.ovl_merge.specs.Places.{merge_of}
-use Rattle.ovl_merge.specs.Reckoned.{AreStands}
-use Rattle.ovl_merge.proofs.WayLemmas.{way-starts, way-goes-on, way-ends}
+use Rattle.ovl_merge.specs.Stands.{IsStand, StandsAt, onward_on}
+use Rattle.ovl_merge.proofs.FinishLemmas.{merge-each}
+use Rattle.ovl_merge.proofs.LayerLemmas.{upper}
+use Rattle.ovl_merge.proofs.StandLemmas.{arrival-stands, upper-sheet, lower-sheet}
 use Rattle.ovl_merge.proofs.directories.Stands.at.Goals as goal
 
-pub loop-name-init : goal.loop-name-init
-loop-name-init c =
-    way-starts (λ path. AreStands (merge_of c.args.stack.now) path c.root-stands.result) c.args.path.now c.into_iter-name-iterator.result
-    (c.into_iter-name-iterator.ensures.into_iter_gives ∙ c.names-name-items.ensures.value) c.names-name-items.ensures.names c.root-stands.ensures
-
-pub enter-requires-clause-stands : goal.enter-requires-clause-stands
-enter-requires-clause-stands c = (c.loop-name.invariant.above, c.loop-name.invariant.holds)
-
-pub loop-name-preserved : goal.loop-name-preserved
-loop-name-preserved c =
-    let way = c.loop-name.invariant in
-    way-goes-on (λ path. AreStands (merge_of c.args.stack.now) path c.loop-name.stands) (λ path. AreStands (merge_of c.args.stack.now) path c.in_ok-stands.stands) c.args.path.now c.loop-name.name-iterator c.next.new.self c.in-Some.name.now c.in-Some.ensures.steps way
-    (c.in_ok-stands.ensures way.above way.holds)
+pub returns-then-closed : goal.returns-then-closed
+returns-then-closed c =
+    let stack = c.args.stack.now in
+    let m = merge_of stack in
+    let dir : PathNames = c.args.path.now in
+    let at = c.in_ok-row.field-0 in
+    let there = subst (λ (layer : Entries). IsArrivalAt layer dir at.row at.next at.closed) (sym (upper-sheet stack c.sheet.result.now c.sheet.ensures))
+    (subst (λ (p : PathNames). IsArrivalAt c.sheet.result.now p at.row at.next at.closed) (c.in_ok-trail.ensures ∙ c.names.ensures.value) c.in_ok-row.ensures) in
+    record {
+      next = None;
+      upper = subst (λ (b : Bool). StandsAt m.upper dir at.row (onward_on at.next b)) c.if-closed.true
+          (arrival-stands m.upper (upper m (merge-each stack c.requires c.ordinary-layers.ensures.each)) dir at.row at.next at.closed there);
+      lower = refl;
+    }
 
 pub returns : goal.returns
-returns c = way-ends (λ path. AreStands (merge_of c.args.stack.now) path c.loop-name.stands) c.args.path.now c.loop-name.name-iterator c.in-None.ensures.steps.0 c.loop-name.invariant
+returns c =
+    let stack = c.args.stack.now in
+    let m = merge_of stack in
+    let dir : PathNames = c.args.path.now in
+    let at = c.in_ok-row.field-0 in
+    let there = subst (λ (layer : Entries). IsArrivalAt layer dir at.row at.next at.closed) (sym (upper-sheet stack c.sheet.result.now c.sheet.ensures))
+    (subst (λ (p : PathNames). IsArrivalAt c.sheet.result.now p at.row at.next at.closed) (c.in_ok-trail.ensures ∙ c.names.ensures.value) c.in_ok-row.ensures) in
+    record {
+      next = Some at.next;
+      upper = subst (λ (b : Bool). StandsAt m.upper dir at.row (onward_on at.next b)) c.if-closed.false
+          (arrival-stands m.upper (upper m (merge-each stack c.requires c.ordinary-layers.ensures.each)) dir at.row at.next at.closed there);
+      lower = subst (λ (layer : Entries). IsStand layer at.next c.in_ok-lower.lower) (sym (lower-sheet stack c.requires c.sheet-2.result.now c.sheet-2.ensures)) c.in_ok-lower.ensures;
+    }

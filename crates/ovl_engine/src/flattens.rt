@@ -1,0 +1,79 @@
+ghost use Rattle.std.specs.Prelude.{◌≡◌, ◌<◌, ◌≤◌, true, List, IfOk, IfErr, OnOk};
+ghost use Rattle.ovl_manifest.specs.Layers.{IsLayer};
+ghost use Rattle.ovl_lookup.specs.Sound.{IsSoundStack};
+ghost use Rattle.ovl_board.specs.Machine.{worker_limit};
+ghost use Rattle.ovl_check.specs.declared.findings.Finding.{Finding};
+ghost use Rattle.ovl_flatten.specs.Flatten.{IsFlattened};
+ghost use Rattle.ovl_flatten.specs.Limits.{PassesLimit};
+ghost use Rattle.ovl_engine.specs.declared.requests.Command.TheVariants.{Flatten};
+ghost use Rattle.ovl_engine.specs.FsckReports.{is_clean};
+ghost use Rattle.ovl_engine.specs.Outcomes.{IsFailure, IsRun, MayRefuseOwn};
+ghost use Rattle.ovl_engine.specs.LayerReports.{layer_report};
+ghost use Rattle.ovl_engine.specs.Kept.{KeepsTreeOf, KeepsSoundness, IsQuietOf};
+
+use crate::faults::EngineFault;
+use crate::layer_reports::layer_report_of;
+use crate::requests::Answer;
+use crate::rewrites::{expect_clean, rewritten};
+use crate::stacks::let_go;
+use crate::teams::Team;
+use ovl_check::Finding;
+use ovl_check::laws::{shown_layers_are_clean, unmarked_layers_are_quiet};
+use ovl_flatten::FlattenWork;
+use ovl_flatten::laws::{flatten_has_no_marks, flatten_is_sound, flatten_keeps_the_tree};
+use ovl_lookup::Stack;
+use ovl_manifest::Layer;
+use ovl_pool::Gate;
+use std::alloc::AllocError;
+use std::sync::Wait;
+use std::thread::Threads;
+
+/// What a stack shows, as one layer, where no fault is found in the stack, and the report of what it has. Alone the new
+/// layer shows the same, and the check finds nothing in it.
+pub(crate) fn flatten<G: Gate + Sync, R: Threads + Wait + Sync>(
+    team: &Team<'_, G, R>,
+    stack: Stack,
+    found: Vec<Finding>,
+) -> Result<Answer, EngineFault>
+    requires number { (0 < team.now.workers) × (team.now.workers ≤ worker_limit) }
+    requires sound { is_clean found.items ≡ true → IsSoundStack stack }
+    ensures outcome { IsRun Flatten stack found.items (MayRefuseOwn Flatten stack (G.may_refuse team.now.gate.now)) result }
+    ensures tree { IfOk result (KeepsTreeOf Flatten stack) }
+    ensures sound { IfOk result (KeepsSoundness Flatten stack) }
+    ensures quiet { IfOk result (IsQuietOf Flatten stack) }
+{
+    let _layers = stack.ordinary();
+    flatten_keeps_the_tree();
+    flatten_is_sound();
+    flatten_has_no_marks();
+    unmarked_layers_are_quiet();
+    shown_layers_are_clean();
+    expect_clean(team.alloc, found)?;
+    let layer = flattened(team, stack)?;
+    let alloc = team.alloc;
+    let report = || -> Result<Vec<u8>, AllocError>
+        ensures told { IfOk result (λ report. report.items ≡ layer_report layer) }
+        ensures layer { OnOk result (IsLayer layer) }
+    { layer_report_of(alloc, &layer) };
+    Ok(rewritten(team.rt, team.alloc, team.workers, report, &[&layer])?)
+}
+
+// What a sound stack shows, as one layer. The stack goes once its work is walked, so that all rows don't stand beside
+// the new layer.
+fn flattened<G: Gate + Sync, R: Threads + Wait + Sync>(
+    team: &Team<'_, G, R>,
+    stack: Stack,
+) -> Result<Layer, EngineFault>
+    requires number { (0 < team.now.workers) × (team.now.workers ≤ worker_limit) }
+    requires sound { IsSoundStack stack }
+    ensures layer { IfOk result (λ layer. IsFlattened layer stack) }
+    ensures within { IfOk result (λ _. PassesLimit stack → ⊥) }
+    ensures fault { IfErr result (λ fault. (found : List Finding) → is_clean found ≡ true
+        → IsFailure Flatten stack found (MayRefuseOwn Flatten stack (G.may_refuse team.now.gate.now)) fault) }
+{
+    let work = FlattenWork::new(&stack);
+    let parcels = team.walk(&work, 0)?;
+    let end = work.end(team.alloc)?;
+    let_go(team.rt, team.alloc, stack, team.workers);
+    Ok(end.finish(team.alloc, parcels)?)
+}

@@ -1,0 +1,4 @@
+pub mod FlattenLemmas
+pub mod DirectoryLemmas
+pub mod FinishLemmas
+mod Rows

@@ -1,0 +1,5 @@
+pub mod Flatten
+pub mod Laws
+pub mod Directories
+pub mod Limits
+pub mod Ends
