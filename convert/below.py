@@ -27,7 +27,7 @@ def tree_of(entries: Iterable[Entry]) -> Folder:
     for entry in entries:
         *way, name = entry.path[1:].split("/")
         del folders[len(way) + bool(name):]
-        found = Folder(entry, is_root=not folders) if entry.kind == DIRECTORY else entry
+        found: Folder | Entry = Folder(entry, is_root=not folders) if entry.kind == DIRECTORY else entry
         if folders:
             folders[-1].children[name] = found
         if isinstance(found, Folder):

@@ -7,6 +7,7 @@ import signal
 import sys
 from collections.abc import Callable, Iterable, Sequence
 from fractions import Fraction
+from typing import Any
 
 from . import VERSION, squashfs
 from .build import BuildOptions
@@ -14,10 +15,11 @@ from .build_squashfs import SUFFIX as SQUASHFS_SUFFIX
 from .build_squashfs import build_layer
 from .compression import COMPRESSIONS, NONE
 from .configuration import USUAL_PLATFORM
-from .faults import OTHER, WRITING, Fault, UsageFault
+from .faults import OTHER, Fault, UsageFault
 from .flatten import FlattenOptions, flatten, flatten_commands
 from .flatten_stack import FlattenStackOptions, OutForm, flatten_stack
 from .mounted import report
+from .outputs import standard_output
 from .pack import PackOptions, pack
 from .rules import MAX_LAYERS
 from .scan import ScanOptions, scan
@@ -107,7 +109,7 @@ name once it was read again and gives the manifest back."""
 _UNPACK = """\
 Writes the layers of an image as manifests: DIR/l0.json, the topmost, DIR/l1.json and so on, and the
 contents of all their files into DIR/blobs. DIR/config.json is the image's configuration with its platform,
-for `pack --config`. With --digests-only contents are read for their digests and copied nowhere, which is
+for `pack --config`; DIR/annotations.json has the annotations of its manifest, where it has any. With --digests-only contents are read for their digests and copied nowhere, which is
 enough for `ovl_layers show`.
 
 IMAGE is an OCI image layout (a folder or a tar archive of it), what `docker save` writes, or a folder of
@@ -132,10 +134,10 @@ can state them. Run `ovl_layers deref` first, or `merge` down to one layer."""
 
 _FLATTEN = """\
 Writes an image with fewer layers that shows the same: its layers are merged from the topmost on, until N
-are left. The image's configuration, name and hard links stay. It is done by the proved program ovl_layers,
-which is found where it was built or installed, or on the PATH: after `unpack` it checks the layers (`fsck`),
-drops what changes nothing (`vacuum`), unfolds moved directories and metacopy files where there are any
-(`deref`), and merges (`merge`). Then `pack` writes the image. Each step is told with its time.
+are left. The image's configuration, name, annotations and hard links stay. It is done by the proved program
+ovl_layers, which is found where it was built or installed, or on the PATH: after `unpack` it checks the layers
+(`fsck`), drops what changes nothing (`vacuum`), unfolds moved directories and metacopy files where there are
+any (`deref`), and merges (`merge`). Then `pack` writes the image. Each step is told with its time.
 
 Nothing is written unless the merged layers, and the new image when it is read again, show what the given
 image shows, byte for byte. What the program refuses is told as it is, with its status. --out is as for
@@ -210,8 +212,10 @@ def _parser() -> argparse.ArgumentParser:
     parser.add_argument("--version", action="version", version=f"{NAME} {VERSION}", help="print the version and exit")
     commands = parser.add_subparsers(title="commands", metavar="COMMAND", required=True)
     _add_scan(_command(commands, "scan", "a layer as a manifest and blobs", _SCAN, _scan))
-    _add_store(_command(commands, "store", "a layer of docker or podman with those below it", _STORE, _store))
-    _add_build(_command(commands, "build", "the folder of a manifest", _BUILD, _build))
+    for name, short in (("store", "a layer of docker or podman with those below it; or import"), ("import", None)):
+        _add_store(_command(commands, name, short, _STORE, _store))
+    for name, short in (("build", "the folder of a manifest; or extract"), ("extract", None)):
+        _add_build(_command(commands, name, short, _BUILD, _build))
     _add_unpack(_command(commands, "unpack", "an image's layers as manifests and blobs", _UNPACK, _unpack))
     _add_pack(_command(commands, "pack", "manifests and blobs as an image", _PACK, _pack))
     _add_flatten(_command(commands, "flatten", "an image with fewer layers that shows the same", _FLATTEN, _flatten))
@@ -221,12 +225,13 @@ def _parser() -> argparse.ArgumentParser:
 
 
 def _command(
-    commands: "argparse._SubParsersAction[argparse.ArgumentParser]", name: str, short: str, long: str,
+    commands: "argparse._SubParsersAction[argparse.ArgumentParser]", name: str, short: str | None, long: str,
     run: Callable[[argparse.Namespace], None],
 ) -> argparse.ArgumentParser:
+    """A command. Another word for one has nothing short, and isn't listed."""
+    listed: dict[str, Any] = {} if short is None else {"help": short}
     parser = commands.add_parser(
-        name, help=short, description=long, allow_abbrev=False,
-        formatter_class=argparse.RawDescriptionHelpFormatter,
+        name, description=long, allow_abbrev=False, formatter_class=argparse.RawDescriptionHelpFormatter, **listed
     )
     parser.set_defaults(run=run)
     return parser
@@ -316,6 +321,10 @@ def _add_pack(parser: argparse.ArgumentParser) -> None:
         help=f"what the image says that it is for [default: that of --config, or {USUAL_PLATFORM}]",
     )
     parser.add_argument("--tag", metavar="NAME", type=_name, help="name of the image in its index")
+    parser.add_argument(
+        "--annotations", metavar="FILE",
+        help="annotations of the image's manifest, such as the annotations.json that unpack writes",
+    )
     parser.add_argument(
         "--links", metavar="FILE",
         help="hard links of layers that have no such file beside them: the shown.links of unpack or store",
@@ -460,28 +469,31 @@ def _folder(path: str) -> str:
 
 def _scan(words: argparse.Namespace) -> None:
     scan(ScanOptions(
-        _folder(words.layer), words.out, None if words.digests_only else _folder(words.blobs), words.userxattr,
-        words.cross_file_systems, words.skip_unsupported, words.workers,
+        layer=_folder(words.layer), out=words.out, blobs=None if words.digests_only else _folder(words.blobs),
+        userxattr=words.userxattr, cross_file_systems=words.cross_file_systems,
+        skip_unsupported=words.skip_unsupported, workers=words.workers,
     ))
 
 
 def _store(words: argparse.Namespace) -> None:
     store(StoreOptions(
-        _folder(words.folder), _folder(words.out), words.userxattr, words.cross_file_systems,
-        words.skip_unsupported, words.digests_only, words.workers,
+        folder=_folder(words.folder), out=_folder(words.out), userxattr=words.userxattr,
+        cross_file_systems=words.cross_file_systems, skip_unsupported=words.skip_unsupported,
+        digests_only=words.digests_only, workers=words.workers,
     ))
 
 
 def _build(words: argparse.Namespace) -> None:
     build_layer(BuildOptions(
-        words.layer, _folder(words.blobs), _folder(words.out), words.userxattr, words.compress,
+        layer=words.layer, blobs=_folder(words.blobs), out=_folder(words.out), userxattr=words.userxattr,
+        compress=words.compress,
     ))
 
 
 def _unpack(words: argparse.Namespace) -> None:
     unpack(UnpackOptions(
-        _folder(words.image), _folder(words.out), words.platform, words.tag, words.skip_unsupported,
-        words.overlay_marks, words.digests_only,
+        image=_folder(words.image), out=_folder(words.out), platform=words.platform, tag=words.tag,
+        skip_unsupported=words.skip_unsupported, overlay_marks=words.overlay_marks, digests_only=words.digests_only,
     ))
 
 
@@ -490,8 +502,9 @@ def _pack(words: argparse.Namespace) -> None:
     if None not in (out.tag, words.tag) and out.tag != words.tag:
         raise UsageFault(f"{words.out} and --tag give two names")
     pack(PackOptions(
-        words.layers, _folder(words.blobs), out, words.platform, out.tag or words.tag,
-        words.skip_unsupported, words.config, words.compress, words.links,
+        layers=words.layers, blobs=_folder(words.blobs), out=out, platform=words.platform, tag=out.tag or words.tag,
+        skip_unsupported=words.skip_unsupported, config=words.config, compress=words.compress, links=words.links,
+        annotations=words.annotations,
     ))
 
 
@@ -519,8 +532,9 @@ def _flatten_image(words: argparse.Namespace) -> None:
     if compress not in COMPRESSIONS:
         raise UsageFault(f"--compress {compress} is for a squashfs alone")
     options = FlattenOptions(
-        _folder(words.image), _target(words.out, words.dry_run), words.layers, words.keep and _folder(words.keep),
-        words.platform, words.tag, words.skip_unsupported, words.overlay_marks, compress,
+        image=_folder(words.image), out=_target(words.out, words.dry_run), layers=words.layers,
+        keep=words.keep and _folder(words.keep), platform=words.platform, tag=words.tag,
+        skip_unsupported=words.skip_unsupported, overlay_marks=words.overlay_marks, compress=compress,
     )
     if words.dry_run:
         _print(flatten_commands(options))
@@ -532,12 +546,13 @@ def _flatten_stack(words: argparse.Namespace) -> None:
     if words.compress == NONE:
         raise UsageFault("--compress none is for images alone")
     flatten_stack(FlattenStackOptions(
-        StackOptions(
-            [_folder(layer) for layer in words.stack], words.blobs and _folder(words.blobs), words.userxattr,
-            words.cross_file_systems, words.skip_unsupported, workers=words.workers,
+        stack=StackOptions(
+            layers=[_folder(layer) for layer in words.stack], blobs=words.blobs and _folder(words.blobs),
+            userxattr=words.userxattr, cross_file_systems=words.cross_file_systems,
+            skip_unsupported=words.skip_unsupported, workers=words.workers,
         ),
-        _folder(words.out), words.form and OutForm(words.form), words.layers, words.data_layers,
-        words.keep and _folder(words.keep), words.compress,
+        out=_folder(words.out), form=words.form and OutForm(words.form), layers=words.layers,
+        data_layers=words.data_layers, keep=words.keep and _folder(words.keep), compress=words.compress,
     ))
 
 
@@ -569,13 +584,5 @@ def _mounted(words: argparse.Namespace) -> None:
 
 
 def _print(lines: Iterable[str]) -> None:
-    """Writes lines to standard output, or tells that this can't be done."""
-    try:
-        for line in lines:
-            sys.stdout.write(line)
-        sys.stdout.flush()
-    except OSError:
-        os.dup2(os.open(os.devnull, os.O_WRONLY), sys.stdout.fileno())
-        fault = Fault("cannot write standard output")
-        fault.status = WRITING
-        raise fault from None
+    with standard_output() as out:
+        out.writelines(lines)

@@ -36,7 +36,7 @@ class OutForm(Enum):
     SQUASHFS = "squashfs"
 
 
-@dataclass(frozen=True)
+@dataclass(frozen=True, kw_only=True)
 class FlattenStackOptions:
     """What the words of `flatten --stack` say."""
 
@@ -135,8 +135,8 @@ class _DoingStack(Doing):
             out, name = f"{out}/l{number}{suffix}", f"{name}/l{number}{suffix}"
         manifest = self._without_host_marks(number, layer, is_lowest=number == count - 1)
         options = BuildOptions(
-            manifest, self.path(f"{STACK}/{stacks.BLOBS}"), out, self._options.stack.userxattr,
-            self._options.compress, name,
+            layer=manifest, blobs=self.path(f"{STACK}/{stacks.BLOBS}"), out=out,
+            userxattr=self._options.stack.userxattr, compress=self._options.compress, name=name,
         )
         if self._options.is_squashfs():
             build_squashfs(options)

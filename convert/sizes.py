@@ -85,7 +85,8 @@ def _given_image(options: SizesOptions, folder: str) -> _Given:
         ), image)
         made = made_by(image.configuration, len(image.layers))
         origins = [Origin(layer.packed_size(), text) for layer, text in zip(image.layers, made)]
-    return _Given(tag or next(iter(image.names), word), stacks.layer_paths(out, len(origins)), origins[::-1])
+    name = next(iter(image.names), word)
+    return _Given(tag or name, stacks.layer_paths(out, len(origins)), origins[::-1])
 
 
 def _given_stack(options: StackOptions, folder: str) -> _Given:
