@@ -133,13 +133,14 @@ A layer that has moved directories (redirects) or files without contents (metaco
 can state them. Run `ovl_layers deref` first, or `merge` down to one layer."""
 
 _FLATTEN = """\
-Writes an image with fewer layers that shows the same: its layers are merged from the topmost on, until N
-are left. The image's configuration, name, annotations and hard links stay. It is done by the proved program
-ovl_layers, which is found where it was built or installed, or on the PATH: after `unpack` it checks the layers
-(`fsck`), drops what changes nothing (`vacuum`), unfolds moved directories and metacopy files where there are
-any (`deref`), and merges (`merge`). Then `pack` writes the image. Each step is told with its time.
+Writes an image with one layer, or N at most, that shows the same. The image's configuration, name,
+annotations and hard links stay. It is done by the proved program ovl_layers, which is found where it was built
+or installed, or on the PATH: after `unpack` it checks the layers and writes all that they show as one (`flatten`). Where
+several are to be left, it checks them (`fsck`), drops what changes nothing (`vacuum`), unfolds moved
+directories and metacopy files where there are any (`deref`), and merges the topmost ones (`merge`). Then
+`pack` writes the image. Each step is told with its time.
 
-Nothing is written unless the merged layers, and the new image when it is read again, show what the given
+Nothing is written unless the new layers, and the new image when it is read again, show what the given
 image shows, byte for byte. What the program refuses is told as it is, with its status. --out is as for
 `pack`: with -, an archive on standard output, nothing else goes there.
 

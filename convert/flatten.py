@@ -48,7 +48,7 @@ class FlattenOptions:
 
 
 def flatten(options: FlattenOptions) -> None:
-    """Merges an image's layers from the topmost on, and writes the image that this gives.
+    """Writes an image with all that the given one's layers show in one layer, or with the topmost layers merged.
 
     Nothing is written unless it shows, read again, what the given image shows.
     """

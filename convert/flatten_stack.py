@@ -54,7 +54,7 @@ class FlattenStackOptions:
 
 
 def flatten_stack(options: FlattenStackOptions) -> None:
-    """Merges layers from the topmost on, and writes the layer, or the layers, that this gives.
+    """Writes all that the layers show as one layer, or the layers with the topmost ones merged.
 
     Nothing is written unless that shows, read again, what the given layers show, but for what was told.
     """

@@ -47,31 +47,47 @@ class Steps(Protocol):
 
 
 def carry_out(steps: Steps, wanted: int, data_layers: int = 0) -> tuple[int, int]:
-    """Does it all. Gives how many layers there were, and how many there are.
+    """Does it all: checks and makes the new layers, and then looks at what they show. Gives how many layers there
+    were, and how many there are.
 
     The lowest layers may be data-only. They go along until no file needs their contents.
     """
     count = steps.unpack()
-    layers = stacks.layer_paths(STACK, count)
-    steps.run("show", "show", layers, BEFORE)
+    given = stacks.layer_paths(STACK, count)
+    is_one = min(count - data_layers, wanted) == 1
+    new = _as_one(steps, given) if is_one else _merged_down(steps, given, wanted, data_layers)
+    steps.run("show", "show", given, BEFORE)
+    steps.run("show of the new layers", "show", new, _AFTER)
+    steps.compare(_AFTER)
+    steps.pack(new)
+    return count, len(new)
+
+
+def _as_one(steps: Steps, layers: Sequence[str]) -> list[str]:
+    """All that the layers show as one layer; the program checks them first."""
+    steps.run("flatten", "flatten", layers, "flatten")
+    return [new_layer("flatten")]
+
+
+def _merged_down(steps: Steps, given: Sequence[str], wanted: int, data_layers: int) -> list[str]:
+    """The layers without redirects, metacopy files and what changes nothing, the topmost merged until so many are
+    left."""
+    layers = list(given)
     steps.run("fsck", "fsck", layers, f"fsck.{REPORT}")
     layers[0] = steps.vacuum("vacuum", layers, "vacuum")
     # Over layers without redirects each loses its own, and then no merge makes any.
-    for number in steps.moved(layers[:count - data_layers]):
+    for number in steps.moved(layers[:len(layers) - data_layers]):
         steps.run(f"deref of layer {number}", "deref", layers[number:], f"deref-{number}")
         layers[number] = new_layer(f"deref-{number}")
-    merges = max(0, count - data_layers - wanted)
+    merges = max(0, len(layers) - data_layers - wanted)
     for number in range(1, merges + 1):
         steps.run(f"merge {number} of {merges}", "merge", layers, f"merge-{number}")
         # The new topmost layer holds a root alone, which the one below it has too.
         layers[:2] = [new_layer(f"merge-{number}", 1)]
     del layers[len(layers) - data_layers:]
-    if merges and len(layers) > 1:
+    if merges:
         layers[0] = steps.vacuum("vacuum of the merged layer", layers, "vacuum-merged")
-    steps.run("show of the new layers", "show", layers, _AFTER)
-    steps.compare(_AFTER)
-    steps.pack(layers)
-    return count, len(layers)
+    return layers
 
 
 def new_layer(folder: str, number: int = 0) -> str:

@@ -7,12 +7,12 @@ Such a file is read piece by piece beside the entries, and never held, so it may
 """
 
 import hashlib
+import json
 import os
 import re
 import stat
 from collections.abc import Callable, Iterable, Iterator
 from dataclasses import replace
-from json.decoder import scanstring  # type: ignore[attr-defined]
 
 from . import rules
 from .entries import DIRECTORY, Entry, is_whiteout
@@ -27,7 +27,7 @@ SUFFIX = ".links"
 _HEAD = '{"layer-links":1,'
 _OF = re.compile(r'"manifest":"([0-9a-f]{64})",')
 _NAMES = '"names":{'
-_NAME = re.compile(r'"((?:[^"\\]|\\.)*)":([1-9][0-9]{0,7})([,}])', re.DOTALL)
+_NAME = re.compile(r'("(?:[^"\\]|\\.)*"):([1-9][0-9]{0,7})([,}])', re.DOTALL)
 _PIECE = 1 << 16  # letters; more than a name takes, each of its bytes escaped
 
 
@@ -236,7 +236,7 @@ def _parsed(read: Callable[[int], str], manifest: str | None) -> Iterator[tuple[
                 raise ValueError
             held, at = held[at:] + more, 0
             continue
-        name = scanstring(found[0], 1)[0]
+        name = json.loads(found[1])
         key = rules.path_key(name)
         if not name.startswith("/") or (before is not None and not before < key):
             raise ValueError

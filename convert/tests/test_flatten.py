@@ -107,23 +107,27 @@ class Steps(FlattenTest):
         self.require_done(call("unpack", image, "--out", self.path("in", "stack")))
         return len(list(Path(self.path("in", "stack")).glob("l*.json")))
 
-    def test_merges_down_to_so_many_layers(self) -> None:
-        whole = "stack/l0.json stack/l1.json stack/l2.json"
-        begin = [f"show {whole}", f"fsck {whole}", f"vacuum {whole}"]
-        one = "merge vacuum/layer-0.json stack/l1.json stack/l2.json"
-        two = "merge-1/layer-1.json stack/l2.json"
-        for wanted, calls, left in (
-            (1, [one, f"merge {two}", "show merge-2/layer-1.json"], 1),
-            (2, [one, f"vacuum {two}", "show vacuum-merged/layer-0.json stack/l2.json"], 2),
-            (3, ["show vacuum/layer-0.json stack/l1.json stack/l2.json"], 3),
-            (128, ["show vacuum/layer-0.json stack/l1.json stack/l2.json"], 3),
+    def test_so_many_layers(self) -> None:
+        given = self.path("in", "four")
+        write_layout(given, [archive(layer) for layer in [*LAYERS, LAYERS[2]]])
+        whole = "stack/l0.json stack/l1.json stack/l2.json stack/l3.json"
+        lower = "stack/l1.json stack/l2.json stack/l3.json"
+        begin = [f"fsck {whole}", f"vacuum {whole}"]
+        merged = [
+            *begin, f"merge vacuum/layer-0.json {lower}", "merge merge-1/layer-1.json stack/l2.json stack/l3.json",
+            "vacuum merge-2/layer-1.json stack/l3.json",
+        ]
+        for wanted, calls, new, left in (
+            (1, [f"flatten {whole}"], "flatten/layer-0.json", 1),
+            (2, merged, "vacuum-merged/layer-0.json stack/l3.json", 2),
+            (4, begin, f"vacuum/layer-0.json {lower}", 4), (128, begin, f"vacuum/layer-0.json {lower}", 4),
         ):
             self.manner("")
-            result = self.flatten("--layers", wanted)
+            result = self.flatten("--layers", wanted, image=given)
             self.require_done(result)
-            self.assertIn(f"{self.path('all', 'flat')}: {left} layer{'s'[:left > 1]} in place of 3, ", result[2])
+            self.assertIn(f"{self.path('all', 'flat')}: {left} layer{'s'[:left > 1]} in place of 4, ", result[2])
             again = " ".join(f"again/l{number}.json" for number in range(left))
-            self.assertEqual(self.calls(), [*begin, *calls, f"show {again}"])
+            self.assertEqual(self.calls(), [*calls, f"show {whole}", f"show {new}", f"show {again}"])
             self.assertEqual(self.layers_of(self.path("all", "flat")), left)
             self.left("flat")
             shutil.rmtree(self.path("all", "flat"))
@@ -131,18 +135,20 @@ class Steps(FlattenTest):
     def test_an_image_of_one_layer(self) -> None:
         write_layout(self.path("in", "one"), [archive(LAYERS[0])])
         self.require_done(self.flatten(image=self.path("in", "one"), out="flat.tar"))
-        self.assertEqual([words.split()[0] for words in self.calls()], ["show", "fsck", "vacuum", "show", "show"])
+        self.assertEqual([words.split()[0] for words in self.calls()], ["flatten", "show", "show", "show"])
         self.left("flat.tar")
 
     def test_each_step_is_told_with_its_time(self) -> None:
-        told = self.flatten()[2].splitlines()
-        for line, begin in zip(told, (
-            "unpack: 3 layers, ", "show: entries 1, ", "fsck: faults 0 notes 0, ", "vacuum: done vacuum, ",
-            "merge 1 of 2: entries 2, ", "merge 2 of 2: entries 2, ", "show of the new layers: entries 1, ",
-            "pack: 1 layer, ", "the new image, read again: entries 1, ",
-            f"{self.path('all', 'flat')}: 1 layer in place of 3, ",
-        ), strict=True):
-            self.assertRegex(line, rf"^layers: {begin}\d+\.\d\d s")
+        several = ["fsck: faults 0 notes 0", "vacuum: done vacuum", "merge 1 of 1: entries 2"]
+        several.append("vacuum of the merged layer: done vacuum")
+        for left, steps in (("1 layer", ["flatten: done flatten"]), ("2 layers", several)):
+            out = f"flat{left[0]}"
+            told = self.flatten("--layers", left[0], out=out)[2].splitlines()
+            for line, begin in zip(told, (
+                "unpack: 3 layers", *steps, "show: entries 1", "show of the new layers: entries 1", f"pack: {left}",
+                "the new image, read again: entries 1", f"{self.path('all', out)}: {left} in place of 3",
+            ), strict=True):
+                self.assertRegex(line, rf"^layers: {begin}, \d+\.\d\d s")
 
     def test_blobs_that_no_manifest_names_are_not_read(self) -> None:
         self.require_done(self.flatten("--keep", self.path("in", "kept")))
@@ -180,10 +186,10 @@ with mock.patch("convert.program.find_program", return_value={self.program!r}):
         result = subprocess.run(words, capture_output=True, check=False)
         self.assertTrue(result.stdout == wanted, result.stderr)
         self.assertIn(b"layers: standard output: 1 layer in place of 3, ", result.stderr)
-        self.manner("[ $what = fsck ] && { echo report; exit 1; }")
+        self.manner("[ $what = flatten ] && { echo report; exit 1; }")
         result = subprocess.run(words, capture_output=True, check=False)
         self.assertEqual((result.returncode, result.stdout), (1, b""))
-        self.assertIn(b"\nreport\nlayers: ovl_layers fsck ended with status 1; nothing is written\n", result.stderr)
+        self.assertIn(b"\nreport\nlayers: ovl_layers flatten ended with status 1; nothing is written\n", result.stderr)
         self.manner("")
         script = call(*words[3:], "--dry-run")[1]
         result = subprocess.run(["sh"], input=script.encode(), capture_output=True, check=False)
@@ -206,10 +212,10 @@ with mock.patch("convert.program.find_program", return_value={self.program!r}):
         shutil.rmtree(self.path("in", "stack"), ignore_errors=True)
 
     def test_a_refusal_is_told_as_it_is(self) -> None:
-        for what, status in (("show", 3), ("fsck", 1), ("vacuum", 4), ("merge", 5)):
+        for what, status in (("flatten", 1), ("show", 3), ("fsck", 1), ("vacuum", 4), ("merge", 5)):
             for words in ((), ("--keep", self.path("in", "kept"))):
                 self.manner(f"[ $what = {what} ] && {{ echo report; echo 'ovl_layers: because' >&2; exit {status}; }}")
-                result = self.flatten(*words, out="flat.tar")
+                result = self.flatten(*words, "--layers", 1 if what in ("flatten", "show") else 2, out="flat.tar")
                 self.assertEqual(result[:2], (status, "report\n" if status == 1 else ""), what)
                 self.assertTrue(result[2].endswith(
                     f"\novl_layers: because\nlayers: ovl_layers {what} ended with status {status}; nothing is written\n"
@@ -225,8 +231,8 @@ with mock.patch("convert.program.find_program", return_value={self.program!r}):
         self.left()
 
     def test_a_program_that_is_ended(self) -> None:
-        self.manner("[ $what = merge ] && kill -9 $$")
-        self.require_fault_at_end(self.flatten(), 5, "ovl_layers merge was ended by signal 9; nothing is written")
+        self.manner("[ $what = flatten ] && kill -9 $$")
+        self.require_fault_at_end(self.flatten(), 5, "ovl_layers flatten was ended by signal 9; nothing is written")
         self.left()
 
     def require_fault_at_end(self, result: tuple[int, str, str], status: int, text: str) -> None:
@@ -342,7 +348,7 @@ with mock.patch("convert.program.find_program", return_value={self.program!r}):
                 shutil.rmtree(self.path("all", name))
             self.assertEqual(*written)
         self.assertTrue(os.path.exists(self.path("in", "kept \"here\"", "before.show")))
-        words = (*kept, "--overlay-marks", "--skip-unsupported", "--dry-run")
+        words = (*kept, "--overlay-marks", "--skip-unsupported", "--layers", 2, "--dry-run")
         self.assertIn("\n# here `ovl_layers deref` of each layer", self.flatten(*words)[1])
 
     def test_usage(self) -> None:
@@ -380,7 +386,7 @@ class Processes(FlattenTest):
             result = subprocess.run(
                 self.words("--dry-run"), capture_output=True, text=True, check=True, env=environment
             )
-            (line,) = [line for line in result.stdout.splitlines() if " fsck " in line]
+            (line,) = [line for line in result.stdout.splitlines() if " --any-size " in line]
             return line.split()[0]
 
         self.assertEqual(printed(), "ovl_layers")
@@ -412,7 +418,7 @@ class Processes(FlattenTest):
                 with open(self.path("in", "started"), encoding="utf-8") as file:
                     self.assertFalse(os.path.exists(f"/proc/{int(file.read())}"))
                 os.unlink(self.path("in", "started"))
-            self.assertEqual(sorted(os.listdir(self.path("in", "kept"))), ["before.show", "stack"])
+            self.assertEqual(sorted(os.listdir(self.path("in", "kept"))), ["flatten", "stack"])
             shutil.rmtree(self.path("in", "kept"))
 
 

@@ -173,7 +173,7 @@ class Stacks(StackTest):
         program = self.path("in", "ovl_layers")
         for text, status, told in (
             ("case $1 in show) echo $$;; fsck) echo 'faults 0 notes 0';; esac", 5, "show something else"),
-            (_OTHER_AT_THE_END, 5, "show something else"), ("exit 3", 3, "ovl_layers show ended with status 3"),
+            (_OTHER_AT_THE_END, 5, "show something else"), ("exit 3", 3, "ovl_layers flatten ended with status 3"),
         ):
             with open(program, "w", encoding="utf-8") as file:
                 file.write(_STAND_IN.format(text))
