@@ -7,6 +7,7 @@ WHITEOUT_PREFIX = ".wh."
 OPAQUE_NAME = ".wh..wh..opq"
 _AUFS_PREFIX = ".wh..wh."
 AUFS_LINKS = ".wh..wh.plnk"
+_PREFIX = WHITEOUT_PREFIX.encode()
 
 
 class Paths:
@@ -25,27 +26,37 @@ class Paths:
         folder, slash, last = path.rpartition(b"/")
         if last in (b"", b".", b".."):
             names = self._all_names(path, what)
-            self._require_no_whiteout(names[:-1], names)
+            self._require_no_whiteout(path, names[:-1], names)
             return names
         if folder != self._folder or not slash:
             names = self._all_names(folder, what) if slash else []
-            self._require_no_whiteout(names, names)
+            self._require_no_whiteout(folder, names, names)
             self._folder, self._names = folder, names
         return [*self._names, self._checked(_text(last))]
 
     def _all_names(self, path: bytes, what: str) -> list[str]:
-        names: list[str] = []
+        parts: list[bytes] = []
         for part in path.split(b"/"):
             if part == b"..":
-                if not names:
+                if not parts:
                     raise Unfit(f"{what} leads out of the layer by ..")
-                names.pop()
+                parts.pop()
             elif part not in (b"", b"."):
-                names.append(self._checked(_text(part)))
-        return names
+                parts.append(part)
+        if len(parts) > rules.MAX_NAMES + 1:  # the last one may be a whiteout in the deepest directory
+            raise Unfit(f"it is {len(parts)} names deep, over {rules.MAX_NAMES}")
+        return self._checked_names(parts)
 
-    def _require_no_whiteout(self, way: list[str], names: list[str]) -> None:
-        if self._has_whiteouts and any(map(_is_whiteout_name, way)) and not is_of_aufs(names):
+    def _checked_names(self, parts: list[bytes]) -> list[str]:
+        """Parts of a path as names; refuses those that can't be names. Mostly all are plain, which is seen at once."""
+        way = b"/".join(parts)
+        if way.isascii() and b"\0" not in way and max(map(len, parts), default=0) <= rules.MAX_NAME_BYTES:
+            return way.decode().split("/") if parts else []
+        return [self._checked(_text(part)) for part in parts]
+
+    def _require_no_whiteout(self, path: bytes, way: list[str], names: list[str]) -> None:
+        is_way_special = self._has_whiteouts and may_be_special(path)
+        if is_way_special and any(map(_is_whiteout_name, way)) and not is_of_aufs(names):
             raise Unfit("its path leads through a whiteout")
 
     def _checked(self, name: str) -> str:
@@ -53,6 +64,11 @@ class Paths:
         if problem:
             raise Unfit(problem)
         return name
+
+
+def may_be_special(path: bytes) -> bool:
+    """Whether a path may hold a name that stands for something else, which is seen at once of most that don't."""
+    return _PREFIX in path
 
 
 def is_of_aufs(names: list[str]) -> bool:

@@ -2,38 +2,46 @@
 
 import contextlib
 import copy
+import functools
 import hashlib
 import os
-from collections.abc import Mapping
+from collections.abc import Callable, Hashable, Mapping
 from dataclasses import dataclass, replace
 from typing import Protocol
 
 from . import rules
 from . import tar_headers as tar
-from .archive_names import AUFS_LINKS, OPAQUE_NAME, WHITEOUT_PREFIX, Paths, is_of_aufs
+from .archive_names import AUFS_LINKS, OPAQUE_NAME, WHITEOUT_PREFIX, Paths, is_of_aufs, may_be_special
 from .attributes import Unstated, marks_from_user
 from .below import Below
 from .blobs import Digester, Writer
-from .contents import PIECE, write_all
+from .budgets import TooMuch
+from .contents import PIECE, ZEROS, write_all
 from .entries import (
-    BLOCK, CHAR, DIRECTORY, FIFO, FILE, METACOPY, NO_ATTRIBUTES, OVERLAY, SYMLINK, WHITEOUT, Entry, is_whiteout,
+    BLOCK, CHAR, DIRECTORY, FIFO, FILE, LINK_MODE, METACOPY, NO_ATTRIBUTES, OVERLAY, SYMLINK, WHITEOUT, Entry,
+    is_whiteout,
 )
-from .faults import cannot_read, cannot_write, writing
-from .layer_tree import Attributes, Blocked, Gap, Held, LayerTree, TooMuch, Unfit, whiteout
+from .faults import cannot_read, writing
+from .layer_tree import Attributes, Blocked, Gap, Held, LayerTree, Unfit, whiteout
 from .losses import Loss, Losses
 from .progress import Progress, note
+from .repeats import Contents, Kept, Repeats
+from .room import require_room
 from .streams import Digesting, Source, buffered
 from .tar_headers import HARD_LINK, REGULAR_TYPES, Header
 from .tar_reader import TarReader
 from .times import ONE_SECOND
 
-_LINK_MODE = 0o777
-_ZEROS = bytes(PIECE)
 _KINDS = {
     tar.SYMLINK: SYMLINK, tar.CHAR: CHAR, tar.BLOCK: BLOCK, tar.DIRECTORY: DIRECTORY, tar.FIFO: FIFO,
     HARD_LINK: FILE, **{bytes([kind]): FILE for kind in REGULAR_TYPES},
 }
-_GAPS = {Gap.UNKNOWN: Loss.UNKNOWN, Gap.OVER_OTHER: Loss.OVER_OTHER, Gap.WHITEOUT: Loss.WHITEOUT}
+_NO_CONTENTS: Contents = ("", 0)
+Store = Callable[[], Contents]  # gives the contents of an entry, which are blobs then
+_GAPS = {
+    Gap.UNKNOWN: Loss.UNKNOWN, Gap.OVER_OTHER: Loss.OVER_OTHER, Gap.WHITEOUT: Loss.WHITEOUT,
+    Gap.ANEW: Loss.ANEW,
+}
 
 
 class Layer(Protocol):
@@ -51,7 +59,13 @@ class Layer(Protocol):
     def unpacked_digest(self) -> tuple[str, str] | None:
         """The algorithm and the digits of the digest of the archive's bytes, where they are known."""
 
-    def archive(self) -> contextlib.AbstractContextManager[Source]:
+    def is_checked(self) -> bool:
+        """Whether these bytes are looked at before they are read."""
+
+    def identity(self) -> Hashable:
+        """The same for two layers of the same bytes."""
+
+    def archive(self, progress: Progress) -> contextlib.AbstractContextManager[Source]:
         """The bytes of its archive, unpacked. Tells what is wrong with them as a fault of its path."""
 
 
@@ -72,6 +86,7 @@ class Taking:
     is_folder: bool = False
     userxattr: bool = False
     most_contents: int | None = None  # bytes of all its files, where they are bounded
+    repeats: Repeats | None = None  # of an image, which may name a layer again
 
 
 class LayerArchive:
@@ -83,17 +98,21 @@ class LayerArchive:
         self._tree = LayerTree(taking.held)
         self._paths = Paths(not taking.is_folder)
         self._losses = Losses()
-        self._attribute_text = 0
         self._contents = 0
         self._aufs_links: dict[str, Entry] = {}
 
     def tree(self) -> LayerTree:
         """The layer, where its bytes are those that the image names."""
         layer = self._layer
-        progress = Progress(f"unpacking {layer.name[-20:]}")
+        progress = Progress(f"unpacking bytes of {layer.name[-20:]}")
+        repeats = self._taking.repeats
+        kept = repeats.kept(layer) if repeats else None
         try:
-            with layer.archive() as stream:
-                self._read_checked(stream, progress)
+            if kept is not None:
+                self._take_kept(kept)
+            else:
+                with layer.archive(progress) as stream:
+                    self._read_checked(stream)
             self._tree.settle(self._taking.below.root, lambda gap, path: self._losses.add(_GAPS[gap], path))
         except TooMuch as problem:
             raise cannot_read(layer.path, str(problem)) from None
@@ -102,32 +121,48 @@ class LayerArchive:
         self._losses.tell(layer.name)
         return self._tree
 
-    def _read_checked(self, stream: Source, progress: Progress) -> None:
-        if self._layer.unpacked_digest is None:
-            self._read(stream, progress)
+    def _take_kept(self, kept: Kept) -> None:
+        """Takes the entries of an archive that was read before, whose contents are blobs already."""
+        for header, contents in kept.entries():
+            self._taking.held.budget.headers.take()
+            self._take_fitting(header, _known(contents))
+
+    def _read_checked(self, stream: Source) -> None:
+        if self._layer.unpacked_digest is None or self._layer.is_checked():
+            self._read(stream)
             return
         algorithm, wanted = self._layer.unpacked_digest
         source = Digesting(stream, algorithm)
-        self._read(source, progress)
+        self._read(source)
         if source.digest.hexdigest() != wanted:
             raise cannot_read(self._layer.path, f"its unpacked bytes aren't those of {algorithm}:{wanted}")
 
-    def _read(self, stream: Source, progress: Progress) -> None:
-        archive = TarReader(buffered(stream))
+    def _read(self, stream: Source) -> None:
+        archive = TarReader(buffered(stream), self._taking.held.budget)
+        repeats = self._taking.repeats
+        keeping = repeats.keeping(self._layer) if repeats else None
         for header in archive:
-            try:
-                self._take(header, archive)
-            except Unfit as problem:
-                self._refuse_or_note(header, str(problem))
-            except Unstated as problem:
-                raise cannot_read(self._layer.path, f"{os.fsdecode(header.name)}: {problem.text}") from None
-            progress.step()
+            store: Store = functools.partial(self._store, archive, header)
+            if keeping is not None:
+                contents = store() if header.type in REGULAR_TYPES else _NO_CONTENTS
+                keeping.add(header, contents)
+                store = _known(contents)
+            self._take_fitting(header, store)
 
-    def _take(self, header: Header, archive: TarReader) -> None:
+    def _take_fitting(self, header: Header, store: Store) -> None:
+        try:
+            self._take(header, store)
+        except Unfit as problem:
+            self._refuse_or_note(header, str(problem))
+        except Unstated as problem:
+            raise cannot_read(self._layer.path, f"{os.fsdecode(header.name)}: {problem.text}") from None
+
+    def _take(self, header: Header, store: Store) -> None:
         names = self._paths.names(header.name)
-        if names and (names[-1].startswith(WHITEOUT_PREFIX) or is_of_aufs(names)):
+        is_special = names and may_be_special(header.name)
+        if is_special and (names[-1].startswith(WHITEOUT_PREFIX) or is_of_aufs(names)):
             if not self._taking.is_folder:
-                self._take_special(header, names, archive)
+                self._take_special(header, names, store)
                 return
             self._losses.add(Loss.WHITEOUT_NAME, _path(names))
         entry = self._entry(header, names)
@@ -135,19 +170,19 @@ class LayerArchive:
         if header.type == HARD_LINK:
             entry = self._linked(header, names)
         elif entry.kind == FILE:
-            self._fill(entry, header, archive)
+            _fill(entry, store)
         elif is_whiteout(entry) and not self._taking.is_folder:
             self._losses.add(Loss.DEVICE, _path(names))
         self._tree.put(names, entry)
 
-    def _take_special(self, header: Header, names: list[str], archive: TarReader) -> None:
+    def _take_special(self, header: Header, names: list[str], store: Store) -> None:
         """What is no entry of the layer: a whiteout, an opaque mark, or what aufs keeps for itself."""
         if is_of_aufs(names):
             self._losses.add(Loss.AUFS, _path(names))
             if names[0] == AUFS_LINKS and header.type in REGULAR_TYPES:
                 entry = self._entry(header, names)
                 self._taking.held.grow()
-                self._fill(entry, header, archive)
+                _fill(entry, store)
                 self._aufs_links[_path(names)] = entry
             return
         try:
@@ -182,7 +217,7 @@ class LayerArchive:
             raise Unfit(f"an entry of type {header.type!r}, which can't be stated")
         entry = Entry("", kind, header.mode, header.uid, header.gid, header.mtime_ns)
         if kind == SYMLINK:
-            entry.mode = _LINK_MODE
+            entry.mode = LINK_MODE
             entry.target = header.target.decode("utf-8", "surrogateescape")
         elif kind in (CHAR, BLOCK):
             entry.major, entry.minor = header.major, header.minor
@@ -193,6 +228,10 @@ class LayerArchive:
             self._losses.add(Loss.CUT_TIME, _path(names))
         if header.has_acl:
             self._losses.add(Loss.ACCESS_LIST, _path(names))
+        if header.has_label:
+            self._losses.add(Loss.LABEL, _path(names))
+        if header.other_record:
+            self._losses.add(Loss.RECORD, f"{_path(names)} ({os.fsdecode(header.other_record)})")
         return entry
 
     def _attributes(self, header: Header, names: list[str]) -> Mapping[str, bytes]:
@@ -200,9 +239,6 @@ class LayerArchive:
         found = self._taking.held.attributes(tuple(raw.items()), lambda: self._decoded(raw))
         if found.marks:
             self._losses.add(Loss.MARK, _path(names), found.marks)
-        self._attribute_text += found.text_bytes
-        if self._attribute_text > rules.MAX_MANIFEST_BYTES:
-            raise TooMuch(f"its attributes alone take over {rules.MAX_MANIFEST_BYTES:,} bytes of a manifest")
         return found.kept
 
     def _decoded(self, raw: Mapping[bytes, bytes]) -> Attributes:
@@ -216,8 +252,7 @@ class LayerArchive:
         problem = next(filter(None, map(rules.attribute_problem, kept)), None) or rules.attributes_problem(kept)
         if problem:
             raise Unfit(problem)
-        text_bytes = sum(len('"":"",') + len(name) + 2 * len(value) for name, value in kept.items())
-        return Attributes(kept or NO_ATTRIBUTES, len(attributes) - len(kept), text_bytes)
+        return Attributes(kept or NO_ATTRIBUTES, len(attributes) - len(kept))
 
     def _linked(self, header: Header, names: list[str]) -> Entry:
         """One more name of a file of this layer, or a copy of one of the layers below."""
@@ -230,6 +265,7 @@ class LayerArchive:
             raise Unfit(f"it links to {told}, which is no file of this layer so far or of those below")
         if METACOPY in found.attributes and not is_folder:
             raise Unfit(f"it links to {told}, a file without its contents")
+        self._taking.held.budget.attributes.take(len(found.attributes))
         if here is None:
             self._losses.add(Loss.LOWER_LINK, _path(names))
         elif not is_whiteout(here):  # the kernel links the whiteouts of a mount to one another, which nothing shows
@@ -238,28 +274,23 @@ class LayerArchive:
         own.link = here.link if here else 0
         return own
 
-    def _fill(self, entry: Entry, header: Header, archive: TarReader) -> None:
-        most = self._taking.most_contents
+    def _store(self, archive: TarReader, header: Header) -> Contents:
+        """Writes an entry's data as a blob, zeros as holes."""
+        most, writer = self._taking.most_contents, self._taking.writer
         self._contents += header.size
         if most is not None and self._contents > most:
             raise TooMuch(f"its files have over {most:,} bytes, which is more than its own size speaks for")
-        digest, entry.size = self._store(archive, header)
-        entry.blob = digest if entry.names_contents() else None
-
-    def _store(self, archive: TarReader, header: Header) -> tuple[str, int]:
-        """Writes an entry's data as a blob, zeros as holes."""
-        writer = self._taking.writer
         if header.size == 0:
-            return "", 0
+            return _NO_CONTENTS
         if isinstance(writer, Digester):
             return writer.take(archive.data())
         digest, size, scratch = hashlib.sha256(), 0, writer.scratch()
-        self._require_space(header)
+        self._require_space(archive.stored())
         for piece in archive.data():
             digest.update(piece)
             size += len(piece)
             with self._writing():
-                if piece == _ZEROS[:len(piece)]:
+                if piece == ZEROS[:len(piece)]:
                     os.lseek(scratch, len(piece), os.SEEK_CUR)
                 else:
                     write_all(scratch, piece)
@@ -271,21 +302,24 @@ class LayerArchive:
     def _writing(self) -> contextlib.AbstractContextManager[None]:
         return writing(self._taking.out)
 
-    def _require_space(self, header: Header) -> None:
-        if header.size > PIECE:
-            with self._writing():
-                system = os.statvfs(self._taking.out)
-            if header.size > system.f_bavail * system.f_frsize:
-                raise cannot_write(
-                    self._taking.out,
-                    f"{self._layer.name} has a file of {header.size:,} bytes, more than are free",
-                )
+    def _require_space(self, size: int) -> None:
+        if size > PIECE:
+            require_room(self._taking.out, self._taking.out, size)
 
     def _refuse_or_note(self, header: Header, problem: str) -> None:
         name = os.fsdecode(header.name)
         if not self._taking.skip_unsupported:
             raise cannot_read(self._layer.path, f"{name}: {problem}")
         note(f"{self._layer.path}: {name}: left out: {problem}")
+
+
+def _known(contents: Contents) -> Store:
+    return lambda: contents
+
+
+def _fill(entry: Entry, store: Store) -> None:
+    digest, entry.size = store()
+    entry.blob = digest if entry.names_contents() else None
 
 
 def _path(names: list[str]) -> str:

@@ -10,11 +10,10 @@ from types import TracebackType
 
 from .contents import PIECE, Copier, digest_and_size, read_small, write_all
 from .faults import cannot_read, is_of_writing, writing
+from .places import CREATE, READ
 from .progress import note
 from .stages import Stage, tidy, told
 
-_READ = os.O_RDONLY | os.O_NOFOLLOW | os.O_NONBLOCK | os.O_CLOEXEC
-_CREATE = os.O_RDWR | os.O_CREAT | os.O_EXCL | os.O_NOFOLLOW | os.O_CLOEXEC
 _MODE = 0o600  # blobs hold what the files hold, secret ones too
 _FOLDER_MODE = 0o700
 _SCRATCH = "scratch"
@@ -113,7 +112,7 @@ class BlobWriter:
         """An empty open file, for contents that `keep` takes."""
         if self._scratch < 0:
             with writing(self._blobs):
-                self._scratch = os.open(_SCRATCH, _CREATE, _MODE, dir_fd=self._folder)
+                self._scratch = os.open(_SCRATCH, CREATE, _MODE, dir_fd=self._folder)
         return self._scratch
 
     def keep(self, digest: str, size: int) -> None:
@@ -158,7 +157,7 @@ class BlobWriter:
         digest = hashlib.sha256(piece).hexdigest()
         if not self._has(digest, size):
             with writing(self._blobs), contextlib.suppress(FileExistsError):
-                file = os.open(digest, _CREATE, _MODE, dir_fd=self._folder)
+                file = os.open(digest, CREATE, _MODE, dir_fd=self._folder)
                 try:
                     write_all(file, piece)
                 finally:
@@ -174,7 +173,7 @@ class BlobWriter:
         if not self._has_others:
             return False
         try:
-            file = os.open(blob_path(self._blobs, digest), _READ)
+            file = os.open(blob_path(self._blobs, digest), READ)
         except OSError:
             return False
         try:
@@ -234,7 +233,7 @@ def opened_blob(folder: str, digest: str, size: int) -> Iterator[int]:
     """A blob of this size, open for reading; refuses links, and what isn't a regular file."""
     path = blob_path(folder, digest)
     try:
-        file = os.open(path, _READ)
+        file = os.open(path, READ)
     except OSError as error:
         raise cannot_read(path, error.strerror) from error
     try:

@@ -9,25 +9,25 @@ from dataclasses import dataclass
 from . import rules, times
 from .attributes import Unstated, marks_to_user, write_attributes
 from .blobs import blob_path, opened_blob
-from .contents import PIECE, Copier, digest_and_size, read_small, write_all
-from .entries import BLOCK, CHAR, DIRECTORY, FIFO, FILE, SYMLINK, Entry
+from .contents import PIECE, Copier, digest_and_size, may_clone, read_small, write_all
+from .entries import BLOCK, CHAR, DIRECTORY, FIFO, FILE, LINK_MODE, SYMLINK, Entry
 from .faults import cannot_read, cannot_write, reason_of, writing
 from .links import FirstNames, take_links
 from .manifests import read_manifest
 from .outputs import new_folder
-from .places import Chain, open_folder, open_root, place_of
+from .places import CREATE, Chain, open_folder, open_root, place_of
 from .progress import Progress
+from .room import existing, require_room
 
-_CREATE = os.O_RDWR | os.O_CREAT | os.O_EXCL | os.O_NOFOLLOW | os.O_CLOEXEC
 _TYPES = {
     CHAR: stat.S_IFCHR, BLOCK: stat.S_IFBLK, FIFO: stat.S_IFIFO, "socket": stat.S_IFSOCK,
 }
-_LINK_MODE = 0o777
+_STAT_BLOCK = 512  # bytes of the blocks that a file's status counts
 _MAX_MAJOR = (1 << 12) - 1
 _MAX_MINOR = (1 << 20) - 1
 
 
-@dataclass(frozen=True)
+@dataclass(frozen=True, kw_only=True)
 class BuildOptions:
     """What the words of `build` say."""
 
@@ -48,13 +48,17 @@ def build(options: BuildOptions) -> None:
     """Makes the folder of a manifest, in one that is empty or absent."""
     entries = read_manifest(options.layer)
     take_links(options.layer, entries)
+    need, firsts = 0, FirstNames()
     for entry in entries:
         problem = entry_problem(entry, options.userxattr)
         if problem:
             raise cannot_write(options.told + entry.path, problem)
         if entry.names_contents():
-            with opened_blob(options.blobs, str(entry.blob), entry.size):
-                pass
+            with opened_blob(options.blobs, str(entry.blob), entry.size) as file:
+                taken = min(entry.size, os.fstat(file).st_blocks * _STAT_BLOCK)
+            need += taken if firsts.before(entry) is None else 0
+    if not may_clone(options.blobs, existing(options.out)):
+        require_room(options.told, options.out, need)
     with new_folder(options.out) as stage:
         with writing(options.out):
             root = open_root(stage)
@@ -67,7 +71,7 @@ def build(options: BuildOptions) -> None:
 
 def entry_problem(entry: Entry, userxattr: bool) -> str | None:
     """Why Linux can't have this entry."""
-    if entry.kind == SYMLINK and entry.mode != _LINK_MODE:
+    if entry.kind == SYMLINK and entry.mode != LINK_MODE:
         return f"a symlink of mode {entry.mode:04o}: Linux has them of mode 0777 alone"
     if rules.MAX_NUMBER in (entry.uid, entry.gid):
         return f"an owner or group {rules.MAX_NUMBER}: Linux has none of this number"
@@ -142,7 +146,7 @@ class _Builder:
             os.mkdir(name, 0o700, dir_fd=parent)
             self._levels.append(_Level(entry, open_folder(name, parent)))
         elif entry.kind == FILE:
-            file = os.open(name, _CREATE, 0o600, dir_fd=parent)
+            file = os.open(name, CREATE, 0o600, dir_fd=parent)
             try:
                 self._fill(file, entry)
                 _dress(file, entry, self._options.userxattr)

@@ -9,7 +9,7 @@ from . import tar_headers as tar
 from .attributes import marks_to_user
 from .blobs import opened_blob
 from .build import BuildOptions, build, entry_problem
-from .contents import PIECE
+from .contents import PIECE, ZEROS
 from .entries import BLOCK, CHAR, DIRECTORY, FIFO, FILE, SYMLINK, Entry
 from .faults import Fault, UsageFault, cannot_write, writing
 from .fitting import attributes_problem, fitted, owners_problem
@@ -30,7 +30,6 @@ _MAX_ZEROS = 1 << 34  # bytes of files without contents, which have to be writte
 _TYPES = {
     DIRECTORY: tar.DIRECTORY, FILE: b"0", SYMLINK: tar.SYMLINK, CHAR: tar.CHAR, BLOCK: tar.BLOCK, FIFO: tar.FIFO,
 }
-_ZEROS = bytes(PIECE)
 
 
 def build_layer(options: BuildOptions) -> None:
@@ -112,7 +111,7 @@ def _write_archive(entries: list[Entry], options: BuildOptions, archive: TarWrit
 
 def _zeros(size: int) -> Iterator[bytes]:
     for start in range(0, size, PIECE):
-        yield _ZEROS[:size - start]
+        yield ZEROS[:size - start]
 
 
 def _header(entry: Entry, userxattr: bool) -> Header:

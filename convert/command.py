@@ -7,6 +7,7 @@ import signal
 import sys
 from collections.abc import Callable, Iterable, Sequence
 from fractions import Fraction
+from typing import Any
 
 from . import VERSION, squashfs
 from .build import BuildOptions
@@ -14,10 +15,11 @@ from .build_squashfs import SUFFIX as SQUASHFS_SUFFIX
 from .build_squashfs import build_layer
 from .compression import COMPRESSIONS, NONE
 from .configuration import USUAL_PLATFORM
-from .faults import OTHER, WRITING, Fault, UsageFault
+from .faults import OTHER, Fault, UsageFault
 from .flatten import FlattenOptions, flatten, flatten_commands
 from .flatten_stack import FlattenStackOptions, OutForm, flatten_stack
 from .mounted import report
+from .outputs import standard_output
 from .pack import PackOptions, pack
 from .rules import MAX_LAYERS
 from .scan import ScanOptions, scan
@@ -31,7 +33,7 @@ from .unpack import UnpackOptions, unpack
 
 NAME = "layers"
 _INTERRUPTED = 128
-_OF_IMAGES = ("platform", "tag", "overlay_marks", "dry_run")  # words of `flatten`
+_OF_IMAGES = ("platform", "tag", "overlay_marks", "dry_run")  # words of `flatten` and `sizes`
 _OF_STACKS = ("blobs", "data_layers", "form", "userxattr", "cross_file_systems")
 
 _ABOUT = """\
@@ -107,7 +109,7 @@ name once it was read again and gives the manifest back."""
 _UNPACK = """\
 Writes the layers of an image as manifests: DIR/l0.json, the topmost, DIR/l1.json and so on, and the
 contents of all their files into DIR/blobs. DIR/config.json is the image's configuration with its platform,
-for `pack --config`. With --digests-only contents are read for their digests and copied nowhere, which is
+for `pack --config`; DIR/annotations.json has the annotations of its manifest, where it has any. With --digests-only contents are read for their digests and copied nowhere, which is
 enough for `ovl_layers show`.
 
 IMAGE is an OCI image layout (a folder or a tar archive of it), what `docker save` writes, or a folder of
@@ -131,9 +133,9 @@ A layer that has moved directories (redirects) or files without contents (metaco
 can state them. Run `ovl_layers deref` first, or `merge` down to one layer."""
 
 _FLATTEN = """\
-Writes an image with one layer, or N at most, that shows the same. The image's configuration, name and hard
-links stay. It is done by the proved program ovl_layers, which is found where it was built or installed, or
-on the PATH: after `unpack` it checks the layers and writes all that they show as one (`flatten`). Where
+Writes an image with one layer, or N at most, that shows the same. The image's configuration, name,
+annotations and hard links stay. It is done by the proved program ovl_layers, which is found where it was built
+or installed, or on the PATH: after `unpack` it checks the layers and writes all that they show as one (`flatten`). Where
 several are to be left, it checks them (`fsck`), drops what changes nothing (`vacuum`), unfolds moved
 directories and metacopy files where there are any (`deref`), and merges the topmost ones (`merge`). Then
 `pack` writes the image. Each step is told with its time.
@@ -157,8 +159,8 @@ aren't shown, with the layer that hides them. convert/README.md defines each num
 
 Contents are copied nowhere. What the layers show is told by the proved program ovl_layers, as in `flatten`.
 
---stack takes layers in place of an image, the topmost first: manifests, squashfs files, tar archives of folders,
-and folders, whose marks root alone can read."""
+--stack takes layers in place of an image, the topmost first: folders, squashfs files, tar archives of folders, and
+manifests, whose contents aren't needed. The marks of folders can be read by root alone."""
 
 _MOUNTED = """\
 Prints what is in a folder, such as a mounted overlay, as `ovl_layers show` prints it, so that the two
@@ -211,8 +213,10 @@ def _parser() -> argparse.ArgumentParser:
     parser.add_argument("--version", action="version", version=f"{NAME} {VERSION}", help="print the version and exit")
     commands = parser.add_subparsers(title="commands", metavar="COMMAND", required=True)
     _add_scan(_command(commands, "scan", "a layer as a manifest and blobs", _SCAN, _scan))
-    _add_store(_command(commands, "store", "a layer of docker or podman with those below it", _STORE, _store))
-    _add_build(_command(commands, "build", "the folder of a manifest", _BUILD, _build))
+    for name, short in (("store", "a layer of docker or podman with those below it; or import"), ("import", None)):
+        _add_store(_command(commands, name, short, _STORE, _store))
+    for name, short in (("build", "the folder of a manifest; or extract"), ("extract", None)):
+        _add_build(_command(commands, name, short, _BUILD, _build))
     _add_unpack(_command(commands, "unpack", "an image's layers as manifests and blobs", _UNPACK, _unpack))
     _add_pack(_command(commands, "pack", "manifests and blobs as an image", _PACK, _pack))
     _add_flatten(_command(commands, "flatten", "an image with fewer layers that shows the same", _FLATTEN, _flatten))
@@ -222,12 +226,13 @@ def _parser() -> argparse.ArgumentParser:
 
 
 def _command(
-    commands: "argparse._SubParsersAction[argparse.ArgumentParser]", name: str, short: str, long: str,
+    commands: "argparse._SubParsersAction[argparse.ArgumentParser]", name: str, short: str | None, long: str,
     run: Callable[[argparse.Namespace], None],
 ) -> argparse.ArgumentParser:
+    """A command. Another word for one has nothing short, and isn't listed."""
+    listed: dict[str, Any] = {} if short is None else {"help": short}
     parser = commands.add_parser(
-        name, help=short, description=long, allow_abbrev=False,
-        formatter_class=argparse.RawDescriptionHelpFormatter,
+        name, description=long, allow_abbrev=False, formatter_class=argparse.RawDescriptionHelpFormatter, **listed
     )
     parser.set_defaults(run=run)
     return parser
@@ -295,11 +300,6 @@ def _add_image(parser: argparse.ArgumentParser, may_be_absent: bool = False) -> 
         parser.add_argument("image", metavar="IMAGE", nargs="?", help=_IMAGE)
     else:
         parser.add_argument("image", metavar="IMAGE", help=_IMAGE)
-    _add_choice(parser)
-
-
-def _add_choice(parser: argparse.ArgumentParser) -> None:
-    """Which of several images is read, and how."""
     parser.add_argument("--platform", metavar="OS/ARCH", help="which of several images, such as linux/amd64")
     parser.add_argument("--tag", metavar="NAME", help="which of several images, by its name in the image's index")
     parser.add_argument(
@@ -322,6 +322,10 @@ def _add_pack(parser: argparse.ArgumentParser) -> None:
         help=f"what the image says that it is for [default: that of --config, or {USUAL_PLATFORM}]",
     )
     parser.add_argument("--tag", metavar="NAME", type=_name, help="name of the image in its index")
+    parser.add_argument(
+        "--annotations", metavar="FILE",
+        help="annotations of the image's manifest, such as the annotations.json that unpack writes",
+    )
     parser.add_argument(
         "--links", metavar="FILE",
         help="hard links of layers that have no such file beside them: the shown.links of unpack or store",
@@ -360,33 +364,31 @@ def _add_flatten(parser: argparse.ArgumentParser) -> None:
 
 def _add_stack(parser: argparse.ArgumentParser) -> None:
     """Which layers are read in place of an image's, and how."""
-    parser.add_argument(
-        "--stack", metavar="LAYER", nargs="+",
-        help="layers in place of an image, the topmost first: folders, squashfs files, tar archives or manifests",
-    )
+    _add_stack_layers(parser, "reads and writes")
     parser.add_argument("--blobs", metavar="DIR", help="with --stack: folder with the contents of manifests")
-    parser.add_argument(
-        "--data-layers", metavar="K", type=_data_layers, default=0,
-        help="with --stack: how many of the layers, the lowest ones, are data-only [default: 0]",
-    )
     parser.add_argument(
         "--form", choices=[form.value for form in OutForm],
         help="with --stack: what layers are written as [default: what the name of --out says]",
     )
-    _add_userxattr(parser, "with --stack: reads and writes")
+
+
+def _add_stack_layers(parser: argparse.ArgumentParser, does: str) -> None:
+    parser.add_argument(
+        "--stack", metavar="LAYER", nargs="+",
+        help="layers in place of an image, the topmost first: folders, squashfs files, tar archives or manifests",
+    )
+    parser.add_argument(
+        "--data-layers", metavar="K", type=_data_layers, default=0,
+        help="with --stack: how many of the layers, the lowest ones, are data-only [default: 0]",
+    )
+    _add_userxattr(parser, f"with --stack: {does}")
     _add_cross(parser)
     _add_workers(parser)
 
 
 def _add_sizes(parser: argparse.ArgumentParser) -> None:
-    what = parser.add_mutually_exclusive_group(required=True)
-    what.add_argument("image", metavar="IMAGE", nargs="?", help=_IMAGE)
-    what.add_argument("--stack", metavar="LAYER", nargs="+", help="layers in place of an image, the topmost first")
-    _add_choice(parser)
-    _add_userxattr(parser, "of folders, reads")
-    parser.add_argument(
-        "--data-layers", metavar="K", type=int, default=0, help="how many layers, the lowest, are data-only [default: 0]"
-    )
+    _add_image(parser, may_be_absent=True)
+    _add_stack_layers(parser, "reads")
     parser.add_argument("--json", action="store_true", help="prints it all for a program")
     parser.add_argument("--bytes", action="store_true", help="prints exact numbers of bytes")
     parser.add_argument("--html", metavar="FILE", help="page to write besides; - is standard output, in its place")
@@ -468,28 +470,31 @@ def _folder(path: str) -> str:
 
 def _scan(words: argparse.Namespace) -> None:
     scan(ScanOptions(
-        _folder(words.layer), words.out, None if words.digests_only else _folder(words.blobs), words.userxattr,
-        words.cross_file_systems, words.skip_unsupported, words.workers,
+        layer=_folder(words.layer), out=words.out, blobs=None if words.digests_only else _folder(words.blobs),
+        userxattr=words.userxattr, cross_file_systems=words.cross_file_systems,
+        skip_unsupported=words.skip_unsupported, workers=words.workers,
     ))
 
 
 def _store(words: argparse.Namespace) -> None:
     store(StoreOptions(
-        _folder(words.folder), _folder(words.out), words.userxattr, words.cross_file_systems,
-        words.skip_unsupported, words.digests_only, words.workers,
+        folder=_folder(words.folder), out=_folder(words.out), userxattr=words.userxattr,
+        cross_file_systems=words.cross_file_systems, skip_unsupported=words.skip_unsupported,
+        digests_only=words.digests_only, workers=words.workers,
     ))
 
 
 def _build(words: argparse.Namespace) -> None:
     build_layer(BuildOptions(
-        words.layer, _folder(words.blobs), _folder(words.out), words.userxattr, words.compress,
+        layer=words.layer, blobs=_folder(words.blobs), out=_folder(words.out), userxattr=words.userxattr,
+        compress=words.compress,
     ))
 
 
 def _unpack(words: argparse.Namespace) -> None:
     unpack(UnpackOptions(
-        _folder(words.image), _folder(words.out), words.platform, words.tag, words.skip_unsupported,
-        words.overlay_marks, words.digests_only,
+        image=_folder(words.image), out=_folder(words.out), platform=words.platform, tag=words.tag,
+        skip_unsupported=words.skip_unsupported, overlay_marks=words.overlay_marks, digests_only=words.digests_only,
     ))
 
 
@@ -498,19 +503,25 @@ def _pack(words: argparse.Namespace) -> None:
     if None not in (out.tag, words.tag) and out.tag != words.tag:
         raise UsageFault(f"{words.out} and --tag give two names")
     pack(PackOptions(
-        words.layers, _folder(words.blobs), out, words.platform, out.tag or words.tag,
-        words.skip_unsupported, words.config, words.compress, words.links,
+        layers=words.layers, blobs=_folder(words.blobs), out=out, platform=words.platform, tag=out.tag or words.tag,
+        skip_unsupported=words.skip_unsupported, config=words.config, compress=words.compress, links=words.links,
+        annotations=words.annotations,
     ))
 
 
-def _flatten(words: argparse.Namespace) -> None:
+def _require_one_sort(words: argparse.Namespace) -> None:
+    """Refuses an image beside a stack, neither of them, and what is for the other one."""
     if (words.image is None) == (words.stack is None):
         raise UsageFault("name an IMAGE, or layers by --stack LAYER..")
     strange = _OF_STACKS if words.stack is None else _OF_IMAGES
     for name in strange:
-        if getattr(words, name):
+        if getattr(words, name, None):
             told = "--stack alone" if words.stack is None else "images alone"
             raise UsageFault(f"--{name.replace('_', '-')} is for {told}")
+
+
+def _flatten(words: argparse.Namespace) -> None:
+    _require_one_sort(words)
     if words.stack is None:
         _flatten_image(words)
     else:
@@ -522,8 +533,9 @@ def _flatten_image(words: argparse.Namespace) -> None:
     if compress not in COMPRESSIONS:
         raise UsageFault(f"--compress {compress} is for a squashfs alone")
     options = FlattenOptions(
-        _folder(words.image), _target(words.out, words.dry_run), words.layers, words.keep and _folder(words.keep),
-        words.platform, words.tag, words.skip_unsupported, words.overlay_marks, compress,
+        image=_folder(words.image), out=_target(words.out, words.dry_run), layers=words.layers,
+        keep=words.keep and _folder(words.keep), platform=words.platform, tag=words.tag,
+        skip_unsupported=words.skip_unsupported, overlay_marks=words.overlay_marks, compress=compress,
     )
     if words.dry_run:
         _print(flatten_commands(options))
@@ -535,25 +547,28 @@ def _flatten_stack(words: argparse.Namespace) -> None:
     if words.compress == NONE:
         raise UsageFault("--compress none is for images alone")
     flatten_stack(FlattenStackOptions(
-        StackOptions(
-            [_folder(layer) for layer in words.stack], words.blobs and _folder(words.blobs), words.userxattr,
-            words.cross_file_systems, words.skip_unsupported, workers=words.workers,
+        stack=StackOptions(
+            layers=[_folder(layer) for layer in words.stack], blobs=words.blobs and _folder(words.blobs),
+            userxattr=words.userxattr, cross_file_systems=words.cross_file_systems,
+            skip_unsupported=words.skip_unsupported, workers=words.workers,
         ),
-        _folder(words.out), words.form and OutForm(words.form), words.layers, words.data_layers,
-        words.keep and _folder(words.keep), words.compress,
+        out=_folder(words.out), form=words.form and OutForm(words.form), layers=words.layers,
+        data_layers=words.data_layers, keep=words.keep and _folder(words.keep), compress=words.compress,
     ))
 
 
 def _sizes(words: argparse.Namespace) -> None:
-    if words.stack and (words.platform is not None or words.tag is not None or words.overlay_marks):
-        raise UsageFault("--platform, --tag and --overlay-marks are for images, and a stack is none")
-    if words.image is not None and (words.data_layers or words.userxattr):
-        raise UsageFault("--data-layers and --userxattr are for stacks, and an image is none")
+    _require_one_sort(words)
+    stack = None if words.stack is None else StackOptions(
+        layers=[_folder(layer) for layer in words.stack], userxattr=words.userxattr,
+        cross_file_systems=words.cross_file_systems, skip_unsupported=words.skip_unsupported, digests_only=True,
+        workers=words.workers,
+    )
     sizes(SizesOptions(
-        image=None if words.image is None else _folder(words.image), stack=words.stack or (),
-        data_layers=words.data_layers, platform=words.platform, tag=words.tag,
-        skip_unsupported=words.skip_unsupported, overlay_marks=words.overlay_marks, userxattr=words.userxattr,
-        as_json=words.json, exact=words.bytes, page=words.html, fail_over=words.fail_over,
+        image=None if words.image is None else _folder(words.image), stack=stack, data_layers=words.data_layers,
+        platform=words.platform, tag=words.tag, skip_unsupported=words.skip_unsupported,
+        overlay_marks=words.overlay_marks, as_json=words.json, exact=words.bytes, page=words.html,
+        fail_over=words.fail_over,
     ), _print)
 
 
@@ -570,13 +585,5 @@ def _mounted(words: argparse.Namespace) -> None:
 
 
 def _print(lines: Iterable[str]) -> None:
-    """Writes lines to standard output, or tells that this can't be done."""
-    try:
-        for line in lines:
-            sys.stdout.write(line)
-        sys.stdout.flush()
-    except OSError:
-        os.dup2(os.open(os.devnull, os.O_WRONLY), sys.stdout.fileno())
-        fault = Fault("cannot write standard output")
-        fault.status = WRITING
-        raise fault from None
+    with standard_output() as out:
+        out.writelines(lines)

@@ -15,6 +15,8 @@ _PLATFORM = ("os", "architecture", "variant", "os.version", "os.features")
 _TEXTS = ("os", "architecture", "variant", "os.version")
 _MAKER = "layers pack"
 _MAX_DEPTH = 64  # of a document's objects and lists in one another; real ones have 4
+_MAX_PARTS = 1 << 18  # objects and lists of a document, each of which takes memory
+_MAX_FILE = 16 * MAX_BYTES  # of a configuration that a person laid out; what counts is its text without spaces
 
 
 def _refuse(text: str) -> NoReturn:
@@ -29,16 +31,18 @@ def _finite(text: str) -> float:
 
 
 def parse_json(data: bytes) -> Any:
-    """The value of a JSON text; ValueError where it is none, or what it holds couldn't be written again."""
+    """The value of a JSON text; ValueError says why it is none, or what it holds that couldn't be written again."""
+    if data.count(b"[") + data.count(b"{") > _MAX_PARTS:
+        raise ValueError(f"it has over {_MAX_PARTS:,} objects and lists")
     try:
         value = json.loads(data, parse_constant=_refuse, parse_float=_finite)
-    except RecursionError:
-        raise ValueError("too deep") from None
+    except (ValueError, RecursionError):
+        raise ValueError("it isn't JSON") from None
     level = [value]
     for _ in range(_MAX_DEPTH):
         level = [inner for outer in level for inner in _parts(outer)]
     if level:
-        raise ValueError("too deep")
+        raise ValueError(f"it isn't JSON of at most {_MAX_DEPTH} objects and lists in one another")
     return value
 
 
@@ -48,22 +52,46 @@ def _parts(value: Any) -> Iterable[Any]:
 
 def read_configuration(path: str) -> Document:
     """The configuration in a file, such as the `config.json` that `unpack` writes."""
-    with reading(path), open(path, "rb") as file:
-        data = file.read(MAX_BYTES + 1)
-    if len(data) > MAX_BYTES:
-        raise cannot_read(path, f"it has over {MAX_BYTES:,} bytes")
-    try:
-        value = parse_json(data)
-    except ValueError:
-        raise cannot_read(path, "it isn't JSON") from None
-    problem = _problem(value)
+    value = _read(path)
+    problem = configuration_problem(value)
     if problem:
-        raise cannot_read(path, f"it is no image's configuration: {problem}")
+        raise cannot_read(path, problem)
+    return dict(value)
+
+
+def read_annotations(path: str) -> dict[str, str]:
+    """The annotations in a file, such as the `annotations.json` that `unpack` writes."""
+    value = _read(path)
+    if not isinstance(value, dict) or not all(isinstance(text, str) for text in value.values()):
+        raise cannot_read(path, "it is no JSON object of strings")
     return value
 
 
-def _problem(value: Any) -> str | None:
+def _read(path: str) -> Any:
+    with reading(path), open(path, "rb") as file:
+        data = file.read(_MAX_FILE + 1)
+    try:
+        value = parse_json(data)
+    except ValueError as problem:
+        raise cannot_read(path, str(problem)) from None
+    compact = data if len(data) <= MAX_BYTES else _compact(value)
+    if len(compact) > MAX_BYTES:
+        raise cannot_read(path, f"it has over {MAX_BYTES:,} bytes")
+    return value
+
+
+def _compact(value: Any) -> bytes:
+    text = json.dumps(value, separators=(",", ":"), ensure_ascii=False)
+    return text.encode("utf-8", "surrogatepass")
+
+
+def configuration_problem(value: Any) -> str | None:
     """Why a JSON value isn't the configuration of an image."""
+    problem = _problem(value)
+    return problem and f"it is no image's configuration: {problem}"
+
+
+def _problem(value: Any) -> str | None:
     if not isinstance(value, dict):
         return "it is no JSON object"
     if not isinstance(value.get("config") or {}, dict):
@@ -81,6 +109,12 @@ def platform_of(configuration: Mapping[str, Any]) -> Document:
     return {name: configuration[name] for name in _PLATFORM if configuration.get(name)}
 
 
+def require_texts(platform: Mapping[str, Any]) -> None:
+    """TypeError where a descriptor's platform has something else."""
+    if any(not isinstance(platform.get(name, ""), str) for name in _TEXTS):
+        raise TypeError(platform)
+
+
 def platform_text(configuration: Any) -> str | None:
     """A platform as `OS/ARCH` or `OS/ARCH/VARIANT`, or nothing where it has no system or no processor."""
     if not isinstance(configuration, Mapping) or not configuration.get("os") or not configuration.get("architecture"):
@@ -95,9 +129,10 @@ def with_platform(configuration: Mapping[str, Any], stated: Mapping[str, Any]) -
     return platform_of(stated) | own
 
 
-def configuration_text(configuration: Mapping[str, Any]) -> str:
-    """A configuration for a person to read and change."""
-    return json.dumps(configuration, indent=2) + "\n"
+def text_of(document: Mapping[str, Any]) -> str:
+    """A document for a person to read and change."""
+    text = json.dumps(document, indent=2) + "\n"
+    return text if len(text) <= _MAX_FILE else _compact(document).decode("utf-8", "surrogatepass")
 
 
 def for_layers(given: Mapping[str, Any], platform: str | None, digests: Sequence[str]) -> Document:

@@ -4,8 +4,10 @@ import errno
 import fcntl
 import hashlib
 import os
+import tempfile
 
 PIECE = 1 << 18
+ZEROS = bytes(PIECE)
 _COPY_AT_ONCE = 1 << 30
 _CLONE = 0x40049409  # FICLONE of linux/fs.h
 _REFUSED = (
@@ -56,6 +58,17 @@ def _require_refusal(error: OSError) -> None:
         raise error
 
 
+def may_clone(source: str, target: str) -> bool:
+    """Whether files of one folder may share their bytes with new ones in another, which then take no room."""
+    if os.stat(source).st_dev != os.stat(target).st_dev:
+        return False
+    try:
+        with tempfile.TemporaryFile(dir=target) as one, tempfile.TemporaryFile(dir=target) as other:
+            return Copier().clone(one.fileno(), other.fileno())
+    except OSError:
+        return False
+
+
 def _copy_in_kernel(source: int, target: int) -> None:
     while os.copy_file_range(source, target, _COPY_AT_ONCE):
         pass
@@ -84,11 +97,11 @@ def write_all(target: int, piece: bytes) -> None:
         view = view[os.write(target, view):]
 
 
-def digest_and_size(file: int) -> tuple[str, int]:
-    """The SHA-256 digest of an open file's bytes, and how many they are."""
+def digest_and_size(file: int, begin: int = 0) -> tuple[str, int]:
+    """The SHA-256 digest of an open file's bytes from a place on, and how many they are."""
     digest = hashlib.sha256()
     size = 0
-    while piece := os.pread(file, PIECE, size):
+    while piece := os.pread(file, PIECE, begin + size):
         digest.update(piece)
         size += len(piece)
     return digest.hexdigest(), size

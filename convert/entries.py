@@ -21,6 +21,8 @@ BLOCK = "block"
 FIFO = "fifo"
 SOCKET = "socket"
 
+LINK_MODE = 0o777  # of a symlink: Linux has no other
+
 NO_ATTRIBUTES: Mapping[str, bytes] = MappingProxyType({})
 
 

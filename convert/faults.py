@@ -3,6 +3,7 @@
 import contextlib
 import errno
 import os
+import re
 from collections.abc import Iterator
 
 from .texts import printable
@@ -84,3 +85,13 @@ def writing(path: str) -> Iterator[None]:
         raise cannot_write(path, reason_of(error) + hint) from error
     except OSError as error:
         raise cannot_write(path, reason_of(error)) from error
+
+
+@contextlib.contextmanager
+def told_as(stage: str, path: str) -> Iterator[None]:
+    """Tells what can't be written in a stage as a fault of the path that it is to become."""
+    try:
+        yield
+    except WriteFault as fault:
+        inside = re.compile(re.escape(printable(stage)) + r"(/[^:\s]*)?")
+        raise WriteFault(inside.sub(lambda _: path, fault.text)) from fault

@@ -20,17 +20,19 @@ from .outputs import kept_folder, new_folder, passing_folder, standard_output
 from .pack import PackOptions, pack
 from .program import NAME, find_program, makes_layers, word_of_path, words_of
 from .progress import counted, note, note_path
-from .stages import tidy, told
+from .room import least_shown, require_room
+from .stages import removing, tidy, told
 from .targets import ARCHIVE_SUFFIX, Form, Target
 from .unpack import UnpackOptions, unpack
 
 _IMAGE = "image"
 _SHOWN = f"{_IMAGE}.show"
+_ANNOTATIONS = f"{STACK}/{stacks.ANNOTATIONS}"
 _FOR_PACK = (stacks.BLOBS, stacks.CONFIG, stacks.SHOWN_LINKS)
 _TOOL = Path(__file__).resolve().parents[1] / "layers.py"
 
 
-@dataclass(frozen=True)
+@dataclass(frozen=True, kw_only=True)
 class FlattenOptions:
     """What the words of `flatten` say."""
 
@@ -98,7 +100,7 @@ def _new_image(out: Target) -> Iterator[str]:
     place = os.path.realpath(out.place)
     for found in tidy(os.path.dirname(place)):
         note(f"there is {told(found)}")
-    with passing_folder(place) as stage:
+    with passing_folder(place, out.told) as stage:
         image = f"{stage}/{_IMAGE}{ARCHIVE_SUFFIX}"
         yield image
         if out.is_standard_output:
@@ -109,9 +111,9 @@ def _new_image(out: Target) -> Iterator[str]:
 
 
 def _print_image(image: str) -> None:
-    with open(image, "rb") as file, standard_output() as write:
+    with open(image, "rb") as file, standard_output() as out:
         while piece := file.read(PIECE):
-            write(piece)
+            out.buffer.write(piece)
 
 
 class _Doing(Doing):
@@ -124,41 +126,51 @@ class _Doing(Doing):
         self._options = options
         self._image = image
         self._name: str | None = None
+        self._has_annotations = False
 
     def unpack(self) -> int:
         """See `Steps`."""
         options = self._options
         with timed("unpack") as words:
             image = _unpacked(UnpackOptions(
-                options.image, self.path(STACK), options.platform, options.tag, options.skip_unsupported,
-                options.overlay_marks,
+                image=options.image, out=self.path(STACK), platform=options.platform, tag=options.tag,
+                skip_unsupported=options.skip_unsupported, overlay_marks=options.overlay_marks,
             ))
             self._name, self.count = _name_of(image, options), len(image.layers)
+            self._has_annotations = bool(image.annotations)
             words.append(counted(self.count, "layer", "layers"))
         return self.count
+
+    def run(self, step: str, what: str, layers: Sequence[str], new: str) -> None:
+        """See `Steps`."""
+        super().run(step, what, layers, new)
+        if new == BEFORE and self._options.compress == NONE:
+            require_room(self._options.out.told, self._image, least_shown(self.path(new)))
 
     def pack(self, layers: Sequence[str]) -> None:
         """See `Steps`."""
         blobs, config, links = (self.path(f"{STACK}/{name}") for name in _FOR_PACK)
         with timed("pack") as words:
             pack(PackOptions(
-                [self.path(layer) for layer in layers], blobs, self._target(), tag=self._name, config=config,
-                compress=self._options.compress, links=links,
+                layers=[self.path(layer) for layer in layers], blobs=blobs, out=self._target(), tag=self._name,
+                config=config, compress=self._options.compress, links=links,
+                annotations=self.path(_ANNOTATIONS) if self._has_annotations else None,
             ))
             words.append(counted(len(layers), "layer", "layers"))
-        with timed("the new image, read again") as words:
+        needless = () if self._options.keep else (blobs,)
+        with timed("the new image, read again") as words, removing(*needless):
             words.append(self._shown(self._image))
             self.compare(_SHOWN)
 
     def _target(self) -> Target:
         """The image that is made, on its way to its name."""
-        return replace(self._options.out, path=self._image)
+        return replace(self._options.out, path=self._image, given=self._options.out.path)
 
     def _shown(self, image: str) -> str:
         """Writes what an image shows."""
         with passing_folder(self.path(AGAIN)) as folder:
-            again = f"{folder}/{AGAIN}"
-            found = unpack(UnpackOptions(image, again, overlay_marks=self._options.overlay_marks, digests_only=True))
+            again, marks = f"{folder}/{AGAIN}", self._options.overlay_marks
+            found = unpack(UnpackOptions(image=image, out=again, overlay_marks=marks, digests_only=True))
             return self.run_on("show", stacks.layer_paths(again, len(found.layers)), self.path(_SHOWN))
 
 
@@ -186,10 +198,13 @@ class _Telling:
         self._options = options
         self._program = find_program() or NAME
         self._name: str | None = None
+        self._has_annotations = False
         self._marks = ["--overlay-marks"] if options.overlay_marks else []
         self.lines = ["set -e\n"]
         if options.keep is None:
-            self.lines.append("work=$(mktemp -d)\n")
+            self.lines += [
+                "work=$(mktemp -d)\n", "trap 'rm -rf -- \"$work\"' EXIT\n", "trap 'exit 1' HUP INT TERM\n",
+            ]
         else:
             self.lines.append(f"work={shlex.quote(word_of_path(options.keep))}\n")
             self._add("mkdir", "-p", "--", _InWork(""))
@@ -199,6 +214,7 @@ class _Telling:
         options = self._options
         with opened_image(options.image, options.platform, options.tag) as image:
             count, self._name = len(image.layers), _name_of(image, options)
+            self._has_annotations = bool(image.annotations)
         words = _given("--platform", options.platform) + _given("--tag", options.tag)
         if options.skip_unsupported:
             words.append("--skip-unsupported")
@@ -239,6 +255,7 @@ class _Telling:
         self._add_tool(
             "pack", *paths, "--blobs", blobs, "--config", config, "--links", links, "--out", out,
             "--compress", self._options.compress, *_given("--tag", self._name),
+            *_given("--annotations", self._path(_ANNOTATIONS) if self._has_annotations else None),
         )
         self._add_tool("unpack", out, "--out", self._path(AGAIN), "--digests-only", *self._marks)
         again = [self._path(layer) for layer in stacks.layer_paths(AGAIN, len(layers))]

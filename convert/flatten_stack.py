@@ -21,7 +21,7 @@ from .losses import Loss, Losses
 from .manifests import read_manifest
 from .outputs import kept_folder, passing_folder, require_empty, write_text
 from .progress import counted, note, note_path
-from .stack_layers import StackOptions, read_stack, require_forms
+from .stack_layers import StackOptions, read_stack, require_forms, require_ordinary
 from .stages import tidy, told
 
 _NEW = "new"
@@ -36,7 +36,7 @@ class OutForm(Enum):
     SQUASHFS = "squashfs"
 
 
-@dataclass(frozen=True)
+@dataclass(frozen=True, kw_only=True)
 class FlattenStackOptions:
     """What the words of `flatten --stack` say."""
 
@@ -75,8 +75,7 @@ def flatten_stack(options: FlattenStackOptions) -> None:
 def _require_sound(options: FlattenStackOptions) -> None:
     """Refuses at once what couldn't be done in the end."""
     forms = require_forms(options.stack)
-    if options.data_layers >= len(forms):
-        raise UsageFault(f"of {counted(len(forms), 'layer', 'layers')} {options.data_layers} can't be data-only")
+    require_ordinary(len(forms), options.data_layers)
     if options.layers > 1 and options.out.endswith(SUFFIX):
         raise UsageFault("with --layers over 1 --out is a folder of layers; --form squashfs makes them squashfs files")
     if options.keep is not None and os.path.realpath(options.keep) == os.path.realpath(options.out):
@@ -136,8 +135,8 @@ class _DoingStack(Doing):
             out, name = f"{out}/l{number}{suffix}", f"{name}/l{number}{suffix}"
         manifest = self._without_host_marks(number, layer, is_lowest=number == count - 1)
         options = BuildOptions(
-            manifest, self.path(f"{STACK}/{stacks.BLOBS}"), out, self._options.stack.userxattr,
-            self._options.compress, name,
+            layer=manifest, blobs=self.path(f"{STACK}/{stacks.BLOBS}"), out=out,
+            userxattr=self._options.stack.userxattr, compress=self._options.compress, name=name,
         )
         if self._options.is_squashfs():
             build_squashfs(options)

@@ -5,17 +5,19 @@ import hashlib
 import io
 import os
 import re
-from collections.abc import Callable, Iterator, Mapping, Sequence
+from collections.abc import Callable, Hashable, Iterator, Mapping, Sequence
 from dataclasses import dataclass, field, replace
 from typing import Any
 
 from . import rules
-from .configuration import MAX_BYTES, Document, parse_json, platform_of, platform_text, with_platform
+from .configuration import (
+    MAX_BYTES, Document, configuration_problem, parse_json, platform_of, platform_text, require_texts, with_platform,
+)
 from .contents import PIECE
 from .faults import ReadFault, UsageFault, cannot_read, reading
 from .members import Members, opened_members
-from .progress import Progress, note
-from .streams import HEAD_BYTES, Slice, Source, is_packed, unpacked
+from .progress import Progress
+from .streams import Slice, Source, Watched, unpacked
 
 MAX_DOCUMENTS = 1 << 24  # bytes of an image's documents together, each as often as it is named
 _DIGEST = re.compile(r"(sha256|sha384|sha512):([0-9a-f]{64,128})\Z")
@@ -26,8 +28,9 @@ _INDEXES = (
     "application/vnd.docker.distribution.manifest.list.v2+json",
 )
 _TRANSPORTS = ("oci", "oci-archive", "docker-archive", "dir")
-_REF_NAME = "org.opencontainers.image.ref.name"
+REF_NAME = "org.opencontainers.image.ref.name"
 _FULL_NAME = "io.containerd.image.name"
+_BASE = "org.opencontainers.image.base."
 _ATTESTATION = "vnd.docker.reference.type"
 Digest = tuple[str, str]  # the algorithm and the hexadecimal digits
 BlobName = Callable[[Digest], str]
@@ -40,8 +43,13 @@ class ImageLayer:
     name: str
     path: str
     members: Members
+    size: int
     digest: Digest | None
     unpacked_digest: Digest | None
+
+    def identity(self) -> Hashable:
+        """The same for two layers of the image that are one file, and must unpack to the same."""
+        return self.members.identity(self.name), self.unpacked_digest
 
     @contextlib.contextmanager
     def opened(self) -> Iterator[Slice]:
@@ -52,16 +60,19 @@ class ImageLayer:
             yield part
 
     @contextlib.contextmanager
-    def archive(self) -> Iterator[Source]:
+    def archive(self, progress: Progress) -> Iterator[Source]:
         """The same, unpacked."""
-        with self.opened() as part, unpacked(part, self.path) as stream:
+        with self.opened() as part, unpacked(Watched(part, progress), self.path) as stream:
             yield stream
+
+    def is_checked(self) -> bool:
+        """Whether the digest of its bytes, which are looked at before they are read, is that of the unpacked ones."""
+        return self.digest is not None and self.digest == self.unpacked_digest and self.packed_size() is None
 
     def packed_size(self) -> int | None:
         """How many bytes it has in the image, where these are compressed."""
         with self.members.opened(self.name) as part, reading(self.path):
-            size = part.size()
-            return size if is_packed(part.read(HEAD_BYTES) or b"") else None
+            return self.size if part.is_packed() else None
 
 
 @dataclass(frozen=True)
@@ -71,6 +82,7 @@ class Image:
     layers: list[ImageLayer]
     configuration: Document
     names: tuple[str, ...] = ()
+    annotations: Mapping[str, str] = field(default_factory=dict)  # but for those of the base, which new layers haven't
 
 
 @dataclass(frozen=True)
@@ -152,8 +164,8 @@ class _Documents:
             raise _wrong_bytes(self.path(name), digest)
         try:
             return parse_json(data)
-        except ValueError:
-            raise cannot_read(self.path(name), "it isn't JSON") from None
+        except ValueError as problem:
+            raise cannot_read(self.path(name), str(problem)) from None
 
     @contextlib.contextmanager
     def shaped(self, name: str) -> Iterator[None]:
@@ -166,6 +178,9 @@ class _Documents:
     def configuration(self, name: str, digest: Digest | None, count: int) -> tuple[Document, list[Digest | None]]:
         """An image's configuration, and the digests of its layers' unpacked bytes where it has them."""
         value = self.read(name, digest)
+        problem = configuration_problem(value)
+        if problem:
+            raise cannot_read(self.path(name), problem)
         with self.shaped(name):
             configuration = dict(value.items())
             rootfs = configuration.get("rootfs")
@@ -185,7 +200,7 @@ class _Documents:
             raise cannot_read(self.path(name), "the image has no such file")
         if size not in (None, there):
             raise cannot_read(self.path(name), f"it has another size than the {size:,} bytes of the image's manifest")
-        return ImageLayer(name, self.path(name), self.members, digest, unpacked)
+        return ImageLayer(name, self.path(name), self.members, there, digest, unpacked)
 
 
 def _digest_parts(digest: Any) -> Digest:
@@ -257,7 +272,7 @@ class _Layout:
         with self._documents.shaped(name):
             for descriptor in index["manifests"]:
                 notes = descriptor.get("annotations") or {}
-                own = _texts([notes[key] for key in (_REF_NAME, _FULL_NAME) if key in notes]) or names
+                own = _texts([notes[key] for key in (REF_NAME, _FULL_NAME) if key in notes]) or names
                 digest = _digest_parts(descriptor["digest"])
                 if _ATTESTATION in notes or (descriptor["digest"], own) in self._visited:
                     continue
@@ -265,6 +280,7 @@ class _Layout:
                 if self._members.size(_blob_in_layout(digest)) is None:
                     continue
                 stated = platform_of(descriptor.get("platform") or {}) or platform
+                require_texts(stated)
                 self._take(descriptor, digest, own, stated, depth)
 
     def _take(
@@ -296,13 +312,14 @@ def _image(
     with documents.shaped(name):
         listed = [(_digest_parts(layer["digest"]), _stated_size(layer)) for layer in manifest["layers"]]
         digest = _digest_parts(manifest["config"]["digest"])
-        if manifest.get("annotations"):
-            note("the image's manifest has annotations, which aren't kept")
+        annotations = dict((manifest.get("annotations") or {}).items())
+        _texts(list(annotations.values()))
     _require_count(documents, len(listed))
     configuration, unpacked = documents.configuration(blob(digest), digest, len(listed))
     return Image(
         [documents.layer(blob(own), own, size, inner) for (own, size), inner in zip(listed, unpacked)],
         with_platform(configuration, stated),
+        annotations={key: text for key, text in annotations.items() if not key.startswith(_BASE)},
     )
 
 
@@ -323,13 +340,14 @@ def _one_of(
     fitting = [choice for choice in by_digest.values() if choice.matches(platform, tag)]
     if len(fitting) == 1:
         return fitting[0]
-    raise _not_one(path, list(map(str, by_digest.values())), len(fitting))
+    asked = " and ".join([f"{word} {value}" for word, value in (("--tag", tag), ("--platform", platform)) if value])
+    raise _not_one(path, list(map(str, by_digest.values())), f"none of them is {asked}" if not fitting else None)
 
 
-def _not_one(path: str, there: list[str], fitting: int) -> ReadFault:
+def _not_one(path: str, there: list[str], none: str | None) -> ReadFault:
     if not there:
         return cannot_read(path, "it has no image whose manifest is there")
-    which = "none of them is meant" if not fitting else "say which by --platform or --tag"
+    which = none or "say which by --platform or --tag"
     more = "; .." if len(there) > _MOST_TOLD else ""
     return cannot_read(path, f"it has {len(there)} images ({'; '.join(there[:_MOST_TOLD])}{more}); {which}")
 

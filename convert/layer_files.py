@@ -15,10 +15,11 @@ from .faults import cannot_read, reading
 from .layer_tree import Folder, Held, LayerTree, whiteout
 from .links import renumber, write_layer
 from .losses import Loss, Losses, ScanLosses
-from .streams import Slice, Source, is_packed, unpacked
+from .places import READ_WHERE_IT_LEADS
+from .progress import Progress
+from .streams import Slice, Source, Watched, is_packed, unpacked
 from .tar_headers import BLOCK_BYTES, TarFault, parse_header
 
-_READ = os.O_RDONLY | os.O_NONBLOCK | os.O_CLOEXEC
 _MOST_CONTENTS = 1 << 34  # bytes of the files of a layer that is small itself
 _MOST_RATIO = 100  # contents beside the size of the file that holds them
 
@@ -35,7 +36,7 @@ class Form(Enum):
 def form_of(path: str) -> Form:
     """The form of the layer at a path, told by its first bytes."""
     with reading(path):
-        file = os.open(path, _READ)
+        file = os.open(path, READ_WHERE_IT_LEADS)
         try:
             kind = os.fstat(file).st_mode
             if stat.S_ISDIR(kind):
@@ -62,7 +63,7 @@ def _is_header(block: bytes) -> bool:
     return len(block) == BLOCK_BYTES
 
 
-@dataclass(frozen=True)
+@dataclass(frozen=True, kw_only=True)
 class FileOptions:
     """Which file of a layer is read, and where its manifest and its contents go."""
 
@@ -89,15 +90,23 @@ class _FileLayer:
         """What it is called in notes."""
         return self.path
 
+    def is_checked(self) -> bool:
+        """No digest of it is known."""
+        return False
+
+    def identity(self) -> str:
+        """Its place."""
+        return self.path
+
     def size(self) -> int:
         """The bytes of the file."""
         return os.fstat(self.file).st_size
 
     @contextlib.contextmanager
-    def archive(self) -> Iterator[Source]:
-        """The bytes of its archive."""
+    def archive(self, progress: Progress) -> Iterator[Source]:
+        """The bytes of its archive. Those that a program makes of a squashfs aren't counted."""
         if self.form is Form.ARCHIVE:
-            with unpacked(Slice(self.file, 0, self.size()), self.path) as stream:
+            with unpacked(Watched(Slice(self.file, 0, self.size()), progress), self.path) as stream:
                 yield stream
             return
         try:
@@ -115,7 +124,7 @@ def scan_file(
     With numbers for files of several names it is of a stack; see `write_layer`.
     """
     with reading(options.layer):
-        file = os.open(options.layer, _READ)
+        file = os.open(options.layer, READ_WHERE_IT_LEADS)
     try:
         layer = _FileLayer(options.layer, form, file)
         tree = _read(layer, options)
@@ -136,7 +145,7 @@ def scan_file(
 def squashfs_tree(path: str, told_as: str, userxattr: bool) -> LayerTree:
     """The entries of a squashfs that was written here, with the digests of its files."""
     with reading(told_as):
-        file = os.open(path, _READ)
+        file = os.open(path, READ_WHERE_IT_LEADS)
     try:
         layer = _FileLayer(told_as, Form.SQUASHFS, file)
         taking = Taking(told_as, False, True, Digester(), Held(), Below(), is_folder=True, userxattr=userxattr)

@@ -6,6 +6,7 @@ from dataclasses import dataclass, field
 from enum import Enum, auto
 
 from . import rules
+from .budgets import Budget, TooMuch
 from .entries import CHAR, DIRECTORY, IS_OPAQUE, NO_ATTRIBUTES, OPAQUE, OVERLAY, SYMLINK, Entry, is_whiteout
 
 _IMPLIED_MODE = 0o755
@@ -21,13 +22,12 @@ class Blocked(Unfit):
     """The way to an entry leads through what is no directory."""
 
 
-class TooMuch(Exception):
-    """The layer can't be stated in a manifest."""
-
-
 @dataclass(slots=True)
 class Folder:
-    """A directory. `is_stated` is false where the archive leaves it out and has only what is in it."""
+    """A directory. `is_stated` is false where the archive leaves it out and has only what is in it.
+
+    `is_anew` says that its layer had something else in its place first.
+    """
 
     entry: Entry
     children: dict[str, "Folder | Entry"] = field(default_factory=dict)
@@ -35,10 +35,11 @@ class Folder:
     is_opaque: bool = False
     is_stated: bool = True
     is_root: bool = False
+    is_anew: bool = False
 
     def hides_all(self) -> bool:
         """Whether nothing that lower layers have in it is shown. The root's mark says nothing."""
-        return self.is_opaque or (not self.is_root and self.entry.attributes.get(OPAQUE) == IS_OPAQUE)
+        return self.is_opaque or self.is_anew or (not self.is_root and self.entry.attributes.get(OPAQUE) == IS_OPAQUE)
 
     def lower(self, under: "Folder | None", name: str) -> "Folder | Entry | None":
         """What lower layers show in this directory by this name, where they show `under` in its place."""
@@ -57,12 +58,14 @@ class Gap(Enum):
     UNKNOWN = auto()  # a directory that neither this layer nor those below state
     OVER_OTHER = auto()  # a directory that isn't stated, above a file or a link
     WHITEOUT = auto()  # a whiteout in no directory
+    ANEW = auto()  # a directory in place of something else of its layer, above a directory
 
 
 class Held:
     """What the layers of an image hold in memory, within bounds."""
 
     def __init__(self) -> None:
+        self.budget = Budget()
         self._entries = 0
         self._bytes = 0
         self._sets: dict[RawAttributes, Attributes] = {}
@@ -96,11 +99,10 @@ class Held:
 
 @dataclass(frozen=True, slots=True)
 class Attributes:
-    """Attributes as an entry has them, how many marks were left out, and their bytes in a manifest."""
+    """Attributes as an entry has them, and how many marks were left out."""
 
     kept: Mapping[str, bytes]
     marks: int
-    text_bytes: int
 
 
 class LayerTree:
@@ -136,7 +138,8 @@ class LayerTree:
         elif before is None and name not in folder.whiteouts:
             self._grow()
         self._weigh(name, entry)
-        folder.children[name] = Folder(entry) if entry.kind == DIRECTORY else entry
+        is_anew = isinstance(before, Entry)
+        folder.children[name] = Folder(entry, is_anew=is_anew) if entry.kind == DIRECTORY else entry
 
     def put_whiteout(self, names: list[str], whiteout: Entry) -> None:
         """Hides what lower layers have at a path."""
@@ -162,6 +165,7 @@ class LayerTree:
                 if name not in folder.whiteouts:
                     self._grow()
                 self._held.weigh(sys.getsizeof(name))
+                self._held.budget.unstated.take()
                 found = folder.children[name] = _implied()
             elif not isinstance(found, Folder):
                 sort = "the symlink" if found.kind == SYMLINK else "what is no directory,"
@@ -205,6 +209,9 @@ class LayerTree:
         inner = [(name, child) for name, child in folder.children.items() if isinstance(child, Folder)]
         for name, child in inner:
             under = folder.lower(below, name)
+            if child.is_anew and isinstance(under, Folder):
+                child.is_opaque = True
+                tell(Gap.ANEW, f"{path}/{name}")
             self._settle(child, under if isinstance(under, Folder) else None, f"{path}/{name}", tell)
             if child.says_nothing(under):
                 self._drop(folder, name, child)
@@ -214,8 +221,9 @@ class LayerTree:
                 tell(Gap.OVER_OTHER, f"{path}/{name}")
         if not folder.is_stated:
             if below is not None:
+                self._held.budget.attributes.take(len(below.entry.attributes))
                 folder.entry = _shown_directory(below.entry)
-            elif folder.children or folder.is_root:
+            elif folder.children and not folder.is_root:
                 tell(Gap.UNKNOWN, path or "/")
 
     def _drop(self, parent: Folder, name: str, folder: Folder) -> None:

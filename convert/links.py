@@ -13,14 +13,15 @@ import re
 import stat
 from collections.abc import Callable, Iterable, Iterator
 from dataclasses import replace
-from json.encoder import encode_basestring
 
 from . import rules
 from .entries import DIRECTORY, Entry, is_whiteout
 from .faults import cannot_read, reading, reason_of
 from .manifests import write_manifest
 from .outputs import is_replaced, write_text
+from .places import READ_WHERE_IT_LEADS
 from .progress import counted, note_path
+from .texts import quoted
 
 SUFFIX = ".links"
 _HEAD = '{"layer-links":1,'
@@ -28,7 +29,6 @@ _OF = re.compile(r'"manifest":"([0-9a-f]{64})",')
 _NAMES = '"names":{'
 _NAME = re.compile(r'("(?:[^"\\]|\\.)*"):([1-9][0-9]{0,7})([,}])', re.DOTALL)
 _PIECE = 1 << 16  # letters; more than a name takes, each of its bytes escaped
-_READ = os.O_RDONLY | os.O_NONBLOCK | os.O_CLOEXEC
 
 
 class NotTaken(Exception):
@@ -69,7 +69,7 @@ class LinkNames:
             if self._counts.get(entry.link, 0) < 2:
                 continue
             number = numbers.setdefault(entry.link, len(numbers) + 1)
-            text = f"{before}{encode_basestring(entry.path)}:{number}"
+            text = f"{before}{quoted(entry.path)}:{number}"
             left -= len(text.encode())
             if left < 0:
                 note_path(path, f"cut at {rules.MAX_MANIFEST_BYTES:,} bytes; names that follow are files of their own")
@@ -199,7 +199,7 @@ def _is_same(entry: Entry, first: Entry) -> bool:
 def _names(path: str, manifest: str | None) -> Iterator[tuple[str, int]]:
     """The names and numbers in a file of links, which is of this digest of a manifest, or of none."""
     try:
-        file = os.open(path, _READ)
+        file = os.open(path, READ_WHERE_IT_LEADS)
         with open(file, encoding="utf-8", newline="") as text:
             status = os.fstat(file)
             if not stat.S_ISREG(status.st_mode):

@@ -22,6 +22,11 @@ class Loss(Enum):
         "entry with an access list (SCHILY.acl.*), left out",
         "entries with access lists (SCHILY.acl.*), left out",
     )
+    LABEL = (
+        "entry with a label of SELinux (RHT.security.selinux), left out",
+        "entries with labels of SELinux (RHT.security.selinux), left out",
+    )
+    RECORD = ("entry with PAX records that aren't read", "entries with PAX records that aren't read")
     AUFS = ("entry of aufs' own (.wh..wh.*) left out", "entries of aufs' own (.wh..wh.*) left out")
     WHITEOUT = (
         "whiteout left out that hides nothing, as there is no directory for it",
@@ -44,6 +49,10 @@ class Loss(Enum):
     UNKNOWN = (
         "directory that no layer states, now of mode 0755, owner 0 and time 0",
         "directories that no layer states, now of mode 0755, owner 0 and time 0",
+    )
+    ANEW = (
+        "directory that its layer has in place of a file hides that of the layers below",
+        "directories that their layer has in place of files hide those of the layers below",
     )
     OVER_OTHER = (
         "directory left out by the layer hides a file or a link of those below",

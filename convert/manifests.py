@@ -8,13 +8,13 @@ import os
 import re
 from collections.abc import Iterable, Iterator, Mapping
 from dataclasses import dataclass
-from json.encoder import encode_basestring
 from typing import Any, BinaryIO, NoReturn, TextIO
 
 from . import rules
-from .entries import BLOCK, CHAR, DIRECTORY, FILE, NO_ATTRIBUTES, SYMLINK, Entry
+from .entries import BLOCK, CHAR, DIRECTORY, ESCAPED, FILE, NO_ATTRIBUTES, SYMLINK, Entry
 from .faults import cannot_read, reading
 from .outputs import write_text
+from .texts import quoted
 from .times import ONE_SECOND
 
 _BASE = frozenset(["path", "kind", "mode", "uid", "gid", "mtime", "xattrs"])
@@ -235,7 +235,7 @@ def _attributes_of(value: Any) -> dict[str, bytes] | None:
         if not isinstance(digits, str) or not _HEXADECIMAL.match(digits):
             return None
         problem = rules.attribute_problem(name)
-        if problem and not name.startswith(rules.ESCAPED):
+        if problem and not name.startswith(ESCAPED):
             return None
         attributes[name] = bytes.fromhex(digits)
     return attributes
@@ -290,10 +290,10 @@ def _entry_text(entry: Entry) -> str:
     blob = f'"blob":"{entry.blob}",' if entry.blob is not None else ""
     device = f'"major":{entry.major},"minor":{entry.minor},' if entry.kind in (CHAR, BLOCK) else ""
     size = f'"size":{entry.size},' if entry.kind == FILE else ""
-    target = f'"target":{encode_basestring(entry.target)},' if entry.kind == SYMLINK else ""
+    target = f'"target":{quoted(entry.target)},' if entry.kind == SYMLINK else ""
     return (
         f'{{{blob}"gid":{entry.gid},"kind":"{entry.kind}",{device}"mode":{entry.mode},'
-        f'"mtime":{seconds},"mtime-nsec":{below},"path":{encode_basestring(entry.path)},{size}{target}'
+        f'"mtime":{seconds},"mtime-nsec":{below},"path":{quoted(entry.path)},{size}{target}'
         f'"uid":{entry.uid},"xattrs":{_attributes_text(entry)}}}'
     )
 
@@ -302,7 +302,7 @@ def _attributes_text(entry: Entry) -> str:
     if not entry.attributes:
         return "{}"
     parts = (
-        f'{encode_basestring(name)}:"{entry.attributes[name].hex()}"'
+        f'{quoted(name)}:"{entry.attributes[name].hex()}"'
         for name in sorted(entry.attributes)
     )
     return "{" + ",".join(parts) + "}"

@@ -6,11 +6,13 @@ import os
 import posixpath
 import stat
 import tempfile
-from collections.abc import Iterator
+from collections.abc import Hashable, Iterator
 from typing import Protocol
 
+from .budgets import Budget, TooMuch
 from .contents import PIECE, write_all
 from .faults import cannot_read, reading, writing
+from .places import READ_WHERE_IT_LEADS
 from .streams import HEAD_BYTES, SeekingSlice, Slice, Source, is_packed, unpacked
 from .tar_headers import HARD_LINK, REGULAR_TYPES, SYMLINK, TarFault
 from .tar_reader import TarReader
@@ -18,7 +20,6 @@ from .tar_reader import TarReader
 STANDARD_INPUT = "-"
 _MAX_MEMBERS = 100_000
 _MAX_LINKS = 8
-_READ = os.O_RDONLY | os.O_NONBLOCK | os.O_CLOEXEC
 
 
 class Members(Protocol):
@@ -28,6 +29,9 @@ class Members(Protocol):
 
     def size(self, name: str) -> int | None:
         """The size of a file, or nothing where there is none of this name."""
+
+    def identity(self, name: str) -> Hashable:
+        """The same for two names of one file."""
 
     def opened(self, name: str) -> contextlib.AbstractContextManager[Slice]:
         """The bytes of a file while it is open; fails where there is none."""
@@ -94,6 +98,11 @@ class _Folder:
         way = self._way(name)
         return None if way is None else os.stat(way).st_size
 
+    def identity(self, name: str) -> Hashable:
+        """The file's place in its file system."""
+        status = os.stat(self._way(name) or "")
+        return status.st_dev, status.st_ino
+
     @contextlib.contextmanager
     def opened(self, name: str) -> Iterator[Slice]:
         """The bytes of a file."""
@@ -101,7 +110,7 @@ class _Folder:
         if way is None:
             raise cannot_read(f"{self.path}/{name}", "the image has no such file")
         with reading(f"{self.path}/{name}"):
-            file = os.open(way, _READ)
+            file = os.open(way, READ_WHERE_IT_LEADS)
         try:
             with reading(f"{self.path}/{name}"):
                 size = os.fstat(file).st_size
@@ -131,7 +140,7 @@ class _Archive:
 
     def _find(self, size: int) -> None:
         source = SeekingSlice(self._file, 0, size)
-        archive = TarReader(source)
+        archive = TarReader(source, Budget())
         try:
             for header in archive:
                 name = _inner(os.fsdecode(header.name))
@@ -149,11 +158,17 @@ class _Archive:
                     raise TarFault(f"it has over {_MAX_MEMBERS:,} files")
         except TarFault as problem:
             raise cannot_read(self.path, f"it is no tar archive: {problem}") from None
+        except TooMuch as problem:
+            raise cannot_read(self.path, str(problem)) from None
 
     def size(self, name: str) -> int | None:
         """The size of a file."""
         place = self._place(name)
         return None if place is None else place[1]
+
+    def identity(self, name: str) -> Hashable:
+        """Where its bytes are."""
+        return self._place(name)
 
     @contextlib.contextmanager
     def opened(self, name: str) -> Iterator[Slice]:

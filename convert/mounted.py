@@ -9,12 +9,11 @@ from .attributes import can_read_trusted, read_attributes
 from .contents import digest_and_size
 from .entries import BLOCK, CHAR, FILE, OVERLAY, SYMLINK
 from .faults import cannot_read, reading, reason_of
-from .places import open_root
+from .places import READ, open_root
 from .progress import Progress, note
 from .texts import escaped
 from .walks import Found, walk
 
-_READ = os.O_RDONLY | os.O_NOFOLLOW | os.O_NONBLOCK | os.O_CLOEXEC
 _NONE = "-"
 
 
@@ -69,7 +68,7 @@ def _what(found: Found) -> str:
         return f"{os.major(found.status.st_rdev)}:{os.minor(found.status.st_rdev)}"
     if found.kind != FILE or found.status.st_size == 0:
         return _NONE
-    file = os.open(found.name, _READ, dir_fd=found.folder)
+    file = os.open(found.name, READ, dir_fd=found.folder)
     try:
         return digest_and_size(file)[0]
     finally:

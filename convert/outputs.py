@@ -4,9 +4,12 @@ import contextlib
 import os
 import stat
 import sys
+import tempfile
 from collections.abc import Callable, Iterable, Iterator
+from typing import IO, TextIO
 
-from .faults import cannot_write, reason_of, writing
+from .contents import PIECE
+from .faults import cannot_write, reason_of, told_as, writing
 from .stages import Stage, remove, tidy, told
 
 STANDARD_OUTPUT = "-"
@@ -44,7 +47,28 @@ def write_file(path: str, fill: Callable[[Write], None], mode: int = _USUAL_MODE
         if place is None:
             _write_through(path, fill)
         else:
-            _replace(place, fill, mode)
+            _replace(place, lambda file: fill(file.write), mode)
+
+
+def write_file_in_place(path: str, beside: str, fill: Callable[[IO[bytes]], None], mode: int) -> None:
+    """The same of a file that is filled here and there.
+
+    What can't be written so gets its bytes at the end, from a file without a name that is made beside a path.
+    An error of the system is one of writing.
+    """
+    place = _place(path)
+    if place is not None:
+        _replace(place, fill, mode)
+        return
+    with tempfile.TemporaryFile(dir=os.path.dirname(beside) or ".") as file:
+        fill(file)
+        file.seek(0)
+        _write_through(path, lambda write: _copy(file, write))
+
+
+def _copy(file: IO[bytes], write: Write) -> None:
+    while piece := file.read(PIECE):
+        write(piece)
 
 
 def is_replaced(path: str) -> bool:
@@ -76,31 +100,31 @@ def _is_standard_output(status: os.stat_result) -> bool:
 
 def _write_through(path: str, fill: Callable[[Write], None]) -> None:
     if path == STANDARD_OUTPUT or _is_standard_output(os.stat(path)):
-        with standard_output() as write:
-            fill(write)
+        with standard_output() as out:
+            fill(out.buffer.write)
     else:
         with open(os.open(path, os.O_WRONLY | os.O_CLOEXEC | os.O_NOCTTY), "wb", buffering=_AT_ONCE) as file:
             fill(file.write)
 
 
 @contextlib.contextmanager
-def standard_output() -> Iterator[Write]:
-    """Writes to standard output to its end, or tells that this can't be done."""
+def standard_output() -> Iterator[TextIO]:
+    """Standard output, written to its end, or a fault that tells that this can't be done."""
     try:
-        yield sys.stdout.buffer.write
-        sys.stdout.buffer.flush()
+        yield sys.stdout
+        sys.stdout.flush()
     except OSError as error:
         os.dup2(os.open(os.devnull, os.O_WRONLY), sys.stdout.fileno())
         raise cannot_write("standard output", reason_of(error)) from None
 
 
-def _replace(place: str, fill: Callable[[Write], None], mode: int) -> None:
+def _replace(place: str, fill: Callable[[IO[bytes]], None], mode: int) -> None:
     folder = os.path.dirname(place)
     tidy(folder)
     stage = Stage(folder, mode)
     try:
-        with open(stage.file, "wb", buffering=_AT_ONCE, closefd=False) as file:
-            fill(file.write)
+        with open(stage.file, "w+b", buffering=_AT_ONCE, closefd=False) as file:
+            fill(file)
         os.rename(stage.path, place)
     finally:
         stage.close()
@@ -120,7 +144,8 @@ def new_folder(path: str) -> Iterator[str]:
             if not was_there:
                 os.mkdir(path, 0o700)
             stage = Stage(path)
-        yield stage.path
+        with told_as(stage.path, path):
+            yield stage.path
         with writing(path):
             for name in sorted(os.listdir(stage.path)):
                 moved.append(os.path.join(path, name))
@@ -138,14 +163,15 @@ def new_folder(path: str) -> Iterator[str]:
 
 
 @contextlib.contextmanager
-def passing_folder(path: str) -> Iterator[str]:
+def passing_folder(path: str, told_path: str | None = None) -> Iterator[str]:
     """A stage beside a path, a folder that is taken away at the end whatever happens."""
     folder = os.path.dirname(path)
-    with writing(path):
+    with writing(told_path or path):
         tidy(folder)
         stage = Stage(folder)
     try:
-        yield stage.path
+        with told_as(stage.path, told_path or path):
+            yield stage.path
     finally:
         stage.close()
 

@@ -5,7 +5,7 @@ import json
 import os
 from collections.abc import Callable, Iterator
 from dataclasses import dataclass, replace
-from typing import Any
+from typing import IO, Any
 
 from . import rules
 from . import tar_headers as tar
@@ -13,19 +13,21 @@ from .archive_names import OPAQUE_NAME, WHITEOUT_PREFIX
 from .blobs import blob_path, opened_blob
 from .compression import NONE, media_type, packing, require_program
 from .configuration import (
-    USUAL_PLATFORM, Document, for_layers, platform_of, platform_text, read_configuration,
+    USUAL_PLATFORM, Document, for_layers, platform_of, platform_text, read_annotations, read_configuration,
 )
 from .contents import PIECE, digest_and_size
 from .entries import (
-    BLOCK, CHAR, DIRECTORY, FIFO, FILE, IS_OPAQUE, OPAQUE, SOCKET, SYMLINK, Entry, drop_host_marks, is_opaque,
+    BLOCK, CHAR, DIRECTORY, FIFO, FILE, IS_OPAQUE, LINK_MODE, OPAQUE, SOCKET, SYMLINK, Entry, drop_host_marks, is_opaque,
     is_whiteout, needs_lower_layers,
 )
 from .faults import UsageFault, cannot_read, reading, writing
+from .image_files import BLOBS, ArchiveFiles, FolderFiles, ImageFiles
+from .images import REF_NAME
 from .links import FirstNames, take_links
 from .manifests import read_manifest
-from .outputs import new_folder, write_file
+from .outputs import new_folder, write_file_in_place
 from .progress import Progress, counted, note, note_path
-from .stages import Stage
+from .room import least_archive, require_room
 from .tar_headers import Header
 from .targets import Form, Target
 from .tar_writer import TarWriter
@@ -34,19 +36,16 @@ _TYPES = {
     DIRECTORY: tar.DIRECTORY, FILE: b"0", SYMLINK: tar.SYMLINK, CHAR: tar.CHAR, BLOCK: tar.BLOCK,
     FIFO: tar.FIFO,
 }
-_LINK_MODE = 0o777
 _IMAGE_MODE = 0o600  # an image holds what the files hold, secret ones too
 _CONFIG_TYPE = "application/vnd.oci.image.config.v1+json"
 _MANIFEST_TYPE = "application/vnd.oci.image.manifest.v1+json"
 _INDEX_TYPE = "application/vnd.oci.image.index.v1+json"
 _LAYOUT = {"imageLayoutVersion": "1.0.0"}
-_REF_NAME = "org.opencontainers.image.ref.name"
-_BLOBS = "blobs/sha256"
 _SAVED = "manifest.json"  # of docker's archives, and of skopeo's dir:
 _COPY = b"Directory Transport Version: 1.1\n"
 
 
-@dataclass(frozen=True)
+@dataclass(frozen=True, kw_only=True)
 class PackOptions:
     """What the words of `pack` say."""
 
@@ -59,6 +58,7 @@ class PackOptions:
     config: str | None = None
     compress: str = NONE
     links: str | None = None
+    annotations: str | None = None
 
 
 @dataclass(frozen=True)
@@ -76,18 +76,23 @@ def pack(options: PackOptions) -> None:
         raise UsageFault(f"layers must be 1 to {rules.MAX_LAYERS}")
     require_program(options.compress)
     given = _given_configuration(options)
+    annotations = read_annotations(options.annotations) if options.annotations is not None else {}
     layers = [list(_packable(path, options)) for path in reversed(options.layers)]
-    if options.out.form is not Form.ARCHIVE:
-        with new_folder(options.out.path) as folder:
-            _write_image(folder, layers, given, options)
+    out = options.out
+    if options.compress == NONE:
+        require_room(out.told, out.place, sum(map(least_archive, layers)))
+    if out.form is Form.ARCHIVE:
+
+        def fill(file: IO[bytes]) -> None:
+            files = ArchiveFiles(file)
+            _write_image(files, layers, (given, annotations), options)
+            files.end()
+
+        with writing(out.told):
+            write_file_in_place(out.path, out.place, fill, _IMAGE_MODE)
         return
-    with writing(options.out.told):
-        stage = Stage(os.path.dirname(options.out.place))
-    try:
-        _write_image(stage.path, layers, given, options)
-        write_file(options.out.path, lambda write: _write_image_archive(stage.path, write), _IMAGE_MODE)
-    finally:
-        stage.close()
+    with new_folder(out.path) as folder, writing(out.told):
+        _write_image(FolderFiles(folder, _blob_name(out, "")), layers, (given, annotations), options)
 
 
 def _given_configuration(options: PackOptions) -> Document:
@@ -135,64 +140,69 @@ def _problem(entry: Entry) -> str | None:
         return "archives have no sockets"
     if entry.path.rpartition("/")[2].startswith(WHITEOUT_PREFIX):
         return f"a name that begins with {WHITEOUT_PREFIX} is a whiteout in an image"
-    if entry.kind == SYMLINK and entry.mode != _LINK_MODE:
+    if entry.kind == SYMLINK and entry.mode != LINK_MODE:
         return f"a symlink of mode {entry.mode:04o}: Linux has them of mode 0777 alone"
     if any("=" in name for name in entry.attributes):
         return "the name of an attribute holds ="
     return None
 
 
-def _write_image(folder: str, layers: list[list[Entry]], given: Document, options: PackOptions) -> None:
-    """The files of the image; nothing in them depends on when or where they are made."""
-    blobs = folder if options.out.form is Form.COPY else f"{folder}/{_BLOBS}"
-    with writing(options.out.told):
-        os.makedirs(blobs, exist_ok=True)
-        packed = [_write_layer(blobs, layer, options) for layer in layers]
-        configuration = for_layers(given, options.platform, [layer.unpacked_digest for layer in packed])
-        manifest = {
-            "schemaVersion": 2, "mediaType": _MANIFEST_TYPE,
-            "config": _put(blobs, _CONFIG_TYPE, configuration),
-            "layers": [_descriptor(media_type(options.compress), layer.digest, layer.size) for layer in packed],
-        }
-        if options.out.form is Form.COPY:
-            _write_copy(folder, manifest, options)
-        else:
-            _write_layout(folder, manifest, platform_of(configuration), options)
+def _write_image(
+    files: ImageFiles, layers: list[list[Entry]], given: tuple[Document, Document], options: PackOptions
+) -> None:
+    """The files of the image, with what is given as its configuration and annotations.
+
+    Nothing in them depends on when or where they are made.
+    """
+    packed = [_write_layer(files, layer, options) for layer in layers]
+    configuration = for_layers(given[0], options.platform, [layer.unpacked_digest for layer in packed])
+    manifest = {
+        "schemaVersion": 2, "mediaType": _MANIFEST_TYPE,
+        "config": _put(files, options.out, _CONFIG_TYPE, configuration),
+        "layers": [_descriptor(media_type(options.compress), layer.digest, layer.size) for layer in packed],
+    }
+    if given[1]:
+        manifest["annotations"] = given[1]
+    if options.out.form is Form.COPY:
+        _write_copy(files, manifest, options)
+    else:
+        _write_layout(files, manifest, platform_of(configuration), options)
 
 
-def _write_copy(folder: str, manifest: Document, options: PackOptions) -> None:
+def _write_copy(files: ImageFiles, manifest: Document, options: PackOptions) -> None:
     """What a folder of skopeo's `dir:` has beside the blobs."""
     if options.tag is not None:
         note_path(options.out.told, f"a folder dir: has no place for the name {options.tag}")
-    _write_bytes(f"{folder}/{_SAVED}", _json(manifest))
-    _write_bytes(f"{folder}/version", _COPY)
+    files.put(_SAVED, _json(manifest))
+    files.put("version", _COPY)
 
 
-def _write_layout(folder: str, manifest: Document, platform: Document, options: PackOptions) -> None:
+def _write_layout(files: ImageFiles, manifest: Document, platform: Document, options: PackOptions) -> None:
     """What an OCI image layout has beside the blobs of layers, and an archive of it for docker."""
-    listed = _put(f"{folder}/{_BLOBS}", _MANIFEST_TYPE, manifest) | {"platform": platform}
+    listed = _put(files, options.out, _MANIFEST_TYPE, manifest) | {"platform": platform}
     if options.tag is not None:
-        listed["annotations"] = {_REF_NAME: options.tag}
+        listed["annotations"] = {REF_NAME: options.tag}
     index = {"schemaVersion": 2, "mediaType": _INDEX_TYPE, "manifests": [listed]}
-    _write_bytes(f"{folder}/index.json", _json(index))
-    _write_bytes(f"{folder}/oci-layout", _json(_LAYOUT))
+    files.put("index.json", _json(index))
     if options.out.form is Form.ARCHIVE:
-        saved = {
-            "Config": _blob_name(manifest["config"]), "RepoTags": options.out.docker_names(options.tag) or None,
-            "Layers": [_blob_name(layer) for layer in manifest["layers"]],
-        }
-        _write_bytes(f"{folder}/{_SAVED}", _json([saved]))
+        parts = [manifest["config"], *manifest["layers"]]
+        config, *layers = (_blob_name(options.out, part["digest"].partition(":")[2]) for part in parts)
+        saved = {"Config": config, "RepoTags": options.out.docker_names(options.tag) or None, "Layers": layers}
+        files.put(_SAVED, _json([saved]))
+    files.put("oci-layout", _json(_LAYOUT))
 
 
-def _blob_name(descriptor: Document) -> str:
-    return f"{_BLOBS}/{descriptor['digest'].partition(':')[2]}"
+def _blob_name(out: Target, digest: str) -> str:
+    """Where an image has a blob."""
+    return digest if out.form is Form.COPY else f"{BLOBS}/{digest}"
 
 
-def _write_layer(blobs: str, entries: list[Entry], options: PackOptions) -> _Packed:
-    """Writes a layer's archive under a name that waits for its digest."""
-    path = f"{blobs}/layer"
-    unpacked = hashlib.sha256()
-    with open(path, "x+b", buffering=PIECE) as file:
+def _write_layer(files: ImageFiles, entries: list[Entry], options: PackOptions) -> _Packed:
+    """Writes a layer's archive."""
+    packed: list[_Packed] = []
+
+    def fill(file: IO[bytes]) -> str:
+        begin, unpacked = file.tell(), hashlib.sha256()
         with packing(options.compress, file) as write:
 
             def take(piece: bytes) -> None:
@@ -200,12 +210,14 @@ def _write_layer(blobs: str, entries: list[Entry], options: PackOptions) -> _Pac
                 write(piece)
 
             _write_archive(entries, options.blobs, take)
-        if options.compress == NONE:
-            digest, size = unpacked.hexdigest(), file.tell()
-        else:
-            digest, size = digest_and_size(file.fileno())
-    os.rename(path, f"{blobs}/{digest}")
-    return _Packed(digest, size, unpacked.hexdigest())
+        digest, size = unpacked.hexdigest(), file.seek(0, os.SEEK_END) - begin
+        if options.compress != NONE:
+            digest, size = digest_and_size(file.fileno(), begin)
+        packed.append(_Packed(digest, size, unpacked.hexdigest()))
+        return digest
+
+    files.blob(fill)
+    return packed[0]
 
 
 def _write_archive(entries: list[Entry], blobs: str, write: Callable[[bytes], object]) -> None:
@@ -274,30 +286,9 @@ def _descriptor(kind: str, digest: str, size: int) -> dict[str, Any]:
     return {"mediaType": kind, "digest": f"sha256:{digest}", "size": size}
 
 
-def _put(blobs: str, kind: str, document: Any) -> dict[str, Any]:
+def _put(files: ImageFiles, out: Target, kind: str, document: Any) -> dict[str, Any]:
     """Writes a document as a blob of the image; gives its descriptor."""
     data = _json(document)
     digest = hashlib.sha256(data).hexdigest()
-    _write_bytes(f"{blobs}/{digest}", data)
+    files.put(_blob_name(out, digest), data)
     return _descriptor(kind, digest, len(data))
-
-
-def _write_bytes(path: str, data: bytes) -> None:
-    with open(path, "wb") as file:
-        file.write(data)
-
-
-def _write_image_archive(folder: str, write: Callable[[bytes], object]) -> None:
-    """The layout in a folder as one archive, in the order of its names."""
-    archive = TarWriter(write)
-    for name in ("blobs/", f"{_BLOBS}/"):
-        archive.entry(Header(name.encode(), tar.DIRECTORY, 0o755, 0, 0, 0, 0, b"", 0, 0))
-    blobs = [f"{_BLOBS}/{name}" for name in sorted(os.listdir(f"{folder}/{_BLOBS}"))]
-    for name in [*blobs, "index.json", _SAVED, "oci-layout"]:
-        with open(f"{folder}/{name}", "rb", buffering=0) as file:
-            size = os.fstat(file.fileno()).st_size
-            archive.entry(Header(name.encode(), b"0", 0o644, 0, 0, size, 0, b"", 0, 0))
-            while piece := file.read(PIECE):
-                archive.data(piece)
-            archive.end_data(size)
-    archive.end()

@@ -13,11 +13,15 @@ class Progress:
 
     def __init__(self, doing: str, total: int | None = None) -> None:
         self._doing = printable(doing)
-        self._total = "" if total is None else f" of {total:,}"
         self._count = 0
+        self.expect(total)
         self._is_shown = sys.stderr.isatty()
         self._next = time.monotonic() + _EVERY
         self._width = 0
+
+    def expect(self, total: int | None) -> None:
+        """Says how far it counts, where that is known."""
+        self._total = "" if total is None else f" of {total:,}"
 
     def step(self, by: int = 1) -> None:
         """Counts on, and now and then says so."""

@@ -14,15 +14,14 @@ from .faults import cannot_read, reading, reason_of
 from .layer_files import FileOptions, Form, form_of, scan_file
 from .links import write_layer
 from .losses import ScanLosses
-from .places import Chain, open_root
+from .places import READ, Chain, open_root
 from .progress import Progress, note_path
 from .shares import give_blobs
 from .walks import Found, walk
 
-_READ = os.O_RDONLY | os.O_NOFOLLOW | os.O_NONBLOCK | os.O_CLOEXEC
 
 
-@dataclass(frozen=True)
+@dataclass(frozen=True, kw_only=True)
 class ScanOptions:
     """What the words of `scan` say. Without a folder of blobs contents are digested and not copied."""
 
@@ -44,7 +43,8 @@ def scan(options: ScanOptions) -> None:
         scan_folder(options, losses)
     else:
         scan_file(FileOptions(
-            options.layer, options.out, options.blobs, options.userxattr, options.skip_unsupported
+            layer=options.layer, out=options.out, blobs=options.blobs, userxattr=options.userxattr,
+            skip_unsupported=options.skip_unsupported,
         ), form, losses)
     losses.tell()
 
@@ -131,8 +131,8 @@ class Survey:
         if self._options.userxattr:
             try:
                 attributes = marks_from_user(attributes)
-            except Unstated as problem:
-                raise cannot_read(self._path(found), problem.text) from None
+            except Unstated as fault:
+                raise cannot_read(self._path(found), fault.text) from None
         for name in list(attributes):
             problem = rules.attribute_problem(name)
             if problem:
@@ -187,7 +187,7 @@ def _stored(folder: str, chain: Chain, writer: Writer, entry: Entry) -> str:
     *names, name = entry.path[1:].split("/")
     file = -1
     try:
-        file = os.open(name, _READ, dir_fd=chain.folder(names))
+        file = os.open(name, READ, dir_fd=chain.folder(names))
         is_regular = stat.S_ISREG(os.fstat(file).st_mode)
         digest = writer.put(file, entry.size) if is_regular else None
     except OSError as error:

@@ -51,8 +51,8 @@ def per_cent(part: int, whole: int) -> str:
 def not_shown_text(one: NotShown) -> str:
     """Why a file's contents count as not shown."""
     if one.is_repeated:
-        return f"as in {one.by}"
-    return "never led to" if one.by is None else f"hidden by {one.by}"
+        return f"as in layer {one.by}"
+    return "never led to" if one.by is None else f"hidden by layer {one.by}"
 
 
 def table(sizes: Sizes, origins: Sequence[Origin], exact: bool) -> Iterator[str]:

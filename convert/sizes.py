@@ -10,18 +10,18 @@ from typing import Any
 
 from . import stacks
 from .configuration import Document
-from .faults import FAULTY, Fault
+from .faults import FAULTY, Fault, writing
 from .images import image_place, opened_image
-from .layer_files import Form, form_of
 from .layer_sizes import Sizes, sizes_of
 from .outputs import STANDARD_OUTPUT, passing_folder
-from .program import require_program, run_program
-from .scan import ScanOptions, scan
+from .program import require_program, run_program, words_of
 from .size_page import write_page
 from .size_texts import Origin, json_text, per_cent, table
+from .stack_layers import StackOptions, read_stack, require_ordinary
 from .unpack import UnpackOptions, unpack_opened
 
 _SHOWN = "show"
+_STACK = "stack"
 _WORK = "sizes"
 
 
@@ -36,13 +36,12 @@ class SizesOptions:
     """What the words of `sizes` say: an image, or the layers of a stack, the topmost first."""
 
     image: str | None = None
-    stack: Sequence[str] = ()
+    stack: StackOptions | None = None
     data_layers: int = 0
     platform: str | None = None
     tag: str | None = None
     skip_unsupported: bool = False
     overlay_marks: bool = False
-    userxattr: bool = False
     as_json: bool = False
     exact: bool = False
     page: str | None = None
@@ -51,21 +50,19 @@ class SizesOptions:
 
 def sizes(options: SizesOptions, tell: Callable[[Iterable[str]], None]) -> None:
     """Tells the sizes, and fails where more than may be isn't shown."""
+    if options.stack is not None:
+        require_ordinary(len(options.stack.layers), options.data_layers)
     program = require_program()
     with passing_folder(os.path.join(tempfile.gettempdir(), _WORK)) as folder:
-        given = _given_stack(options, folder) if options.image is None else _given_image(options, options.image, folder)
+        given = _given_image(options, folder) if options.stack is None else _given_stack(options.stack, folder)
         report = f"{folder}/{_SHOWN}"
-        run_program(program, _show_words(given.layers, options.data_layers), report, sys.stderr)
+        run_program(program, words_of("show", given.layers, "", "", options.data_layers), report, sys.stderr)
         found = sizes_of(given.layers, options.data_layers, report)
     if options.page is not None:
         write_page(options.page, found, given.origins, given.name)
     if options.page != STANDARD_OUTPUT:
         tell(json_text(found, given.origins) if options.as_json else table(found, given.origins, options.exact))
     _require_shown(found, options.fail_over)
-
-
-def _show_words(layers: Sequence[str], data_layers: int) -> list[str]:
-    return ["show", *(["--data-layers", str(data_layers)] if data_layers else []), *layers]
 
 
 @dataclass(frozen=True)
@@ -77,9 +74,10 @@ class _Given:
     origins: list[Origin]
 
 
-def _given_image(options: SizesOptions, word: str, folder: str) -> _Given:
+def _given_image(options: SizesOptions, folder: str) -> _Given:
+    word = str(options.image)
     path, tag = image_place(word, options.tag)
-    out = f"{folder}/stack"
+    out = f"{folder}/{_STACK}"
     with opened_image(path, options.platform, tag) as image:
         unpack_opened(UnpackOptions(
             image=path, out=out, skip_unsupported=options.skip_unsupported, overlay_marks=options.overlay_marks,
@@ -87,22 +85,18 @@ def _given_image(options: SizesOptions, word: str, folder: str) -> _Given:
         ), image)
         made = made_by(image.configuration, len(image.layers))
         origins = [Origin(layer.packed_size(), text) for layer, text in zip(image.layers, made)]
-    return _Given(tag or next(iter(image.names), word), stacks.layer_paths(out, len(origins)), origins[::-1])
+    name = next(iter(image.names), word)
+    return _Given(tag or name, stacks.layer_paths(out, len(origins)), origins[::-1])
 
 
-def _given_stack(options: SizesOptions, folder: str) -> _Given:
-    """The layers of a stack, of which all that aren't manifests are scanned."""
-    layers = []
-    for number, layer in enumerate(options.stack):
-        if form_of(layer) is not Form.MANIFEST:
-            manifest = f"{folder}/{stacks.layer_name(number)}"
-            scan(ScanOptions(
-                layer=layer, out=manifest, blobs=None, userxattr=options.userxattr,
-                skip_unsupported=options.skip_unsupported,
-            ))
-            layer = manifest
-        layers.append(os.path.abspath(layer))
-    return _Given(f"a stack of {len(layers)}", layers, [Origin(made_by=layer) for layer in options.stack])
+def _given_stack(options: StackOptions, folder: str) -> _Given:
+    out = f"{folder}/{_STACK}"
+    with writing(out):
+        os.mkdir(out)
+    read_stack(options, out)
+    count = len(options.layers)
+    origins = [Origin(made_by=layer) for layer in options.layers]
+    return _Given(f"a stack of {count}", stacks.layer_paths(out, count), origins)
 
 
 def made_by(configuration: Document, count: int) -> list[str | None]:

@@ -14,10 +14,11 @@ from .layer_tree import Folder
 from .links import renumber, take_links, write_layer
 from .losses import ScanLosses
 from .manifests import read_manifest
+from .progress import counted
 from .scan import ScanOptions, scan_folder
 
 
-@dataclass(frozen=True)
+@dataclass(frozen=True, kw_only=True)
 class StackOptions:
     """Which layers are read, the topmost first, and how. `blobs` has the contents of those that are manifests."""
 
@@ -51,8 +52,9 @@ def _read(
     blobs = None if options.digests_only else f"{out}/{stacks.BLOBS}"
     if form is Form.FOLDER:
         return tree_of(scan_folder(ScanOptions(
-            layer, manifest, blobs, options.userxattr, options.cross_file_systems, options.skip_unsupported,
-            options.workers,
+            layer=layer, out=manifest, blobs=blobs, userxattr=options.userxattr,
+            cross_file_systems=options.cross_file_systems, skip_unsupported=options.skip_unsupported,
+            workers=options.workers,
         ), losses, links))
     if form is Form.MANIFEST:
         entries = read_manifest(layer)
@@ -64,7 +66,8 @@ def _read(
         return tree_of(entries)
     is_lowest = number == len(options.layers) - 1
     return scan_file(FileOptions(
-        layer, manifest, blobs, options.userxattr, options.skip_unsupported, not is_lowest
+        layer=layer, out=manifest, blobs=blobs, userxattr=options.userxattr,
+        skip_unsupported=options.skip_unsupported, hides_sockets=not is_lowest,
     ), form, losses, links)
 
 
@@ -78,6 +81,12 @@ def require_forms(options: StackOptions) -> list[Form]:
             f"{options.layers[forms.index(Form.MANIFEST)]} is a manifest: --blobs must name the folder of its contents"
         )
     return forms
+
+
+def require_ordinary(count: int, data_layers: int) -> None:
+    """Refuses so many data-only layers of a stack that none is left."""
+    if data_layers >= count:
+        raise UsageFault(f"of {counted(count, 'layer', 'layers')} {data_layers} can't be data-only")
 
 
 def _copy_contents(entries: Iterable[Entry], given: str, blobs: str) -> None:

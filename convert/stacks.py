@@ -2,6 +2,7 @@
 
 BLOBS = "blobs"
 CONFIG = "config.json"
+ANNOTATIONS = "annotations.json"
 SHOWN_LINKS = "shown.links"
 
 

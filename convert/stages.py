@@ -5,8 +5,11 @@ import fcntl
 import os
 import secrets
 import shutil
+import signal
 import stat
+import threading
 import time
+from collections.abc import Iterator
 
 from .progress import note
 
@@ -32,6 +35,24 @@ class Stage:
         if self.file >= 0:
             os.close(self.file)
             self.file = -1
+
+
+@contextlib.contextmanager
+def removing(*paths: str) -> Iterator[None]:
+    """Takes files and folders away beside other work, which they would hold up at its end.
+
+    No signal comes to the thread that does it, so that the work can make them wait.
+    """
+    thread = threading.Thread(target=lambda: list(map(remove, paths)))
+    mask = signal.pthread_sigmask(signal.SIG_BLOCK, signal.valid_signals())
+    try:
+        thread.start()
+    finally:
+        signal.pthread_sigmask(signal.SIG_SETMASK, mask)
+    try:
+        yield
+    finally:
+        thread.join()
 
 
 def remove(path: str) -> None:

@@ -34,7 +34,7 @@ _OTHER_WAYS = {"composefs-data", "lower-id", _LOWER_LAYERS}  # of telling conten
 _SHOWN = 80  # letters of a wrong name
 
 
-@dataclass(frozen=True)
+@dataclass(frozen=True, kw_only=True)
 class StoreOptions:
     """What the words of `store` say."""
 
@@ -58,9 +58,10 @@ def store(options: StoreOptions) -> None:
     with new_folder(options.out) as stage:
         for number, layer in reversed(list(enumerate(layers))):
             entries = scan_folder(ScanOptions(
-                layer, f"{stage}/{stacks.layer_name(number)}",
-                None if options.digests_only else f"{stage}/{stacks.BLOBS}",
-                options.userxattr, options.cross_file_systems, options.skip_unsupported, options.workers,
+                layer=layer, out=f"{stage}/{stacks.layer_name(number)}",
+                blobs=None if options.digests_only else f"{stage}/{stacks.BLOBS}",
+                userxattr=options.userxattr, cross_file_systems=options.cross_file_systems,
+                skip_unsupported=options.skip_unsupported, workers=options.workers,
             ), losses, links)
             below.cover(tree_of(entries))
         write_shown_links(stage, below)

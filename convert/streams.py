@@ -15,6 +15,7 @@ from typing import IO, Protocol
 
 from .contents import PIECE
 from .faults import cannot_read
+from .progress import Progress
 from .tar_headers import TarFault
 
 _GZIP = b"\x1f\x8b"
@@ -33,7 +34,19 @@ class Source(Protocol):
     def read(self, count: int, /) -> bytes: ...
 
 
-class Slice(io.RawIOBase):
+class Reader(io.RawIOBase):
+    """Bytes to read, which are there whenever they are asked for."""
+
+    def readable(self) -> bool:
+        """They are."""
+        return True
+
+    def read(self, count: int = -1, /) -> bytes:
+        """As many as are asked for at most; none only at the end."""
+        return super().read(count) or b""
+
+
+class Slice(Reader):
     """A part of a file, for reading; the file's own place isn't used."""
 
     def __init__(self, file: int, begin: int, size: int) -> None:
@@ -51,9 +64,9 @@ class Slice(io.RawIOBase):
         """How many bytes are left."""
         return self._end - self.place
 
-    def readable(self) -> bool:
-        """It is."""
-        return True
+    def is_packed(self) -> bool:
+        """Whether its first bytes are those of a packed one."""
+        return is_packed(os.pread(self._file, min(HEAD_BYTES, self._end - self._begin), self._begin))
 
     def readinto(self, buffer: memoryview) -> int:  # type: ignore[override]
         """Reads what fits."""
@@ -73,7 +86,7 @@ class SeekingSlice(Slice):
         self.place += count
 
 
-class Gunzip(io.RawIOBase):
+class Gunzip(Reader):
     """The bytes of a gzip stream, of all its members; zeros may stand after the last one."""
 
     def __init__(self, packed: io.BufferedReader) -> None:
@@ -81,10 +94,6 @@ class Gunzip(io.RawIOBase):
         self._packed = packed
         self._member = zlib.decompressobj(_GZIP_WINDOW)
         self._input = b""
-
-    def readable(self) -> bool:
-        """It is."""
-        return True
 
     def readinto(self, buffer: memoryview) -> int:  # type: ignore[override]
         """Unpacks what fits, never more."""
@@ -109,17 +118,29 @@ class Gunzip(io.RawIOBase):
                     raise EOFError("it ends too early")
 
 
-class Digesting(io.RawIOBase):
+class Watched(Reader):
+    """Reads a part of a file, and tells the progress how many of its bytes were read."""
+
+    def __init__(self, part: Slice, progress: Progress) -> None:
+        super().__init__()
+        self._part = part
+        self._progress = progress
+        progress.expect(part.size())
+
+    def readinto(self, buffer: memoryview) -> int:  # type: ignore[override]
+        """Reads what fits."""
+        count = self._part.readinto(buffer)
+        self._progress.step(count)
+        return count
+
+
+class Digesting(Reader):
     """Reads from a stream and digests all that is read."""
 
     def __init__(self, stream: Source, algorithm: str) -> None:
         super().__init__()
         self._stream = stream
         self.digest = hashlib.new(algorithm)
-
-    def readable(self) -> bool:
-        """It is."""
-        return True
 
     def readinto(self, buffer: memoryview) -> int:  # type: ignore[override]
         """Reads what fits."""
@@ -131,7 +152,7 @@ class Digesting(io.RawIOBase):
 
 def buffered(stream: Source) -> Source:
     """A stream that gives as many bytes as are asked for, fewer at the end."""
-    return io.BufferedReader(stream, PIECE) if isinstance(stream, io.RawIOBase) else stream
+    return io.BufferedReader(stream, PIECE) if isinstance(stream, Reader) else stream
 
 
 def is_packed(head: bytes) -> bool:

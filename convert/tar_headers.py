@@ -1,6 +1,10 @@
 """The headers of tar archives: ustar, GNU's long names and numbers, and PAX records."""
 
+import base64
+import binascii
 import functools
+import urllib.parse
+from collections.abc import Iterator
 from dataclasses import dataclass, field
 
 from .times import ONE_SECOND, of_decimal
@@ -19,11 +23,23 @@ GNU_LONG_NAME = b"L"
 GNU_LONG_TARGET = b"K"
 
 XATTR_RECORD = b"SCHILY.xattr."
+_LIBARCHIVE_XATTR = b"LIBARCHIVE.xattr."  # its name encoded as in a URL, its value in base 64
 _ACL_RECORD = b"SCHILY.acl."
-_SPARSE_RECORD = b"GNU.sparse."
-_SPARSE_PLACES = (b"GNU.sparse.offset", b"GNU.sparse.numbytes")
-_FIELD_RECORDS = (b"path", b"linkpath", b"size", b"uid", b"gid", b"mtime")
+_LABEL_RECORD = b"RHT.security.selinux"
 SPARSE_MAP = b"GNU.sparse.map"
+SPARSE_MAJOR = b"GNU.sparse.major"
+SPARSE_NAME = b"GNU.sparse.name"
+SPARSE_SIZES = (b"GNU.sparse.realsize", b"GNU.sparse.size")
+_SPARSE_PLACES = (b"GNU.sparse.offset", b"GNU.sparse.numbytes")
+_SPARSE_RECORDS = frozenset([SPARSE_MAP, SPARSE_MAJOR, SPARSE_NAME, *SPARSE_SIZES])
+_FIELD_RECORDS = frozenset([b"path", b"linkpath", b"size", b"uid", b"gid", b"mtime"])
+# What says nothing that a manifest could have, or what another record says too.
+_SAID_ENOUGH = frozenset([
+    b"atime", b"ctime", b"charset", b"comment", b"gname", b"hdrcharset", b"uname", b"GNU.sparse.minor",
+    b"GNU.sparse.numblocks", b"LIBARCHIVE.creationtime", b"SCHILY.dev", b"SCHILY.ino", b"SCHILY.nlink",
+    b"SCHILY.realsize",
+])
+_OTHER_RECORD = b""  # stands for the key of a record that isn't read
 GNU_SPARSE = b"S"
 _SIGNED = 256
 
@@ -49,6 +65,8 @@ class Header:
     attributes: dict[bytes, bytes] = field(default_factory=dict)
     cut_time: bool = False
     has_acl: bool = False
+    has_label: bool = False
+    other_record: bytes = b""  # the key of one that isn't read
     sparse: dict[bytes, bytes] = field(default_factory=dict)
 
 
@@ -97,11 +115,30 @@ def number(data: bytes) -> int:
 def parse_records(data: bytes) -> dict[bytes, bytes]:
     """PAX records: each its length, a space, `KEY=VALUE` and a newline. Later ones count.
 
-    Those that say nothing of an entry here are passed over. The places of a sparse file's data, which
-    come one by one in the oldest of its forms, are put together as in the next one.
+    The places of a sparse file's data, which come one by one in the oldest of its forms, are put together
+    as in the next one. Of records that aren't read here one stands for all of its kind.
     """
     records: dict[bytes, bytes] = {}
     places: list[bytes] = []
+    attributes: dict[bytes, bytes] = {}
+    for key, value in _split_records(data):
+        if key in _FIELD_RECORDS or key in _SPARSE_RECORDS or key.startswith(XATTR_RECORD):
+            records[key] = value
+        elif key in _SPARSE_PLACES:
+            places.append(value)
+        elif key.startswith(_LIBARCHIVE_XATTR):
+            attributes[urllib.parse.unquote_to_bytes(key[len(_LIBARCHIVE_XATTR):])] = _of_base64(value)
+        elif value and key not in _SAID_ENOUGH:
+            kind = _ACL_RECORD if key.startswith(_ACL_RECORD) else key if key == _LABEL_RECORD else _OTHER_RECORD
+            records[kind] = key
+    if places:
+        records[SPARSE_MAP] = b",".join(places)
+    for name, value in attributes.items():
+        records.setdefault(XATTR_RECORD + name, value)
+    return records
+
+
+def _split_records(data: bytes) -> Iterator[tuple[bytes, bytes]]:
     place = 0
     while place < len(data):
         space = data.find(b" ", place, place + 20)
@@ -112,15 +149,16 @@ def parse_records(data: bytes) -> dict[bytes, bytes]:
         equals = data.find(b"=", space, end)
         if end > len(data) or end <= space + 1 or data[end - 1:end] != b"\n" or equals < 0:
             raise TarFault("a PAX record of a wrong length")
-        key = data[space + 1:equals]
-        if key in _SPARSE_PLACES:
-            places.append(data[equals + 1:end - 1])
-        elif key in _FIELD_RECORDS or key.startswith((XATTR_RECORD, _ACL_RECORD, _SPARSE_RECORD)):
-            records[key] = data[equals + 1:end - 1]
+        yield data[space + 1:equals], data[equals + 1:end - 1]
         place = end
-    if places:
-        records[SPARSE_MAP] = b",".join(places)
-    return records
+
+
+def _of_base64(text: bytes) -> bytes:
+    """Bytes of their text in base 64, which may lack what fills its end."""
+    try:
+        return base64.b64decode(text + bytes(b"=" * (-len(text) % 4)), validate=True)
+    except binascii.Error:
+        raise TarFault("an attribute in a PAX record isn't in base 64") from None
 
 
 def apply_records(header: Header, records: dict[bytes, bytes]) -> None:
@@ -145,10 +183,14 @@ def apply_records(header: Header, records: dict[bytes, bytes]) -> None:
             header.gid = decimal(value)
         elif key == b"mtime":
             header.mtime_ns, header.cut_time = _time(value)
-        elif key.startswith(_SPARSE_RECORD):
+        elif key in _SPARSE_RECORDS:
             header.sparse[key] = value
-        elif key.startswith(_ACL_RECORD):
+        elif key == _ACL_RECORD:
             header.has_acl = True
+        elif key == _LABEL_RECORD:
+            header.has_label = True
+        elif key == _OTHER_RECORD:
+            header.other_record = value
 
 
 def decimal(value: bytes) -> int:

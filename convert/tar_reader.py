@@ -3,7 +3,8 @@
 from collections.abc import Iterator
 from typing import Protocol, runtime_checkable
 
-from .contents import PIECE
+from .budgets import Budget
+from .contents import PIECE, ZEROS
 from .sparse import Places, old_places, record_places
 from .streams import Source
 from .tar_headers import (
@@ -13,11 +14,8 @@ from .tar_headers import (
 
 MAX_RECORDS = 1 << 20  # bytes of the PAX records and long names of an entry; real ones have a few thousand
 MAX_GLOBAL_RECORDS = 1 << 16  # bytes of the records for all entries
-MAX_ALL_RECORDS = 1 << 29  # bytes of an archive's records and long names; no manifest has place for more
-MAX_HEADERS = 1 << 23  # of an archive; a manifest has place for an eighth as many entries
-MAX_HOLES = 1 << 34  # bytes of an archive's holes, which have to be digested
 _WITHOUT_DATA = b"123456"  # links, devices, directories and fifos, whatever size they state
-_ZEROS = bytes(PIECE)
+_SMALL = 1 << 12  # bytes of a piece that is put together with others
 
 
 @runtime_checkable
@@ -30,8 +28,9 @@ class Skipping(Protocol):
 class TarReader:
     """The entries of an archive. The data of each can be read until the next one is asked for."""
 
-    def __init__(self, source: Source) -> None:
+    def __init__(self, source: Source, budget: Budget) -> None:
         self._source = source
+        self._budget = budget
         self._skipping = isinstance(source, Skipping)
         self._left = 0
         self._padding = 0
@@ -40,10 +39,8 @@ class TarReader:
         self._globals: dict[bytes, bytes] = {}
         self._global_fields: dict[bytes, bytes] = {}
         self._global_attributes: dict[bytes, bytes] = {}
+        self._global_bytes = 0
         self._record_bytes = 0
-        self._all_record_bytes = 0
-        self._headers = 0
-        self._holes = 0
 
     def __iter__(self) -> Iterator[Header]:
         while (header := self._next()) is not None:
@@ -54,18 +51,25 @@ class TarReader:
         """The data of the entry that was given last, its holes as zeros."""
         if self._places is None:
             yield from self._stored(self._left)
-            return
-        at = 0
-        for begin, length in [*self._places, (self._size, 0)]:
-            for start in range(at, begin, PIECE):
-                yield _ZEROS[:begin - start]
-            yield from self._stored(length)
-            at = begin + length
-        self._places = None
+        else:
+            yield from _gathered(self._with_holes(self._places))
+            self._places = None
 
     def is_sparse(self) -> bool:
         """Whether the entry that was given last has holes."""
         return self._places is not None
+
+    def stored(self) -> int:
+        """How many bytes of its data stand in the archive."""
+        return self._left
+
+    def _with_holes(self, places: Places) -> Iterator[bytes]:
+        at = 0
+        for begin, length in [*places, (self._size, 0)]:
+            for start in range(at, begin, PIECE):
+                yield ZEROS[:begin - start]
+            yield from self._stored(length)
+            at = begin + length
 
     def _stored(self, count: int) -> Iterator[bytes]:
         while count:
@@ -87,12 +91,11 @@ class TarReader:
             header = parse_header(self._whole(block, BLOCK_BYTES))
             if header is None:
                 return None
-            self._headers += 1
-            if self._headers > MAX_HEADERS:
-                raise TarFault(f"over {MAX_HEADERS:,} headers")
+            self._budget.headers.take()
             if header.type == PAX:
                 records = parse_records(self._record_data(header.size))
             elif header.type == PAX_GLOBAL:
+                self._budget.global_headers.take()
                 self._take_globals(parse_records(self._record_data(header.size)))
             elif header.type == GNU_LONG_NAME:
                 name = self._record_data(header.size).rstrip(b"\0")
@@ -102,16 +105,19 @@ class TarReader:
                 break
         header.name = header.name if name is None else name
         header.target = header.target if target is None else target
+        self._budget.given_records.take(self._global_bytes)
         if self._global_fields or records:
             apply_records(header, self._global_fields | records)
         if self._global_attributes:
             header.attributes = self._global_attributes | header.attributes
+        self._budget.attributes.take(len(header.attributes))
         self._begin(header, block)
         return header
 
     def _take_globals(self, records: dict[bytes, bytes]) -> None:
         self._globals |= records
-        if sum(len(key) + len(value) for key, value in self._globals.items()) > MAX_GLOBAL_RECORDS:
+        self._global_bytes = sum(len(key) + len(value) for key, value in self._globals.items())
+        if self._global_bytes > MAX_GLOBAL_RECORDS:
             raise TarFault(f"PAX records for all entries of over {MAX_GLOBAL_RECORDS:,} bytes")
         self._global_fields, self._global_attributes = {}, {}
         for key, value in self._globals.items():
@@ -129,25 +135,21 @@ class TarReader:
         self._padding = -header.size % BLOCK_BYTES
         self._places = None
         if header.type == GNU_SPARSE:
-            header.size, self._places = old_places(block, header, self._exactly)
+            header.size, self._places = old_places(block, header, self._exactly, self._budget)
             header.type = REGULAR_TYPES[-1:]
         elif header.sparse and header.type in REGULAR_TYPES:
-            header.size, used, self._places = record_places(header, self._exactly)
+            header.size, used, self._places = record_places(header, self._exactly, self._budget)
             self._left -= used
         if self._places is not None:
             self._size = header.size
-            self._holes += header.size - self._left
-            if self._holes > MAX_HOLES:
-                raise TarFault(f"its sparse files have over {MAX_HOLES:,} bytes of holes")
+            self._budget.holes.take(header.size - self._left)
 
     def _record_data(self, size: int) -> bytes:
         """Records or a long name; refuses what no honest archive has, before it is read."""
         self._record_bytes += size
-        self._all_record_bytes += size
         if size < 0 or self._record_bytes > MAX_RECORDS:
             raise TarFault(f"a header of {size} bytes" if size > MAX_RECORDS else "an entry with too long headers")
-        if self._all_record_bytes > MAX_ALL_RECORDS:
-            raise TarFault(f"PAX records and long names of over {MAX_ALL_RECORDS:,} bytes")
+        self._budget.records.take(size)
         data = self._exactly(size)
         self._exactly(-size % BLOCK_BYTES)
         return data
@@ -177,3 +179,23 @@ class TarReader:
         if len(data) < count:
             raise TarFault("the archive ends too early")
         return data
+
+
+def _gathered(pieces: Iterator[bytes]) -> Iterator[bytes]:
+    """The same bytes, small pieces put together, since each that is taken costs time."""
+    held: list[bytes] = []
+    size = 0
+    for piece in pieces:
+        if held and size + len(piece) > PIECE:
+            yield b"".join(held)
+            held, size = [], 0
+        if len(piece) < _SMALL:
+            held.append(piece)
+            size += len(piece)
+        else:
+            if held:
+                yield b"".join(held)
+                held, size = [], 0
+            yield piece
+    if held:
+        yield b"".join(held)

@@ -36,6 +36,7 @@ class Target:
     path: str
     form: Form
     tag: str | None = None
+    given: str = ""  # the path that a person gave, where it is made elsewhere first
 
     @property
     def is_standard_output(self) -> bool:
@@ -45,7 +46,8 @@ class Target:
     @property
     def told(self) -> str:
         """Its place as a person is told of it."""
-        return "standard output" if self.is_standard_output else self.path
+        path = self.given or self.path
+        return "standard output" if path == STANDARD_OUTPUT and self.form is Form.ARCHIVE else path
 
     @property
     def place(self) -> str:

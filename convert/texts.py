@@ -1,7 +1,10 @@
 """How bytes and paths are written for a person and in the show report."""
 
+import json.encoder
 import re
+from collections.abc import Callable
 
+quoted: Callable[[str], str] = json.encoder.encode_basestring  # type: ignore[attr-defined]
 _PLAIN = re.compile(rb"[\x21-\x5b\x5d-\x7e]*\Z")
 
 

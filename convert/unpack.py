@@ -1,20 +1,24 @@
 """`unpack`: the layers of an image as manifests and blobs, and its configuration."""
 
+import os
 from dataclasses import dataclass
 
-from . import stacks
+from . import rules, stacks
 from .archives import LayerArchive, Taking
 from .below import Below, write_shown_links
 from .blobs import Writer, writers
-from .configuration import configuration_text
+from .configuration import text_of
+from .faults import cannot_read
 from .images import Image, ImageLayer, image_place, opened_image
 from .layer_tree import Held
 from .links import LinkNames, links_path
 from .manifests import write_manifest
 from .outputs import new_folder, write_text
+from .repeats import Repeats
+from .room import require_room
 
 
-@dataclass(frozen=True)
+@dataclass(frozen=True, kw_only=True)
 class UnpackOptions:
     """What the words of `unpack` say."""
 
@@ -30,7 +34,7 @@ class UnpackOptions:
 def unpack(options: UnpackOptions) -> Image:
     """Writes `l0.json`, the topmost, and so on, the folder `blobs`, and `config.json`. Gives the image.
 
-    Where digests are enough there is no folder `blobs`.
+    Where digests are enough there is no folder `blobs`. An image with annotations has them in `annotations.json`.
     """
     path, tag = image_place(options.image, options.tag)
     with opened_image(path, options.platform, tag) as image:
@@ -40,22 +44,36 @@ def unpack(options: UnpackOptions) -> Image:
 
 def unpack_opened(options: UnpackOptions, image: Image) -> None:
     """The same of an image that is open."""
+    if not options.digests_only:
+        # Equal contents are kept once, in one layer and in several, so it isn't known that it takes more.
+        require_room(options.out, options.out, max(layer.size for layer in image.layers))
     with new_folder(options.out) as stage:
         with writers(None if options.digests_only else f"{stage}/{stacks.BLOBS}") as new_writer:
             _unpack_layers(options, image.layers, stage, new_writer())
-        write_text(f"{stage}/{stacks.CONFIG}", [configuration_text(image.configuration)])
+        write_text(f"{stage}/{stacks.CONFIG}", [text_of(image.configuration)])
+        if image.annotations:
+            write_text(f"{stage}/{stacks.ANNOTATIONS}", [text_of(image.annotations)])
 
 
 def _unpack_layers(options: UnpackOptions, layers: list[ImageLayer], stage: str, writer: Writer) -> None:
-    held, below = Held(), Below()
-    taking = Taking(options.out, options.skip_unsupported, options.overlay_marks, writer, held, below)
+    held, below, repeats = Held(), Below(), Repeats(layers, stage, options.out)
+    taking = Taking(
+        options.out, options.skip_unsupported, options.overlay_marks, writer, held, below, repeats=repeats
+    )
+    written = 0
     try:
         for number, layer in zip(reversed(range(len(layers))), layers):
             tree = LayerArchive(layer, taking).tree()
             path, names = f"{stage}/{stacks.layer_name(number)}", LinkNames()
             write_manifest(path, names.passing(tree.entries()), layer.path)
             names.write(links_path(path), tree.entries, path)
+            written += os.path.getsize(path)
+            if written > rules.MAX_IMAGE_MANIFESTS:
+                raise cannot_read(
+                    layer.path, f"the manifests of the layers have over {rules.MAX_IMAGE_MANIFESTS:,} bytes"
+                )
             below.cover(tree.root)
         write_shown_links(stage, below)
     finally:
+        repeats.close()
         writer.close()

@@ -58,18 +58,20 @@ def _describe(path: str, kind: str, data: bytes) -> dict[str, object]:
 
 def put_manifest(
     path: str, layers: list[bytes], unpacked: list[bytes] | None, platform: str,
-    config: dict[str, object] | None = None,
+    config: dict[str, object] | None = None, annotations: dict[str, str] | None = None,
 ) -> dict[str, object]:
     """Writes an image's manifest and blobs; gives its descriptor."""
     system, architecture = platform.split("/")
     config = dict(config or {"os": system, "architecture": architecture})
     if unpacked is not None:
         config["rootfs"] = {"type": "layers", "diff_ids": [f"sha256:{_sha256(data)}" for data in unpacked]}
-    manifest = {
+    manifest: dict[str, object] = {
         "schemaVersion": 2,
         "config": _describe(path, "config.v1+json", json.dumps(config).encode()),
         "layers": [_describe(path, "layer.v1.tar", data) for data in layers],
     }
+    if annotations is not None:
+        manifest["annotations"] = annotations
     descriptor = _describe(path, "manifest.v1+json", json.dumps(manifest).encode())
     return {**descriptor, "platform": {"os": system, "architecture": architecture}}
 

@@ -5,6 +5,7 @@ import contextlib
 import errno
 import fcntl
 import filecmp
+import gzip
 import hashlib
 import io
 import json
@@ -16,13 +17,16 @@ import socket
 import stat
 import subprocess
 import sys
+import tarfile
 import time
 import unittest
+import zlib
 from unittest import mock
 
 from support import COMMAND, ROOT, FolderTest, call, links, run, run_as_anybody, why_no_trusted
 
 from convert import places
+from convert.compression import BLOCK, GZIP, packing
 from convert.entries import Entry
 from convert.manifests import read_manifest
 
@@ -69,6 +73,9 @@ class Words(FolderTest):
             status, printed, told = call(*words)
             self.assertEqual((status, told), (0, ""))
             self.assertTrue(printed.startswith("usage: layers"))
+        for name, other in (("build", "extract"), ("store", "import")):
+            told, others = (call(word, "-h")[1].split() for word in (name, other))
+            self.assertEqual(["layers", other, *told[3:]], others[1:])
 
     def test_older_pythons(self) -> None:
         with open(COMMAND, encoding="utf-8") as file:
@@ -537,6 +544,32 @@ class Packing(CommandTest):
                 self.assertTrue(file.read().startswith(magic))
             shutil.rmtree(self.path("image"))
 
+    def test_layers_that_are_twice_in_an_archive(self) -> None:
+        layer = self.write_manifest({"path": "/f", "kind": "file", "size": 1, "blob": A})
+        for compress in ("none", "gzip"):
+            words = ("pack", layer, layer, "--blobs", self.path("blobs"), "--compress", compress, "--out")
+            self.require_done(call(*words, self.path("image.tar")))
+            with tarfile.open(self.path("image.tar")) as file:
+                names = file.getnames()
+            self.assertEqual(len(names), len(set(names)))
+            self.require_done(call("unpack", self.path("image.tar"), "--out", self.path("out")))
+            self.assertEqual(read_manifest(self.path("out", "l1.json")), read_manifest(layer))
+            shutil.rmtree(self.path("out"))
+
+    def test_gzip_by_any_number_of_processors(self) -> None:
+        for size in (0, 1, BLOCK - 1, BLOCK, BLOCK + 1, 5 * BLOCK + 7):
+            data = os.urandom(1_000) * (size // 1_000) + bytes(size % 1_000)
+            found = set()
+            for processors in (1, 3):
+                out = io.BytesIO()
+                with mock.patch("os.sched_getaffinity", return_value=range(processors)), packing(GZIP, out) as write:
+                    for at in range(0, size, 100_000):
+                        write(data[at:at + 100_000])
+                found.add(out.getvalue())
+            (whole,) = found
+            self.assertEqual(gzip.decompress(whole), data)
+            self.assertLess(len(whole), 1.05 * len(zlib.compress(data)) + 30)
+
     def _manifest(self, image: str) -> dict[str, list[dict[str, str]]]:
         with open(f"{image}/index.json", encoding="utf-8") as file:
             digest = json.load(file)["manifests"][0]["digest"][7:]
@@ -610,7 +643,7 @@ class Mounted(CommandTest):
                 stdout=full, stderr=subprocess.PIPE, check=False,
             )
         self.assertEqual(result.returncode, 4)
-        self.assertTrue(result.stderr.endswith(b"layers: cannot write standard output\n"), result.stderr)
+        self.assertTrue(result.stderr.endswith(b"layers: cannot write standard output: No space left on device\n"), result.stderr)
 
 
 if __name__ == "__main__":

@@ -1,5 +1,6 @@
 """The configuration of an image, through `unpack` and `pack`."""
 
+import hashlib
 import json
 import os
 import shutil
@@ -111,7 +112,8 @@ class Kept(ConfigurationTest):
             ("", "it isn't JSON"), ("[" * 100_000, "it isn't JSON"), ('{"a":' * 65 + "1" + "}" * 65, "it isn't JSON"),
             ('{"x":1e999}', "it isn't JSON"), ('{"x":NaN}', "it isn't JSON"), ("[]", "no JSON object"),
             ('{"config":[1]}', "config is no object"), ('{"os":1}', "is no string"), ('{"history":[1]}', "history"),
-            (" " * (1 << 22) + "{}", "over 4,194,304 bytes"),
+            (json.dumps({"x": "y" * (1 << 22)}), "over 4,194,304 bytes"), (" " * (1 << 26) + "{}", "isn't JSON"),
+            ("[" + "[]," * 300_000 + "[]]", "over 262,144 objects and lists"),
         ):
             with open(self.path("c.json"), "w", encoding="utf-8") as file:
                 file.write(text)
@@ -122,6 +124,63 @@ class Kept(ConfigurationTest):
             file.write("{}")
         result = self.pack(1, "new", "--config", self.path("c.json"))
         self.assertIn("it names no platform; the image's is linux/amd64", result[2])
+
+    def test_told_when_the_image_is_read(self) -> None:
+        for config, reason in (
+            ({"os": 5}, "is no string"), ({"config": [1]}, "config is no object"), ({"history": "x"}, "history"),
+        ):
+            write_layout(self.path("image"), LAYERS)
+            put_index(self.path("image"), [put_manifest(self.path("image"), LAYERS, None, "linux/amd64", config)])
+            result = call("unpack", self.path("image"), "--out", self.path("out"))
+            self.require_fault(result, 3, f"cannot read {self.path('image')}/blobs/sha256/", reason)
+            self.require_nothing_left("image")
+            shutil.rmtree(self.path("image"))
+        descriptor = put_manifest(self.path("image"), LAYERS, None, "linux/amd64", {"x": 1})
+        put_index(self.path("image"), [{**descriptor, "platform": {"os": 5, "architecture": "amd64"}}])
+        self.require_fault(call("unpack", self.path("image"), "--out", self.path("out")), 3, "index.json")
+
+    def test_a_big_one(self) -> None:
+        """Its text without spaces counts."""
+        config = {"os": "linux", "architecture": "amd64", "x": [0] * 1_500_000}
+        os.mkdir(self.path("image"))
+        descriptor = put_manifest(self.path("image"), LAYERS, None, "linux/amd64")
+        self._name_config(descriptor, json.dumps(config, separators=(",", ":")).encode())
+        self.unpack("image", "out")
+        self.assertGreater(os.path.getsize(self.path("out", "config.json")), 1 << 22)
+        self.require_done(self.pack(2, "new", "--config", self.path("out", "config.json")))
+
+    def _name_config(self, descriptor: dict[str, Any], text: bytes) -> None:
+        """Gives an image another configuration."""
+        blobs = self.path("image", "blobs", "sha256")
+        with open(f"{blobs}/{descriptor['digest'][7:]}", encoding="utf-8") as file:
+            manifest = json.load(file)
+        for data, place in ((text, manifest["config"]), (None, descriptor)):
+            data = json.dumps(manifest).encode() if data is None else data
+            digest = hashlib.sha256(data).hexdigest()
+            with open(f"{blobs}/{digest}", "wb") as out:
+                out.write(data)
+            place.update(digest=f"sha256:{digest}", size=len(data))
+        put_index(self.path("image"), [descriptor])
+
+    def test_annotations(self) -> None:
+        """They stay, but for those of a base."""
+        kept = {"org.opencontainers.image.source": "https://x.example/é", "k": ""}
+        write_layout(self.path("image"), LAYERS)
+        given = {**kept, "org.opencontainers.image.base.name": "b", "org.opencontainers.image.base.digest": "sha256:0"}
+        put_index(self.path("image"), [
+            put_manifest(self.path("image"), LAYERS, None, "linux/amd64", annotations=given)
+        ])
+        self.unpack("image", "out")
+        with open(self.path("out", "annotations.json"), encoding="utf-8") as file:
+            self.assertEqual(json.load(file), kept)
+        self.require_done(self.pack(2, "new", "--annotations", self.path("out", "annotations.json")))
+        self.unpack("new", "again")
+        with open(self.path("again", "annotations.json"), encoding="utf-8") as file:
+            self.assertEqual(json.load(file), kept)
+        with open(self.path("a.json"), "w", encoding="utf-8") as file:
+            file.write('{"k":1}')
+        result = self.pack(2, "other", "--annotations", self.path("a.json"))
+        self.require_fault(result, 3, "a.json: it is no JSON object of strings")
 
 
 class Inspected(ConfigurationTest):

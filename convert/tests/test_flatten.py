@@ -194,7 +194,7 @@ with mock.patch("convert.program.find_program", return_value={self.program!r}):
         script = call(*words[3:], "--dry-run")[1]
         result = subprocess.run(["sh"], input=script.encode(), capture_output=True, check=False)
         self.assertTrue(result.stdout == wanted, result.stderr)
-        self.assertEqual(len(os.listdir(os.environ["TMPDIR"])), 1)  # what the script works in
+        self.assertEqual(os.listdir(os.environ["TMPDIR"]), [])
         self.left("wanted.tar")
 
     def test_paths_that_begin_with_a_dash(self) -> None:
@@ -341,6 +341,7 @@ with mock.patch("convert.program.find_program", return_value={self.program!r}):
             result = subprocess.run(["sh"], input=script, capture_output=True, text=True, check=False)
             self.assertEqual(result.returncode, 0, result.stderr)
             self.assertEqual(self.calls(), calls)
+            self.assertEqual([name for name in os.listdir(self.hands) if name.startswith("tmp.")], [])
             written = []
             for name in ("flat", "wanted"):
                 written.append(sorted(os.listdir(self.path("all", name, "blobs", "sha256"))))

@@ -9,17 +9,20 @@ import os
 import random
 import re
 import resource
+import shutil
 import subprocess
 import sys
 import tarfile
 import unittest
 import zlib
 from collections.abc import Iterator
+from unittest import mock
 
 from images import archive, folder, member, packed, put_index, put_manifest, write_layout, write_saved
 from support import FolderTest, call, run
 
 from convert import command
+from convert.streams import Digesting
 from convert.tar_headers import pax_record
 
 GIGABYTE = 1 << 30
@@ -191,6 +194,16 @@ class Broken(HostileTest):
         self.empty()
         write_layout(self.path("image"), [plain], [plain + b"x"])
         self.require_refused("its unpacked bytes aren't those")
+        self.empty()
+        write_layout(self.path("image"), [packed(plain)], [packed(plain)])
+        self.require_refused("its unpacked bytes aren't those")
+
+    def test_one_digest_of_a_plain_layer(self) -> None:
+        plain = archive([member("f", b"a")])
+        write_layout(self.path("image"), [plain, packed(plain)], [plain, plain])
+        with mock.patch("convert.archives.Digesting", wraps=Digesting) as digesting:
+            self.require_done(call("unpack", self.path("image"), "--out", self.path("out")))
+        self.assertEqual(digesting.call_count, 1)
 
     def test_documents(self) -> None:
         os.mkdir(self.path("image"))
@@ -390,7 +403,55 @@ class Bomb(HostileTest):
         self.empty()
         attributes = _global_records({f"SCHILY.xattr.user.{number}": "" for number in range(2_000)})
         write_layout(self.path("image"), [packed(attributes + b"".join(_small_entries(20_000)))])
-        self.require_bounded("its attributes alone take over 268,435,456 bytes of a manifest")
+        self.require_bounded("over 134,217,728 bytes of PAX records that its entries have from those for all")
+        self.empty()
+        first = _global_records({f"SCHILY.acl.{number}": "v" * 40 for number in range(900)})
+        write_layout(self.path("image"), [packed(first + _global_records({"SCHILY.acl.0": "v"}) * 30_000)])
+        self.require_bounded("over 1,000 PAX headers for all entries")
+
+    def test_maps_of_sparse_files(self) -> None:
+        if shutil.which("zstd") is None:
+            self.skipTest("needs zstd")
+        parts = 240_000
+        text = b"%d\n" % parts + b"0\n0\n" * parts
+        text += bytes(-len(text) % 512)
+        head = _header("f", len(text), {"GNU.sparse.major": "1", "GNU.sparse.realsize": "0"})
+        layer = subprocess.run(["zstd", "-q"], input=(head + text) * 200, stdout=subprocess.PIPE, check=True).stdout
+        self.assertLess(len(layer), 30_000)
+        write_layout(self.path("image"), [layer])
+        self.require_bounded("over 1,048,576 parts of sparse files")
+
+    def test_a_layer_that_is_named_again(self) -> None:
+        """It is read once, however often its image names it."""
+        layer = _header("f", 0, {"GNU.sparse.map": "", "GNU.sparse.size": str(GIGABYTE // 4)}) + bytes(1024)
+        write_layout(self.path("image"), [layer] * 100)
+        result = self.bounded("--digests-only")
+        self.assertEqual(result.returncode, 0, result.stderr[-500:])
+        self.empty()
+        write_saved(self.path("image"), [layer] * 100)
+        result = self.bounded("--digests-only")
+        self.assertEqual(result.returncode, 0, result.stderr[-500:])
+        self.empty()
+        other = _header("f", 0, {"GNU.sparse.map": "", "GNU.sparse.size": str(GIGABYTE * 16 - 1)})
+        write_layout(self.path("image"), [layer, other])
+        self.require_bounded("over 17,179,869,184 bytes of holes")
+
+    def test_what_is_made_of_few_entries(self) -> None:
+        """Directories that are left out, and attributes that many names of a file have."""
+        names = (f"{number:05}/" + "d/" * 100 + "f" for number in range(3_000))
+        layer = b"".join(member(name)[0].tobuf(tarfile.USTAR_FORMAT) for name in names)
+        write_layout(self.path("image"), [packed(layer)])
+        self.require_bounded("over 262,144 directories that its archives leave out")
+        self.empty()
+        first = _header("a", 0, {"SCHILY.xattr.user.x": "v" * 1_000_000})
+        links = [member(str(number), kind=tarfile.LNKTYPE, target="a")[0] for number in range(120)]
+        layer = b"".join(info.tobuf(tarfile.USTAR_FORMAT) for info in links)
+        write_layout(self.path("image"), [packed(first + layer)] + [packed(layer)] * 127)
+        self.require_bounded("the manifests of the layers have over 1,073,741,824 bytes")
+        self.empty()
+        first = _header("a", 0, {f"SCHILY.xattr.{number}": "" for number in range(10_000)})
+        write_layout(self.path("image"), [packed(first + layer)] + [packed(layer)] * 127)
+        self.require_bounded("over 8,388,608 attributes")
 
     def test_long_paths(self) -> None:
         write_layout(self.path("image"), [packed(b"".join(_long_paths(100_000)))])
@@ -434,6 +495,9 @@ class Bomb(HostileTest):
         self.require_bounded("it has over 4,194,304 bytes")
         with open(f"{path}/index.json", "wb") as file:
             file.write(b'{"manifests":[' + b"[]," * 1_000_000 + b"[]]}")
+        self.require_bounded("it has over 262,144 objects and lists")
+        with open(f"{path}/index.json", "wb") as file:
+            file.write(b'{"manifests":[' + b"[]," * 260_000 + b"[]]}")
         self.require_bounded("it has a wrong shape")
 
     def _bomb(self) -> bytes:
@@ -452,6 +516,13 @@ def _global_records(records: dict[str, str]) -> bytes:
     info, _ = member("g", kind=b"g")
     info.size = len(text)
     return info.tobuf(tarfile.GNU_FORMAT) + text + bytes(-len(text) % 512)
+
+
+def _header(name: str, size: int, records: dict[str, str]) -> bytes:
+    """A file's header with PAX records before it."""
+    info, _ = member(name, pax=records)
+    info.size = size
+    return info.tobuf(tarfile.PAX_FORMAT)
 
 
 def _small_entries(count: int) -> Iterator[bytes]:

@@ -263,7 +263,7 @@ class Forms(ImageTest):
         self.require_fault(result, 3, "2 images (linux/amd64; linux/arm64)", "--platform")
         self.assertEqual(self.layers("--platform", "linux/amd64"), [PLAIN_SHOWN])
         result = call("unpack", path, "--out", self.path("out"), "--platform", "linux/s390x")
-        self.require_fault(result, 3, "none of them is meant")
+        self.require_fault(result, 3, "none of them is --platform linux/s390x")
         put_index(path, [amd, note, gone])
         self.assertEqual(self.layers(), [PLAIN_SHOWN])
 

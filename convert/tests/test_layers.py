@@ -16,6 +16,7 @@ from convert.times import shown
 
 Member = tuple[tarfile.TarInfo, bytes]
 OPAQUE = "trusted.overlay.opaque"
+LINK = tarfile.LNKTYPE
 
 
 def owned(item: Member, owner: int, time: int, **attributes: str) -> Member:
@@ -77,8 +78,9 @@ class Parents(LayersTest):
         shown, notes = self.upper(member("a/c/d/new", b"y"))
         self.assertEqual(shown[2:], ["dir 755 0:0 0 /a/c", "dir 755 0:0 0 /a/c/d", "file 644 0:0 0 /a/c/d/new"])
         self.require_note(notes, "2 directories that no layer states, now of mode 0755")
-        _, notes = self.unpack([member("x", b"y")])
-        self.require_note(notes, "1 directory that no layer states, now of mode 0755, owner 0 and time 0: /")
+        _, notes = self.unpack([member("x/y", b"y")])
+        self.require_note(notes, "1 directory that no layer states, now of mode 0755, owner 0 and time 0: /x")
+        self.assertEqual(self.unpack([member("x", b"y")])[1], [])
 
     def test_of_opaque_directories(self) -> None:
         for members in ([member("a/.wh..wh..opq"), member("a/b/new")], [member("a/b/new"), member("a/.wh..wh..opq")]):
@@ -90,6 +92,21 @@ class Parents(LayersTest):
         self.assertEqual(shown[1:3], [f"dir 755 0:0 0 /a {OPAQUE}=y", "dir 755 0:0 0 /a/b"])
         layers, _ = self.unpack(self.LOWEST, [member("a/.wh.b")], [member("a/b/new")])
         self.assertEqual(list(map(told, layers[2]))[1:3], ["dir 700 1:2 10 /a user.k=v", "dir 755 0:0 0 /a/b"])
+
+    def test_in_place_of_a_file_of_the_same_layer(self) -> None:
+        """It hides the directories of the layers below, as in a folder where one comes after the other."""
+        for first in (member("a", b"f"), member("a", kind=tarfile.SYMTYPE, target="b")):
+            shown, notes = self.upper(first, owned(folder("a", 0o711), 7, 70), member("a/b/new", b"y"))
+            self.assertEqual(shown[1:3], [f"dir 711 7:8 70 /a {OPAQUE}=y", "dir 755 0:0 0 /a/b"])
+            self.require_note(notes, "1 directory that its layer has in place of a file hides that of the layers below: /a")
+        link = member("h", kind=LINK, target="a/b/f")
+        self.assertEqual(self.upper(link)[0][1], "file 644 0:0 0 /h")
+        write_layout(self.path("image"), [archive(self.LOWEST), archive([member("a", b"f"), folder("a"), link])])
+        result = call("unpack", self.path("image"), "--out", self.path("other"))
+        self.require_fault(result, 3, "h: it links to a/b/f, which is no file of this layer so far or of those below")
+        shown, notes = self.upper(member("file", b"f"), folder("file", 0o711), member("c", b"f"), folder("c", 0o711))
+        self.assertEqual([line.split()[-1] for line in shown[1:]], ["/c", "/file"])
+        self.assertEqual(notes, [])
 
     def test_of_what_was_made_anew(self) -> None:
         layers, _ = self.unpack(
@@ -224,6 +241,44 @@ class OtherTools(LayersTest):
         _, notes = self.unpack([folder("./"), member("f", b"a", pax=pax), member("g", b"a", pax=pax)])
         self.require_note(notes, "2 entries with access lists (SCHILY.acl.*), left out: /f, ..")
 
+    def test_attributes_of_other_programs(self) -> None:
+        pax = {
+            "LIBARCHIVE.xattr.user.a%3Db": "AAE", "SCHILY.xattr.user.c": "1", "LIBARCHIVE.xattr.user.c": "Mg",
+            "RHT.security.selinux": "u:r:t:s0", "SCHILY.fflags": "nodump", "comment": "c", "atime": "5",
+        }
+        layers, notes = self.unpack([folder("./"), member("f", b"a", pax=pax), member("g", pax={"X.y": "z"})])
+        self.assertEqual(layers[0][1].attributes, {"user.a=b": b"\0\1", "user.c": b"1"})
+        self.require_note(notes, "1 entry with a label of SELinux (RHT.security.selinux), left out: /f")
+        self.require_note(notes, "2 entries with PAX records that aren't read: /f (SCHILY.fflags), ..")
+        self.assertEqual(len(notes), 2)
+        for value in ("A", "A===", "&&&&"):
+            self.empty()
+            bad = member("f", pax={"LIBARCHIVE.xattr.user.a": value})
+            write_layout(self.path("image"), [archive([bad])])
+            result = call("unpack", self.path("image"), "--out", self.path("out"))
+            self.require_fault(result, 3, "an attribute in a PAX record isn't in base 64")
+
+
+class Again(LayersTest):
+    """Layers that their image names again."""
+
+    def test_the_same_layer_above_others(self) -> None:
+        """It gives what another file of the same entries gives."""
+        again = archive([
+            member("d/f", b"1"), member("h", kind=LINK, target="d/f"), member("l", kind=LINK, target="below"),
+            member("x/y/z", b"2", pax={"SCHILY.xattr.user.k": "v", "mtime": "1.5"}), member("x/.wh.w"),
+            member("o/.wh..wh..opq"), member("x/y/z", b"3"),
+            member("s", b"abc", pax={"GNU.sparse.map": "5,3", "GNU.sparse.size": "9"}),
+            member(".wh..wh.plnk/1.2", b"p"), member("p", kind=LINK, target=".wh..wh.plnk/1.2"),
+        ])
+        lower = [folder("./", 0o711), member("below", b"b"), folder("x", 0o700), member("x/w", b"w"), member("d", b"d")]
+        between = [folder("./"), member("below", b"c"), folder("x/y", 0o750), folder("o"), member("o/p", b"q")]
+        once, told_once = self.unpack_bytes(archive(lower), again, archive(between), packed(again))
+        twice, told_twice = self.unpack_bytes(archive(lower), again, archive(between), again)
+        self.assertEqual(twice, once)
+        self.assertNotEqual(twice[3], twice[1])
+        self.assertEqual([line.split(": ", 2)[2:] for line in told_twice], [line.split(": ", 2)[2:] for line in told_once])
+
 
 class Sparse(LayersTest):
     """Sparse files, in each of the forms that are."""
@@ -283,7 +338,7 @@ class Sparse(LayersTest):
             ({**sizes, "GNU.sparse.map": "99,3"}, "don't fit"), ({**sizes, "GNU.sparse.map": "0,2"}, "don't fit"),
             ({**sizes, "GNU.sparse.map": "x,3"}, "isn't decimal"), ({"GNU.sparse.realsize": "-5"}, "don't fit"),
             ({"GNU.sparse.major": "1", "GNU.sparse.realsize": "9"}, "has no end"),
-            ({"GNU.sparse.size": str(1 << 62), "GNU.sparse.map": "0,3"}, "over 17,179,869,184 bytes of holes"),
+            ({"GNU.sparse.size": str(1 << 62), "GNU.sparse.map": "0,3"}, "the image has over 17,179,869,184 bytes of holes"),
         ):
             with self.subTest(records=records):
                 self.empty()

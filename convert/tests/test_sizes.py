@@ -1,8 +1,10 @@
 """`sizes`: its numbers beside the definitions, read plainly; its table, its refusals, and images."""
 
 import contextlib
+import io
 import json
 import os
+import re
 import unittest
 from collections.abc import Sequence
 from functools import partial
@@ -12,6 +14,7 @@ from images import archive, folder, member, packed, put_index, put_manifest
 from plain_stacks import PlainSizes, PlainStack, random_stack
 from support import FolderTest, call, program_words, why_no_trusted
 
+from convert import command
 from convert.entries import DIRECTORY, REDIRECT, SYMLINK, Entry
 from convert.faults import ReadFault
 from convert.layer_sizes import sizes_of
@@ -44,11 +47,11 @@ LAYER  ENTRIES  FILES  BYTES  SHOWN  HIDDEN  REPEATED  WHITEOUTS  OPAQUE  PACKED
 17.3 % of 33K are shown; 21K are hidden, 5.6K repeated. One layer would take 6.3K.
 
 The largest contents that aren't shown:
-BYTES  LAYER  WHY          PATH
-  20K      2  hidden by 0  /cache/package
- 4.9K      1  as in 3      /bin/tool
- 1.5K      2  hidden by 1  /lib
-  700      1  as in 3      /copy
+BYTES  LAYER  WHY                PATH
+  20K      2  hidden by layer 0  /cache/package
+ 4.9K      1  as in layer 3      /bin/tool
+ 1.5K      2  hidden by layer 1  /lib
+  700      1  as in layer 3      /copy
 """
 
 
@@ -157,7 +160,24 @@ class Telling(SizesTest):
         self.assertEqual(printed, _TABLE.replace("GZIP", f"{small:4}"))
         exact = call("sizes", self.path("image"), "--bytes")[1]
         self.assertIn("17.3 % of 32903 are shown; 21500 are hidden, 5700 repeated. One layer would take 6403.", exact)
-        self.assertIn("20000      2  hidden by 0  /cache/package\n", exact)
+        self.assertIn("20000      2  hidden by layer 0  /cache/package\n", exact)
+
+    def test_progress(self) -> None:
+        """On a terminal the bytes of each layer are counted as they are read, to their end."""
+
+        class Terminal(io.StringIO):
+            """Standard error that is one."""
+
+            def isatty(self) -> bool:
+                return True
+
+        self.write_image()
+        told = Terminal()
+        with contextlib.redirect_stderr(told), contextlib.redirect_stdout(io.StringIO()):
+            with mock.patch("convert.progress._EVERY", 0):
+                self.assertEqual(command.main(["sizes", self.path("image")]), 0)
+        whole = re.findall(r"\r(checking|unpacking) bytes of ([0-9a-f]{20}): ([\d,]+) of \3 *\r", told.getvalue())
+        self.assertEqual(len(set(whole)), 2 * len(_LAYERS), told.getvalue())
 
     def test_json(self) -> None:
         small = self.write_image()
@@ -201,12 +221,13 @@ class Telling(SizesTest):
         self.write_image()
         image, lone = self.path("image"), self.path("lone.json")
         for status, words, part in (
-            (2, (), "one of the arguments IMAGE --stack is required"),
-            (2, (image, "--stack", lone), "not allowed with argument"),
+            (2, (), "name an IMAGE, or layers by --stack LAYER.."),
+            (2, (image, "--stack", lone), "name an IMAGE, or layers by --stack LAYER.."),
             (2, (image, "--fail-over", "101"), "a share is a number from 0 to 100"),
             (2, (image, "--fail-over", "1/2"), "a share is a number from 0 to 100"),
-            (2, (image, "--data-layers", "1"), "an image is none"),
-            (2, ("--tag", "x", "--stack", lone), "a stack is none"),
+            (2, (image, "--data-layers", "1"), "--data-layers is for --stack alone"),
+            (2, ("--tag", "x", "--stack", lone), "--tag is for images alone"),
+            (2, ("--data-layers", "1", "--stack", lone), "of 1 layer 1 can't be data-only"),
             (3, ("--stack", lone), f"cannot read {lone}: "),
             (3, (self.path("absent"),), "absent"),
         ):

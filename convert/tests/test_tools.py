@@ -148,7 +148,7 @@ class Forms(ToolTest):
         for words in ((f"oci:{image}",), (f"oci:{image}:t",), (f"oci:{image}", "--tag", "t")):
             self.require_same(*words)
         result = call("unpack", f"oci:{image}:u", "--out", self.path("out"))
-        self.require_fault(result, 3, "1 images (linux/amd64 t); none of them is meant")
+        self.require_fault(result, 3, "1 images (linux/amd64 t); none of them is --tag u")
         result = call("unpack", f"oci:{image}:t", "--tag", "u", "--out", self.path("out"))
         self.require_fault(result, 2, "name two images")
 
