@@ -19,7 +19,7 @@ from pathlib import Path
 
 TOP = Path(__file__).resolve().parent.parent
 CLAUSES = ["IsOutcome", "is_outside", "request_of", "makes_layers", "KeepsTree", "after", "stays_sound", "HasSoundStack", "stands_alone",
-           "FindsBlobsAlone"]
+           "IsQuiet"]
 # What is made by hand, and the words of code that make it, chapter by chapter of MADE_FAULTS.md.
 MADE = {
     "want of memory": r"\bAllocError\b(?!\s*[>{;])|\bAllocFailed\b(?!\s*[<>{;])|Fault::Memory\b|\bOutOfMemory\b|\bUnread\b(?!\s*[>{;(])|\bstarved (?:=|: true)",

@@ -191,8 +191,8 @@ right-layers blobs stack i (layer ∷ layers) none =
     (sym (list_any-append faulty (findings_in any_code blobs i layer lower) (findings_from blobs stack (i + 1) layers)) ∙ none) in
     let others = right-layers blobs stack (i + 1) layers parts.1 in (
       all-more (Passes (is_right blobs)) layer layers
-      (none-gathered (λ (entry : Entry). is_right blobs entry.1) (findings_at any_code blobs i layer lower) (right-entry any_code refl refl refl blobs i layer lower) layer parts.0)
-      others.0,
+          (none-gathered (λ (entry : Entry). is_right blobs entry.1) (findings_at any_code blobs i layer lower) (right-entry any_code refl refl refl blobs i layer lower) layer parts.0)
+          others.0,
       others.1,
     )
 

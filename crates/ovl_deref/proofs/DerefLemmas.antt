@@ -2,7 +2,7 @@
 use Rattle.std.proofs.Common.{◌≡◌, ℕ, Bool, true, false, cond, Option, Some, None, List, [], ◌∷◌, ◌++◌, refl, sym, ap, ◌∙◌, subst, append_assoc, inl, inr, ◌⊎◌}
 use Rattle.std.specs.Prelude.{◌||◌, ◌&&◌, ◌==◌, not, is_some, is_none, codes}
 use Rattle.std.specs.Option.{option_map}
-use Rattle.std.specs.List.{list_any, All}
+use Rattle.std.specs.List.{All}
 use Rattle.std.specs.Cmp.{unsigned_Decides}
 use Rattle.std.specs.Cmp.Lexicographic.{bytes_decides}
 use Rattle.std.proofs.lemmas.List.{append-nil}
@@ -21,16 +21,15 @@ use Rattle.ovl_inode.specs.Inodes.{visible}
 use Rattle.ovl_inode.specs.Kinds.{size_of}
 use Rattle.ovl_inode.specs.Marks.{mark_of, is_directory, is_regular, is_whiteout, is_metacopy, is_metacopy_mark, has_attribute, has_opaque, has_metacopy, redirect_reading, directory_mark, metacopy_mark, is_data}
 use Rattle.ovl_manifest.specs.Layers.{Entries, entry_at, is_directory_at, IsLayer}
-use Rattle.ovl_lookup.specs.declared.steps.Step.{Step}
 use Rattle.ovl_lookup.specs.declared.looks.Look.{Look}
 use Rattle.ovl_lookup.specs.declared.looks.Look.TheVariants.{Nothing, Shown, Broken}
 use Rattle.ovl_lookup.specs.Walk.{walk, walk_beyond, walk_to_file, nothing_found, found_at_end, mark_at, turn, is_shut}
 use Rattle.ovl_lookup.specs.Stacks.{StackView}
 use Rattle.ovl_lookup.specs.Trace.{things_found}
-use Rattle.ovl_lookup.specs.Merged.{look, shown_of, data_of, is_shown_directory, is_nothing}
+use Rattle.ovl_lookup.specs.Merged.{look, shown_of, data_of, is_shown_directory}
 use Rattle.ovl_lookup.specs.ShownInodes.{inode_shown}
-use Rattle.ovl_lookup.specs.Sound.{IsSoundStack, is_moved, is_malformed, is_meta, has_other_size, goes_on_there, is_seen_there, data_at}
-use Rattle.ovl_lookup.proofs.LawsOfInodes.{visible-own, visible-full, metacopy-file, attribute-with, visible-with, by_reading, IsVisible, visible-twice, attribute-hidden, visible-mark, directory-no_whiteout}
+use Rattle.ovl_lookup.specs.Sound.{IsSoundStack, is_moved, is_malformed, is_meta, has_other_size}
+use Rattle.ovl_lookup.proofs.LawsOfInodes.{visible-own, visible-full, metacopy-file, attribute-with, visible-with, by_reading, IsVisible, visible-twice, visible-mark, directory-no_whiteout}
 use Rattle.ovl_lookup.proofs.LawsOfFound.{shown_of-full, shown_of-contents, data-regular}
 use Rattle.ovl_lookup.proofs.LawsOfWalks.{walk-stop, directory-above, directory-parent, directory-entry, mark-file, directory_found, mark-child, same-mark, same-turn, same-walk, Beyond, walk-end, walk-past, BeyondFrom, end-from, is_shut-at}
 use Rattle.ovl_lookup.proofs.LawsOfPaths.{parent_path-child, filter-filter, last-name, by_child}

@@ -1,6 +1,6 @@
 -- What the new layer has in a directory: its names are in order, and all that it has there has one of them.
 use Rattle.std.proofs.Common.{◌≡◌, ◌≤◌, ◌<◌, Bool, true, false, cond, Option, Some, None, length, refl, sym, ap, ◌∙◌, arith}
-use Rattle.std.specs.Prelude.{not, All}
+use Rattle.std.specs.Prelude.{All}
 use Rattle.std.specs.Option.{option_map}
 use Rattle.std.specs.List.{list_any}
 use Rattle.ovl_names.specs.Names.{PathName, name_eq, name_cmp}
@@ -9,11 +9,10 @@ use Rattle.ovl_names.specs.Paths.{PathNames, child_path, depth_limit}
 use Rattle.ovl_inode.specs.declared.inodes.Inode.{Inode}
 use Rattle.ovl_manifest.specs.Layers.{entry_at, names_below, IsLayer}
 use Rattle.ovl_lookup.specs.declared.looks.Look.{Look}
-use Rattle.ovl_lookup.specs.declared.looks.Look.TheVariants.{Nothing, Shown, Broken}
 use Rattle.ovl_lookup.specs.Stacks.{StackView}
 use Rattle.ovl_lookup.specs.Passes.{kids_along}
 use Rattle.ovl_lookup.specs.ShownInodes.{inode_shown}
-use Rattle.ovl_lookup.specs.Merged.{look, is_nothing}
+use Rattle.ovl_lookup.specs.Merged.{look}
 use Rattle.ovl_lookup.specs.Words.{over, top_layer, lower_layers}
 use Rattle.ovl_lookup.proofs.LawsOfWalks.{entry-limited, names_below-has, directory_found}
 use Rattle.ovl_lookup.proofs.LawsOfKids.{kids-ascend, kids-same, kid-names-ascend}

@@ -19,7 +19,7 @@ use Rattle.ovl_lookup.specs.declared.looks.Look.{Look}
 use Rattle.ovl_lookup.specs.declared.looks.Look.TheVariants.{Nothing, Shown, Broken}
 use Rattle.ovl_lookup.specs.Walk.{mark_at}
 use Rattle.ovl_lookup.specs.Stacks.{StackView}
-use Rattle.ovl_lookup.specs.Merged.{look, is_nothing, is_shown_directory}
+use Rattle.ovl_lookup.specs.Merged.{look, is_shown_directory}
 use Rattle.ovl_lookup.specs.ShownInodes.{inode_shown}
 use Rattle.ovl_lookup.specs.Sound.{IsSoundStack, is_moved}
 use Rattle.ovl_lookup.proofs.LawsOfInodes.{metacopy-file, attribute-hidden, unescaped-filter}

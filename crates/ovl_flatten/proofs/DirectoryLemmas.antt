@@ -1,6 +1,6 @@
 -- What the flattened layer has in a directory: its names are in order, and all that it has there has one of them.
-use Rattle.std.proofs.Common.{◌≡◌, ◌≤◌, true, false, Option, Some, None, length, refl, sym, ap, ◌∙◌}
-use Rattle.std.specs.Prelude.{Bool, All}
+use Rattle.std.proofs.Common.{◌≡◌, ◌≤◌, true, false, Option, Some, None, length, refl, ◌∙◌}
+use Rattle.std.specs.Prelude.{All}
 use Rattle.std.specs.List.{list_any}
 use Rattle.ovl_names.specs.Names.{PathName, name_eq}
 use Rattle.ovl_names.specs.Paths.{PathNames, child_path}

@@ -1,5 +1,5 @@
 -- What a flattened layer has, that it shows alone what was shown, and that it is sound and has no marks.
-use Rattle.std.proofs.Common.{◌≡◌, ◌<◌, Bool, true, false, Option, Some, None, [], length, refl, sym, ap, ◌∙◌, inl, inr, ◌⊎◌}
+use Rattle.std.proofs.Common.{◌≡◌, ◌<◌, true, false, Option, Some, None, [], length, refl, sym, ap, ◌∙◌, inl, inr, ◌⊎◌}
 use Rattle.std.specs.Prelude.{not, nat_le}
 use Rattle.std.specs.List.{list_all, All}
 use Rattle.ovl_names.specs.Names.{PathName}

@@ -14,7 +14,7 @@ use Rattle.ovl_flatten.proofs.finish.FlattenEnd.finish.Goals as goal
 pub returns-clause-layer : goal.returns-clause-layer
 returns-clause-layer c =
     IfOk-weaker c.layer_told.result _ _ (λ layer told stack is walk.
-        told (flattened_at stack) (walk-tells stack is.each is.some c.args.self.root (parcel_views inodes_seen c.args.parcels.items) is.rooted walk)) c.layer_told.ensures.layer
+    told (flattened_at stack) (walk-tells stack is.each is.some c.args.self.root (parcel_views inodes_seen c.args.parcels.items) is.rooted walk)) c.layer_told.ensures.layer
 
 pub returns-clause-kept : goal.returns-clause-kept
 returns-clause-kept c =
