@@ -9,11 +9,13 @@ In a third of the stacks something is then changed that no mounted overlay would
 of both versions: some of those without a time below a second are of version 1.
 
 Where `fsck` finds no fault, `vacuum`, `deref` and `merge` must give new layers with which the stack shows the same
-bytes; `vacuum` once more must remove nothing, and `fsck` must find no fault after `vacuum` and `deref`. Where it finds
-one, all three must answer with its report. There is memory enough, so no command may end with `out of memory`.
+bytes, and `flatten` one that does so alone; `vacuum` once more must remove nothing, `fsck` must find no fault after
+`vacuum` and `deref`, and nothing after `flatten`. Where it finds one, all four must answer with its report. There is memory
+enough, so no command may end with `out of memory`.
 
-Before these come stacks whose new layers just keep a limit of names or of text, or just pass it: `deref` and `merge` must
-give them, or say that they are over the limits.
+Before these come stacks whose new layers just keep a limit of names or of text, or just pass it: `deref`, `merge` and
+`flatten` must give them, or say that they are over the limits; and stacks that are large in one way, as those of users are,
+or as large as a limit lets them be.
 
     python3 bench/ample.py --program crates/ovl_layers/out/ovl_layers
 """
@@ -33,7 +35,9 @@ OPAQUE, WHITEOUT = "trusted.overlay.opaque", "trusted.overlay.whiteout"
 CONTENTS = ("", "a", "b", "abc")
 NAMES, DEEPEST = ("a", "b", "c", "d"), 5
 NANOSECONDS = (0, 1, 500_000_000, 999_999_999)
-REWRITES = ("vacuum", "deref", "merge")
+REWRITES = ("vacuum", "deref", "merge", "flatten")
+# What `fsck` prints where it finds nothing.
+CLEAN = b"faults 0 notes 0\n"
 # How many stacks that are not as they should be are told, and the seconds after which a command counts as one without end.
 TOLD, LONGEST = 10, 60
 
@@ -246,6 +250,71 @@ def at_the_limits():
     yield "paths of 129 names", [moved_to("/a/m"), deep], False
 
 
+# ---- stacks that are large in one way
+
+# A name of 100 to 250 bytes, of which some are escaped in a manifest or in a report.
+def odd_name(number):
+    return f"{number:03d}" + '\\"\t\x01é' + "n" * (90 + number % 150)
+
+
+def contents_of(number):
+    return f"contents {number}".encode()
+
+
+def full_file(path, contents, **more):
+    return entry(path, "file", size=len(contents), blob=hashlib.sha256(contents).hexdigest()) | more
+
+
+def deep_below(path, count):
+    return [entry(path + "/a" * it) for it in range(1, count + 1)]
+
+
+def moved_many(count):
+    """Directories with a file each, of which each was moved, by its path or by its name."""
+    lower = [it for n in range(count) for it in (entry(f"/o{n}"), full_file(f"/o{n}/{odd_name(n)}", contents_of(n), mtime=-n))]
+    upper = [entry(f"/{odd_name(n)}", attrs={REDIRECT: f"/o{n}" if n % 2 else f"o{n}"}) for n in range(count)]
+    return [upper + [whiteout_at(f"/o{n}") for n in range(count)], lower]
+
+
+def whiteout_at(path):
+    return entry(path, "char", major=0, minor=0)
+
+
+def beyond_the_limits():
+    """Three layers, each of which goes on below the deepest directory of the one under it: 360 names, of 12,000 bytes."""
+    names = [("n" * 33 + "/") * 119 + "n" * 33] * 3
+    chains = [chain("/" + it.split("/", 1)[0], it.split("/")[1:]) for it in names]
+    deepest = [it[-1]["path"] for it in chains]
+    upper = [[*it[:-1], entry(path, attrs={REDIRECT: "/x"}), whiteout_at("/x")] for it, path in zip(chains, deepest)]
+    below = [entry(it["path"].replace("/" + "n" * 33, "/x", 1)) for it in chains[0]]
+    return [upper[0], [it for it in below[:-1]] + [entry(below[-1]["path"], attrs={REDIRECT: "/y"}), whiteout_at("/y")],
+            [entry(it["path"].replace("/x", "/y", 1)) for it in below]]
+
+
+def large():
+    """What is said of a stack, its layers, the contents of its blobs, and the commands that are to answer."""
+    few, all_of = ("fsck",), ("fsck", *REWRITES)
+    contents = [contents_of(n) for n in range(300)]
+    yield "128 layers", [[entry("/d"), file_at(f"/d/f{n}")] for n in range(128)], [], all_of
+    yield "300 moved directories, odd names, 300 contents", moved_many(300), contents, all_of
+    yield "data through 40 layers", [[entry("/f", "file", {METACOPY: ""}, size=10)]] * 39 + [[full_file("/f", contents[0])]], contents, all_of
+    deep = "/a" * 100
+    yield "redirects of 100 names", [[entry("/m", attrs={REDIRECT: deep}), whiteout_at("/a")], deep_below("", 101)], [], all_of
+    attributes = {f"user.{n}": "v" * n for n in range(40)}
+    yield "40 attributes", [[entry("/f", "file", attributes, size=0)], [entry("/d", attrs=attributes)]], [], all_of
+    notes = [entry(f"/d{n:06d}", attrs={OPAQUE: "z"}) for n in range(120_000)]
+    yield "120,000 findings", [notes, []], [], all_of
+    yield "a large directory that was moved", [[entry("/m", attrs={REDIRECT: "/x"}), whiteout_at("/x")],
+        [entry("/x"), *(file_at(f"/x/f{n:05d}") for n in range(70_000))]], [], all_of
+    yield "360 names of 12,000 bytes", beyond_the_limits(), [], few
+    many = [entry(f"/d{n:06d}") for n in range(600_000)]
+    yield "1,200,000 directories", [many, many], [], few
+
+
+def file_at(path):
+    return entry(path, "file", size=0)
+
+
 # ---- runs
 
 class Differs(Exception):
@@ -266,14 +335,14 @@ def same(what, one, other):
 
 
 def rewritten(program, blobs, layers, command, folder):
-    """The layers with the new ones of a command, and what it printed."""
+    """The layers with the new ones of a command, or that of `flatten` alone, and what it printed."""
     out = os.path.join(folder, command)
     os.makedirs(out, exist_ok=True)
     status, printed = ran(program, command, "--blobs", blobs, "--out", out, "--workers", "3", *layers)
     if status != 0:
         return None, (status, printed)
     new = [os.path.join(out, it) for it in sorted(os.listdir(out))]
-    return new + layers[len(new):], (status, printed)
+    return new if command == "flatten" else new + layers[len(new):], (status, printed)
 
 
 def judge(program, blobs, stack, folder):
@@ -290,7 +359,9 @@ def judge(program, blobs, stack, folder):
             continue
         same(f"the status of {command}", answered[0], 0)
         same(f"show after {command}", ran(program, "show", *new), shown)
-        if command != "merge":
+        if command == "flatten":
+            same(f"fsck after {command}", ran(program, "fsck", "--blobs", blobs, *new), (0, CLEAN))
+        elif command != "merge":
             same(f"the status of fsck after {command}", ran(program, "fsck", "--blobs", blobs, *new)[0], 0)
     if found[0] == 0:
         _, (_, again) = rewritten(program, blobs, after["vacuum"][0], "vacuum", os.path.join(folder, "again"))
@@ -299,10 +370,10 @@ def judge(program, blobs, stack, folder):
 
 
 def judge_at_limit(program, blobs, layers, within, folder):
-    """Whether `deref` and `merge` give what keeps the limits and refuse what doesn't, as what it is."""
+    """Whether all but `vacuum` give what keeps the limits and refuse what doesn't, as what it is."""
     files = write(folder, layers)
     shown = ran(program, "show", *files)
-    for command in ("deref", "merge"):
+    for command in REWRITES[1:]:
         if within:
             new, _ = rewritten(program, blobs, files, command, folder)
             same(f"show after {command}", ran(program, "show", *new), shown)
@@ -317,6 +388,26 @@ def limit_case(program, blobs, what, layers, within):
     with tempfile.TemporaryDirectory(prefix="ovl-ample-") as folder:
         try:
             return judge_at_limit(program, blobs, layers, within, folder)
+        except Differs as fault:
+            return f"{what}: {fault}"
+
+
+def large_case(program, what, layers, contents, commands):
+    """What isn't as it should be of a large stack, which is sound."""
+    with tempfile.TemporaryDirectory(prefix="ovl-ample-") as folder:
+        blobs = os.path.join(folder, "blobs")
+        os.mkdir(blobs)
+        for it in contents:
+            with open(os.path.join(blobs, hashlib.sha256(it).hexdigest()), "wb") as out:
+                out.write(it)
+        try:
+            files = write(folder, layers)
+            shown = ran(program, "show", *files)
+            same("the status of fsck", ran(program, "fsck", "--blobs", blobs, *files)[0], 0)
+            for command in commands[1:]:
+                new, _ = rewritten(program, blobs, files, command, folder)
+                same(f"show after {command}", new and ran(program, "show", *new), shown)
+            return True
         except Differs as fault:
             return f"{what}: {fault}"
 
@@ -346,8 +437,10 @@ def main():
                 out.write(contents)
         all_of = ([it] * given.count for it in (program, blobs, given.seed))
         at_limits = [pool.submit(limit_case, program, blobs, *it) for it in at_the_limits()]
-        answers = [it.result() for it in at_limits] + list(pool.map(case, *all_of, numbers, chunksize=20))
-    differ = [it for it in answers if isinstance(it, str)]
+        at_size = [pool.submit(large_case, program, *it) for it in large()]
+        answers = list(pool.map(case, *all_of, numbers, chunksize=20))
+        differ = [it.result() for it in (*at_limits, *at_size)] + answers
+    differ = [it for it in differ if isinstance(it, str)]
     print(*differ[:TOLD], sep="\n", end="\n" if differ else "")
     print(f"{given.count:,} stacks of seed {given.seed}, {answers.count(True):,} of them sound, {len(differ)} not as they should be")
     sys.exit(1 if differ else 0)

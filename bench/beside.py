@@ -2,12 +2,13 @@
 """Makes small stacks of manifests of both versions, and compares all commands on them with an independent reading.
 
 Python 3.11, standard library. Half of the stacks are those of ample.py: as a mounted overlay leaves them, some of them
-spoilt. A few have chains of directories about as deep as a path may be, of which one goes on at the other by a redirect.
+spoilt, and some with contents in a data-only layer, as composefs has them. A few have chains of directories about as deep as a path may be, of which one goes on at the other by a redirect.
 The rest is anything: layers of few names with all marks, redirects that lead nowhere or can't be followed, contents that
 are missing, and data-only layers. Each manifest is of a version by chance; times in one of version 2 may lie below a
 second. In a third of the stacks contents are missing, wrong, cut or doubled, and strangers lie beside them. `show`, and
-`fsck`, `vacuum`, `deref` and `merge` with and without `--any-size`, must give the same standard output, standard error,
-status and new layers as the other reading, which isn't given that word. A case depends on the seed and its number alone.
+all other commands with and without `--any-size`, must give the same standard output, standard error, status and new layers
+as the other reading, which isn't given that word. What `flatten` makes must show alone what the stack shows, and `fsck` must
+find nothing in it. A case depends on the seed and its number alone.
 
 The other reading is a command that takes the same words (docs/FORMATS.md); as another build of the program does.
 
@@ -23,17 +24,19 @@ import shlex
 import subprocess
 import sys
 import tempfile
-from dataclasses import dataclass
+from dataclasses import dataclass, replace
 
 import ample
 from generate import MOST_NAMES
 from growth import METACOPY, NSEC, REDIRECT, First, chain, entry, write
 
-COMMANDS = ("show", "fsck", "vacuum", "deref", "merge")
+COMMANDS = ("show", "fsck", "vacuum", "deref", "merge", "flatten")
+WORKERS = (1, 2, 3, 4, 7, 64)
 # Seconds after which a command counts as one that gives no answer, and how many bytes of an answer are printed.
 LONGEST, TOLD = 120, 400
-# The shares of the stacks as overlays leave them, of those with chains, and of those whose contents are spoilt.
-MADE, CHAINED, SPOILT = 0.5, 0.1, 0.3
+# The shares of the stacks as overlays leave them, of those with chains, and of those whose contents are spoilt; of the first
+# those with a data-only layer, and of files in these such as have their contents there.
+MADE, CHAINED, SPOILT, COMPOSED, ELSEWHERE = 0.5, 0.1, 0.3, 0.6, 0.4
 NAMES, DEEPEST, MOST = ("a", "b", "c"), 3, 12
 CONTENTS = (b"", b"a", b"b", b"abc")
 ABSENT = b"no such blob"
@@ -103,6 +106,20 @@ def chains(rng, versions):
     return [[timed(rng, it) if it["kind"] == "dir" else it for it in layer] for layer in (*layers, *[[]] * len(versions[2:]))]
 
 
+def composed(rng, layers):
+    """The layers, with contents of some files in one more layer, which is data-only."""
+    data, found = [entry("/z")], []
+    for layer in layers:
+        found.append(type(layer)())
+        for it in layer:
+            if "blob" in it and rng.random() < ELSEWHERE:
+                data.append(it | {"path": f"/z/{len(data)}", "xattrs": {}})
+                it = {name: value for name, value in it.items() if name != "blob"}
+                it["xattrs"] = it["xattrs"] | {METACOPY: "", REDIRECT: data[-1]["path"].encode().hex()}
+            found[-1].append(it)
+    return [*found, data]
+
+
 @dataclass(frozen=True)
 class Case:
     """Layers, the topmost first, how many are data-only, and what lies in the folder of contents."""
@@ -136,14 +153,14 @@ def case_of(seed, number):
     rng = random.Random(f"{seed} {number}")
     chance = rng.random()
     if chance < MADE:
-        stack = ample.stack_of(rng)
-        return Case(number, stack.layers, 0, contents_of(rng))
+        layers, data_only = ample.stack_of(rng).layers, int(rng.random() < COMPOSED)
+        return Case(number, composed(rng, layers) if data_only else layers, data_only, contents_of(rng))
     versions = [rng.choice((1, 2, 2)) for _ in range(rng.choice((2, 2, 3, 3, 4) if chance < MADE + CHAINED else (1, 2, 2, 3, 4)))]
     if chance < MADE + CHAINED:
         layers, data_only = chains(rng, versions), 0
     else:
         layers = [anything(rng) for _ in versions]
-        data_only = rng.choice((0, 0, 0, 0, 1, 1, 2))
+        data_only = rng.choice((0, 0, 0, 1, 1, 2))
     return Case(number, [in_version(*it) for it in zip(layers, versions)], data_only, contents_of(rng))
 
 
@@ -155,6 +172,10 @@ class Answer:
     printed: bytes
     told: bytes
     layers: dict
+
+
+# What `fsck` answers where it finds nothing.
+CLEAN = Answer(0, b"faults 0 notes 0\n", b"", {})
 
 
 def answer(words, what, case, blobs, files, workers, more=()):
@@ -174,6 +195,16 @@ def answer(words, what, case, blobs, files, workers, more=()):
         return Answer(ran.returncode, ran.stdout, ran.stderr, layers)
 
 
+def after_flatten(program, case, blobs, said, workers):
+    """What is wanted of the flattened layer, and what is said of it: `show` as of the stack, and nothing is wrong."""
+    with tempfile.NamedTemporaryFile(prefix="ovl-beside-") as layer:
+        layer.write(said["flatten"].layers["layer-0.json"])
+        layer.flush()
+        alone = replace(case, data_only=0)
+        for what, wanted in (("show", said["show"]), ("fsck", CLEAN)):
+            yield f"{what} after flatten", wanted, answer(program, what, alone, blobs, [layer.name], workers)
+
+
 def compared(program, oracle, case):
     """The case, a sort of answer for each command, and those of which the program says something else."""
     with tempfile.TemporaryDirectory(prefix="ovl-beside-") as folder, tempfile.TemporaryDirectory(prefix="ovl-beside-") as blobs:
@@ -181,15 +212,17 @@ def compared(program, oracle, case):
             with open(os.path.join(blobs, name), "wb") as out:
                 out.write(contents)
         files = write(folder, case.layers)
-        sorts, differ = [], []
+        sorts, differ, said, workers = [], [], {}, WORKERS[case.number % len(WORKERS)]
         for what in COMMANDS:
             wanted = answer(oracle, what, case, blobs, files, 1)
             end = wanted.told.decode(errors="replace").replace(blobs, "BLOBS").strip() or f"status {wanted.status}"
             sorts.append(f"{what}: {end}")
             for more in [(), ("--any-size",)][:1 if what == "show" else 2]:
-                found = answer(program, what, case, blobs, files, 1 + case.number % 4, more)
-                if found != wanted:
-                    differ.append((" ".join([what, *more]), wanted, found))
+                said[what] = answer(program, what, case, blobs, files, workers, more)
+                if said[what] != wanted:
+                    differ.append((" ".join([what, *more]), wanted, said[what]))
+        if said["flatten"].status == 0:
+            differ += [it for it in after_flatten(program, case, blobs, said, workers) if it[1] != it[2]]
         return case, sorts, differ
 
 

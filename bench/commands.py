@@ -27,7 +27,7 @@ WORKERS = (1, 2, 4)
 # How many layers a stack has.
 LAYERS = 3
 # The commands that make new layers.
-REWRITING = ("vacuum", "deref", "merge")
+REWRITING = ("vacuum", "deref", "merge", "flatten")
 
 
 def measure(command, statuses, repeats):

@@ -2,9 +2,9 @@
 # Compares what PROGRAM makes of each folder's layers (l0.json, the topmost, l1.json and so on) by 1, 2, 7 and 64
 # workers with the files there, byte for byte: `show` with expected.show, and where there is a folder of blobs, `fsck`
 # with expected.fsck, or with a report that finds nothing where there is no such file. Where there is expected.vacuum,
-# expected.deref or expected.merge, the report of that command is compared with it, the new layers with
-# expected.vacuum.layer-0.json and so on, and what the stack with the new layers shows with expected.show. A file
-# data-layers has the number of the lowest layers that are data-only, where there are some.
+# expected.deref, expected.merge or expected.flatten, the report of that command is compared with it, the new layers with
+# expected.vacuum.layer-0.json and so on, and what the stack with the new layers shows, or the one of flatten alone, with
+# expected.show. A file data-layers has the number of the lowest layers that are data-only, where there are some.
 set -uo pipefail
 
 if (($# < 2)); then
@@ -46,7 +46,7 @@ for folder in "$@"; do
         if [[ -d $folder/blobs ]]; then
             compare "$found" fsck --blobs "$folder/blobs" --workers "$workers" "${data[@]}" "${layers[@]}"
         fi
-        for command in vacuum deref merge; do
+        for command in vacuum deref merge flatten; do
             [[ -f $folder/expected.$command ]] || continue
             words=(--blobs "$folder/blobs" --out "$new" --workers "$workers" "${data[@]}")
             compare "$folder/expected.$command" "$command" "${words[@]}" "${layers[@]}"
@@ -55,7 +55,9 @@ for folder in "$@"; do
                 cmp -- "$new/layer-${#made[@]}.json" "$folder/expected.$command.layer-${#made[@]}.json" || other=$((other + 1))
                 made+=("$new/layer-${#made[@]}.json")
             done
-            compare "$folder/expected.show" show "${data[@]}" "${made[@]}" "${layers[@]:${#made[@]}}"
+            after=("${data[@]}" "${made[@]}" "${layers[@]:${#made[@]}}")
+            [[ $command == flatten ]] && after=("${made[@]}")
+            compare "$folder/expected.show" show "${after[@]}"
         done
     done
     echo "$folder: ${#layers[@]} layers compared"

@@ -1,9 +1,11 @@
 #!/usr/bin/env python3
-"""Merges stacks of layers down to one layer, two at a time, and tells where a stack shows something else.
+"""Merges stacks of layers down to one layer, two at a time, and tells where a stack shows something else, and where
+`flatten` makes another layer.
 
 Python 3.11, standard library. A stack is a folder with `l0.json`, the topmost, `l1.json` and so on. After each merge
 the stack with both new layers is shown, and then that without the topmost, which has a root alone: both must show what
-the stack showed at first, byte for byte. Each merge is done by 1 and by 7 workers, which must write the same.
+the stack showed at first, byte for byte. The layer that is left must be that of `flatten`. Each command is run by 1 and by
+7 workers, which must write the same.
 
 Where a stack has no folder `blobs`, stand-ins serve for its contents, as in twice.py.
 
@@ -14,39 +16,32 @@ import os
 import sys
 import tempfile
 
-from twice import manifests_of, printed, with_contents
+from twice import manifests_of, printed, read, with_contents
 
 
-def read(path):
-    with open(path, "rb") as file:
-        return file.read()
-
-
-def merged(program, layers, blobs, folder):
-    """The two new layers of a merge, which are the same by 1 and by 7 workers."""
+def new_layers(program, command, layers, blobs, folder):
+    """The new layers of a command, in a new folder, which are the same by 1 and by 7 workers."""
     made = {}
     for workers in ("1", "7"):
         out = os.path.join(folder, workers)
-        os.mkdir(out)
-        report = printed(program, "merge", "--blobs", blobs, "--out", out, "--workers", workers, *layers)
-        files = [os.path.join(out, f"layer-{n}.json") for n in range(2)]
+        os.makedirs(out)
+        report = printed(program, command, "--blobs", blobs, "--out", out, "--workers", workers, *layers)
+        files = [os.path.join(out, it) for it in sorted(os.listdir(out))]
         made[workers] = [report, *map(read, files)]
     if made["1"] != made["7"]:
-        sys.exit("flatten.py: 1 and 7 workers make different layers")
+        sys.exit(f"flatten.py: 1 and 7 workers of {command} make different layers")
     return files
 
 
-def flatten(program, layers, blobs, folder):
-    """Merges layers until one is left. Gives how many merges showed the same, and how many there were."""
+def merged(program, layers, blobs, folder):
+    """Merges layers until one is left. Gives this, how many merges showed the same, and how many there were."""
     before, same, merges = printed(program, "show", *layers), 0, 0
     while len(layers) > 1:
-        inner = os.path.join(folder, str(merges))
-        os.mkdir(inner)
-        top, lower = merged(program, layers, blobs, inner)
+        top, lower = new_layers(program, "merge", layers, blobs, os.path.join(folder, str(merges)))
         rest, layers = layers[2:], [lower, *layers[2:]]
         same += all(printed(program, "show", *them) == before for them in ([top, lower, *rest], layers))
         merges += 1
-    return same, merges
+    return layers[0], same, merges
 
 
 def main():
@@ -62,9 +57,12 @@ def main():
                 sys.exit(f"flatten.py: {stack} has no l0.json")
             if not os.path.isdir(blobs):
                 layers, blobs = with_contents(layers, folder)
-            same, merges = flatten(program, layers, blobs, folder)
-            print(f"{stack}: {merges} merges, after {same} of them the stack shows the same", flush=True)
-            good = good and same == merges
+            left, same, merges = merged(program, layers, blobs, folder)
+            [flat] = new_layers(program, "flatten", layers, blobs, os.path.join(folder, "flat"))
+            alike = not merges or read(left) == read(flat)
+            said = "makes the layer that is left" if alike else "makes another layer"
+            print(f"{stack}: {merges} merges, after {same} of them the stack shows the same; flatten {said}", flush=True)
+            good = good and same == merges and alike
     sys.exit(0 if good else 1)
 
 

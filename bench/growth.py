@@ -307,6 +307,7 @@ CASES = [
     Case("an entry of N attributes", "show", short_attributes, (500_000, 1_000_000), most=MOST),
     Case("an entry of N attributes", "deref", short_attributes, (500_000, 1_000_000), most=MOST),
     Case("an entry of N attributes", "merge", short_attributes, (500_000, 1_000_000), most=MOST),
+    Case("an entry of N attributes", "flatten", short_attributes, (500_000, 1_000_000), most=MOST),
     Case("N members `entries`", "show", many_lists, (500_000, 1_000_000), status=REFUSED, most=MOST),
     Case("a directory of N files, members out of the order of their names", "show", one_directory, (100_000, 200_000), unsorted=True, most=MOST),
     Case("a redirect of N names", "show", lone_redirect, (1_000_000, 2_000_000), most=MOST),

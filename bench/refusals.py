@@ -30,7 +30,7 @@ from pathlib import Path
 from growth import REDIRECT, First, entry, write
 
 SOURCE = Path(__file__).resolve().parent / "refuse.c"
-COMMANDS = ("show", "fsck", "vacuum", "deref", "merge", "fsck --any-size", "merge --any-size")
+COMMANDS = ("show", "fsck", "vacuum", "deref", "merge", "flatten", "fsck --any-size", "merge --any-size")
 # What is refused, and how refuse.c is told so.
 THREAD = "the start of a thread"
 WAYS = {"a request": {"REFUSE": "memory"}, "a request and all after it": {"REFUSE": "memory", "REFUSE_ON": ""},
@@ -96,6 +96,8 @@ STACKS = {
                             {digest(b"abc"): b"abd", digest(b"ab"): b"ab"}),
     "forty_directories": Stack((FORTY, FORTY), A, (7,)),
     "many_lines": Stack((LINES, []), {}, refused=(THREAD,)),
+    "forty_layers": Stack(tuple([file(f"/f{n:02d}", b"%d" % n)] for n in range(40)), {digest(b"%d" % n): b"%d" % n for n in range(40)},
+                          (2, 4), (THREAD,)),
 }
 
 

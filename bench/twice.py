@@ -1,13 +1,15 @@
 #!/usr/bin/env python3
-"""Vacuums stacks of layers twice, and tells where the second time removes something or a stack shows something else.
+"""Vacuums and flattens stacks of layers twice, and tells where the second time changes something or a stack shows
+something else.
 
 Python 3.11, standard library. A stack is a folder with `l0.json`, the topmost, `l1.json` and so on, as compare.sh
 takes them, or the file of one manifest. Each of its layers in turn is vacuumed over those below it, and the lowest
-one over itself; then what comes of it is vacuumed again over the same layers. What the stack shows is compared before,
-between and after, byte for byte.
+one over itself; then what comes of it is vacuumed again over the same layers: nothing more may go. The same stacks are
+flattened, and then the layer that comes of it: the same layer must come of that, byte for byte. What is shown is compared
+before, between and after.
 
 Where a stack has no folder `blobs`, each digest gets contents of its own, of 64 bytes, and every file that isn't empty
-this size: vacuum wants right contents, and nothing is lost by it, since files of other contents stay others.
+this size: both want right contents, and nothing is lost by it, since files of other contents stay others.
 
     python3 bench/twice.py --program ./ovl_layers examples/copied examples/moved
 """
@@ -61,22 +63,51 @@ def printed(program, *words):
     return ran.stdout
 
 
-def vacuumed(program, layers, blobs, out):
-    """The new topmost layer of a stack in a new folder, how many entries were removed, and how many are left."""
+def made(program, command, layers, blobs, out):
+    """The one new layer of a command, in a new folder, and its report."""
     os.mkdir(out)
-    report = printed(program, "vacuum", "--blobs", blobs, "--out", out, *layers)
+    report = printed(program, command, "--blobs", blobs, "--out", out, *layers)
+    return os.path.join(out, "layer-0.json"), report
+
+
+def vacuumed(program, layers, blobs, out):
+    """The new topmost layer of a stack, how many entries were removed, and how many are left."""
+    new, report = made(program, "vacuum", layers, blobs, out)
     counts = re.search(rb"(?:^|\n)removed (\d+) kept (\d+)\n\Z", report)
-    return os.path.join(out, "layer-0.json"), int(counts[1]), int(counts[2])
+    return new, int(counts[1]), int(counts[2])
 
 
-def twice(program, layers, blobs, folder):
+def vacuumed_twice(program, layers, blobs, folder, before):
     """What comes of vacuuming the topmost of these layers twice, as words, and whether it is as it should be."""
-    before = printed(program, "show", *layers)
     once, removed, kept = vacuumed(program, layers, blobs, os.path.join(folder, "once"))
     again, more, _ = vacuumed(program, [once, *layers[1:]], blobs, os.path.join(folder, "again"))
     same = all(printed(program, "show", new, *layers[1:]) == before for new in (once, again))
-    said = f"removed {removed} kept {kept}, then removed {more}, shows {'the same' if same else 'something else'}"
-    return said, same and more == 0
+    return f"removed {removed} kept {kept}, then removed {more}, shows {told(same)}", same and more == 0
+
+
+def flattened_twice(program, layers, blobs, folder, before):
+    """What comes of flattening these layers twice, as words, and whether it is as it should be."""
+    once, report = made(program, "flatten", layers, blobs, os.path.join(folder, "flat"))
+    again, other = made(program, "flatten", [once], blobs, os.path.join(folder, "flat again"))
+    alike = report == other and read(once) == read(again)
+    same = printed(program, "show", once) == before
+    return f"flattened again to {told(alike)}, shows {told(same)}", same and alike
+
+
+def read(path):
+    with open(path, "rb") as file:
+        return file.read()
+
+
+def told(same):
+    return "the same" if same else "something else"
+
+
+def twice(program, layers, blobs, folder):
+    """What comes of both, as words, and whether it is as it should be."""
+    before = printed(program, "show", *layers)
+    both = [it(program, layers, blobs, folder, before) for it in (vacuumed_twice, flattened_twice)]
+    return "; ".join(said for said, _ in both), all(fine for _, fine in both)
 
 
 def trials(layers):
@@ -86,7 +117,7 @@ def trials(layers):
 
 
 def main():
-    words = argparse.ArgumentParser(description="Vacuums stacks of layers twice.")
+    words = argparse.ArgumentParser(description="Vacuums and flattens stacks of layers twice.")
     words.add_argument("--program", required=True, help="path of the program")
     words.add_argument("stacks", nargs="+", metavar="STACK", help="a folder of layers, or a manifest")
     given = words.parse_args()

@@ -3,16 +3,28 @@
 
 - HEADLINE.md has every definition that is reached from the contract of `command`, beside its file.
 - PROVED.md has every public call of the crates, and none that isn't there.
+- definitions.txt has the text of these definitions.
+- MADE_FAULTS.md has every function that names want of memory, or a fault of reading or writing, in its code,
+  with how often, and no other.
 - Links of all documents lead somewhere, and files that ARCHITECTURE.md names are there.
 
 Prints what is missing; the status is 1 where something is. Says nothing of what the documents say.
+
+    python3 docs/check.py --definitions    # prints docs/definitions.txt: the definitions of HEADLINE.md, in its order
 """
+import collections
 import re
 import sys
 from pathlib import Path
 
 TOP = Path(__file__).resolve().parent.parent
-CLAUSES = ["IsOutcome", "is_outside", "request_of", "makes_layers", "KeepsTree", "after", "stays_sound", "HasSoundStack"]
+CLAUSES = ["IsOutcome", "is_outside", "request_of", "makes_layers", "KeepsTree", "after", "stays_sound", "HasSoundStack", "stands_alone",
+           "IsQuiet"]
+# What is made by hand, and the words of code that make it, chapter by chapter of MADE_FAULTS.md.
+MADE = {
+    "want of memory": r"\bAllocError\b(?!\s*[>{;])|\bAllocFailed\b(?!\s*[<>{;])|Fault::Memory\b|\bOutOfMemory\b|\bUnread\b(?!\s*[>{;(])|\bstarved (?:=|: true)",
+    "a fault of reading or writing": r"\bReadFault::(?:Device|TooLong)\b|\bProgramFault::(?:Input|Unread|Unwritten|Output)\b|\bErr\(\w*PartFault::",
+}
 TESTS = {"ovl_pool_tests", "ovl_engine_tests", "ovl_program_tests", "ovl_refusal_tests"}
 
 
@@ -64,25 +76,76 @@ def reached(found, taken):
     return seen
 
 
+def rows_of_headline():
+    """The chapters of HEADLINE.md, and of the rows of their tables the names, the files that may have them, and the source."""
+    for line in (TOP / "docs/HEADLINE.md").read_text(encoding="utf-8").splitlines():
+        if line.startswith(("## ", "**")):
+            yield line.strip("#* ."), [], [], ""
+        if line.startswith("| `"):
+            names, files, _, source = (line.split("|") + [""])[1:5]
+            crate, told = "", []
+            for file in re.findall(r"`([^`]+)`", files):
+                crate, _, name = file.rpartition("/") if "/" in file else (crate, "", file)
+                told.append(f"{crate}/{name}")
+            yield "", re.findall(r"`([^`]+)`", names), told, source.strip()
+
+
+def texts_of(file):
+    """The text of each definition of a file of specs/, with the comment above it."""
+    crate, name = file.split("/")
+    lines = (TOP / "crates" / crate / "specs" / f"{name.replace('.', '/')}.antt").read_text(encoding="utf-8").splitlines()
+    texts, comment, current = {}, [], None
+    for line in lines:
+        head = re.match(r"(?:abbrev )?(?:pub )?(?:record |data )?(\S+)", line)
+        if line.startswith("--"):
+            comment, current = [*comment, line], None
+        elif re.match(r"(abbrev|pub|record|data)\b", line) and head[1] not in ("mod", "use"):
+            current = head[1]
+            texts[current], comment = [*comment, line], []
+        elif not line:
+            comment, current = [], None
+        elif current:
+            texts[current].append(line)
+    return texts
+
+
+def definitions_page():
+    """The definitions of HEADLINE.md in its order, each once, with its file and where its rule comes from."""
+    found, _ = definitions()
+    seen, source = set(), ""
+    yield "The definitions that the contract of `command` reaches, in the order of HEADLINE.md, which says of each what it says and from"
+    yield "where. Made by `python3 docs/check.py --definitions`."
+    for chapter, names, files, told in rows_of_headline():
+        if chapter:
+            yield f"\n\n==== {chapter} ===="
+        source = source if told == "the same" else told
+        for name in names:
+            file = next((it for it in files if (it, name) in found), None)
+            if file and (file, name) not in seen:
+                seen.add((file, name))
+                yield f"\n-- {file}" + (f"; from: {source}" if source else "")
+                yield from texts_of(file)[name]
+
+
+def page():
+    return "\n".join(definitions_page()) + "\n"
+
+
 def headline():
-    text = (TOP / "docs/HEADLINE.md").read_text(encoding="utf-8")
-    rows = [line.split("|")[1:3] for line in text.splitlines() if line.startswith("| `")]
-    told = set()
-    for names, files in rows:
-        crate = ""
-        for file in re.findall(r"`([^`]+)`", files):
-            crate, _, name = file.rpartition("/") if "/" in file else (crate, "", file)
-            told |= {(f"{crate}/{name}", one) for one in re.findall(r"`([^`]+)`", names)}
+    rows = list(rows_of_headline())
+    told = {(file, name) for _, names, files, _ in rows for file in files for name in names}
     found, taken = definitions()
     needed = reached(found, taken)
     print(f"{len(needed)} definitions are reached from the contract of command")
     for file, name in sorted(needed - told):
         yield f"HEADLINE.md lacks {name} of {file}"
     known = {name for _, name in found}
-    for names, _ in rows:
-        for name in re.findall(r"`([^`]+)`", names):
-            if name not in known:
-                yield f"HEADLINE.md names {name}, which no specs/ has"
+    for name in (name for _, names, _, _ in rows for name in names):
+        if name not in known:
+            yield f"HEADLINE.md names {name}, which no specs/ has"
+    text = TOP / "docs/definitions.txt"
+    if not text.exists() or text.read_text(encoding="utf-8") != page():
+        yield "definitions.txt isn't what the definitions are: python3 docs/check.py --definitions > docs/definitions.txt"
 
 
 def calls(crate):
@@ -128,6 +191,49 @@ def proved():
                 yield f"PROVED.md names {call}, which no crate has"
 
 
+def code_lines(path):
+    """The function that each line of code stands in, methods as TYPE::NAME, and the line without comments and clauses."""
+    owner, function = None, None
+    for line in path.read_text(encoding="utf-8").splitlines():
+        code = line.split("//")[0]
+        own = re.match(r"impl(?:<[^{]*?>)? (?:(?:\w+::)*(\w+)(?:<[^{]*>)? for )?(\w+)", code)
+        if own:
+            owner = f"{own[2]} from {own[1]}" if own[1] == "From" else own[2]
+        elif re.match(r"(pub|fn|enum|struct|trait|mod)\b", code):
+            owner = None
+        head = re.search(r"\bfn (\w+)", code)
+        if head:
+            function = f"{owner}::{head[1]}" if owner and code.startswith(" ") else head[1]
+            code = code.partition("->")[0].partition("(_:")[0]
+        if not re.match(r"\s*(ghost|pub use|use|impl|type|ensures|requires)\b|.*[\u2261\u03bb\u2192]", code):
+            yield function, code
+
+
+def made(pattern):
+    """The functions of the crates that have such words in their code, and how many."""
+    counts = collections.Counter()
+    for crate in crates():
+        for path in sorted((crate / "src").rglob("*.rt")):
+            for function, code in code_lines(path):
+                counts[f"{crate.name}/{path.relative_to(crate / 'src')}", function] += len(re.findall(pattern, code))
+    return {(*place, count) for place, count in counts.items() if count}
+
+
+def made_faults():
+    text = (TOP / "docs/MADE_FAULTS.md").read_text(encoding="utf-8")
+    chapters = re.split(r"^## ", text, flags=re.M)[1:]
+    for (name, pattern), chapter in zip(MADE.items(), chapters):
+        told, file = set(), ""
+        for first, function, count in re.findall(r"^\| (.*?) \| `([\w: ]+)` \| (\d+) \| \S.* \|$", chapter, flags=re.M):
+            file = first.strip("`") or file
+            told.add((file, function, int(count)))
+        found = made(pattern)
+        for file, function, count in sorted(found - told):
+            yield f"MADE_FAULTS.md lacks {function} of {file}, whose code has a word of {name} {count} times"
+        for file, function, count in sorted(told - found):
+            yield f"MADE_FAULTS.md says {count} times of {function} of {file}, which isn't so of {name}"
+
+
 def anchor(heading):
     return re.sub(r"[^\w\- ]", "", heading.strip().lower()).replace(" ", "-")
 
@@ -154,6 +260,8 @@ def links():
 
 
 if __name__ == "__main__":
-    missing = [*headline(), *proved(), *links()]
+    if sys.argv[1:] == ["--definitions"]:
+        sys.exit(print(page(), end=""))
+    missing = [*headline(), *proved(), *made_faults(), *links()]
     print("\n".join(missing) or "nothing is missing")
     sys.exit(1 if missing else 0)

@@ -188,13 +188,14 @@ printf '{"entries":[%s%s],"overlay-layer":2}\n' "$root" "$pipes" > pipes.json
 printf '[]' > shape.json
 : > empty.json
 python3 -B "$bench/refusals.py" --library refuse.so || exit 1
-mkdir blobs wrong short most eight none bad.utf8 large flood closed folder.json
+mkdir blobs wrong short hollow most eight none bad.utf8 large flood closed folder.json
 printf abc > "blobs/$abc"
 printf note > blobs/note
 mkdir "blobs/${abc//b/f}"
 ln -s "$abc" "blobs/${abc//b/0}"
 printf abd > "wrong/$abc"
 printf ab > "short/$abc"
+: > "hollow/$abc"
 : > $'bad.utf8/\xff'
 truncate -s 268435457 long.json
 truncate -s 268435456 most.json
@@ -268,6 +269,7 @@ fifos() {
     at dir /x "$plain"
     fifos /x/ 524286
 } | layer > many_below.json
+fifos /z 1 | layer > one.json
 # A redirect of 100,000 names; and a chain of as many directories as a path may have names, the last of which goes on at the
 # chain of deeper.json.
 at dir /m "\"xattrs\":{\"trusted.overlay.redirect\":\"$(printf '2f61%.0s' {1..100000})\"}" | layer > far.json
@@ -291,6 +293,7 @@ prints 0 'faults 0 notes 0\n' fsck --blobs blobs/ --workers 1 root.json k.json
 prints 1 'fault blob-digest 0 /k\nfaults 1 notes 0\n' fsck --blobs wrong k.json
 prints 1 'fault blob-missing 1 /k\nfaults 1 notes 0\n' fsck --blobs none root.json k.json
 prints 1 'fault blob-size 0 /k\nfault blob-digest 0 /k\nfaults 2 notes 0\n' fsck --blobs short k.json
+prints 1 'fault blob-size 0 /k\nfault blob-digest 0 /k\nfaults 2 notes 0\n' fsck --blobs hollow k.json
 prints 0 'faults 0 notes 0\n' fsck --blobs most root.json
 
 # Files and folders.
@@ -342,8 +345,10 @@ for words in pipe.json 'root.json pipe.json'; do
     wait
 done
 prints 0 'faults 0 notes 0\n' fsck --blobs linked k.json
-for path in dangling.json round.json socket.json pipe.json /dev/null '' "$long_name"; do
-    refuses 3 "cannot read $path" fsck --blobs "$path" k.json
+for path in missing missing/ root.json dangling.json round.json socket.json pipe.json /dev/null '' "$long_name"; do
+    for layer in k.json root.json; do
+        refuses 3 "cannot read $path" fsck --blobs "$path" "$layer"
+    done
 done
 for kind in 'mkfifo' 'socket_at' 'mkdir' 'ln -s ../root.json' 'ln -s lost' 'ln -s /dev/zero'; do
     mkdir odd
@@ -388,6 +393,7 @@ prints 1 'fault blob-missing 0 /k\nfaults 1 notes 0\n' "${parts[@]}" bad.utf8 k.
 prints 0 "$clean" "${parts[@]}" large root.json
 unlike='fault blob-size 0 /k\nfault blob-digest 0 /k\nfaults 2 notes 0\n'
 prints 1 "$unlike" "${parts[@]}" large k.json
+prints 1 "$unlike" "${parts[@]}" hollow k.json
 mkdir longest && truncate -s 268435457 "longest/$abc"
 prints 1 "$unlike" "${parts[@]}" longest k.json
 refuses 3 "cannot read longest/$abc" fsck --blobs longest k.json
@@ -395,7 +401,9 @@ rm -r longest
 refuses 3 'cannot read missing.json' "${parts[@]}" missing missing.json
 refuses 3 'layer 0: wrong shape' "${parts[@]}" missing shape.json
 for path in missing missing/ root.json dangling.json round.json socket.json pipe.json /dev/null '' "$long_name"; do
-    refuses 3 "cannot read $path" "${parts[@]}" "$path" k.json
+    for layer in k.json root.json; do
+        refuses 3 "cannot read $path" "${parts[@]}" "$path" "$layer"
+    done
 done
 if ((EUID != 0)); then
     refuses 3 "cannot read closed/$abc" "${parts[@]}" closed k.json
@@ -424,7 +432,8 @@ for most in 1 2 100; do
     over='failing read no-file 0 0' prints 0 "$clean" "${parts[@]}" blobs k.json
 done
 most=
-# (Of eight contents two can't be read, whose names end otherwise: the first of them is told by any number of workers.)
+# (Of eight contents two can't be read, whose names end otherwise: the first of them is told by any number of workers, also
+# where they are held.)
 for pair in '0 7' '2 3' '1 6' '5 5'; do
     entries='' told_first=''
     for ((i = 0; i < 8; i++)); do
@@ -436,8 +445,10 @@ for pair in '0 7' '2 3' '1 6' '5 5'; do
     done
     printf '{"entries":[%s%s],"overlay-layer":2}\n' "$root" "$entries" > eight.json
     for workers in 1 2 7; do
-        over='failing open ff 1 5' REFUSE_ON=1 refuses 3 "cannot read eight/$told_first" "${parts[@]}" eight --workers "$workers" eight.json
-        over='failing read ff 1 5' REFUSE_ON=1 refuses 3 "cannot read eight/$told_first" "${parts[@]}" eight --workers "$workers" eight.json
+        for call in open read; do
+            over="failing $call ff 1 5" REFUSE_ON=1 refuses 3 "cannot read eight/$told_first" fsck --blobs eight --workers "$workers" eight.json
+            over="failing $call ff 1 5" REFUSE_ON=1 refuses 3 "cannot read eight/$told_first" "${parts[@]}" eight --workers "$workers" eight.json
+        done
     done
     rm eight/*
 done
@@ -473,12 +484,23 @@ for ((i = 0; i < 64; i++)); do
     layers+=(/dev/stdin)
 done
 over=from_a_pipe refuses 3 'layer 1: not JSON' show --workers 64 "${layers[@]}"
+for ((i = 0; i < 20; i++)); do
+    over=from_a_pipe refuses 3 'layer 1: not JSON' show --workers 4 /dev/stdin /dev/stdin root.json
+done
 layers=()
 for ((i = 0; i < 129; i++)); do
     layers+=(root.json)
 done
 refuses 3 'layers must be 1 to 128' show "${layers[@]}"
 prints 0 'dir 0755 0 0 0 - - /\nentries 1\n' show "${layers[@]:1}"
+prints 0 "$clean" fsck --blobs none "${layers[@]:1}"
+prints 0 "$clean" "${parts[@]}" none "${layers[@]:1}"
+mkdir most.layers
+prints 0 'removed 0 kept 1\n' vacuum --blobs none --out most.layers "${layers[@]:1}"
+for what in deref merge; do
+    prints 0 'entries 1\n' "$what" --blobs none --out most.layers "${layers[@]:1}"
+done
+rm -r most.layers
 refuses 3 'data layers must leave a layer' show --data-layers 1 root.json
 
 # Words.
@@ -513,7 +535,7 @@ explains "$wanted<LAYER>..." 'show <LAYER>...' show
 explains "$wanted--blobs <DIR>" 'fsck --blobs <DIR> <LAYER>...' fsck root.json
 explains "$wanted--out <DIR>" 'vacuum --blobs <DIR> --out <DIR> <LAYER>...' vacuum --blobs none root.json
 explains "unrecognized subcommand 'mount'" '<COMMAND>' mount root.json
-for what in vacuum deref merge; do
+for what in vacuum deref merge flatten; do
     explains "a value is required for '--out <DIR>' but none was supplied" '' "$what" --blobs blobs --out '' meta.json k.json
     explains "a value is required for '--out <DIR>' but none was supplied" '' "$what" --blobs blobs --out= meta.json k.json
 done
@@ -522,7 +544,7 @@ refuses 2 'words must be UTF-8' show $'\xff'
 # New layers. That of k.json over itself is a root alone.
 mkdir new taken full disk taken/layer-0.json
 ln -s /dev/full full/layer-0.json
-for what in vacuum deref; do
+for what in vacuum deref flatten; do
     misfits "$what" --blobs blobs k.json
     misfits "$what" --out new k.json
     misfits "$what" --blobs blobs --out new
@@ -579,6 +601,23 @@ closes 'entries 1048576\n' merge "${rewritten[@]}" many_beside.json many_below.j
 closes 'entries 129\n' merge "${rewritten[@]}" moved.json deep.json
 closes 'entries 128\n' merge "${rewritten[@]}" chain_moved.json half.json
 rm -f new/layer-*.json
+# (What is shown has no whiteout.)
+for more in --workers=4 --any-size; do
+    prints 0 'leaf /k\nentries 2\n' flatten "$more" --blobs blobs --out new meta.json k.json
+    gives new k.json
+    rm new/layer-0.json
+done
+prints 1 'fault blob-missing 1 /k\nfaults 1 notes 0\n' flatten --blobs none --out new meta.json k.json
+gives new
+closes 'entries 1048576\n' flatten "${rewritten[@]}" many_beside.json many_below.json
+closes 'entries 129\n' flatten "${rewritten[@]}" moved.json deep.json
+closes 'entries 128\n' flatten "${rewritten[@]}" chain_moved.json half.json
+closes 'entries 16\n' flatten "${rewritten[@]}" long_named.json long.fits.json
+rm -f new/layer-0.json
+refuses 5 'result over the limits' flatten "${rewritten[@]}" one.json many_beside.json many_below.json
+refuses 5 'result over the limits' flatten "${rewritten[@]}" moved.json deeper.json
+refuses 5 'result over the limits' flatten "${rewritten[@]}" long_named.json long.over.json
+gives new
 
 prints 1 'fault redirect-lost 0 /m\nfault redirect-open 0 /m\nfaults 2 notes 0\n' fsck --blobs none far.json root.json
 prints 0 'faults 0 notes 0\n' fsck --blobs none moved_deeper.json deeper.json
@@ -656,6 +695,16 @@ for target in ../pipes.json layer-0.json ../none/made.json /dev/null; do
     rm -r places
 done
 rm none/made.json
+# Two files of two file systems, which have one number there, are two.
+on_two_disks() {
+    unshare -m sh -c 'mount -t tmpfs none one && mount -t tmpfs none two && : > one/new && : > two/new && "$@" && cat one/new' sh "$@"
+}
+if mkdir one two places && on_two_disks stat -c %i one/new two/new > told 2>&1 && [[ $(sort -u told | wc -l) == 1 ]]; then
+    ln -s ../one/new places/layer-0.json
+    ln -s ../two/new places/layer-1.json
+    over=on_two_disks prints 0 'leaf /k\nentries 2\n'"$(cat root.json)"'\n' "${merge[@]}"
+fi
+rm -r one two places
 if on_a_disk_for_reading true 2> told; then
     over=on_a_disk_for_reading refuses 4 'cannot write disk/layer-0.json' vacuum --blobs blobs --out disk k.json root.json
 fi
@@ -697,7 +746,7 @@ done
 over=without_errors ends 3 told show missing.json && same=$((same + 1))
 
 # Help and the version go to standard output.
-for words in --help -h --version 'show --help' 'fsck --help' 'vacuum --help' 'deref --help' 'merge --help'; do
+for words in --help -h --version 'show --help' 'fsck --help' 'vacuum --help' 'deref --help' 'merge --help' 'flatten --help'; do
     # shellcheck disable=SC2086
     "$program" $words < input > printed 2> told
     status=$?

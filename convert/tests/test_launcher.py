@@ -9,7 +9,7 @@ import unittest
 from support import PROGRAM, ROOT, FolderTest
 
 _TEXTS = ROOT / "examples" / "help"
-_COMMANDS = ("show", "fsck", "vacuum", "deref", "merge")
+_COMMANDS = ("show", "fsck", "vacuum", "deref", "merge", "flatten")
 _NO_BUILD = "ovl_layers: the program must be built, and rt is not on the PATH\n"
 
 

@@ -19,6 +19,7 @@ mod MemberLemmas
 mod FinishLemmas
 mod OrderLemmas
 mod SoundLemmas
+mod UnmarkedLemmas
 mod ContentLemmas
 mod StatedLemmas
 pub mod WalkLists

@@ -23,7 +23,7 @@ kept : {X : Type 0} (p : X → Bool) (x : X) (xs : List X) (b : Bool) → list_a
 kept p x xs true = refl
 kept p x xs false = refl
 
-any-filter : {X : Type 0} (h p : X → Bool) (xs : List X) → list_any p (filter h xs) ≡ list_any (λ x. h x && p x) xs
+pub any-filter : {X : Type 0} (h p : X → Bool) (xs : List X) → list_any p (filter h xs) ≡ list_any (λ x. h x && p x) xs
 any-filter h p [] = refl
 any-filter h p (x ∷ xs) = kept p x (filter h xs) (h x) ∙ ap (λ b. (h x && p x) || b) (any-filter h p xs)
 

@@ -2,7 +2,7 @@
 use Rattle.std.proofs.Common.{◌≡◌, ℕ, Bool, true, false, cond, Option, Some, None, List, [], ◌∷◌, ◌++◌, refl, sym, ap, ◌∙◌, subst, append_assoc, inl, inr, ◌⊎◌}
 use Rattle.std.specs.Prelude.{◌||◌, ◌&&◌, ◌==◌, not, is_some, is_none, codes}
 use Rattle.std.specs.Option.{option_map}
-use Rattle.std.specs.List.{list_any, All}
+use Rattle.std.specs.List.{All}
 use Rattle.std.specs.Cmp.{unsigned_Decides}
 use Rattle.std.specs.Cmp.Lexicographic.{bytes_decides}
 use Rattle.std.proofs.lemmas.List.{append-nil}
@@ -21,21 +21,21 @@ use Rattle.ovl_inode.specs.Inodes.{visible}
 use Rattle.ovl_inode.specs.Kinds.{size_of}
 use Rattle.ovl_inode.specs.Marks.{mark_of, is_directory, is_regular, is_whiteout, is_metacopy, is_metacopy_mark, has_attribute, has_opaque, has_metacopy, redirect_reading, directory_mark, metacopy_mark, is_data}
 use Rattle.ovl_manifest.specs.Layers.{Entries, entry_at, is_directory_at, IsLayer}
-use Rattle.ovl_lookup.specs.declared.steps.Step.{Step}
 use Rattle.ovl_lookup.specs.declared.looks.Look.{Look}
 use Rattle.ovl_lookup.specs.declared.looks.Look.TheVariants.{Nothing, Shown, Broken}
 use Rattle.ovl_lookup.specs.Walk.{walk, walk_beyond, walk_to_file, nothing_found, found_at_end, mark_at, turn, is_shut}
 use Rattle.ovl_lookup.specs.Stacks.{StackView}
 use Rattle.ovl_lookup.specs.Trace.{things_found}
-use Rattle.ovl_lookup.specs.Merged.{look, shown_of, data_of, is_shown_directory, is_nothing}
-use Rattle.ovl_lookup.specs.Sound.{IsSoundStack, is_moved, is_malformed, is_meta, has_other_size, goes_on_there, is_seen_there, data_at}
-use Rattle.ovl_lookup.proofs.LawsOfInodes.{metacopy-file, attribute-with, visible-with, by_reading, IsVisible, visible-twice, attribute-hidden, visible-mark, directory-no_whiteout}
+use Rattle.ovl_lookup.specs.Merged.{look, shown_of, data_of, is_shown_directory}
+use Rattle.ovl_lookup.specs.ShownInodes.{inode_shown}
+use Rattle.ovl_lookup.specs.Sound.{IsSoundStack, is_moved, is_malformed, is_meta, has_other_size}
+use Rattle.ovl_lookup.proofs.LawsOfInodes.{visible-own, visible-full, metacopy-file, attribute-with, visible-with, by_reading, IsVisible, visible-twice, visible-mark, directory-no_whiteout}
 use Rattle.ovl_lookup.proofs.LawsOfFound.{shown_of-full, shown_of-contents, data-regular}
 use Rattle.ovl_lookup.proofs.LawsOfWalks.{walk-stop, directory-above, directory-parent, directory-entry, mark-file, directory_found, mark-child, same-mark, same-turn, same-walk, Beyond, walk-end, walk-past, BeyondFrom, end-from, is_shut-at}
 use Rattle.ovl_lookup.proofs.LawsOfPaths.{parent_path-child, filter-filter, last-name, by_child}
 use Rattle.ovl_lookup.specs.Words.{over, SameEntries}
-use Rattle.ovl_lookup.proofs.LawsOfLooks.{look-by, look-same, look-closed, nothing-under, shown-visible, is_broken, never-broken, data-there, all-over, entry-found, entry-directory_shown, Faultless, sound-first, sound-rest, sound-whole}
-use Rattle.ovl_deref.specs.Deref.{any_prefix, is_in_moved, inode_shown, unfolded, full_attributes, filled, dereferenced_inode, IsDereferenced}
+use Rattle.ovl_lookup.proofs.LawsOfLooks.{look-by, look-same, look-closed, nothing-under, shown-visible, is_broken, never-broken, data-there, all-over, entry-found, entry-directory_shown, Faultless, Calm, calm-visible, calm-faultless, inode-whole, sound-first, sound-rest, sound-whole}
+use Rattle.ovl_deref.specs.Deref.{any_prefix, is_in_moved, unfolded, full_attributes, filled, dereferenced_inode, IsDereferenced}
 use Rattle.ovl_deref.specs.Laws.{DerefKeepsTree, DerefKeepsSoundness}
 
 -- ---- a test at some prefix
@@ -175,43 +175,9 @@ module _ (inode contents : Inode) (thing : is_whiteout inode ≡ false) (bare : 
   pub full-visible : visible (made_full inode contents) ≡ record (visible inode) { kind = contents.kind }
   full-visible = λ j. record inode { kind = contents.kind; attrs = filter-filter (λ attr. not (is_overlay_name attr.0)) (λ attr. not (name_eq attr.0 metacopy_name || name_eq attr.0 redirect_name)) inode.attrs full_shown j }
 
--- a visible inode is its own
-pub visible-own : (inode : Inode) → IsVisible inode → visible inode ≡ inode
-visible-own inode v = λ j. record inode { attrs = v.bare j }
-
--- and is no metacopy file
-pub visible-full : (inode : Inode) → IsVisible inode → (is_regular inode && has_metacopy inode) ≡ false
-visible-full inode v =
-    ap (λ o. is_regular inode && is_some o) (ap (λ a. attribute a metacopy_name) (sym v.bare) ∙ attribute-hidden inode.attrs metacopy_name refl)
-    ∙ and_false (is_regular inode)
-  where
-    and_false : (b : Bool) → (b && false) ≡ false
-    and_false true = refl
-    and_false false = refl
-
 -- a leaf that is found is all that is found
 pub leaf-walked : (inode : Inode) (turned : PathNames) (shut : Bool) (name : PathName) → is_whiteout inode ≡ false → mark_of inode ≡ Leaf → walk_beyond (Some inode) turned shut name [] ≡ found_at_end inode (child_path turned name) true
 leaf-walked inode turned shut name thing mark = λ j. cond (thing j) (nothing_found (child_path turned name) true) (walk_to_file inode (mark j) turned shut name)
-
--- ---- a mark that is neither a redirect nor a metacopy file has no fault of theirs
-
-pub record Calm (mark : Option Mark) : Type 0 where
-  pub unmoved : is_moved mark ≡ false
-  pub formed : is_malformed mark ≡ false
-  pub full : is_meta mark ≡ false
-
-pub calm-faultless : (layer : Entries) (below : StackView) (path : PathNames) (inode : Inode) → Calm (mark_at layer path) → Faultless layer below path inode
-calm-faultless layer below path inode calm =
-    let step : Step = walk layer path in
-    record {
-      formed = calm.formed;
-      found = (λ j. calm.unmoved j && (step.closed || is_nothing (look below step.next)));
-      fitting = (λ j. calm.unmoved j && not step.closed && not (is_nothing (look below step.next)) && not (is_shown_directory (look below step.next)));
-      single = (λ j. calm.unmoved j && not step.closed && list_any (goes_on_there layer path) layer);
-      hidden = (λ j. calm.unmoved j && not step.closed && is_seen_there layer step.next);
-      full = (λ j. calm.full j && is_none (data_at layer below path inode));
-      sized = (λ j. calm.full j && has_other_size inode (data_at layer below path inode));
-    }
 
 -- ---- the layer and what it is made of
 
@@ -490,12 +456,7 @@ module _ (top : Entries) (below : StackView) (is : IsLayer top) (each : All IsLa
 
     -- an inode that stands there is one that is shown
     shown-there : (path : PathNames) (inode : Inode) → inode_shown (look (over top below) path) ≡ Some inode → look (over top below) path ≡ Shown inode
-    shown-there path inode some = by (look (over top below) path) refl (whole_look path) some
-      where
-        by : (shown : Look) → look (over top below) path ≡ shown → is_broken shown ≡ false → inode_shown shown ≡ Some inode → look (over top below) path ≡ Shown inode
-        by Nothing e b s = let bad : None ≡ Some inode = s in cc
-        by (Shown other) e b s = let same : other ≡ inode = cc in e ∙ ap (λ (i : Inode). Shown i) same
-        by (Broken other) e b s = let bad : true ≡ false = b in cc
+    shown-there path inode some = inode-whole (over top below) each_over sound path inode some
 
     visible-there : (path : PathNames) (inode : Inode) → look (over top below) path ≡ Shown inode → IsVisible inode
     visible-there path inode shown = shown-visible (over top below) each_over path inode shown
@@ -625,7 +586,7 @@ module _ (top : Entries) (below : StackView) (is : IsLayer top) (each : All IsLa
     where
       -- outside of moved directories
       free : at_moved path ≡ false → (found : Option Inode) → entry_at top path ≡ found → (path ≡ []) ⊎ ((directory : PathNames) × (name : PathName) × (path ≡ child_path directory name)) → Calm (mark_at layer path)
-      free e found f (inl root) = subst (λ (p : PathNames). Calm (mark_at layer p)) (sym root) (record { unmoved = refl; formed = refl; full = refl })
+      free e found f (inl root) = subst (λ (p : PathNames). Calm (mark_at layer p)) (sym root) (calm-visible true)
       free e None f (inr (directory, name, child)) = let bad : None ≡ Some inode = sym (entry-free path e ∙ ap (option_map (kept path)) f) ∙ here in cc
       free e (Some i) f (inr (directory, name, child)) = split (is_metacopy i) refl
         where
@@ -668,11 +629,7 @@ module _ (top : Entries) (below : StackView) (is : IsLayer top) (each : All IsLa
       above up (inr (middle, own, e)) =
           let there : PathNames = child_path (child_path up.directory up.name ++ middle) own in
           let same : path ≡ there = sym up.whole ∙ (ap (λ (r : PathNames). child_path up.directory up.name ++ r) e ∙ sym (append_assoc (child_path up.directory up.name) middle (own ∷ []))) in
-          subst Calm (sym (ap (mark_at layer) same ∙ mark-in up.directory up.name up.outside up.moved middle own inode (ap (entry_at layer) (sym same) ∙ here))) (calm_shown (is_directory inode))
-        where
-          calm_shown : (b : Bool) → Calm (Some (cond b DirPlain Leaf))
-          calm_shown true = record { unmoved = refl; formed = refl; full = refl }
-          calm_shown false = record { unmoved = refl; formed = refl; full = refl }
+          subst Calm (sym (ap (mark_at layer) same ∙ mark-in up.directory up.name up.outside up.moved middle own inode (ap (entry_at layer) (sym same) ∙ here))) (calm-visible (is_directory inode))
 
       by : (b : Bool) → at_moved path ≡ b → Calm (mark_at layer path)
       by false e = free e (entry_at top path) refl (last-name path)

@@ -1,6 +1,6 @@
 -- What the new layer has in a directory: its names are in order, and all that it has there has one of them.
 use Rattle.std.proofs.Common.{◌≡◌, ◌≤◌, ◌<◌, Bool, true, false, cond, Option, Some, None, length, refl, sym, ap, ◌∙◌, arith}
-use Rattle.std.specs.Prelude.{not, All}
+use Rattle.std.specs.Prelude.{All}
 use Rattle.std.specs.Option.{option_map}
 use Rattle.std.specs.List.{list_any}
 use Rattle.ovl_names.specs.Names.{PathName, name_eq, name_cmp}
@@ -9,26 +9,21 @@ use Rattle.ovl_names.specs.Paths.{PathNames, child_path, depth_limit}
 use Rattle.ovl_inode.specs.declared.inodes.Inode.{Inode}
 use Rattle.ovl_manifest.specs.Layers.{entry_at, names_below, IsLayer}
 use Rattle.ovl_lookup.specs.declared.looks.Look.{Look}
-use Rattle.ovl_lookup.specs.declared.looks.Look.TheVariants.{Nothing, Shown, Broken}
 use Rattle.ovl_lookup.specs.Stacks.{StackView}
 use Rattle.ovl_lookup.specs.Passes.{kids_along}
-use Rattle.ovl_lookup.specs.Merged.{look, is_nothing}
+use Rattle.ovl_lookup.specs.ShownInodes.{inode_shown}
+use Rattle.ovl_lookup.specs.Merged.{look}
 use Rattle.ovl_lookup.specs.Words.{over, top_layer, lower_layers}
 use Rattle.ovl_lookup.proofs.LawsOfWalks.{entry-limited, names_below-has, directory_found}
 use Rattle.ovl_lookup.proofs.LawsOfKids.{kids-ascend, kids-same, kid-names-ascend}
-use Rattle.ovl_lookup.proofs.LawsOfLooks.{ShowsWithinDepth-holds, top-over, top-layer, lower-layers}
+use Rattle.ovl_lookup.proofs.LawsOfLooks.{ShowsWithinDepth-holds, inode-shows, top-over, top-layer, lower-layers}
 use Rattle.ovl_rewrite.specs.NewLayers.{IsTold, TellsLayer}
 use Rattle.ovl_rewrite.proofs.DirectoryLemmas.{layer-told}
-use Rattle.ovl_deref.specs.Deref.{is_in_moved, inode_shown, dereferenced_inode}
+use Rattle.ovl_deref.specs.Deref.{is_in_moved, dereferenced_inode}
 use Rattle.ovl_deref.specs.Directories.{is_at_moved, new_at, names_in, deref_kids, deref_out, deref_depth}
 use Rattle.ovl_deref.proofs.LayerLemmas.{in_moved-child, outside, within, parent-kept}
 
 -- ---- what the new layer has in a directory
-
-shown_some : (shown : Look) (inode : Inode) → inode_shown shown ≡ Some inode → not (is_nothing shown) ≡ true
-shown_some Nothing inode e = let bad : None ≡ Some inode = e in cc
-shown_some (Shown other) inode e = refl
-shown_some (Broken other) inode e = refl
 
 module _ (stack : StackView) (each : All IsLayer stack.layers) (some : 0 < length stack.layers) where
   top_is : IsLayer (top_layer stack)
@@ -60,7 +55,7 @@ module _ (stack : StackView) (each : All IsLayer stack.layers) (some : 0 < lengt
       by : (b : Bool) → is_at_moved (top_layer stack) directory ≡ b → list_any (name_eq name) (cond b (kids_along stack directory) (names_below (top_layer stack) directory)) ≡ true
       by true moved =
           kids-same stack each directory name
-          ∙ shown_some (look stack (child_path directory name)) inode (sym (new-moved directory name moved) ∙ here)
+          ∙ inode-shows (look stack (child_path directory name)) inode (sym (new-moved directory name moved) ∙ here)
       by false free = own (entry_at (top_layer stack) (child_path directory name)) refl
         where
           own : (found : Option Inode) → entry_at (top_layer stack) (child_path directory name) ≡ found → list_any (name_eq name) (names_below (top_layer stack) directory) ≡ true
@@ -87,7 +82,7 @@ module _ (stack : StackView) (each : All IsLayer stack.layers) (some : 0 < lengt
       by : (b : Bool) → is_in_moved (top_layer stack) path ≡ b → length path ≤ deref_depth stack
       by true moved =
           ShowsWithinDepth-holds stack each path
-          (shown_some (look stack path) inode (ap inode_shown (sym (looked-same path)) ∙ (sym (within (top_layer stack) (lower_layers stack) top_is lower_are path moved) ∙ here)))
+          (inode-shows (look stack path) inode (ap inode_shown (sym (looked-same path)) ∙ (sym (within (top_layer stack) (lower_layers stack) top_is lower_are path moved) ∙ here)))
       by false free = own (entry_at (top_layer stack) path) refl
         where
           own : (found : Option Inode) → entry_at (top_layer stack) path ≡ found → length path ≤ deref_depth stack

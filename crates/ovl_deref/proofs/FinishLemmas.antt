@@ -1,6 +1,6 @@
 -- From the parcels to the new layer.
 use Rattle.std.proofs.Common.{◌≡◌, ◌<◌, Bool, true, false, cond, Some, List, [], length, refl, sym, ap, ◌∙◌, subst}
-use Rattle.std.specs.Prelude.{◌&&◌, All, Result, Ok, Err, IfOk, nat_le}
+use Rattle.std.specs.Prelude.{◌&&◌, All, nat_le}
 use Rattle.std.specs.List.{list_all}
 use Rattle.std.specs.Option.{option_map}
 use Rattle.ovl_names.specs.Order.{ascends}
@@ -59,11 +59,6 @@ module _ (stack : StackView) (each : All IsLayer stack.layers) (some : 0 < lengt
           let parts = both {a = list_all (λ (entry : Entry). is_within_limits entry.0) entries} {b = nat_le (length entries) entry_limit} e in
           absurd (refused (layer-but_limits (top_layer stack) (lower_layers stack) (top-layer stack some each) (lower-layers stack some each) deep
           (subst IsSoundStack (sym (top-over stack some)) sound) entries up new parts.0 parts.1))
-
--- two facts of what is given
-pub ok-both : {X Y : Type 0} (r : Result X Y) (P Q R : X → Type 0) → ((x : X) → P x → Q x → R x) → IfOk r P → IfOk r Q → IfOk r R
-ok-both (Ok x) P Q R both p q = both x p q
-ok-both (Err e) P Q R both p q = tt
 
 -- a layer that is given keeps the limits
 pub limit-kept : (stack : StackView) (layer : Entries) → IsLayer layer → IsDereferenced layer (top_layer stack) (lower_layers stack) → PassesLimit stack → ⊥

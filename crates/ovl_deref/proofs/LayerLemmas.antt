@@ -19,15 +19,16 @@ use Rattle.ovl_lookup.specs.declared.looks.Look.{Look}
 use Rattle.ovl_lookup.specs.declared.looks.Look.TheVariants.{Nothing, Shown, Broken}
 use Rattle.ovl_lookup.specs.Walk.{mark_at}
 use Rattle.ovl_lookup.specs.Stacks.{StackView}
-use Rattle.ovl_lookup.specs.Merged.{look, is_nothing, is_shown_directory}
+use Rattle.ovl_lookup.specs.Merged.{look, is_shown_directory}
+use Rattle.ovl_lookup.specs.ShownInodes.{inode_shown}
 use Rattle.ovl_lookup.specs.Sound.{IsSoundStack, is_moved}
 use Rattle.ovl_lookup.proofs.LawsOfInodes.{metacopy-file, attribute-hidden, unescaped-filter}
-use Rattle.ovl_lookup.proofs.LawsOfLooks.{ShowsParents-holds, shown-visible, is_broken, never-broken, all-over, shown-sound, shown-unescaped, shown-named}
+use Rattle.ovl_lookup.proofs.LawsOfLooks.{ShowsParents-holds, inode-directory, inode-shows, inode-whole, shown-visible, all-over, shown-sound, shown-unescaped, shown-named}
 use Rattle.ovl_lookup.proofs.LawsOfPaths.{lookup-all, parent_path-child, last-name, all-entries}
 use Rattle.ovl_lookup.specs.Words.{over}
 use Rattle.ovl_lookup.proofs.LawsOfWalks.{entry-parent, directory-entry, directory-parent_of, directory_found, mark-child}
 use Rattle.ovl_rewrite.proofs.InodeLemmas.{opaque_named, unescaped-with, directory-flag}
-use Rattle.ovl_deref.specs.Deref.{any_prefix, is_in_moved, inode_shown, unfolded, full_attributes, filled, dereferenced_inode, dereferenced_at, IsDereferenced}
+use Rattle.ovl_deref.specs.Deref.{any_prefix, is_in_moved, unfolded, full_attributes, filled, dereferenced_inode, dereferenced_at, IsDereferenced}
 use Rattle.ovl_deref.specs.Laws.{DerefGivesLayer}
 use Rattle.ovl_deref.proofs.DerefLemmas.{neither, any_prefix-child, moved-directory, full-attribute}
 
@@ -54,16 +55,6 @@ module _ (top : Entries) where
 second : (a b : Bool) → (a || b) ≡ true → a ≡ false → b ≡ true
 second true b e f = let bad : true ≡ false = f in cc
 second false b e f = e
-
-shown-some : (shown : Look) → is_shown_directory shown ≡ true → directory_found (inode_shown shown) ≡ true
-shown-some Nothing e = e
-shown-some (Shown inode) e = e
-shown-some (Broken inode) e = let bad : false ≡ true = e in cc
-
-shows-some : (shown : Look) (inode : Inode) → inode_shown shown ≡ Some inode → not (is_nothing shown) ≡ true
-shows-some Nothing inode e = let bad : None ≡ Some inode = e in cc
-shows-some (Shown other) inode e = refl
-shows-some (Broken other) inode e = refl
 
 module _ (top : Entries) (below : StackView) (is : IsLayer top) (each : All IsLayer below.layers) where
   each_over : All IsLayer (over top below).layers
@@ -111,10 +102,10 @@ module _ (top : Entries) (below : StackView) (is : IsLayer top) (each : All IsLa
         where
           shown : is_shown_directory (look (over top below) path) ≡ true
           shown = ShowsParents-holds (over top below) each_over path name
-              (shows-some (look (over top below) (child_path path name)) inode (sym (within (child_path path name) (in_moved-child top path name ∙ m)) ∙ here))
+              (inode-shows (look (over top below) (child_path path name)) inode (sym (within (child_path path name) (in_moved-child top path name ∙ m)) ∙ here))
 
           split : (b : Bool) → is_in_moved top path ≡ b → directory_found (dereferenced_at top below path) ≡ true
-          split true i = ap directory_found (within path i) ∙ shown-some (look (over top below) path) shown
+          split true i = ap directory_found (within path i) ∙ inode-directory (look (over top below) path) shown
           split false i =
               let moved : is_moved (mark_at top path) ≡ true = second (is_in_moved top path) (is_moved (mark_at top path)) (sym (at_moved-parts top path) ∙ m) i in
               let found = moved_entry path moved in
@@ -128,14 +119,6 @@ module _ (top : Entries) (below : StackView) (is : IsLayer top) (each : All IsLa
           split (Some i) f = directory_stays path m (entry-parent top path name i is f)
 
   module _ (deep : All IsLayer below.data_only) (sound : IsSoundStack (over top below)) where
-    shown_there : (path : PathNames) (inode : Inode) → inode_shown (look (over top below) path) ≡ Some inode → look (over top below) path ≡ Shown inode
-    shown_there path inode some = by (look (over top below) path) refl (never-broken (over top below) each_over sound path) some
-      where
-        by : (shown : Look) → look (over top below) path ≡ shown → is_broken shown ≡ false → inode_shown shown ≡ Some inode → look (over top below) path ≡ Shown inode
-        by Nothing e b s = let bad : None ≡ Some inode = s in cc
-        by (Shown other) e b s = let same : other ≡ inode = cc in e ∙ ap (λ (i : Inode). Shown i) same
-        by (Broken other) e b s = let bad : true ≡ false = b in cc
-
     -- what it has can be stated
     record Stated (path : PathNames) (inode : Inode) : Type 0 where
       pub named : has_names path ≡ true
@@ -198,9 +181,9 @@ module _ (top : Entries) (below : StackView) (is : IsLayer top) (each : All IsLa
         by : (b : Bool) → is_in_moved top path ≡ b → Stated path inode
         by true m =
             let some : inode_shown (look (over top below) path) ≡ Some inode = sym (within path m) ∙ here in
-            let shown = shown_there path inode some in
+            let shown = inode-whole (over top below) each_over sound path inode some in
             record {
-              named = shown-named (over top below) each_over path (shows-some (look (over top below) path) inode some);
+              named = shown-named (over top below) each_over path (inode-shows (look (over top below) path) inode some);
               well = shown-sound (over top below) each_over deep path inode shown;
               bare = shown-unescaped (over top below) each_over path inode shown;
             }

@@ -18,22 +18,16 @@ use Rattle.ovl_manifest.proofs.NodeLemmas.{entry_at-under}
 use Rattle.ovl_manifest.specs.Sheets.{path_at, last_name}
 use Rattle.ovl_manifest.proofs.SheetLemmas.{entries_under-child, last_name-child}
 use Rattle.ovl_manifest.proofs.ValueLemmas.{put-last}
-use Rattle.ovl_lookup.specs.declared.looks.Look.{Look}
 use Rattle.ovl_lookup.specs.Walk.{mark_at}
 use Rattle.ovl_lookup.specs.Stacks.{StackView}
 use Rattle.ovl_lookup.specs.Passes.{kids_along}
-use Rattle.ovl_lookup.specs.Merged.{look, is_nothing, shows_directory}
-use Rattle.ovl_lookup.specs.ViewPasses.{AreLooks}
+use Rattle.ovl_lookup.specs.ShownInodes.{shown_inodes}
 use Rattle.ovl_lookup.specs.Sound.{is_moved}
 use Rattle.ovl_lookup.specs.Words.{top_layer, lower_layers}
-use Rattle.ovl_lookup.proofs.LawsOfPaths.{all-first, all-rest}
-use Rattle.ovl_lookup.proofs.LawsOfKids.{kids-unique}
-use Rattle.ovl_lookup.proofs.LawsOfLooks.{nothing-under}
 use Rattle.ovl_lookup.proofs.LawsOfWalks.{mark-child}
-use Rattle.ovl_rewrite.specs.Directories.{NamedInode}
-use Rattle.ovl_deref.specs.Deref.{inode_shown, full_attributes, dereferenced_inode}
+use Rattle.ovl_deref.specs.Deref.{full_attributes, dereferenced_inode}
 use Rattle.ovl_deref.specs.Directories.{is_at_moved, new_at, names_in, named_inode, inodes_in}
-use Rattle.ovl_deref.specs.Visits.{IsKid, named_under, named_at, shown_inode}
+use Rattle.ovl_deref.specs.Visits.{IsKid, named_under, named_at}
 use Rattle.ovl_deref.proofs.DerefLemmas.{any_prefix-child, any_prefix-under}
 use Rattle.ovl_deref.proofs.DirectoryLemmas.{new-moved, new-own}
 
@@ -172,40 +166,9 @@ kept-more f xs i d old new inside so_far added =
 
 -- ---- what is shown in a directory
 
-pub shown-more : (looks : List (PathName × Look)) (name : PathName) (shown : Look) (items : List NamedInode) (found : Option Inode)
-    → items ≡ filter_map shown_inode looks → found ≡ inode_shown shown
-    → items ++ cons_option (option_map (λ inode. (name, inode)) found) [] ≡ filter_map shown_inode (looks ++ (name, shown) ∷ [])
-shown-more looks name shown items found are is =
-    (λ j. are j ++ cons_option (option_map (λ inode. (name, inode)) (is j)) [])
-    ∙ sym (filter_map-append shown_inode looks ((name, shown) ∷ []))
-
 -- at and in a moved directory the entries are what is shown
 module _ (stack : StackView) (each : All IsLayer stack.layers) (some : 0 < length stack.layers) (dir : PathNames) (moved : is_at_moved (top_layer stack) dir ≡ true) where
-  by-names : (looks : List (PathName × Look)) → All (λ e. e.1 ≡ look stack (child_path dir e.0)) looks → filter_map shown_inode looks ≡ filter_map (named_inode stack dir) (map (λ e. e.0) looks)
-  by-names [] are = refl
-  by-names (entry ∷ looks) are =
-      (λ j. cons_option (option_map (λ inode. (entry.0, inode)) (first j)) (by-names looks (all-rest (λ (e : PathName × Look). e.1 ≡ look stack (child_path dir e.0)) entry looks are) j))
-    where
-      first : inode_shown entry.1 ≡ new_at stack (child_path dir entry.0)
-      first = ap inode_shown (all-first (λ (e : PathName × Look). e.1 ≡ look stack (child_path dir e.0)) entry looks are) ∙ sym (new-moved stack each some dir entry.0 moved)
-
-  pub shown-listed : (looks : List (PathName × Look)) → AreLooks stack dir looks → filter_map shown_inode looks ≡ inodes_in stack dir
-  shown-listed looks are =
-      by-names looks are.each
-      ∙ ap (filter_map (named_inode stack dir))
-      (kids-unique stack each dir (map (λ e. e.0) looks) are.names
-      ∙ sym (ap (λ b. cond b (kids_along stack dir) (names_below (top_layer stack) dir)) moved))
-
-  -- nothing where no directory is shown
-  pub none-shown : shows_directory stack dir ≡ false → [] ≡ inodes_in stack dir
-  none-shown none = shown-listed [] (record {
-    names = record {
-      in_order = refl;
-      same = λ name. sym (ap (λ shown. not (is_nothing shown)) (nothing-under stack each dir name [] none));
-    };
-    each = λ k d inside. absurd (omega (arith, inside));
-  })
-
-pub not-some : {X : Type 0} → (found : Option X) → ((x : X) → found ≡ Some x → ⊥) → found ≡ None
-not-some None never = refl
-not-some (Some x) never = absurd (never x refl)
+  pub moved-listed : shown_inodes stack dir ≡ inodes_in stack dir
+  moved-listed =
+      (λ j. filter_map (λ name. option_map (λ inode. (name, inode)) (sym (new-moved stack each some dir name moved) j)) (kids_along stack dir))
+      ∙ sym (ap (λ b. filter_map (named_inode stack dir) (cond b (kids_along stack dir) (names_below (top_layer stack) dir))) moved)

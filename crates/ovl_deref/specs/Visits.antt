@@ -6,12 +6,10 @@ use Rattle.ovl_names.specs.Paths.{PathNames, child_path}
 use Rattle.ovl_manifest.specs.Layers.{Entries}
 use Rattle.ovl_manifest.specs.LayerTrees.{entries_under}
 use Rattle.ovl_manifest.specs.Sheets.{path_at, last_name}
-use Rattle.ovl_lookup.specs.declared.looks.Look.{Look}
 use Rattle.ovl_lookup.specs.Stacks.{StackView}
 use Rattle.ovl_rewrite.specs.Directories.{NamedInode}
 use Rattle.ovl_deref.specs.declared.directories.OwnPlace.{OwnPlace}
 use Rattle.ovl_deref.specs.declared.directories.OwnPlace.TheVariants.{Moved, Row, Absent}
-use Rattle.ovl_deref.specs.Deref.{inode_shown}
 use Rattle.ovl_deref.specs.Directories.{is_at_moved, new_at}
 
 -- this is what the topmost layer has at the path of a directory
@@ -31,7 +29,3 @@ named_under stack path (Some name) = option_map (λ inode. (name, inode)) (new_a
 
 abbrev pub named_at : StackView → PathNames → Option NamedInode
 named_at stack path = named_under stack path (last_name path)
-
--- a name with the inode that is shown there
-abbrev pub shown_inode : PathName × Look → Option NamedInode
-shown_inode entry = option_map (λ inode. (entry.0, inode)) (inode_shown entry.1)

@@ -1,5 +1,5 @@
-ghost use Rattle.std.specs.Prelude.{◌≡◌, ◌<◌, ◌++◌, [], true, false, Some, length, IfOk, IfSome, OnOk};
-ghost use Rattle.std.specs.List.{cons_option, filter_map};
+ghost use Rattle.std.specs.Prelude.{◌≡◌, ◌<◌, ◌++◌, [], false, Some, length, IfOk, IfSome, OnOk};
+ghost use Rattle.std.specs.List.{cons_option};
 ghost use Rattle.ovl_names.specs.Paths.{child_path};
 ghost use Rattle.ovl_inode.specs.Marks.{mark_of as the_mark};
 ghost use Rattle.ovl_manifest.specs.Layers.{entry_at};
@@ -8,13 +8,13 @@ ghost use Rattle.ovl_lookup.specs.DirViews.{IsViewOf};
 ghost use Rattle.ovl_lookup.specs.Sound.{is_moved as moved_test};
 ghost use Rattle.ovl_lookup.specs.Words.{top_layer, lower_layers};
 ghost use Rattle.ovl_deref.specs.declared.directories.OwnPlace.TheVariants.{Row};
-ghost use Rattle.ovl_deref.specs.Deref.{dereferenced_inode, inode_shown};
+ghost use Rattle.ovl_deref.specs.Deref.{dereferenced_inode};
 ghost use Rattle.ovl_deref.specs.Directories.{is_at_moved as at_moved_test, inodes_in as the_inodes};
-ghost use Rattle.ovl_deref.specs.Visits.{IsOwnPlace, IsKid, named_at, shown_inode};
+ghost use Rattle.ovl_deref.specs.Visits.{IsOwnPlace, IsKid, named_at};
 
 use crate::inodes::{filled, unfolded};
 use ovl_inode::{Inode, Mark};
-use ovl_lookup::{DirView, Found, Look, Stack};
+use ovl_lookup::{DirView, Found, Stack, shown_inodes};
 use ovl_names::{Name, Path};
 use std::alloc::{AllocError, Global};
 
@@ -27,6 +27,8 @@ pub(crate) fn inodes_in(
 ) -> Result<Vec<(Name, Inode)>, AllocError>
     ensures { IfOk result (λ inodes. inodes.items ≡ the_inodes stack.now dir.now) }
 {
+    // Each layer of a stack is one.
+    let _layers = stack.ordinary();
     match own_place(stack, dir) {
         OwnPlace::Moved => shown_inodes(alloc, stack, dir),
         OwnPlace::Row(row) => own_inodes(alloc, stack, dir, row),
@@ -68,43 +70,6 @@ fn is_moved(mark: &Mark) -> bool
     ensures { result ≡ moved_test (Some mark.now) }
 {
     matches!(mark, Mark::DirMoved(_))
-}
-
-// What is shown in a directory that is moved, or lies in a moved one: each name with its inode.
-fn shown_inodes(alloc: Global, stack: &Stack, dir: &Path) -> Result<Vec<(Name, Inode)>, AllocError>
-    requires { at_moved_test (top_layer stack.now) dir.now ≡ true }
-    ensures { IfOk result (λ inodes. inodes.items ≡ the_inodes stack.now dir.now) }
-{
-    // Each layer of a stack is one.
-    let _layers = stack.ordinary();
-    let Some(view) = DirView::of(alloc, stack, 0, dir)? else {
-        return Ok(Vec::new(alloc));
-    };
-    let looks = view.looks(alloc, stack)?;
-    inodes_of(alloc, looks)
-}
-
-// The inodes of what is shown at these names.
-fn inodes_of(alloc: Global, looks: Vec<(Name, Look)>) -> Result<Vec<(Name, Inode)>, AllocError>
-    ensures { IfOk result (λ inodes. inodes.items ≡ filter_map shown_inode looks.items) }
-{
-    let mut inodes = Vec::with_capacity(alloc, looks.len())?;
-    for (name, look) in looks {
-        if let Some(inode) = inode_of(look) {
-            inodes.push((name, inode))?;
-        }
-    }
-    Ok(inodes)
-}
-
-// The inode that is shown.
-fn inode_of(look: Look) -> Option<Inode>
-    ensures { result ≡ inode_shown look }
-{
-    match look {
-        Look::Shown(inode) | Look::Broken(inode) => Some(inode),
-        Look::Nothing => None,
-    }
 }
 
 // The topmost layer's own names in the directory of a row, where neither it nor one above it is moved, each with its

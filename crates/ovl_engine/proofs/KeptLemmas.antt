@@ -35,7 +35,7 @@ use Rattle.ovl_engine.specs.FsckReports.{is_clean}
 use Rattle.ovl_engine.specs.Refusals.{layers_from, under_layer, stated_layers, first_unread}
 use Rattle.ovl_engine.specs.Requests.{Request}
 use Rattle.ovl_engine.specs.Outcomes.{stack_of, new_manifests, left_by_vacuum}
-use Rattle.ovl_engine.specs.Kept.{KeepsTreeOf, KeepsSoundness, FindsBlobsAlone, IsQuiet, IsRequestOf, manifests_after, after}
+use Rattle.ovl_engine.specs.Kept.{KeepsTreeOf, KeepsSoundness, FindsBlobsAlone, FindsNothing, IsQuietOf, IsRequestOf, manifests_after, after}
 
 -- ---- a stack without faults is sound
 
@@ -49,6 +49,21 @@ no_layer_fault (one ∷ found) none = by (no_layer_fault found parts.1) (is_laye
     by : list_any (λ one. is_layer_fault one.code) found ≡ false → (b : Bool) → is_layer_fault one.code ≡ b → (b || list_any (λ one. is_layer_fault one.code) found) ≡ false
     by later false e = later
     by later true e = let bad : false ≡ true = sym (ap (λ b. cond (b || is_blob_fault one.code) 1 0 == 0) e) ∙ parts.0 in cc
+
+-- no finding of a clean check is a fault
+no_fault : (found : List Finding) → list_all (λ one. cond (is_fault one.code) 1 0 == 0) found ≡ true → list_any (λ one. is_fault one.code) found ≡ false
+no_fault [] none = refl
+no_fault (one ∷ found) none = by (no_fault found parts.1) (is_fault one.code) refl
+  where
+    parts : ((cond (is_fault one.code) 1 0 == 0) ≡ true) × (list_all (λ one. cond (is_fault one.code) 1 0 == 0) found ≡ true)
+    parts = both {a = cond (is_fault one.code) 1 0 == 0} {b = list_all (λ one. cond (is_fault one.code) 1 0 == 0) found} none
+
+    by : list_any (λ one. is_fault one.code) found ≡ false → (b : Bool) → is_fault one.code ≡ b → (b || list_any (λ one. is_fault one.code) found) ≡ false
+    by later false e = later
+    by later true e = let bad : false ≡ true = sym (ap (λ b. cond b 1 0 == 0) e) ∙ parts.0 in cc
+
+pub clean-faultless : (found : List Finding) → is_clean found ≡ true → list_any (λ one. is_fault one.code) found ≡ false
+clean-faultless found clean = no_fault found (sym (sum_by-zero (λ (one : Finding). cond (is_fault one.code) 1 0) found) ∙ clean)
 
 pub clean-sound : FindingsTellSoundness → (blobs : List BlobView) (stack : StackView) → is_clean (findings blobs stack) ≡ true → IsSoundStack stack
 clean-sound tell blobs stack clean =
@@ -238,9 +253,13 @@ whole_soundness answer new stack reads sound what alone request asked of =
     subst IsSoundStack (sym (whole_after answer new reads request (ap stands_alone asked ∙ alone))) sound
 
 pub whole_quiet : (answer : Answer) (new : List Entries) (stack : StackView) → map read_layer (new_manifests answer) ≡ map stated_as new
-    → FindsBlobsAlone (under [] new) → (what : Command) → stands_alone what ≡ true → IsQuiet what stack answer
-whole_quiet answer new stack reads quiet what alone request asked of =
-    subst FindsBlobsAlone (sym (whole_after answer new reads request (ap stands_alone asked ∙ alone))) quiet
+    → FindsBlobsAlone (under [] new) → FindsNothing stack (under [] new) → (what : Command) → stands_alone what ≡ true → IsQuietOf what stack answer
+whole_quiet answer new stack reads quiet nothing what alone request asked of =
+    let same = sym (whole_after answer new reads request (ap stands_alone asked ∙ alone)) in
+    record {
+      blobs_alone = subst FindsBlobsAlone same quiet;
+      nothing = subst (λ (s : StackView). FindsNothing s (stack_of (after request answer))) of.same (subst (FindsNothing stack) same nothing);
+    }
 
 -- ---- the laws of vacuum, deref and merge, of a stack's lists of layers
 

@@ -11,6 +11,7 @@ use Rattle.ovl_check.specs.Findings.{findings}
 use Rattle.ovl_engine.specs.declared.requests.Answer.{Answer}
 use Rattle.ovl_engine.specs.declared.requests.Command.{Command}
 use Rattle.ovl_engine.specs.Commands.{stands_alone}
+use Rattle.ovl_engine.specs.FsckReports.{is_clean}
 use Rattle.ovl_engine.specs.Requests.{Request}
 use Rattle.ovl_engine.specs.Refusals.{first_unread}
 use Rattle.ovl_engine.specs.Outcomes.{stack_of, new_manifests}
@@ -60,7 +61,17 @@ KeepsSoundness what stack answer =
 abbrev pub FindsBlobsAlone : StackView → Type 0
 FindsBlobsAlone stack = (blobs : List BlobView) → list_all (λ found. is_blob_fault found.code) (findings blobs stack) ≡ true
 
+-- with any blobs with which no fault is found in the first stack, nothing at all is found in the second
+abbrev pub FindsNothing : StackView → StackView → Type 0
+FindsNothing before after = (blobs : List BlobView) → is_clean (findings blobs before) ≡ true → findings blobs after ≡ []
+
+-- the check is quiet on the stack of the second request: it finds there what is wrong with blobs alone, and nothing with
+-- blobs with which it finds no fault in that of the first
+pub record IsQuiet (before after : Request) : Type 0 where
+  pub blobs_alone : FindsBlobsAlone (stack_of after)
+  pub nothing : FindsNothing (stack_of before) (stack_of after)
+
 -- the same of the stack with an answer's new layers
-abbrev pub IsQuiet : Command → StackView → Answer → Type 0
-IsQuiet what stack answer =
-    (request : Request) → request.what ≡ what → IsRequestOf stack request → FindsBlobsAlone (stack_of (after request answer))
+abbrev pub IsQuietOf : Command → StackView → Answer → Type 0
+IsQuietOf what stack answer =
+    (request : Request) → request.what ≡ what → IsRequestOf stack request → IsQuiet request (after request answer)

@@ -12,8 +12,7 @@ ghost use Rattle.ovl_engine.specs.Requests.{request_of};
 ghost use Rattle.ovl_engine.specs.Refusals.{is_outside as outside_test, blob_limit, blob_bytes, blob_refusal};
 ghost use Rattle.ovl_engine.specs.Outcomes.{IsAccepted, IsRefusal, IsOutcome, IsRun, IsFailedWalk, MayRefuse, MayRefuseCheck, MayRefuseOwn};
 ghost use Rattle.ovl_engine.specs.Commands.{checks as checks_test, makes_layers, stays_sound, stands_alone, wants_lower as lower_test};
-ghost use Rattle.ovl_engine.specs.Kept.{KeepsTree, KeepsTreeOf, KeepsSoundness, HasSoundStack, FindsBlobsAlone, IsQuiet, IsRequestOf, after};
-ghost use Rattle.ovl_engine.specs.Outcomes.{stack_of};
+ghost use Rattle.ovl_engine.specs.Kept.{KeepsTree, KeepsTreeOf, KeepsSoundness, HasSoundStack, IsQuiet, IsQuietOf, IsRequestOf, after};
 
 use crate::checks::findings_of;
 use crate::derefs::deref;
@@ -68,7 +67,7 @@ pub fn command<G: Gate + Sync, R: Threads + Wait + Sync>(
     ensures sound { IfOk result (λ answer. stays_sound what ≡ true
         → HasSoundStack (after (request_of what manifests.now bottom blobs.now workers) answer)) }
     ensures quiet { IfOk result (λ answer. stands_alone what ≡ true
-        → FindsBlobsAlone (stack_of (after (request_of what manifests.now bottom blobs.now workers) answer))) }
+        → let request = request_of what manifests.now bottom blobs.now workers in IsQuiet request (after request answer)) }
     ensures workers { (result ≡ Err Workers) ↔ (outside_test worker_limit workers ≡ true) }
     ensures layers { (result ≡ Err Layers)
         ↔ ((outside_test worker_limit workers ≡ false) × (outside_test layer_limit (length manifests.now) ≡ true)) }
@@ -104,7 +103,7 @@ pub fn command_of<G: Gate + Sync, R: Threads + Wait + Sync>(
     ensures sound { IfOk result (λ answer. stays_sound what ≡ true
         → HasSoundStack (after (request_of what manifests.items bottom blobs.now workers) answer)) }
     ensures quiet { IfOk result (λ answer. stands_alone what ≡ true
-        → FindsBlobsAlone (stack_of (after (request_of what manifests.items bottom blobs.now workers) answer))) }
+        → let request = request_of what manifests.items bottom blobs.now workers in IsQuiet request (after request answer)) }
     ensures workers { (result ≡ Err Workers) ↔ (outside_test worker_limit workers ≡ true) }
     ensures layers { (result ≡ Err Layers)
         ↔ ((outside_test worker_limit workers ≡ false) × (outside_test layer_limit (length manifests.items) ≡ true)) }
@@ -178,7 +177,7 @@ fn answer_of<G: Gate + Sync, R: Threads + Wait + Sync>(
     ensures outcome { IsRun what stack (findings (blob_views blobs.now) stack) (MayRefuse what stack (blob_views blobs.now) (G.may_refuse team.now.gate.now)) result }
     ensures keeps { IfOk result (λ answer. makes_layers what ≡ true → KeepsTreeOf what stack answer) }
     ensures sound { IfOk result (λ answer. stays_sound what ≡ true → KeepsSoundness what stack answer) }
-    ensures quiet { IfOk result (λ answer. stands_alone what ≡ true → IsQuiet what stack answer) }
+    ensures quiet { IfOk result (λ answer. stands_alone what ≡ true → IsQuietOf what stack answer) }
 {
     let found = found_in(team, what, &stack, blobs)?;
     answer(team, what, stack, found)
@@ -218,7 +217,7 @@ pub(crate) fn answer<G: Gate + Sync, R: Threads + Wait + Sync>(
         → IsRun what stack all (MayRefuseOwn what stack (G.may_refuse team.now.gate.now)) result }
     ensures keeps { IfOk result (λ answer. makes_layers what ≡ true → KeepsTreeOf what stack answer) }
     ensures sound { IfOk result (λ answer. stays_sound what ≡ true → KeepsSoundness what stack answer) }
-    ensures quiet { IfOk result (λ answer. stands_alone what ≡ true → IsQuiet what stack answer) }
+    ensures quiet { IfOk result (λ answer. stands_alone what ≡ true → IsQuietOf what stack answer) }
 {
     match what {
         Command::Show => show(team, stack),

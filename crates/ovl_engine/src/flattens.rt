@@ -9,7 +9,7 @@ ghost use Rattle.ovl_engine.specs.declared.requests.Command.TheVariants.{Flatten
 ghost use Rattle.ovl_engine.specs.FsckReports.{is_clean};
 ghost use Rattle.ovl_engine.specs.Outcomes.{IsFailure, IsRun, MayRefuseOwn};
 ghost use Rattle.ovl_engine.specs.LayerReports.{layer_report};
-ghost use Rattle.ovl_engine.specs.Kept.{KeepsTreeOf, KeepsSoundness, IsQuiet};
+ghost use Rattle.ovl_engine.specs.Kept.{KeepsTreeOf, KeepsSoundness, IsQuietOf};
 
 use crate::faults::EngineFault;
 use crate::layer_reports::layer_report_of;
@@ -18,8 +18,9 @@ use crate::rewrites::{expect_clean, rewritten};
 use crate::stacks::let_go;
 use crate::teams::Team;
 use ovl_check::Finding;
+use ovl_check::laws::{shown_layers_are_clean, unmarked_layers_are_quiet};
+use ovl_flatten::FlattenWork;
 use ovl_flatten::laws::{flatten_has_no_marks, flatten_is_sound, flatten_keeps_the_tree};
-use ovl_flatten::{FlattenWork, finish_flatten};
 use ovl_lookup::Stack;
 use ovl_manifest::Layer;
 use ovl_pool::Gate;
@@ -39,15 +40,16 @@ pub(crate) fn flatten<G: Gate + Sync, R: Threads + Wait + Sync>(
     ensures outcome { IsRun Flatten stack found.items (MayRefuseOwn Flatten stack (G.may_refuse team.now.gate.now)) result }
     ensures tree { IfOk result (KeepsTreeOf Flatten stack) }
     ensures sound { IfOk result (KeepsSoundness Flatten stack) }
-    ensures quiet { IfOk result (IsQuiet Flatten stack) }
+    ensures quiet { IfOk result (IsQuietOf Flatten stack) }
 {
     let _layers = stack.ordinary();
     flatten_keeps_the_tree();
     flatten_is_sound();
     flatten_has_no_marks();
+    unmarked_layers_are_quiet();
+    shown_layers_are_clean();
     expect_clean(team.alloc, found)?;
-    let layer = flattened(team, &stack)?;
-    let_go(team.rt, team.alloc, stack, team.workers);
+    let layer = flattened(team, stack)?;
     let alloc = team.alloc;
     let report = || -> Result<Vec<u8>, AllocError>
         ensures told { IfOk result (λ report. report.items ≡ layer_report layer) }
@@ -56,19 +58,22 @@ pub(crate) fn flatten<G: Gate + Sync, R: Threads + Wait + Sync>(
     Ok(rewritten(team.rt, team.alloc, team.workers, report, &[&layer])?)
 }
 
-// What a sound stack shows, as one layer.
+// What a sound stack shows, as one layer; the stack goes once its work is walked, so that all rows don't stand beside the new
+// layer.
 fn flattened<G: Gate + Sync, R: Threads + Wait + Sync>(
     team: &Team<'_, G, R>,
-    stack: &Stack,
+    stack: Stack,
 ) -> Result<Layer, EngineFault>
     requires number { (0 < team.now.workers) × (team.now.workers ≤ worker_limit) }
-    requires sound { IsSoundStack stack.now }
-    ensures layer { IfOk result (λ layer. IsFlattened layer stack.now) }
-    ensures within { IfOk result (λ _. PassesLimit stack.now → ⊥) }
+    requires sound { IsSoundStack stack }
+    ensures layer { IfOk result (λ layer. IsFlattened layer stack) }
+    ensures within { IfOk result (λ _. PassesLimit stack → ⊥) }
     ensures fault { IfErr result (λ fault. (found : List Finding) → is_clean found ≡ true
-        → IsFailure Flatten stack.now found (MayRefuseOwn Flatten stack.now (G.may_refuse team.now.gate.now)) fault) }
+        → IsFailure Flatten stack found (MayRefuseOwn Flatten stack (G.may_refuse team.now.gate.now)) fault) }
 {
-    let work = FlattenWork::new(stack);
+    let work = FlattenWork::new(&stack);
     let parcels = team.walk(&work, 0)?;
-    Ok(finish_flatten(team.alloc, &work, parcels)?)
+    let end = work.end(team.alloc)?;
+    let_go(team.rt, team.alloc, stack, team.workers);
+    Ok(end.finish(team.alloc, parcels)?)
 }

@@ -11,11 +11,11 @@ ghost use Rattle.ovl_engine.specs.declared.faults.EngineFault.TheVariants.{Worke
 ghost use Rattle.ovl_engine.specs.declared.contents.CommandFault.TheVariants.{Contents as ContentsFault};
 ghost use Rattle.ovl_engine.specs.Requests.{request_of};
 ghost use Rattle.ovl_engine.specs.Refusals.{is_outside};
-ghost use Rattle.ovl_engine.specs.Outcomes.{IsAccepted, IsRefusal, IsRun, IsFailedWalk, MayRefuseLayers, stack_of};
+ghost use Rattle.ovl_engine.specs.Outcomes.{IsAccepted, IsRefusal, IsRun, IsFailedWalk, MayRefuseLayers};
 ghost use Rattle.ovl_engine.specs.Told.{AreTold, IsOutcomeOver, MayRefuseTold};
 ghost use Rattle.ovl_engine.specs.Questions.{AreAsked, IsQuestionOf};
 ghost use Rattle.ovl_engine.specs.Commands.{checks as checks_test, makes_layers, stays_sound, stands_alone, wants_lower};
-ghost use Rattle.ovl_engine.specs.Kept.{KeepsTree, KeepsTreeOf, KeepsSoundness, HasSoundStack, FindsBlobsAlone, IsQuiet, after};
+ghost use Rattle.ovl_engine.specs.Kept.{KeepsTree, KeepsTreeOf, KeepsSoundness, HasSoundStack, IsQuiet, IsQuietOf, after};
 
 use crate::checks::findings_by;
 use crate::commands::{answer, checks, stack_for};
@@ -65,7 +65,7 @@ pub fn command_over<C: Contents, G: Gate + Sync, R: Threads + Wait + Sync>(
     ensures sound { IfOk result (λ answer. stays_sound what ≡ true
         → HasSoundStack (after (request_of what manifests.items bottom [] workers) answer)) }
     ensures quiet { IfOk result (λ answer. stands_alone what ≡ true
-        → FindsBlobsAlone (stack_of (after (request_of what manifests.items bottom [] workers) answer))) }
+        → let request = request_of what manifests.items bottom [] workers in IsQuiet request (after request answer)) }
 {
     let question = question_of(rt, alloc, what, manifests, bottom, workers)?;
     let told = told_by(alloc, &question, contents)?;
@@ -120,7 +120,7 @@ pub fn answer_told<G: Gate + Sync, R: Threads + Wait + Sync>(
         → IsRun question.what question.stack (findings blobs question.stack) (MayRefuseTold question.what question.stack (G.may_refuse gate.now)) result }
     ensures keeps { IfOk result (λ answer. makes_layers question.what ≡ true → KeepsTreeOf question.what question.stack answer) }
     ensures sound { IfOk result (λ answer. stays_sound question.what ≡ true → KeepsSoundness question.what question.stack answer) }
-    ensures quiet { IfOk result (λ answer. stands_alone question.what ≡ true → IsQuiet question.what question.stack answer) }
+    ensures quiet { IfOk result (λ answer. stands_alone question.what ≡ true → IsQuietOf question.what question.stack answer) }
 {
     let Question { what, stack, names } = question;
     drop(names);

@@ -45,15 +45,20 @@ fn shown<R: Threads + Wait + Sync>(
     Ok(command(rt, alloc, what, manifests, bottom, &[], 2, &OpenGate)?.report)
 }
 
-// Whether the stack shows the same with these new layers in place of its topmost ones.
+// Whether the stack shows the same with these new layers in place of its topmost ones, or of all where it is flattened.
 fn is_kept<R: Threads + Wait + Sync>(
     rt: &R,
     alloc: Global,
+    what: Command,
     stack: &str,
     layers: &[Vec<u8>],
 ) -> Result<bool, Fail> {
-    let (mut manifests, bottom) = manifests_of(alloc, stack)?;
+    let (mut manifests, mut bottom) = manifests_of(alloc, stack)?;
     let before = shown(rt, alloc, &manifests, bottom)?;
+    if what == Command::Flatten {
+        manifests.truncate(layers.len());
+        bottom = 0;
+    }
     for (manifest, layer) in manifests.iter_mut().zip(layers) {
         *manifest = layer.clone()?;
     }
@@ -89,18 +94,19 @@ pub(crate) fn told<R: Threads + Wait + Sync>(
     if alone != together {
         return Err(Fail::new("four workers answer otherwise than one"));
     }
-    told_of(rt, alloc, stack, alone)
+    told_of(rt, alloc, what, stack, alone)
 }
 
 fn told_of<R: Threads + Wait + Sync>(
     rt: &R,
     alloc: Global,
+    what: Command,
     stack: &str,
     answered: Answered,
 ) -> Result<String, Fail> {
     match answered {
         Ok(answer) => {
-            if !is_kept(rt, alloc, stack, &answer.layers)? {
+            if !is_kept(rt, alloc, what, stack, &answer.layers)? {
                 return Err(Fail::new("the stack with the new layers shows something else"));
             }
             text_of(answer)

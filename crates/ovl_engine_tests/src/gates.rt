@@ -128,7 +128,7 @@ fn fault_of<R: Threads + Wait + Sync, G: Gate + Sync>(
 const TWO: &str = "/a /b";
 
 // A command, its stack, and pieces of one of its spaces: a layer, or that of the blobs, where `/ba` and `/fb` are those of
-// `abc` and of `ab`. The last two lines are of directories of the new layer alone, which no check visits.
+// `abc` and of `ab`. The last three lines are of directories of the new layer alone, which no check visits.
 const SHARED: &str = "\
 show of dir /a, dir /b | root -> 0 /a /b
 fsck of dir /a, dir /b | root -> 0 /a /b
@@ -137,8 +137,10 @@ fsck of root | root -> 128 /ba /fb
 vacuum of dir /a, dir /b | root -> 0 /a /b
 deref of dir /a, dir /b | root -> 0 /a /b
 merge of dir /a, dir /b | root -> 0 /a /b
+flatten of dir /a, dir /b | root -> 0 /a /b
 merge of root | dir /a, dir /b -> 0 /a /b
 deref of dir /p redirect=/x, whiteout /x | dir /x, dir /x/a, dir /x/b -> 0 /p/a /p/b
+flatten of dir /p redirect=/x, whiteout /x | dir /x, dir /x/a, dir /x/b -> 0 /p/a /p/b
 ";
 
 // How a command ends of which the pieces are to meet.
@@ -194,6 +196,7 @@ fn a_new_layer_is_made_by_asked_visits_once_the_check_has_found_no_fault(
         refused(&rt, rt.alloc(), Command::Vacuum, row)?;
         refused(&rt, rt.alloc(), Command::Deref, row)?;
         refused(&rt, rt.alloc(), Command::Merge, row)?;
+        refused(&rt, rt.alloc(), Command::Flatten, row)?;
     }
     Ok(())
 }

@@ -19,6 +19,7 @@ fsck: faults 0 notes 0
 vacuum: removed 0 kept 1 => root
 deref: entries 1 => root
 merge: ! no lower layer
+flatten: entries 1 => root
 
 dir-old /, disk /b, dir-new /n, file-large /z
 show: dir 0755 4294967295 6 -9223372036854775808+999999999 - - /; block 0060 0 0 0 - 8:4294967295 /b; dir 0755 0 1000 1732233600+020304050 - - /n; file 4755 0 0 0 9223372036854775807 [a] /z; entries 4
@@ -29,6 +30,7 @@ show: [d] /; symlink 0777 0 0 0 - a\\x20b /l user.a= user.b\\x20c=007f; fifo 000
 whiteout /f, console /g, link /l user.k=\u{1} | file /f, file /g
 show: [d] /; char 0600 0 0 0 - 0:1 /g; symlink 0777 0 0 0 - a\\x20b /l user.k=01; entries 3
 fsck: faults 0 notes 0
+flatten: leaf /g; leaf /l; entries 3 => console /g, link /l user.k=\u{1}
 
 empty /f whiteout= | file /f
 show: [d] /; entries 1
@@ -37,10 +39,12 @@ fsck: note whiteout-unmarked 0 /f; faults 0 notes 1
 dir / opaque=x, empty /f whiteout= | file /f
 show: [d] /; entries 1
 fsck: faults 0 notes 0
+flatten: entries 1 => root
 
 file /f whiteout= | file /f
 show: [d] /; [f] /f; entries 2
 fsck: note mark-ignored 0 /f; faults 0 notes 1
+flatten: leaf /f; entries 2 => file /f
 
 dir /d opaque=y | dir /d, file /d/k
 show: [d] /; [d] /d; entries 2
@@ -52,6 +56,7 @@ dir /p redirect=/x, dir /p/q redirect=r, whiteout /p/r, whiteout /x | dir /x, di
 show: [d] /; [d] /p; [d] /p/q; [f] /p/q/k; entries 4
 fsck: faults 0 notes 0
 deref: opaque /p; plain /p/q; leaf /p/q/k; whiteout /x; entries 5 => dir /p opaque=y, dir /p/q, file /p/q/k, whiteout /x
+flatten: plain /p; plain /p/q; leaf /p/q/k; entries 4 => dir /p, dir /p/q, file /p/q/k
 
 dir /p redirect=/x, dir /p/q redirect=r, whiteout /x | dir /x, dir /x/r, file /x/r/k
 show: [d] /; [d] /p; [d] /p/q; [f] /p/q/k; [d] /p/r; [f] /p/r/k; entries 6
@@ -61,6 +66,7 @@ dir /n opaque=y, dir /n/d redirect=/x, whiteout /x | dir /n, file /n/z, dir /x, 
 show: [d] /; [d] /n; [d] /n/d; [f] /n/d/k; entries 4
 deref: opaque /n; opaque /n/d; leaf /n/d/k; whiteout /x; entries 5 => dir /n opaque=y, dir /n/d opaque=y, file /n/d/k, whiteout /x
 merge: plain /n; plain /n/d; leaf /n/d/k; entries 4 => root | dir /n, dir /n/d, file /n/d/k
+flatten: plain /n; plain /n/d; leaf /n/d/k; entries 4 => dir /n, dir /n/d, file /n/d/k
 
 dir /n opaque=y, dir /n/d redirect=/x, whiteout /x | root | dir /n, file /n/z, dir /x, file /x/k
 merge: opaque /n; moved /n/d /x; whiteout /x; entries 4 => root | dir /n opaque=y, dir /n/d redirect=/x, whiteout /x
@@ -77,6 +83,7 @@ fsck: fault redirect-form 0 /a; fault redirect-form 0 /b; fault redirect-form 0 
 vacuum: ! fault redirect-form 0 /a; fault redirect-form 0 /b; fault redirect-form 0 /c; fault redirect-form 0 /e; faults 4 notes 0
 deref: ! fault redirect-form 0 /a; fault redirect-form 0 /b; fault redirect-form 0 /c; fault redirect-form 0 /e; faults 4 notes 0
 merge: ! fault redirect-form 0 /a; fault redirect-form 0 /b; fault redirect-form 0 /c; fault redirect-form 0 /e; faults 4 notes 0
+flatten: ! fault redirect-form 0 /a; fault redirect-form 0 /b; fault redirect-form 0 /c; fault redirect-form 0 /e; faults 4 notes 0
 
 dir /a redirect=/x, dir /b redirect=/x | dir /x
 fsck: fault redirect-open 0 /a; fault redirect-double 0 /b; fault redirect-open 0 /b; faults 3 notes 0
@@ -92,6 +99,7 @@ show: [d] /; [f] /f; entries 2
 fsck: faults 0 notes 0
 merge: meta /f; entries 2 => root | bare /f metacopy=
 deref: leaf /f; entries 2 => file /f
+flatten: leaf /f; entries 2 => file /f
 
 bare /f metacopy= | bare /f metacopy= | whiteout /f
 show: [d] /; file 0644 0 0 0 1 missing /f; entries 2
@@ -139,6 +147,7 @@ whiteout /a, dir /b redirect=/a | dir /a redirect=/x, whiteout /x | dir /x, file
 show: [d] /; [d] /b; [f] /b/k; entries 3
 fsck: faults 0 notes 0
 merge: moved /b x; whiteout /x; entries 3 => root | dir /b redirect=x, whiteout /x
+flatten: plain /b; leaf /b/k; entries 3 => dir /b, file /b/k
 
 bare /f metacopy=, bare /g metacopy= | file /f, file /g
 merge: leaf /f; leaf /g; entries 3 => root | file /f, file /g
@@ -152,26 +161,32 @@ fsck: faults 0 notes 0
 vacuum: removed 0 kept 2 => bare /f metacopy= redirect=/f
 merge: meta /f /f; entries 2 => root | bare /f metacopy= redirect=/f
 deref: leaf /f; entries 2 => file /f
+flatten: leaf /f; entries 2 => file /f
 
 bare /f metacopy= redirect=/g | root | data file /g
 show: [d] /; [f] /f; entries 2
 fsck: faults 0 notes 0
 merge: meta /f /g; entries 2 => root | bare /f metacopy= redirect=/g
+flatten: leaf /f; entries 2 => file /f
 
 bare /f metacopy= redirect=/f | data root | data file /f
 merge: ! no lower layer
+flatten: leaf /f; entries 2 => file /f
 
 data bare /f metacopy= redirect=/f | data root | data file /f
 merge: ! data layers must leave a layer
+flatten: ! data layers must leave a layer
 
 bare /f metacopy= redirect=/z | whiteout /z | file-b /z | data file /z
 show: [d] /; [f] /f; entries 2
 fsck: faults 0 notes 0
 merge: leaf /f; whiteout /z; entries 3 => root | file /f, whiteout /z
+flatten: leaf /f; entries 2 => file /f
 
 bare /f metacopy= redirect=/z | root | data bare /z metacopy= | data file /z
 show: [d] /; [f] /f; entries 2
 fsck: faults 0 notes 0
+flatten: leaf /f; entries 2 => file /f
 
 bare /f metacopy= redirect=/z | root | bare /z metacopy= | data file /z
 show: [d] /; file 0644 0 0 0 1 missing /f; file 0644 0 0 0 1 missing /z; entries 3
@@ -194,14 +209,31 @@ fsck: note whiteout-in-opaque 0 /d/k; faults 0 notes 1
 
 dir /d, empty /d/k origin=, dir /e impure=y, empty /e/k origin= | root
 fsck: note impure-missing 0 /d; faults 0 notes 1
+flatten: plain /d; leaf /d/k; plain /e; leaf /e/k; entries 5 => dir /d, empty /d/k, dir /e, empty /e/k
 
 dir / opaque=y, dir /d opaque=z, dir /e metacopy=, empty /f opaque=y, empty /g redirect=/x | dir / redirect=/x
 fsck: note mark-ignored 0 /; note mark-ignored 0 /d; note mark-ignored 0 /e; note mark-ignored 0 /f; note mark-ignored 0 /g; note mark-ignored 1 /; faults 0 notes 6
+flatten: plain /d; plain /e; leaf /f; leaf /g; entries 5 => dir /d, dir /e, empty /f, empty /g
+
+whiteout /d, whiteout /f, whiteout /z | dir /d, file /d/k, file /f
+show: [d] /; entries 1
+fsck: note orphan-whiteout 0 /z; faults 0 notes 1
+flatten: entries 1 => root
+
+dir-0700 / opaque=y, dir /d, file /k | dir /d opaque=y, file /d/z, file /k | dir /d, file /d/q
+show: dir 0700 0 0 0 - - /; [d] /d; [f] /d/z; [f] /k; entries 4
+fsck: note mark-ignored 0 /; faults 0 notes 1
+flatten: plain /d; leaf /d/z; leaf /k; entries 4 => dir-0700 /, dir /d, file /d/z, file /k
+
+bare /m metacopy= origin= user.k=v | file /m user.j=w
+show: [d] /; [f] /m user.k=76; entries 2
+flatten: leaf /m; entries 2 => file /m user.k=v
 
 blobs abc=abd ab
 
 empty /e, file-abc /k, file /m, file-ab /s
 fsck: fault blob-digest 0 /k; fault blob-missing 0 /m; fault blob-size 0 /s; faults 3 notes 0
+flatten: ! fault blob-digest 0 /k; fault blob-missing 0 /m; fault blob-size 0 /s; faults 3 notes 0
 
 bare /f metacopy= redirect=/f | root | data file /f
 fsck: fault blob-missing 2 /f; faults 1 notes 0
@@ -214,6 +246,7 @@ fsck: ! blobs out of order
 vacuum: ! blobs out of order
 deref: ! blobs out of order
 merge: ! blobs out of order
+flatten: ! blobs out of order
 
 root | {\"overlay-layer\":3,\"entries\":[]} | []
 show: ! layer 1: unknown version
@@ -236,6 +269,7 @@ pub(crate) fn command_of_word(word: &str) -> Result<Command, Fail> {
         "vacuum" => Ok(Command::Vacuum),
         "deref" => Ok(Command::Deref),
         "merge" => Ok(Command::Merge),
+        "flatten" => Ok(Command::Flatten),
         _ => Err(Fail::new("no command has this word")),
     }
 }

@@ -7,6 +7,7 @@ use ovl_board::{Core, CoreFault, Event, Parcel, Piece, plain_walk};
 use ovl_check::{BLOB_SPACE, Blob, BlobWork, blobs_in_order, finish_blobs};
 use ovl_deref::{DerefWork, finish_deref};
 use ovl_engine::ShowWork;
+use ovl_flatten::{FlattenWork, finish_flatten};
 use ovl_inode::Digest;
 use ovl_lookup::Stack;
 use ovl_manifest::{Layer, write_layer};
@@ -163,6 +164,28 @@ fn a_moved_directory_is_filled_with_what_it_shows(rt: HostRuntime) -> Result<(),
     let walk = deref_walk(rt.alloc(), &stack)?;
     same(MOVED, walk.as_str(), "0/: p x; 0/p: q; 0/p/q: k; ")?;
     assert!(rt; is_layer(rt.alloc(), &dereferenced(rt.alloc(), &stack)?, FILLED)?);
+    Ok(())
+}
+
+const FLATTENED: &str = "dir /p, dir /p/q, file /p/q/k";
+
+fn flatten_walk(alloc: Global, stack: &Stack) -> Result<String, Fail> {
+    let work = FlattenWork::new(stack);
+    told(alloc, &plain_walk(alloc, &work, root_piece(alloc))?)
+}
+
+fn flattened(alloc: Global, stack: &Stack) -> Result<Layer, Fail> {
+    let work = FlattenWork::new(stack);
+    let parcels = plain_walk(alloc, &work, root_piece(alloc))?;
+    Ok(finish_flatten(alloc, &work, parcels)?)
+}
+
+#[test]
+fn a_flatten_walks_the_merged_tree(rt: HostRuntime) -> Result<(), Fail> {
+    let stack = stack_of(rt.alloc(), MOVED)?;
+    let walk = flatten_walk(rt.alloc(), &stack)?;
+    same(MOVED, walk.as_str(), "0/: p; 0/p: q; 0/p/q: k; ")?;
+    assert!(rt; is_layer(rt.alloc(), &flattened(rt.alloc(), &stack)?, FLATTENED)?);
     Ok(())
 }
 

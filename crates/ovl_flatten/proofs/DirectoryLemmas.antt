@@ -1,6 +1,6 @@
 -- What the flattened layer has in a directory: its names are in order, and all that it has there has one of them.
-use Rattle.std.proofs.Common.{◌≡◌, ◌≤◌, true, false, Option, Some, None, length, refl, sym, ap, ◌∙◌}
-use Rattle.std.specs.Prelude.{Bool, All}
+use Rattle.std.proofs.Common.{◌≡◌, ◌≤◌, true, false, Option, Some, None, length, refl, ◌∙◌}
+use Rattle.std.specs.Prelude.{All}
 use Rattle.std.specs.List.{list_any}
 use Rattle.ovl_names.specs.Names.{PathName, name_eq}
 use Rattle.ovl_names.specs.Paths.{PathNames, child_path}
@@ -11,16 +11,16 @@ use Rattle.ovl_lookup.specs.Passes.{kids_along}
 use Rattle.ovl_lookup.specs.Merged.{look}
 use Rattle.ovl_lookup.proofs.LawsOfWalks.{directory_found}
 use Rattle.ovl_lookup.proofs.LawsOfKids.{kids-ascend, kids-same}
-use Rattle.ovl_lookup.proofs.LawsOfLooks.{ShowsWithinDepth-holds}
+use Rattle.ovl_lookup.proofs.LawsOfLooks.{ShowsWithinDepth-holds, inode-shows}
 use Rattle.ovl_rewrite.specs.NewLayers.{IsTold, TellsLayer}
 use Rattle.ovl_rewrite.proofs.DirectoryLemmas.{layer-told}
 use Rattle.ovl_flatten.specs.Flatten.{flattened_at}
 use Rattle.ovl_flatten.specs.Directories.{flatten_kids, flatten_out, flatten_depth}
-use Rattle.ovl_flatten.proofs.FlattenLemmas.{shown-some, parent-shown}
+use Rattle.ovl_flatten.proofs.FlattenLemmas.{parent-shown}
 
 module _ (stack : StackView) (each : All IsLayer stack.layers) where
   named : (directory : PathNames) (name : PathName) (inode : Inode) → flattened_at stack (child_path directory name) ≡ Some inode → list_any (name_eq name) (kids_along stack directory) ≡ true
-  named directory name inode here = kids-same stack each directory name ∙ shown-some (look stack (child_path directory name)) inode here
+  named directory name inode here = kids-same stack each directory name ∙ inode-shows (look stack (child_path directory name)) inode here
 
   -- ---- the bound on depth
 
@@ -29,7 +29,7 @@ module _ (stack : StackView) (each : All IsLayer stack.layers) where
     where
       by : (found : Option Inode) → flattened_at stack path ≡ found → directory_found found ≡ true → length path ≤ flatten_depth stack
       by None e is = let bad : false ≡ true = is in cc
-      by (Some inode) e is = ShowsWithinDepth-holds stack each path (shown-some (look stack path) inode e)
+      by (Some inode) e is = ShowsWithinDepth-holds stack each path (inode-shows (look stack path) inode e)
 
   -- its names tell the flattened layer
   pub told : IsTold (flattened_at stack) (kids_along stack) (flatten_depth stack)

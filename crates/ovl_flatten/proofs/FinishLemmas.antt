@@ -1,7 +1,8 @@
 -- From the parcels to the flattened layer.
 use Rattle.std.proofs.Common.{◌≡◌, ◌<◌, Bool, true, false, Some, List, [], length, refl, sym, ap, ◌∙◌}
-use Rattle.std.specs.Prelude.{◌&&◌, All, Result, Ok, Err, IfOk, nat_le}
+use Rattle.std.specs.Prelude.{◌&&◌, All, nat_le}
 use Rattle.std.specs.List.{list_all}
+use Rattle.std.specs.Option.{option_map}
 use Rattle.ovl_names.specs.Order.{ascends}
 use Rattle.ovl_names.proofs.Ascending.{both}
 use Rattle.ovl_inode.specs.declared.inodes.Inode.{Inode}
@@ -11,6 +12,8 @@ use Rattle.ovl_lookup.specs.Stacks.{StackView}
 use Rattle.ovl_lookup.specs.Sound.{IsSoundStack}
 use Rattle.ovl_lookup.specs.Words.{top_layer}
 use Rattle.ovl_lookup.proofs.LawsOfPaths.{entries-unique}
+use Rattle.ovl_lookup.proofs.LawsOfLooks.{top-layer}
+use Rattle.ovl_lookup.proofs.LawsOfWalks.{directory-entry}
 use Rattle.ovl_rewrite.specs.Passes.{View}
 use Rattle.ovl_rewrite.specs.NewLayers.{IsToldBy}
 use Rattle.ovl_rewrite.specs.Limits.{keeps_limits}
@@ -21,20 +24,16 @@ use Rattle.ovl_flatten.specs.Limits.{PassesLimit}
 use Rattle.ovl_flatten.proofs.DirectoryLemmas.{told}
 use Rattle.ovl_flatten.proofs.FlattenLemmas.{root-shown, layer-but_limits}
 
--- the root of the topmost layer, as the program comes to it, and as it is shown
-pub root-there : (inside stack : StackView) → inside ≡ stack → (sheet : Entries) → sheet ≡ top_layer inside → (place : Entries) → place ≡ sheet
-    → (own : Inode) → entry_at place [] ≡ Some own → entry_at (top_layer stack) [] ≡ Some own
-root-there inside stack is sheet there place at own here =
-    ap (λ (s : StackView). entry_at (top_layer s) []) (sym is)
-    ∙ (ap (λ (entries : Entries). entry_at entries []) (sym (at ∙ there)) ∙ here)
-
 module _ (stack : StackView) (each : All IsLayer stack.layers) (some : 0 < length stack.layers) where
-  pub root-told : (own root : Inode) → entry_at (top_layer stack) [] ≡ Some own → root ≡ visible own → flattened_at stack [] ≡ Some root
-  root-told own root here is = root-shown stack each some own here ∙ ap (λ (i : Inode). Some i) (sym is)
+  -- its root is the visible one of the topmost layer
+  root-told : (root : Inode) → option_map visible (entry_at (top_layer stack) []) ≡ Some root → flattened_at stack [] ≡ Some root
+  root-told root is =
+      let own = directory-entry (top_layer stack) [] (top-layer stack some each).rooted in
+      root-shown stack each some own.0 own.1 ∙ (ap (option_map visible) (sym own.1) ∙ is)
 
   -- the plain walk tells the flattened layer
-  pub walk-tells : (root : Inode) (views : List View) → flattened_at stack [] ≡ Some root → IsFlattenWalk stack views → IsToldBy (flattened_at stack) root views
-  walk-tells root views here walk = record { names = kids_along stack; deepest = flatten_depth stack; told = told stack each; rooted = here; walk = walk }
+  pub walk-tells : (root : Inode) (views : List View) → option_map visible (entry_at (top_layer stack) []) ≡ Some root → IsFlattenWalk stack views → IsToldBy (flattened_at stack) root views
+  walk-tells root views here walk = record { names = kids_along stack; deepest = flatten_depth stack; told = told stack each; rooted = root-told root here; walk = walk }
 
   -- over a sound stack its entries are a layer, or pass a limit
   pub limit-passed : All IsLayer stack.data_only → IsSoundStack stack → (entries : Entries) → ascends entry_cmp entries ≡ true → IsFlattened entries stack → (IsLayer entries → ⊥) → PassesLimit stack
@@ -45,11 +44,6 @@ module _ (stack : StackView) (each : All IsLayer stack.layers) (some : 0 < lengt
       by true e =
           let parts = both {a = list_all (λ (entry : Entry). is_within_limits entry.0) entries} {b = nat_le (length entries) entry_limit} e in
           absurd (refused (layer-but_limits stack each sound some deep entries up new parts.0 parts.1))
-
--- two facts of what is given
-pub ok-both : {X Y : Type 0} (r : Result X Y) (P Q R : X → Type 0) → ((x : X) → P x → Q x → R x) → IfOk r P → IfOk r Q → IfOk r R
-ok-both (Ok x) P Q R both p q = both x p q
-ok-both (Err e) P Q R both p q = tt
 
 -- a layer that is given keeps the limits
 pub limit-kept : (stack : StackView) (layer : Entries) → IsLayer layer → IsFlattened layer stack → PassesLimit stack → ⊥

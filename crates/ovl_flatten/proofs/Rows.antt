@@ -6,16 +6,17 @@ use Rattle.ovl_inode.specs.declared.inodes.Kind.TheVariants.{Symlink, Char}
 use Rattle.ovl_inode.proofs.OnLiterals.{inode_on_literals}
 use Rattle.ovl_manifest.specs.Layers.{Entries}
 use Rattle.ovl_lookup.specs.Stacks.{StackView}
+use Rattle.ovl_lookup.specs.ShownInodes.{shown_inodes}
 use Rattle.ovl_lookup.proofs.Notation.{plain_inode, directory, opaque, file_a, metacopy, path, layer_of}
 use Rattle.ovl_lookup.proofs.RowStacks.{stack_of, root_alone, covered, moved_twice, moved_in_opaque, metacopies_over, told_below}
 use Rattle.ovl_rewrite.specs.Passes.{entries_under}
 use Rattle.ovl_flatten.specs.Flatten.{flattened_at}
-use Rattle.ovl_flatten.specs.Directories.{inodes_in, flatten_depth}
+use Rattle.ovl_flatten.specs.Directories.{flatten_depth}
 
 -- all entries of the flattened layer, in order
 abbrev new_entries : StackView → Entries
 new_entries stack =
-    cons_option (option_map (λ inode. ([], inode)) (flattened_at stack [])) (entries_under (inodes_in stack) (flatten_depth stack) [])
+    cons_option (option_map (λ inode. ([], inode)) (flattened_at stack [])) (entries_under (shown_inodes stack) (flatten_depth stack) [])
 
 root-entries : new_entries root_alone ≡ layer_of []
 unfolding inode_on_literals

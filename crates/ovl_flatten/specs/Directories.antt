@@ -1,36 +1,19 @@
 -- The directories of the flattened layer as work: a piece is a directory, its kids are the directories in it, and its
 -- output is each name in it with its inode.
-use Rattle.std.specs.Prelude.{◌*◌, ℕ, Option, List, [], length}
-use Rattle.std.specs.List.{filter_map}
-use Rattle.std.specs.Option.{option_map}
-use Rattle.ovl_names.specs.Names.{PathName}
-use Rattle.ovl_names.specs.Paths.{PathNames, child_path, depth_limit}
-use Rattle.ovl_lookup.specs.declared.looks.Look.{Look}
+use Rattle.std.specs.Prelude.{◌*◌, ℕ, List, [], length}
+use Rattle.ovl_names.specs.Paths.{depth_limit}
 use Rattle.ovl_lookup.specs.Stacks.{StackView}
-use Rattle.ovl_lookup.specs.Passes.{kids_along}
+use Rattle.ovl_lookup.specs.ShownInodes.{shown_inodes}
 use Rattle.ovl_board.specs.declared.pieces.Piece.{Piece}
 use Rattle.ovl_board.specs.Parcels.{ParcelView, IsPlain}
 use Rattle.ovl_rewrite.specs.Directories.{NamedInode, directories_among}
-use Rattle.ovl_flatten.specs.Flatten.{inode_shown, flattened_at}
-
--- a name of a directory with the inode that is shown there, if one is
-abbrev pub named_inode : StackView → PathNames → PathName → Option NamedInode
-named_inode stack directory name = option_map (λ inode. (name, inode)) (flattened_at stack (child_path directory name))
-
--- the entries of a directory, in order
-abbrev pub inodes_in : StackView → PathNames → List NamedInode
-inodes_in stack directory = filter_map (named_inode stack directory) (kids_along stack directory)
-
--- a name with the inode of what is shown there
-abbrev pub shown_inode : PathName × Look → Option NamedInode
-shown_inode entry = option_map (λ inode. (entry.0, inode)) (inode_shown entry.1)
 
 -- the kids of a directory are the directories in it, and its output is each name in it, in order, with its inode
 abbrev pub flatten_kids : StackView → Piece → List Piece
-flatten_kids stack piece = directories_among piece (inodes_in stack piece.dir)
+flatten_kids stack piece = directories_among piece (shown_inodes stack piece.dir)
 
 abbrev pub flatten_out : StackView → Piece → List NamedInode
-flatten_out stack piece = inodes_in stack piece.dir
+flatten_out stack piece = shown_inodes stack piece.dir
 
 -- the most names of a path in the merged tree
 abbrev pub flatten_depth : StackView → ℕ

@@ -2,3 +2,4 @@ pub mod Flatten
 pub mod Laws
 pub mod Directories
 pub mod Limits
+pub mod Ends

@@ -1,11 +1,13 @@
 ghost use Rattle.std.specs.Prelude.{◌≡◌, Err, IfOk};
 ghost use Rattle.ovl_manifest.specs.Layers.{IsLayer};
+ghost use Rattle.ovl_lookup.specs.Stacks.{StackView};
 ghost use Rattle.ovl_lookup.specs.Sound.{IsSoundStack};
 ghost use Rattle.ovl_board.specs.Parcels.{parcel_views};
 ghost use Rattle.ovl_rewrite.specs.declared.faults.RewriteFault.TheVariants.{LimitOut};
 ghost use Rattle.ovl_rewrite.specs.Directories.{inodes_seen};
 ghost use Rattle.ovl_flatten.specs.Flatten.{IsFlattened};
 ghost use Rattle.ovl_flatten.specs.Directories.{IsFlattenWalk};
+ghost use Rattle.ovl_flatten.specs.Ends.{IsFlattenEnd};
 ghost use Rattle.ovl_flatten.specs.Limits.{PassesLimit};
 
 use crate::works::FlattenWork;
@@ -14,7 +16,46 @@ use ovl_inode::{Inode, visible};
 use ovl_manifest::Layer;
 use ovl_names::Name;
 use ovl_rewrite::{RewriteFault, layer_told};
-use std::alloc::Global;
+use std::alloc::{AllocError, Global};
+
+/// What the end of a flatten needs of its work: the visible root of the topmost layer.
+#[derive(Drop)]
+pub struct FlattenEnd {
+    root: Inode,
+}
+
+impl FlattenWork<'_> {
+    /// The end of this flatten, for which the stack needn't stay.
+    pub fn end(&self, alloc: Global) -> Result<FlattenEnd, AllocError>
+        ensures { IfOk result (IsFlattenEnd self.now) }
+    {
+        // Each layer of a stack is one.
+        let _layers = self.stack.ordinary();
+        let root = visible(alloc, self.stack.top().root().inode())?;
+        Ok(FlattenEnd { root })
+    }
+}
+
+impl FlattenEnd {
+    /// What is shown, as one layer, of each stack whose flatten ends so. The parcels are the plain walk of its work from
+    /// `/` of space 0. Over a sound stack it is refused, unless memory runs out, exactly where that layer passes a limit
+    /// of manifests.
+    pub fn finish(
+        self,
+        alloc: Global,
+        parcels: Vec<Parcel<Vec<(Name, Inode)>>>,
+    ) -> Result<Layer, RewriteFault>
+        ensures is { IfOk result (λ layer. IsLayer layer) }
+        ensures layer { IfOk result (λ layer. (stack : StackView) → IsFlattenEnd stack self
+            → IsFlattenWalk stack (parcel_views inodes_seen parcels.items) → IsFlattened layer stack) }
+        ensures kept { IfOk result (λ _. (stack : StackView) → IsFlattenEnd stack self
+            → IsFlattenWalk stack (parcel_views inodes_seen parcels.items) → PassesLimit stack → ⊥) }
+        ensures limit { result ≡ Err LimitOut → (stack : StackView) → IsFlattenEnd stack self → IsSoundStack stack
+            → IsFlattenWalk stack (parcel_views inodes_seen parcels.items) → PassesLimit stack }
+    {
+        layer_told(alloc, self.root, parcels)
+    }
+}
 
 /// What the stack shows, as one layer. The parcels are the plain walk of the work from `/` of space 0. Over a sound
 /// stack it is refused, unless memory runs out, exactly where that layer passes a limit of manifests.
@@ -29,8 +70,5 @@ pub fn finish_flatten(
     ensures kept { IfOk result (λ _. PassesLimit work.now → ⊥) }
     ensures limit { IsSoundStack work.now → result ≡ Err LimitOut → PassesLimit work.now }
 {
-    // Each layer of a stack is one.
-    let _layers = work.stack.ordinary();
-    let root = visible(alloc, work.stack.top().root().inode())?;
-    layer_told(alloc, root, parcels)
+    work.end(alloc)?.finish(alloc, parcels)
 }

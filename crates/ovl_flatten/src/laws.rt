@@ -1,5 +1,5 @@
 //! Laws of flatten; the contract of each is its statement.
-ghost use Rattle.ovl_flatten.specs.Laws.{FlattenGivesLayer, FlattenKeepsTree, FlattenIsSound, FlattenHasNoMarks};
+ghost use Rattle.ovl_flatten.specs.Laws.{FlattenGivesLayer, FlattenKeepsTree, FlattenIsSound, FlattenHasNoMarks, FlattenIsTheOne};
 
 /// What flatten makes of a sound stack is a layer, but for the limits.
 pub fn flatten_gives_a_layer()
@@ -19,4 +19,9 @@ pub fn flatten_is_sound()
 /// It has no marks.
 pub fn flatten_has_no_marks()
     ensures { FlattenHasNoMarks }
+{}
+
+/// It is the one layer without marks that shows alone what the stack shows.
+pub fn flatten_is_the_one()
+    ensures { FlattenIsTheOne }
 {}

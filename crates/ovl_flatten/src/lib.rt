@@ -2,9 +2,8 @@
 #![tactic(auto)]
 
 mod finish;
-mod inodes;
 pub mod laws;
 mod works;
 
-pub use finish::finish_flatten;
+pub use finish::{FlattenEnd, finish_flatten};
 pub use works::FlattenWork;

@@ -3,10 +3,9 @@ ghost use Rattle.ovl_rewrite.specs.NewLayers.{TellsLayer};
 ghost use Rattle.ovl_flatten.specs.Flatten.{flattened_at};
 ghost use Rattle.ovl_flatten.specs.Directories.{flatten_kids, flatten_out};
 
-use crate::inodes::inodes_in;
 use ovl_board::{Piece, Work};
 use ovl_inode::Inode;
-use ovl_lookup::Stack;
+use ovl_lookup::{Stack, shown_inodes};
 use ovl_names::{DEPTH_LIMIT, Name};
 use ovl_rewrite::directories;
 use std::alloc::{AllocError, Global};
@@ -64,7 +63,7 @@ impl<'a> Work for FlattenWork<'a> {
         alloc: Global,
         piece: &Piece,
     ) -> Result<(Vec<Piece>, Vec<(Name, Inode)>), AllocError> {
-        let inodes = inodes_in(alloc, self.stack, &piece.dir)?;
+        let inodes = shown_inodes(alloc, self.stack, &piece.dir)?;
         let kids = directories(alloc, piece, &inodes)?;
         Ok((kids, inodes))
     }

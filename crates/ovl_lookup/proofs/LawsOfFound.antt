@@ -1,5 +1,5 @@
 -- Laws of what the walks through layers find, layer by layer, and of what is shown of it.
-use Rattle.std.proofs.Common.{◌≡◌, Bool, true, false, cond, Option, Some, None, List, [], ◌∷◌, refl, sym, ap, ◌∙◌, ◌++◌, inl, inr}
+use Rattle.std.proofs.Common.{◌≡◌, Bool, true, false, cond, Option, Some, None, List, [], ◌∷◌, get_or, refl, sym, ap, ◌∙◌, ◌++◌, inl, inr}
 use Rattle.std.specs.Prelude.{not, ◌&&◌, ◌||◌}
 use Rattle.std.specs.List.{filter_map, cons_option, list_all, find, list_any, All}
 use Rattle.std.proofs.lemmas.List.Folds.{list_any-append}
@@ -259,18 +259,22 @@ data-regular data_only found contents e = by (list_all is_metacopy found) e
 
 -- ---- what holds of all inodes of layers holds of all that is found, and of data among it
 
-pub found-all : (test : Inode → Bool) → ((layer : Entries) → IsLayer layer → list_all (λ (entry : Entry). test entry.1) layer ≡ true) → (layers : List Entries) → All IsLayer layers → (path : PathNames) → list_all test (things_found layers path) ≡ true
-found-all test of [] each path = refl
-found-all test of (layer ∷ layers) each path =
+-- all inodes of a layer pass a test
+abbrev pub Passes : (Inode → Bool) → Entries → Type 0
+Passes test layer = list_all (λ (entry : Entry). test entry.1) layer ≡ true
+
+pub found-passing : (test : Inode → Bool) (layers : List Entries) → All IsLayer layers → All (Passes test) layers → (path : PathNames) → list_all test (things_found layers path) ≡ true
+found-passing test [] each pass path = refl
+found-passing test (layer ∷ layers) each pass path =
     ap (list_all test) (things_found-step layer layers path)
-    ∙ by (found-all test of layers (all-rest IsLayer layer layers each) (walk layer path).next) (walk layer path).found refl (walk layer path).closed
+    ∙ by (found-passing test layers (all-rest IsLayer layer layers each) (all-rest (Passes test) layer layers pass) (walk layer path).next) (walk layer path).found refl (walk layer path).closed
   where
     by : list_all test (things_found layers (walk layer path).next) ≡ true → (here : Option Inode) → (walk layer path).found ≡ here → (closed : Bool) → list_all test (cons_option here (cond closed [] (things_found layers (walk layer path).next))) ≡ true
     by later None h true = refl
     by later None h false = later
     by later (Some inode) h closed =
         let is : IsLayer layer = all-first IsLayer layer layers each in
-        let holds : test inode ≡ true = lookup-all (λ (entry : Entry). test entry.1) path layer inode (of layer is) (walk-finds layer path inode is h).0 in
+        let holds : test inode ≡ true = lookup-all (λ (entry : Entry). test entry.1) path layer inode (all-first (Passes test) layer layers pass) (walk-finds layer path inode is h).0 in
         (λ j. holds j && rest closed j)
       where
         rest : (c : Bool) → list_all test (cond c [] (things_found layers (walk layer path).next)) ≡ true
@@ -314,30 +318,30 @@ last-all test (hit ∷ []) inode all last = let same : hit ≡ inode = cc in ap 
 last-all test (hit ∷ other ∷ hits) inode all last = last-all test (other ∷ hits) inode (both {a = test hit} {b = list_all test (other ∷ hits)} all).1 last
 
 -- what layers have at a path
-entries-all : (test : Inode → Bool) → ((layer : Entries) → IsLayer layer → list_all (λ (entry : Entry). test entry.1) layer ≡ true) → (layers : List Entries) → All IsLayer layers → (path : PathNames) → list_all test (filter_map (λ (layer : Entries). entry_at layer path) layers) ≡ true
-entries-all test of [] each path = refl
-entries-all test of (layer ∷ layers) each path = by (entry_at layer path) refl (entries-all test of layers (all-rest IsLayer layer layers each) path)
+entries-passing : (test : Inode → Bool) (layers : List Entries) → All (Passes test) layers → (path : PathNames) → list_all test (filter_map (λ (layer : Entries). entry_at layer path) layers) ≡ true
+entries-passing test [] pass path = refl
+entries-passing test (layer ∷ layers) pass path = by (entry_at layer path) refl (entries-passing test layers (all-rest (Passes test) layer layers pass) path)
   where
     by : (here : Option Inode) → entry_at layer path ≡ here → list_all test (filter_map (λ (layer : Entries). entry_at layer path) layers) ≡ true
         → list_all test (cons_option here (filter_map (λ (layer : Entries). entry_at layer path) layers)) ≡ true
     by None h later = later
     by (Some inode) h later =
-        let holds : test inode ≡ true = lookup-all (λ (entry : Entry). test entry.1) path layer inode (of layer (all-first IsLayer layer layers each)) h in
+        let holds : test inode ≡ true = lookup-all (λ (entry : Entry). test entry.1) path layer inode (all-first (Passes test) layer layers pass) h in
         (λ j. holds j && later j)
 
 -- the full file that data-only layers have
-full_file-all : (test : Inode → Bool) → ((layer : Entries) → IsLayer layer → list_all (λ (entry : Entry). test entry.1) layer ≡ true) → (layers : List Entries) → All IsLayer layers → (path : PathNames) (contents : Inode) → full_file_in layers path ≡ Some contents → test contents ≡ true
-full_file-all test of layers each path contents e = find-all is_full_file test (filter_map (λ (layer : Entries). entry_at layer path) layers) contents (entries-all test of layers each path) e
+full_file-passing : (test : Inode → Bool) (layers : List Entries) → All (Passes test) layers → (path : PathNames) (contents : Inode) → full_file_in layers path ≡ Some contents → test contents ≡ true
+full_file-passing test layers pass path contents e = find-all is_full_file test (filter_map (λ (layer : Entries). entry_at layer path) layers) contents (entries-passing test layers pass path) e
 
-placed-all : (test : Inode → Bool) → ((layer : Entries) → IsLayer layer → list_all (λ (entry : Entry). test entry.1) layer ≡ true) → (data_only : List Entries) → All IsLayer data_only → (place : Option PathNames) (contents : Inode) → data_at_place data_only place ≡ Some contents → test contents ≡ true
-placed-all test of data_only each None contents e = let bad : None ≡ Some contents = e in cc
-placed-all test of data_only each (Some place) contents e = full_file-all test of data_only each place contents e
+placed-passing : (test : Inode → Bool) (data_only : List Entries) → All (Passes test) data_only → (place : Option PathNames) (contents : Inode) → data_at_place data_only place ≡ Some contents → test contents ≡ true
+placed-passing test data_only pass None contents e = let bad : None ≡ Some contents = e in cc
+placed-passing test data_only pass (Some place) contents e = full_file-passing test data_only pass place contents e
 
-pub data-all : (test : Inode → Bool) → ((layer : Entries) → IsLayer layer → list_all (λ (entry : Entry). test entry.1) layer ≡ true) → (data_only : List Entries) → All IsLayer data_only → (found : List Inode) (contents : Inode) → list_all test found ≡ true → data_of data_only found ≡ Some contents → test contents ≡ true
-data-all test of data_only each found contents all is = alone (list_all is_metacopy found) is
+pub data-passing : (test : Inode → Bool) (data_only : List Entries) → All (Passes test) data_only → (found : List Inode) (contents : Inode) → list_all test found ≡ true → data_of data_only found ≡ Some contents → test contents ≡ true
+data-passing test data_only pass found contents all is = alone (list_all is_metacopy found) is
   where
     alone : (b : Bool) → cond b (data_at_place data_only (last_place found)) (elim (last_of (hits_of found)) as (λ _. Option Inode) [ Some inode ↦ cond (is_data inode) (Some inode) None | None ↦ None ]) ≡ Some contents → test contents ≡ true
-    alone true d = placed-all test of data_only each (last_place found) contents d
+    alone true d = placed-passing test data_only pass (last_place found) contents d
     alone false d = by (last_of (hits_of found)) refl d
       where
         by : (last : Option Inode) → last_of (hits_of found) ≡ last → elim last as (λ _. Option Inode) [ Some inode ↦ cond (is_data inode) (Some inode) None | None ↦ None ] ≡ Some contents → test contents ≡ true
@@ -347,3 +351,14 @@ data-all test of data_only each found contents all is = alone (list_all is_metac
             split : (b : Bool) → cond b (Some inode) None ≡ Some contents → test contents ≡ true
             split true d = let same : inode ≡ contents = cc in ap test (sym same) ∙ last-all test (hits_of found) inode (hits-all test found all) e
             split false d = let bad : None ≡ Some contents = d in cc
+
+-- the same of a test that all layers pass
+module _ (test : Inode → Bool) (of : (layer : Entries) → IsLayer layer → Passes test layer) where
+  passing : (layers : List Entries) → All IsLayer layers → All (Passes test) layers
+  passing layers each k d inside = of (get_or layers k d) (each k d inside)
+
+  pub found-all : (layers : List Entries) → All IsLayer layers → (path : PathNames) → list_all test (things_found layers path) ≡ true
+  found-all layers each = found-passing test layers each (passing layers each)
+
+  pub data-all : (data_only : List Entries) → All IsLayer data_only → (found : List Inode) (contents : Inode) → list_all test found ≡ true → data_of data_only found ≡ Some contents → test contents ≡ true
+  data-all data_only each = data-passing test data_only (passing data_only each)

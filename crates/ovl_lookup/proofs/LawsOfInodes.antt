@@ -8,6 +8,7 @@ use Rattle.std.specs.declared.cmp.Ordering.{Ordering}
 use Rattle.std.specs.declared.cmp.Ordering.TheVariants.{Less, Equal, Greater}
 use Rattle.std.specs.List.{list_all, list_any}
 use Rattle.std.proofs.lemmas.Map.Entries.{lookup-filter-keys}
+use Rattle.std.proofs.Math.Bool.{and-false}
 use Rattle.ovl_names.specs.Names.{name_cmp, name_eq}
 use Rattle.ovl_names.proofs.Ascending.{both}
 use Rattle.ovl_inode.specs.Attributes.{Attributes, attribute, with_attribute, visible_attributes, is_overlay_name, redirect_name, opaque_name, metacopy_name, whiteout_name, has_escaped_name, is_escaped_name}
@@ -141,6 +142,15 @@ pub attribute-hidden : (attrs : Attributes) (name : List ℕ) → is_overlay_nam
 attribute-hidden attrs name own =
     lookup-filter-keys (name_eq name) (λ k. not (is_overlay_name k)) false
     (λ k same. ap (λ n. not (is_overlay_name n)) (sym ((bytes_decides name k).0 same)) ∙ ap not own) attrs
+
+-- it is its own visible one, and no metacopy file
+pub visible-own : (inode : Inode) → IsVisible inode → visible inode ≡ inode
+visible-own inode v = λ j. record inode { attrs = v.bare j }
+
+pub visible-full : (inode : Inode) → IsVisible inode → (is_regular inode && has_metacopy inode) ≡ false
+visible-full inode v =
+    ap (λ o. is_regular inode && is_some o) (ap (λ a. attribute a metacopy_name) (sym v.bare) ∙ attribute-hidden inode.attrs metacopy_name refl)
+    ∙ and-false (is_regular inode)
 
 -- its mark is that of a plain directory, or of a leaf
 pub visible-mark : (inode : Inode) → IsVisible inode → mark_of inode ≡ cond (is_directory inode) DirPlain Leaf

@@ -12,6 +12,8 @@ use Rattle.ovl_names.proofs.Ascending.{both, not_true}
 use Rattle.ovl_names.specs.Order.{ascends}
 use Rattle.ovl_inode.specs.declared.inodes.Inode.{Inode}
 use Rattle.ovl_inode.specs.Marks.{is_directory, is_regular, has_metacopy, mark_of, is_whiteout, is_data, has_attribute}
+use Rattle.ovl_inode.specs.declared.marks.Mark.{Mark}
+use Rattle.ovl_inode.specs.declared.marks.Mark.TheVariants.{DirPlain, Leaf}
 use Rattle.ovl_inode.specs.Inodes.{visible}
 use Rattle.ovl_inode.specs.declared.inodes.Kind.{Kind}
 use Rattle.ovl_inode.specs.declared.inodes.Kind.TheVariants.{Dir, File, Char}
@@ -25,16 +27,17 @@ use Rattle.ovl_lookup.specs.Walk.{walk, walk_from, walk_beyond, nothing_found, t
 use Rattle.ovl_lookup.specs.Trace.{things_found}
 use Rattle.ovl_lookup.specs.Merged.{data_of, shown_of, without_blob, is_nothing, shows, look, is_shown_directory, shows_directory}
 use Rattle.ovl_lookup.specs.Passes.{own_names_along}
+use Rattle.ovl_lookup.specs.ShownInodes.{inode_shown}
 use Rattle.ovl_lookup.specs.Stacks.{StackView}
 use Rattle.ovl_lookup.specs.Words.{over, top_layer, lower_layers}
-use Rattle.ovl_lookup.specs.Sound.{IsSoundStack, are_sound, is_faulty, redirect_is_malformed, redirect_is_lost, redirect_is_of_wrong_kind, redirect_is_double, redirect_is_open, data_is_missing, data_is_of_other_size, is_malformed, is_meta}
+use Rattle.ovl_lookup.specs.Sound.{IsSoundStack, are_sound, is_faulty, redirect_is_malformed, redirect_is_lost, redirect_is_of_wrong_kind, redirect_is_double, redirect_is_open, data_is_missing, data_is_of_other_size, is_moved, is_malformed, is_meta, has_other_size, goes_on_there, is_seen_there, data_at}
 use Rattle.ovl_lookup.specs.Laws.{ShowsParents, ShowsWithinDepth}
 use Rattle.ovl_lookup.proofs.Longest.{longest-holds, longest-rest}
 use Rattle.ovl_lookup.proofs.LawsOfPaths.{all-entries, all-first, all-rest, by_child, last-name, lookup-all}
 use Rattle.ovl_inode.proofs.SoundLaws.{sound_values, kind-full}
 use Rattle.ovl_lookup.proofs.LawsOfInodes.{IsVisible, attribute-hidden, bare-mark, data-kind, directory-kind, directory-no_whiteout, regular_kind, sound-visible, unescaped-filter, visible-twice, whiteout_test}
 use Rattle.ovl_lookup.proofs.LawsOfWalks.{directory-limited, directory_found, entry-limited, entry-parent, found-file, mark-file, walk-finds, walk-stop, walk-whole}
-use Rattle.ovl_lookup.proofs.LawsOfFound.{any_found, by_data, child_found, data-all, data-regular, found-all, shown-any, shown_of-full, starts_directory, things_found-step}
+use Rattle.ovl_lookup.proofs.LawsOfFound.{Passes, any_found, by_data, child_found, data-all, data-passing, data-regular, found-all, found-passing, shown-any, shown_of-full, starts_directory, things_found-step}
 
 -- ---- how deep a path is that something is found at
 
@@ -161,6 +164,30 @@ module _ (layer : Entries) (below : StackView) (path : PathNames) (inode : Inode
 
   faultless-whole : Faultless layer below path inode → is_faulty layer below (path, inode) ≡ false
   faultless-whole f = (λ j. f.formed j || f.found j || f.fitting j || f.single j || f.hidden j || f.full j || f.sized j)
+
+-- a mark that is neither a redirect nor a metacopy file
+pub record Calm (mark : Option Mark) : Type 0 where
+  pub unmoved : is_moved mark ≡ false
+  pub formed : is_malformed mark ≡ false
+  pub full : is_meta mark ≡ false
+
+pub calm-visible : (directory : Bool) → Calm (Some (cond directory DirPlain Leaf))
+calm-visible true = record { unmoved = refl; formed = refl; full = refl }
+calm-visible false = record { unmoved = refl; formed = refl; full = refl }
+
+-- an entry of such a mark is faultless
+pub calm-faultless : (layer : Entries) (below : StackView) (path : PathNames) (inode : Inode) → Calm (mark_at layer path) → Faultless layer below path inode
+calm-faultless layer below path inode calm =
+    let step : Step = walk layer path in
+    record {
+      formed = calm.formed;
+      found = (λ j. calm.unmoved j && (step.closed || is_nothing (look below step.next)));
+      fitting = (λ j. calm.unmoved j && not step.closed && not (is_nothing (look below step.next)) && not (is_shown_directory (look below step.next)));
+      single = (λ j. calm.unmoved j && not step.closed && list_any (goes_on_there layer path) layer);
+      hidden = (λ j. calm.unmoved j && not step.closed && is_seen_there layer step.next);
+      full = (λ j. calm.full j && is_none (data_at layer below path inode));
+      sized = (λ j. calm.full j && has_other_size inode (data_at layer below path inode));
+    }
 
 -- the soundness of the lower layers is that of their own stack
 lower-sound : (layer : Entries) (below : StackView) (layers : List Entries) → are_sound (over layer below) layers ≡ are_sound below layers
@@ -390,6 +417,27 @@ never_broken_from stack (layer ∷ layers) each sound path =
 pub never-broken : (stack : StackView) → All IsLayer stack.layers → IsSoundStack stack → (path : PathNames) → is_broken (look stack path) ≡ false
 never-broken stack each sound path = never_broken_from stack stack.layers each sound path
 
+-- ---- the inode that is shown
+
+pub inode-shows : (shown : Look) (inode : Inode) → inode_shown shown ≡ Some inode → not (is_nothing shown) ≡ true
+inode-shows Nothing inode e = let bad : None ≡ Some inode = e in cc
+inode-shows (Shown other) inode e = refl
+inode-shows (Broken other) inode e = refl
+
+pub inode-directory : (shown : Look) → is_shown_directory shown ≡ true → directory_found (inode_shown shown) ≡ true
+inode-directory Nothing e = e
+inode-directory (Shown inode) e = e
+inode-directory (Broken inode) e = let bad : false ≡ true = e in cc
+
+-- in a sound stack it is shown whole
+inode_whole : (shown : Look) (inode : Inode) → is_broken shown ≡ false → inode_shown shown ≡ Some inode → shown ≡ Shown inode
+inode_whole Nothing inode b s = let bad : None ≡ Some inode = s in cc
+inode_whole (Shown other) inode b s = let same : other ≡ inode = cc in ap (λ (i : Inode). Shown i) same
+inode_whole (Broken other) inode b s = let bad : true ≡ false = b in cc
+
+pub inode-whole : (stack : StackView) → All IsLayer stack.layers → IsSoundStack stack → (path : PathNames) (inode : Inode) → inode_shown (look stack path) ≡ Some inode → look stack path ≡ Shown inode
+inode-whole stack each sound path inode some = inode_whole (look stack path) inode (never-broken stack each sound path) some
+
 -- the same of a stack with this layer on top
 pub all-over : (layer : Entries) (below : StackView) → IsLayer layer → All IsLayer below.layers → All IsLayer (over layer below).layers
 all-over layer below is each zero d inside = is
@@ -426,6 +474,28 @@ entry-directory_shown layer below path inode is here directory =
     directory_kind : (kind : Kind) → elim kind as (λ _. Bool) [ Dir ↦ true | _ ↦ false ] ≡ true → elim kind as (λ _. Bool) [ File size blob ↦ true | _ ↦ false ] ≡ false
     directory_kind (File size blob) is = let bad : false ≡ true = is in cc
     directory_kind _ is = refl
+
+-- ---- the kind that is shown
+
+-- it is that of an entry of some layer: a test of kinds that all entries pass, it passes
+pub shown-kind : (test : Inode → Bool) → ((one other : Inode) → one.kind ≡ other.kind → test one ≡ test other) → (stack : StackView) → All IsLayer stack.layers → All (Passes test) stack.layers → All (Passes test) stack.data_only → (path : PathNames) (inode : Inode) → look stack path ≡ Shown inode → test inode ≡ true
+shown-kind test by_kind stack each pass deep path inode shown = by (things_found stack.layers path) refl
+  where
+    by : (found : List Inode) → things_found stack.layers path ≡ found → test inode ≡ true
+    by [] e = let bad : Nothing ≡ Shown inode = ap (shown_of stack.data_only) (sym e) ∙ shown in cc
+    by (first ∷ more) e = split (is_regular first && has_metacopy first) (data_of stack.data_only (first ∷ more)) refl (ap (shown_of stack.data_only) (sym e) ∙ shown)
+      where
+        all : list_all test (first ∷ more) ≡ true
+        all = ap (list_all test) (sym e) ∙ found-passing test stack.layers each pass path
+
+        split : (b : Bool) (o : Option Inode) → data_of stack.data_only (first ∷ more) ≡ o → cond b (by_data first o) (Shown (visible first)) ≡ Shown inode → test inode ≡ true
+        split false o d s =
+            let same : visible first ≡ inode = cc in
+            by_kind inode first (ap (λ (i : Inode). i.kind) (sym same)) ∙ (both {a = test first} {b = list_all test more} all).0
+        split true (Some contents) d s =
+            let same : record (visible first) { kind = contents.kind } ≡ inode = cc in
+            by_kind inode contents (ap (λ (i : Inode). i.kind) (sym same)) ∙ data-passing test stack.data_only deep (first ∷ more) contents all d
+        split true None d s = let bad : Broken (record (visible first) { kind = without_blob first.kind }) ≡ Shown inode = s in cc
 
 -- ---- sound inodes
 

@@ -5,6 +5,7 @@ pub mod LawsOfSplits
 pub mod LawsOfNames
 pub mod LawsOfFound
 pub mod LawsOfLooks
+pub mod LawsOfUnmarked
 pub mod LawsOfKids
 pub mod Longest
 pub mod Turns
@@ -22,6 +23,7 @@ pub mod DirViewLemmas
 pub mod ViewSteps
 pub mod ViewLookLemmas
 mod PlaceReads
+mod ShownInodeLemmas
 mod Rows
 mod TrailLemmas
 mod TrailNameLemmas

@@ -4,8 +4,10 @@ pub mod Trace
 pub mod Trails
 pub mod Merged
 pub mod Passes
+pub mod ShownInodes
 pub mod Sound
 pub mod Words
+pub mod Unmarked
 pub mod Views
 pub mod ViewPasses
 pub mod Onwards

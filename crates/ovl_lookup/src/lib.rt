@@ -1,6 +1,7 @@
 //! Walks in one layer, and what a stack of layers shows.
 #![tactic(auto)]
 
+mod inodes;
 pub mod laws;
 mod lists;
 mod looks;
@@ -14,6 +15,7 @@ mod trails;
 mod view_looks;
 mod views;
 
+pub use inodes::shown_inodes;
 pub use looks::{Look, is_well_formed_metacopy};
 pub use onward::Onward;
 pub use stacks::{LAYER_LIMIT, Stack, StackFault};

@@ -6,6 +6,7 @@ ghost use Rattle.ovl_lookup.specs.Stacks.{from_layer};
 ghost use Rattle.ovl_lookup.specs.Trace.{things_found};
 ghost use Rattle.ovl_lookup.specs.Merged.{look as the_look, shown_of, data_of as the_data, place_of_data as the_place, place_told as the_place_told, data_at_place, is_full_file as full_file_test, full_file_in as the_file, is_nothing as nothing_test, is_shown_directory as directory_test, without_blob as kind_without_blob};
 ghost use Rattle.ovl_lookup.specs.Walk.{walk as the_walk};
+ghost use Rattle.ovl_lookup.specs.ShownInodes.{inode_shown};
 ghost use Rattle.ovl_lookup.specs.Passes.{IsMarked, step_of, found_on, shown_with, data_below};
 ghost use Rattle.ovl_lookup.specs.Equal.{look_eq};
 ghost use Rattle.ovl_lookup.specs.EqualLaws.{look_eq_equiv};
@@ -65,6 +66,16 @@ impl Look {
         match self {
             Look::Shown(inode) => is_directory(inode),
             Look::Nothing | Look::Broken(_) => false,
+        }
+    }
+
+    /// The inode that is shown, whole or broken.
+    pub fn into_inode(self) -> Option<Inode>
+        ensures { result ≡ inode_shown self }
+    {
+        match self {
+            Look::Shown(inode) | Look::Broken(inode) => Some(inode),
+            Look::Nothing => None,
         }
     }
 }

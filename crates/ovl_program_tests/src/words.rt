@@ -12,6 +12,7 @@ fsck --blobs= a -> Line { what: Fsck, workers: 4, data_layers: 0, blobs: Some(\"
 vacuum --out o --blobs b --any-size a -> Line { what: Vacuum, workers: 4, data_layers: 0, blobs: Some(\"b\"), any_size: true, out: Some(\"o\"), layers: [\"a\"] }
 deref a --blobs b --out=o a -> Line { what: Deref, workers: 4, data_layers: 0, blobs: Some(\"b\"), any_size: false, out: Some(\"o\"), layers: [\"a\", \"a\"] }
 merge --data-layers=127 --blobs=b --out=o -- -a -> Line { what: Merge, workers: 4, data_layers: 127, blobs: Some(\"b\"), any_size: false, out: Some(\"o\"), layers: [\"-a\"] }
+flatten --blobs b --workers 1 --out o --any-size a c -> Line { what: Flatten, workers: 1, data_layers: 0, blobs: Some(\"b\"), any_size: true, out: Some(\"o\"), layers: [\"a\", \"c\"] }
 ";
 
 fn told(alloc: Global, text: &str) -> Result<String, Fail> {

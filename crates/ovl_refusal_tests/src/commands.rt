@@ -108,7 +108,8 @@ fn are_answered<R: Threads + Wait + Sync>(
             && does_answer(rt, alloc, Command::Fsck, workers, "faults 0 notes 0\n")?
             && does_answer(rt, alloc, Command::Vacuum, workers, "\nremoved 1 kept 5\n")?
             && does_answer(rt, alloc, Command::Deref, workers, "\nentries 7\n")?
-            && does_answer(rt, alloc, Command::Merge, workers, "\nentries 6\n")?,
+            && does_answer(rt, alloc, Command::Merge, workers, "\nentries 6\n")?
+            && does_answer(rt, alloc, Command::Flatten, workers, "\nentries 6\n")?,
     )
 }
 

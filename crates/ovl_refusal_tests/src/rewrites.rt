@@ -4,6 +4,7 @@ use crate::board::root_of;
 use crate::samples::{MOVED, stack_of};
 use ovl_board::plain_walk;
 use ovl_deref::{DerefWork, finish_deref};
+use ovl_flatten::{FlattenWork, finish_flatten};
 use ovl_lookup::Stack;
 use ovl_manifest::Layer;
 use ovl_merge::{MergeFault, MergeWork, finish_merge};
@@ -37,6 +38,13 @@ fn is_merged(alloc: Global, stack: &Stack) -> Result<bool, MergeFault> {
     Ok(has_entries(alloc, &done.top, 1)? && has_entries(alloc, &done.lower, 6)?)
 }
 
+fn is_flattened(alloc: Global, stack: &Stack) -> Result<bool, RewriteFault> {
+    let work = FlattenWork::new(stack);
+    let parcels = plain_walk(alloc, &work, root_of(alloc, 0))?;
+    let layer = finish_flatten(alloc, &work, parcels)?;
+    Ok(has_entries(alloc, &layer, 6)?)
+}
+
 #[test]
 fn a_layer_is_vacuumed(rt: HostRuntime) -> Result<(), Fail> {
     let stack = again!(stack_of(rt.alloc(), MOVED), AllocError)?;
@@ -55,5 +63,12 @@ fn a_layer_is_dereferenced(rt: HostRuntime) -> Result<(), Fail> {
 fn two_layers_are_merged(rt: HostRuntime) -> Result<(), Fail> {
     let stack = again!(stack_of(rt.alloc(), MOVED), AllocError)?;
     assert!(rt; again!(is_merged(rt.alloc(), &stack), MergeFault::Memory)?);
+    Ok(())
+}
+
+#[test]
+fn a_stack_is_flattened(rt: HostRuntime) -> Result<(), Fail> {
+    let stack = again!(stack_of(rt.alloc(), MOVED), AllocError)?;
+    assert!(rt; again!(is_flattened(rt.alloc(), &stack), RewriteFault::Memory)?);
     Ok(())
 }

@@ -1,6 +1,6 @@
 -- From the parcels to the new layer.
 use Rattle.std.proofs.Common.{◌≡◌, ℕ, suc, ◌-◌, Bool, true, false, cond, Option, Some, None, List, [], ◌∷◌, ◌++◌, length, map, refl, sym, ap, ◌∙◌, subst, append_assoc, arith}
-use Rattle.std.specs.Prelude.{Result, Ok, Err, nat_lt}
+use Rattle.std.specs.Prelude.{Result, Ok, Err, IfOk, nat_lt}
 use Rattle.std.proofs.lemmas.List.{append-nil}
 use Rattle.ovl_names.specs.Order.{ascends}
 use Rattle.ovl_inode.specs.declared.inodes.Inode.{Inode}
@@ -119,3 +119,9 @@ module _ (root : Inode) (views : List View) (new : NewLayer) (by : IsToldBy new 
       (ap (λ (n : ℕ). ([], root) ∷ entries_under tree n []) whole
       ∙ ap (λ (entries : Entries). ([], root) ∷ entries) (sym (append-nil (entries_under tree (suc by.deepest - length root_piece.dir) []))))
       layer)
+
+-- ---- two facts of what is given
+
+pub ok-both : {X Y : Type 0} (r : Result X Y) (P Q R : X → Type 0) → ((x : X) → P x → Q x → R x) → IfOk r P → IfOk r Q → IfOk r R
+ok-both (Ok x) P Q R both p q = both x p q
+ok-both (Err e) P Q R both p q = tt

@@ -7,10 +7,11 @@ use Rattle.ovl_lookup.specs.Words.{top_layer, lower_layers}
 use Rattle.ovl_board.specs.Parcels.{parcel_views}
 use Rattle.ovl_rewrite.specs.Directories.{inodes_seen}
 use Rattle.ovl_rewrite.specs.NewLayers.{IsToldBy}
+use Rattle.ovl_rewrite.proofs.LayerLemmas.{ok-both}
 use Rattle.ovl_deref.specs.Deref.{IsDereferenced}
 use Rattle.ovl_deref.specs.Directories.{new_at, IsDerefWalk}
 use Rattle.ovl_deref.specs.Limits.{PassesLimit}
-use Rattle.ovl_deref.proofs.FinishLemmas.{root-there, walk-tells, limit-kept, limit-passed, ok-both}
+use Rattle.ovl_deref.proofs.FinishLemmas.{root-there, walk-tells, limit-kept, limit-passed}
 use Rattle.ovl_deref.proofs.finish.finish_deref.Goals as goal
 
 pub returns-clause-layer : goal.returns-clause-layer

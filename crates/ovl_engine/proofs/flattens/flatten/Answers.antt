@@ -1,10 +1,10 @@
-use Rattle.std.proofs.Common.{◌<◌, ℕ, [], ◌∷◌, refl, subst}
+use Rattle.std.proofs.Common.{[], ◌∷◌, refl}
 use Rattle.std.proofs.lemmas.Result.{err_from_is_err_and}
+use Rattle.ovl_check.specs.Findings.{findings}
 use Rattle.ovl_engine.specs.declared.requests.Command.TheVariants.{Flatten}
 use Rattle.ovl_engine.specs.Outcomes.{MayRefuseOwn}
 use Rattle.ovl_engine.proofs.OutcomeLemmas.{unclean}
-use Rattle.ovl_engine.proofs.KeptLemmas.{keeps_whole_tree, whole_soundness, whole_quiet}
-use Rattle.ovl_engine.proofs.QuietLemmas.{blobs-alone}
+use Rattle.ovl_engine.proofs.KeptLemmas.{clean-faultless, keeps_whole_tree, whole_soundness, whole_quiet}
 use Rattle.ovl_engine.proofs.flattens.flatten.Goals as goal
 
 pub returns-in_err-expect_clean-clause-outcome : goal.returns-in_err-expect_clean-clause-outcome
@@ -30,10 +30,14 @@ returns-clause-sound g c =
 pub returns-clause-quiet : goal.returns-clause-quiet
 returns-clause-quiet g c =
     let layer = c.in_ok-layer.layer in
-    whole_quiet c.in_ok-rewritten.field-0 (layer ∷ []) c.args.stack c.in_ok-rewritten.ensures.back
-    (blobs-alone layer c.in_ok-rewritten.ensures.report.1
-    (c.flatten_has_no_marks.ensures c.args.stack c.ordinary-layers.ensures.each (c.requires.sound c.in_ok-expect_clean.ensures.clean)
-    layer c.in_ok-layer.ensures.layer)) Flatten refl
+    let stack = c.args.stack in
+    let each = c.ordinary-layers.ensures.each in
+    whole_quiet c.in_ok-rewritten.field-0 (layer ∷ []) stack c.in_ok-rewritten.ensures.back
+    (c.unmarked_layers_are_quiet.ensures layer c.in_ok-rewritten.ensures.report.1
+    (c.flatten_has_no_marks.ensures stack each (c.requires.sound c.in_ok-expect_clean.ensures.clean) layer c.in_ok-layer.ensures.layer))
+    (λ blobs clean. c.shown_layers_are_clean.ensures blobs stack each (clean-faultless (findings blobs stack) clean)
+    layer c.in_ok-rewritten.ensures.report.1 c.in_ok-layer.ensures.layer)
+    Flatten refl
 
 pub returns-in_err-layer-clause-outcome : goal.returns-in_err-layer-clause-outcome
 returns-in_err-layer-clause-outcome g c =

@@ -1,15 +1,15 @@
 ghost use Rattle.std.specs.Prelude.{◌≡◌, IfOk};
 ghost use Rattle.std.specs.List.{filter_map};
-ghost use Rattle.ovl_flatten.specs.Flatten.{inode_shown};
-ghost use Rattle.ovl_flatten.specs.Directories.{inodes_in as the_inodes, shown_inode};
+ghost use Rattle.ovl_lookup.specs.ShownInodes.{named_shown, shown_inodes as the_inodes};
 
+use crate::{DirView, Look, Stack};
 use ovl_inode::Inode;
-use ovl_lookup::{DirView, Look, Stack};
 use ovl_names::{Name, Path};
 use std::alloc::{AllocError, Global};
 
-// The names that are shown in a directory, each with its inode; none where no directory is shown.
-pub(crate) fn inodes_in(
+/// The names in a directory of the merged tree, in order, each with the inode that is shown there, whole or broken; none
+/// where the stack shows no directory. Fails only when out of memory.
+pub fn shown_inodes(
     alloc: Global,
     stack: &Stack,
     dir: &Path,
@@ -27,23 +27,13 @@ pub(crate) fn inodes_in(
 
 // The inodes of what is shown at these names.
 fn inodes_of(alloc: Global, looks: Vec<(Name, Look)>) -> Result<Vec<(Name, Inode)>, AllocError>
-    ensures { IfOk result (λ inodes. inodes.items ≡ filter_map shown_inode looks.items) }
+    ensures { IfOk result (λ inodes. inodes.items ≡ filter_map named_shown looks.items) }
 {
     let mut inodes = Vec::with_capacity(alloc, looks.len())?;
     for (name, look) in looks {
-        if let Some(inode) = inode_of(look) {
+        if let Some(inode) = look.into_inode() {
             inodes.push((name, inode))?;
         }
     }
     Ok(inodes)
-}
-
-// The inode that is shown.
-fn inode_of(look: Look) -> Option<Inode>
-    ensures { result ≡ inode_shown look }
-{
-    match look {
-        Look::Shown(inode) | Look::Broken(inode) => Some(inode),
-        Look::Nothing => None,
-    }
 }

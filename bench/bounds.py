@@ -1,0 +1,94 @@
+#!/usr/bin/env python3
+"""Counts what five small stacks cost, and refuses more.
+
+Python 3.11, standard library, and valgrind; without valgrind it says so and ends with 0. No contract says what anything
+costs: a body that asks every code of every entry, makes a view anew for each name, digests a blob again for each name that
+it has, or halves a list so that one half is all of it, gives the same bytes. So the instructions of one run of each stack
+are counted, and may be no more than its bound, a fifth over what it took as it was bounded. The same program takes the same
+number of instructions, but for some hundreds that come of the environment.
+
+    python3 bench/bounds.py --program crates/ovl_layers/out/ovl_layers
+"""
+import argparse
+import hashlib
+import os
+import shutil
+import sys
+import tempfile
+from dataclasses import dataclass
+
+from growth import NSEC, REDIRECT, entry, write
+from instructions import instructions
+
+CONTENTS = b"x" * 65_536
+NAME = hashlib.sha256(CONTENTS).hexdigest()
+
+
+def plain(count, nanoseconds=0):
+    """Empty files in one directory."""
+    return [entry("/d")] + [entry(f"/d/f{n:05d}", "file", size=0) | {NSEC: nanoseconds} for n in range(count)]
+
+
+def named_alike(count):
+    return [entry(f"/f{n:03d}", "file", size=len(CONTENTS), blob=NAME) for n in range(count)]
+
+
+def directories(count):
+    return [entry(f"/d{n:05d}") for n in range(count)]
+
+
+def moved(count):
+    return [entry(f"/m{n:04d}", attrs={REDIRECT: f"/d{n:05d}"}) for n in range(count)] + [
+        entry(f"/d{n:05d}", "char", major=0, minor=0) for n in range(count)]
+
+
+@dataclass(frozen=True)
+class Bound:
+    """A command on layers, the topmost first, whether it reads the blob, and the most millions of instructions."""
+
+    command: str
+    layers: tuple
+    millions: float
+    has_blob: bool = False
+
+
+BOUNDS = {
+    "a layer in which nothing is at fault": Bound("fsck", (plain(4_000),), 1.0),
+    "files over the same files": Bound("vacuum", (plain(4_000, 1), plain(4_000)), 1.0),
+    "one content of many names": Bound("fsck", (named_alike(200),), 1.0, True),
+    "a directory of directories": Bound("show", (directories(2_000), directories(2_000)), 1.0),
+    "moved directories": Bound("deref", (moved(500), directories(500)), 1.0),
+}
+
+
+def counted(program, bound, folder):
+    """The instructions of a run, in millions."""
+    blobs, new = os.path.join(folder, "blobs"), os.path.join(folder, "new")
+    for it in (blobs, new):
+        os.mkdir(it)
+    if bound.has_blob:
+        with open(os.path.join(blobs, NAME), "wb") as out:
+            out.write(CONTENTS)
+    words = [program, bound.command, "--workers", "1"]
+    words += ["--blobs", blobs] if bound.command != "show" else []
+    words += ["--out", new] if bound.command not in ("show", "fsck") else []
+    return instructions(words + write(folder, bound.layers), (0,)) / 1e6
+
+
+def main():
+    words = argparse.ArgumentParser(description="Counts what five small stacks cost, and refuses more.")
+    words.add_argument("--program", required=True, help="path of the program")
+    given = words.parse_args()
+    if not shutil.which("valgrind"):
+        sys.exit(print("bounds.py: skipped, as valgrind isn't here"))
+    program, over = os.path.abspath(given.program), 0
+    for name, bound in BOUNDS.items():
+        with tempfile.TemporaryDirectory(prefix="ovl-bounds-") as folder:
+            millions = counted(program, bound, folder)
+        over += millions > bound.millions
+        print(f"{bound.command} of {name}: {millions:.1f} million instructions, at most {bound.millions:.1f}", flush=True)
+    sys.exit(1 if over else 0)
+
+
+if __name__ == "__main__":
+    main()

@@ -1,7 +1,0 @@
-use Rattle.std.proofs.Common.{◌≡◌}
-use Rattle.std.specs.List.{filter_map}
-use Rattle.ovl_deref.specs.Visits.{shown_inode}
-use Rattle.ovl_deref.proofs.directories.inodes_of.Given as goal
-
-abbrev pub invariant-loop-name : goal.invariant-loop-name
-invariant-loop-name l = l.inodes.items ≡ filter_map shown_inode l.yielded
