@@ -22,6 +22,7 @@ or as large as a limit lets them be.
 import argparse
 import concurrent.futures
 import hashlib
+import json
 import os
 import random
 import subprocess
@@ -29,7 +30,7 @@ import sys
 import tempfile
 from dataclasses import dataclass, replace
 
-from growth import METACOPY, NSEC, REDIRECT, First, entry, write
+from growth import METACOPY, NSEC, REDIRECT, First, entry, manifest_of, write
 
 OPAQUE, WHITEOUT = "trusted.overlay.opaque", "trusted.overlay.whiteout"
 CONTENTS = ("", "a", "b", "abc")
@@ -307,7 +308,10 @@ def large():
     yield "a large directory that was moved", [[entry("/m", attrs={REDIRECT: "/x"}), whiteout_at("/x")],
         [entry("/x"), *(file_at(f"/x/f{n:05d}") for n in range(70_000))]], [], all_of
     yield "360 names of 12,000 bytes", beyond_the_limits(), [], few
-    many = [entry(f"/d{n:06d}") for n in range(600_000)]
+    one = json.dumps(manifest_of([], [entry("/"), entry("/d%06d")]), separators=(",", ":"), sort_keys=True)
+    first, _, rest = one.rpartition(',{"gid"')
+    piece = ',{"gid"' + rest.removesuffix('],"overlay-layer":2}')
+    many = first + "".join(piece % n for n in range(600_000)) + '],"overlay-layer":2}\n'
     yield "1,200,000 directories", [many, many], [], few
 
 

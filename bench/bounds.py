@@ -53,11 +53,11 @@ class Bound:
 
 
 BOUNDS = {
-    "a layer in which nothing is at fault": Bound("fsck", (plain(4_000),), 1.0),
-    "files over the same files": Bound("vacuum", (plain(4_000, 1), plain(4_000)), 1.0),
-    "one content of many names": Bound("fsck", (named_alike(200),), 1.0, True),
-    "a directory of directories": Bound("show", (directories(2_000), directories(2_000)), 1.0),
-    "moved directories": Bound("deref", (moved(500), directories(500)), 1.0),
+    "a layer in which nothing is at fault": Bound("fsck", (plain(4_000),), 8.8),
+    "files over the same files": Bound("vacuum", (plain(4_000, 1), plain(4_000)), 36.0),
+    "one content of many names": Bound("fsck", (named_alike(200),), 4.8, True),
+    "a directory of directories": Bound("show", (directories(2_000), directories(2_000)), 23.6),
+    "moved directories": Bound("deref", (moved(500), directories(500)), 25.8),
 }
 
 

@@ -5,7 +5,7 @@ Python 3.11, standard library, and `rt`, whose compiler builds refuse.c. Each co
 2 workers, and on one of 40 directories by 7, again and again: the first, the second, the third and each later request
 for memory is refused, then all from the first on, from the second on, and so forth, each time until a run meets no
 refusal; and so is each start of a thread, of which there is none by 1 worker, and by others one fewer than they are for each
-thing that a command does, at most, also where it writes many lines. A run must end with its full answer, or with status 5
+thing that a command does, at most, also where it writes many lines, and at least of forty layers. A run must end with its full answer, or with status 5
 and `out of memory`, nothing on standard output, no new layer, and the one that was there as it was.
 
 Each test of the other program runs in a process of its own, again and again, with one request for memory or one start of a
@@ -71,13 +71,15 @@ def opaque(path):
 
 @dataclass(frozen=True)
 class Stack:
-    """Layers, the topmost first, each below its root; the contents of the blobs by their names; how many workers; and what
-    these are refused."""
+    """Layers, the topmost first, each below its root; the contents of the blobs by their names; how many workers; what
+    these are refused; and for how many things at least `show`, and each other command, starts a thread for each worker but
+    one."""
 
     layers: tuple
     blobs: dict
     workers: tuple = (1, 2)
     refused: tuple = tuple(WAYS)
+    least: tuple = (0, 0)
 
 
 A = {digest(b"a"): b"a"}
@@ -97,7 +99,7 @@ STACKS = {
     "forty_directories": Stack((FORTY, FORTY), A, (7,)),
     "many_lines": Stack((LINES, []), {}, refused=(THREAD,)),
     "forty_layers": Stack(tuple([file(f"/f{n:02d}", b"%d" % n)] for n in range(40)), {digest(b"%d" % n): b"%d" % n for n in range(40)},
-                          (2, 4), (THREAD,)),
+                          (2, 4), (THREAD,), (4, 44)),
 }
 
 
@@ -141,6 +143,9 @@ class Sweep:
     def most_threads(self):
         return (THINGS + len(STACKS[self.stack].layers)) * (self.workers - 1)
 
+    def least_threads(self):
+        return STACKS[self.stack].least[self.command != "show"] * (self.workers - 1)
+
     def words(self, program, room):
         stack, blobs, folder = STACKS[self.stack], room / "blobs", room / "layers"
         for it in (blobs, folder):
@@ -171,6 +176,8 @@ def swept(program, library, sweep):
                 wrong.append(f"{how}: no request was met")
             if refused and sweep.refused == THREAD and number > sweep.most_threads():
                 wrong.append(f"{how}: thread {number} was started")
+            if not refused and sweep.refused == THREAD and number <= sweep.least_threads():
+                wrong.append(f"{how}: only {number - 1} threads were started")
             if not refused or len(wrong) >= ENOUGH:
                 return number, wrong
         return MOST, [*wrong, f"{how}: no run without a refusal"]

@@ -10,9 +10,13 @@ AUFS_LINKS = ".wh..wh.plnk"
 
 
 class Paths:
-    """Paths of an archive as lists of names. Those of one folder mostly follow one another."""
+    """Paths of an archive as lists of names. Those of one folder mostly follow one another.
 
-    def __init__(self) -> None:
+    In an image's layer names that begin with `.wh.` mean whiteouts.
+    """
+
+    def __init__(self, has_whiteouts: bool = True) -> None:
+        self._has_whiteouts = has_whiteouts
         self._folder = b""
         self._names: list[str] = []
 
@@ -20,13 +24,35 @@ class Paths:
         """The names of a path, which counts from the layer's root in any case, and never leads out of it."""
         folder, slash, last = path.rpartition(b"/")
         if last in (b"", b".", b".."):
-            return _all_names(path, what)
+            names = self._all_names(path, what)
+            self._require_no_whiteout(names[:-1], names)
+            return names
         if folder != self._folder or not slash:
-            names = _all_names(folder, what) if slash else []
-            if any(map(_is_whiteout_name, names)) and not is_of_aufs(names):
-                raise Unfit("its path leads through a whiteout")
+            names = self._all_names(folder, what) if slash else []
+            self._require_no_whiteout(names, names)
             self._folder, self._names = folder, names
-        return [*self._names, _checked(_text(last))]
+        return [*self._names, self._checked(_text(last))]
+
+    def _all_names(self, path: bytes, what: str) -> list[str]:
+        names: list[str] = []
+        for part in path.split(b"/"):
+            if part == b"..":
+                if not names:
+                    raise Unfit(f"{what} leads out of the layer by ..")
+                names.pop()
+            elif part not in (b"", b"."):
+                names.append(self._checked(_text(part)))
+        return names
+
+    def _require_no_whiteout(self, way: list[str], names: list[str]) -> None:
+        if self._has_whiteouts and any(map(_is_whiteout_name, way)) and not is_of_aufs(names):
+            raise Unfit("its path leads through a whiteout")
+
+    def _checked(self, name: str) -> str:
+        problem = rules.name_problem(_without_prefix(name) if self._has_whiteouts else name)
+        if problem:
+            raise Unfit(problem)
+        return name
 
 
 def is_of_aufs(names: list[str]) -> bool:
@@ -38,29 +64,8 @@ def _is_whiteout_name(name: str) -> bool:
     return name.startswith(WHITEOUT_PREFIX)
 
 
-def _all_names(path: bytes, what: str) -> list[str]:
-    names: list[str] = []
-    for part in path.split(b"/"):
-        if part == b"..":
-            if not names:
-                raise Unfit(f"{what} leads out of the layer by ..")
-            names.pop()
-        elif part not in (b"", b"."):
-            names.append(_checked(_text(part)))
-    if any(map(_is_whiteout_name, names[:-1])) and not is_of_aufs(names):
-        raise Unfit("its path leads through a whiteout")
-    return names
-
-
 def _text(name: bytes) -> str:
     return name.decode("utf-8", "surrogateescape")
-
-
-def _checked(name: str) -> str:
-    problem = rules.name_problem(_without_prefix(name))
-    if problem:
-        raise Unfit(problem)
-    return name
 
 
 def _without_prefix(name: str) -> str:

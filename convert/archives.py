@@ -6,21 +6,23 @@ import hashlib
 import os
 from collections.abc import Mapping
 from dataclasses import dataclass, replace
+from typing import Protocol
 
 from . import rules
 from . import tar_headers as tar
 from .archive_names import AUFS_LINKS, OPAQUE_NAME, WHITEOUT_PREFIX, Paths, is_of_aufs
+from .attributes import Unstated, marks_from_user
+from .below import Below
 from .blobs import Digester, Writer
 from .contents import PIECE, write_all
 from .entries import (
     BLOCK, CHAR, DIRECTORY, FIFO, FILE, METACOPY, NO_ATTRIBUTES, OVERLAY, SYMLINK, WHITEOUT, Entry, is_whiteout,
 )
 from .faults import cannot_read, cannot_write, writing
-from .images import ImageLayer
-from .layer_tree import Attributes, Below, Blocked, Gap, Held, LayerTree, TooMuch, Unfit, whiteout
+from .layer_tree import Attributes, Blocked, Gap, Held, LayerTree, TooMuch, Unfit, whiteout
 from .losses import Loss, Losses
 from .progress import Progress, note
-from .streams import Digesting, Source, buffered, unpacked
+from .streams import Digesting, Source, buffered
 from .tar_headers import HARD_LINK, REGULAR_TYPES, Header
 from .tar_reader import TarReader
 from .times import ONE_SECOND
@@ -34,9 +36,32 @@ _KINDS = {
 _GAPS = {Gap.UNKNOWN: Loss.UNKNOWN, Gap.OVER_OTHER: Loss.OVER_OTHER, Gap.WHITEOUT: Loss.WHITEOUT}
 
 
+class Layer(Protocol):
+    """A layer whose archive can be read."""
+
+    @property
+    def name(self) -> str:
+        """What it is called in notes."""
+
+    @property
+    def path(self) -> str:
+        """What it is called in faults."""
+
+    @property
+    def unpacked_digest(self) -> tuple[str, str] | None:
+        """The algorithm and the digits of the digest of the archive's bytes, where they are known."""
+
+    def archive(self) -> contextlib.AbstractContextManager[Source]:
+        """The bytes of its archive, unpacked. Tells what is wrong with them as a fault of its path."""
+
+
 @dataclass(frozen=True)
 class Taking:
-    """What is taken of an image's layers, and where they go."""
+    """What is taken of the archives of layers, and where it goes.
+
+    The archive of a layer's folder has whiteouts as the kernel has them, and no names with a meaning of their
+    own; its marks are those of a mount, with `userxattr` or without.
+    """
 
     out: str
     skip_unsupported: bool
@@ -44,18 +69,22 @@ class Taking:
     writer: Writer
     held: Held
     below: Below
+    is_folder: bool = False
+    userxattr: bool = False
+    most_contents: int | None = None  # bytes of all its files, where they are bounded
 
 
 class LayerArchive:
     """One layer's archive."""
 
-    def __init__(self, layer: ImageLayer, taking: Taking) -> None:
+    def __init__(self, layer: Layer, taking: Taking) -> None:
         self._layer = layer
         self._taking = taking
         self._tree = LayerTree(taking.held)
-        self._paths = Paths()
+        self._paths = Paths(not taking.is_folder)
         self._losses = Losses()
         self._attribute_text = 0
+        self._contents = 0
         self._aufs_links: dict[str, Entry] = {}
 
     def tree(self) -> LayerTree:
@@ -63,7 +92,7 @@ class LayerArchive:
         layer = self._layer
         progress = Progress(f"unpacking {layer.name[-20:]}")
         try:
-            with layer.opened() as part, unpacked(part, layer.path) as stream:
+            with layer.archive() as stream:
                 self._read_checked(stream, progress)
             self._tree.settle(self._taking.below.root, lambda gap, path: self._losses.add(_GAPS[gap], path))
         except TooMuch as problem:
@@ -90,20 +119,24 @@ class LayerArchive:
                 self._take(header, archive)
             except Unfit as problem:
                 self._refuse_or_note(header, str(problem))
+            except Unstated as problem:
+                raise cannot_read(self._layer.path, f"{os.fsdecode(header.name)}: {problem.text}") from None
             progress.step()
 
     def _take(self, header: Header, archive: TarReader) -> None:
         names = self._paths.names(header.name)
         if names and (names[-1].startswith(WHITEOUT_PREFIX) or is_of_aufs(names)):
-            self._take_special(header, names, archive)
-            return
+            if not self._taking.is_folder:
+                self._take_special(header, names, archive)
+                return
+            self._losses.add(Loss.WHITEOUT_NAME, _path(names))
         entry = self._entry(header, names)
         self._tree.folder(names[:-1])
         if header.type == HARD_LINK:
             entry = self._linked(header, names)
         elif entry.kind == FILE:
             self._fill(entry, header, archive)
-        elif is_whiteout(entry):
+        elif is_whiteout(entry) and not self._taking.is_folder:
             self._losses.add(Loss.DEVICE, _path(names))
         self._tree.put(names, entry)
 
@@ -173,7 +206,11 @@ class LayerArchive:
         return found.kept
 
     def _decoded(self, raw: Mapping[bytes, bytes]) -> Attributes:
-        attributes = {name.decode("utf-8", "surrogateescape"): value for name, value in raw.items()}
+        attributes: Mapping[str, bytes] = {
+            name.decode("utf-8", "surrogateescape"): value for name, value in raw.items()
+        }
+        if self._taking.userxattr:
+            attributes = marks_from_user(attributes)
         takes_marks = self._taking.overlay_marks
         kept = {name: value for name, value in attributes.items() if takes_marks or not name.startswith(OVERLAY)}
         problem = next(filter(None, map(rules.attribute_problem, kept)), None) or rules.attributes_problem(kept)
@@ -183,20 +220,29 @@ class LayerArchive:
         return Attributes(kept or NO_ATTRIBUTES, len(attributes) - len(kept), text_bytes)
 
     def _linked(self, header: Header, names: list[str]) -> Entry:
-        """A hard link as a file of its own, with all that the file it names has, here or below."""
-        told = os.fsdecode(header.target)
-        linked = Paths().names(header.target, "the file that it links to")
+        """One more name of a file of this layer, or a copy of one of the layers below."""
+        told, is_folder = os.fsdecode(header.target), self._taking.is_folder
+        linked = Paths(not is_folder).names(header.target, "the file that it links to")
         aufs = self._aufs_links.get(_path(linked))
-        here = aufs or (self._tree.file_at(linked, None) if linked else None)
+        here = aufs or (self._tree.file_at(linked, None, is_folder) if linked else None)
         found = here or (self._tree.file_at(linked, self._taking.below.root) if linked else None)
         if found is None:
             raise Unfit(f"it links to {told}, which is no file of this layer so far or of those below")
-        if METACOPY in found.attributes:
+        if METACOPY in found.attributes and not is_folder:
             raise Unfit(f"it links to {told}, a file without its contents")
-        self._losses.add(Loss.HARD_LINK if here else Loss.LOWER_LINK, _path(names))
-        return copy.copy(found)
+        if here is None:
+            self._losses.add(Loss.LOWER_LINK, _path(names))
+        elif not is_whiteout(here):  # the kernel links the whiteouts of a mount to one another, which nothing shows
+            here.link = here.link or self._taking.held.new_link()
+        own = copy.copy(found)
+        own.link = here.link if here else 0
+        return own
 
     def _fill(self, entry: Entry, header: Header, archive: TarReader) -> None:
+        most = self._taking.most_contents
+        self._contents += header.size
+        if most is not None and self._contents > most:
+            raise TooMuch(f"its files have over {most:,} bytes, which is more than its own size speaks for")
         digest, entry.size = self._store(archive, header)
         entry.blob = digest if entry.names_contents() else None
 

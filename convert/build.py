@@ -12,9 +12,10 @@ from .blobs import blob_path, opened_blob
 from .contents import PIECE, Copier, digest_and_size, read_small, write_all
 from .entries import BLOCK, CHAR, DIRECTORY, FIFO, FILE, SYMLINK, Entry
 from .faults import cannot_read, cannot_write, reason_of, writing
+from .links import FirstNames, take_links
 from .manifests import read_manifest
 from .outputs import new_folder
-from .places import open_folder, open_root, place_of
+from .places import Chain, open_folder, open_root, place_of
 from .progress import Progress
 
 _CREATE = os.O_RDWR | os.O_CREAT | os.O_EXCL | os.O_NOFOLLOW | os.O_CLOEXEC
@@ -34,15 +35,23 @@ class BuildOptions:
     blobs: str
     out: str
     userxattr: bool = False
+    compress: str | None = None  # of a squashfs; where it isn't said, the program's default
+    name: str | None = None  # what it is called in faults and notes, where it isn't made at its place
+
+    @property
+    def told(self) -> str:
+        """What it is called in faults and notes."""
+        return self.name or self.out
 
 
 def build(options: BuildOptions) -> None:
     """Makes the folder of a manifest, in one that is empty or absent."""
     entries = read_manifest(options.layer)
+    take_links(options.layer, entries)
     for entry in entries:
-        problem = _problem(entry, options.userxattr)
+        problem = entry_problem(entry, options.userxattr)
         if problem:
-            raise cannot_write(options.out + entry.path, problem)
+            raise cannot_write(options.told + entry.path, problem)
         if entry.names_contents():
             with opened_blob(options.blobs, str(entry.blob), entry.size):
                 pass
@@ -56,7 +65,7 @@ def build(options: BuildOptions) -> None:
     _finish_root(options, entries)
 
 
-def _problem(entry: Entry, userxattr: bool) -> str | None:
+def entry_problem(entry: Entry, userxattr: bool) -> str | None:
     """Why Linux can't have this entry."""
     if entry.kind == SYMLINK and entry.mode != _LINK_MODE:
         return f"a symlink of mode {entry.mode:04o}: Linux has them of mode 0777 alone"
@@ -88,6 +97,8 @@ class _Builder:
 
     def __init__(self, options: BuildOptions, root: int) -> None:
         self._options = options
+        self._firsts = FirstNames()
+        self._chain = Chain(root)
         self._levels = [_Level(None, root)]
         self._copier = Copier()
 
@@ -106,6 +117,7 @@ class _Builder:
             self._leave(0)
         finally:
             progress.end()
+            self._chain.close()
             for level in self._levels[1:]:
                 os.close(level.folder)
 
@@ -122,7 +134,11 @@ class _Builder:
 
     def _make(self, entry: Entry, name: str) -> None:
         parent = self._levels[-1].folder
-        if entry.kind == DIRECTORY:
+        before = self._firsts.before(entry)
+        if before is not None:
+            *names, first = before[1:].split("/")
+            os.link(first, name, src_dir_fd=self._chain.folder(names), dst_dir_fd=parent, follow_symlinks=False)
+        elif entry.kind == DIRECTORY:
             os.mkdir(name, 0o700, dir_fd=parent)
             self._levels.append(_Level(entry, open_folder(name, parent)))
         elif entry.kind == FILE:
@@ -157,7 +173,7 @@ class _Builder:
         hint = ""
         if isinstance(error, PermissionError):
             hint = "; owners, devices and trusted.* attributes need root, try sudo"
-        return cannot_write(self._options.out + entry.path, reason_of(error) + hint)
+        return cannot_write(self._options.told + entry.path, reason_of(error) + hint)
 
 
 def _make_other(entry: Entry, name: str, parent: int) -> None:

@@ -40,6 +40,7 @@ class Entry:
     target: str = ""
     major: int = 0
     minor: int = 0
+    link: int = field(default=0, compare=False)  # the same number: names of one file; a manifest doesn't have it
 
     def names_contents(self) -> bool:
         """Whether the manifest names a blob for this entry."""
@@ -71,3 +72,11 @@ def needs_lower_layers(entry: Entry) -> str | None:
     if entry.kind == FILE and METACOPY in entry.attributes:
         return "a file without its contents (trusted.overlay.metacopy)"
     return None
+
+
+def drop_host_marks(entry: Entry) -> int:
+    """Leaves out what means something on the host alone that the layer comes from; tells how many marks."""
+    found = [name for name in entry.attributes if name in HOST_MARKS]
+    if found:
+        entry.attributes = {name: value for name, value in entry.attributes.items() if name not in HOST_MARKS}
+    return len(found)

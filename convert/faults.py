@@ -7,6 +7,7 @@ from collections.abc import Iterator
 
 from .texts import printable
 
+FAULTY = 1
 USAGE = 2
 READING = 3
 WRITING = 4

@@ -1,35 +1,32 @@
 """`flatten`: an image with fewer layers that shows the same."""
 
 import contextlib
-import filecmp
 import os
 import shlex
+import sys
 import time
 from collections.abc import Iterator, Sequence
 from dataclasses import dataclass, replace
 from pathlib import Path
-from typing import Protocol
 
 from . import stacks
 from .compression import NONE
-from .entries import METACOPY, REDIRECT
-from .faults import Fault, UsageFault, cannot_write, writing
-from .images import Image, image_place, opened_image
-from .manifests import blobs_named_in, has_attribute
-from .outputs import kept_folder, new_folder, passing_folder
-from .pack import ARCHIVE_SUFFIX, PackOptions, pack
-from .program import NAME, find_program, makes_layers, require_program, run_program, words_of
+from .contents import PIECE
+from .faults import UsageFault, cannot_write, writing
+from .flatten_steps import AGAIN, BEFORE, REPORT, STACK, Doing, carry_out, drop_unnamed, new_layer, timed
+from .images import Image, image_place, opened_image, spellings
+from .members import STANDARD_INPUT
+from .outputs import kept_folder, new_folder, passing_folder, standard_output
+from .pack import PackOptions, pack
+from .program import NAME, find_program, makes_layers, word_of_path, words_of
 from .progress import counted, note, note_path
 from .stages import tidy, told
+from .targets import ARCHIVE_SUFFIX, Form, Target
 from .unpack import UnpackOptions, unpack
 
-_STACK = "stack"
-_AGAIN = "again"
-_BEFORE = "before.show"
-_AFTER = "after.show"
 _IMAGE = "image"
 _SHOWN = f"{_IMAGE}.show"
-_REPORT = "report"
+_FOR_PACK = (stacks.BLOBS, stacks.CONFIG, stacks.SHOWN_LINKS)
 _TOOL = Path(__file__).resolve().parents[1] / "layers.py"
 
 
@@ -38,7 +35,7 @@ class FlattenOptions:
     """What the words of `flatten` say."""
 
     image: str
-    out: str
+    out: Target
     layers: int = 1
     keep: str | None = None
     platform: str | None = None
@@ -58,15 +55,15 @@ def flatten(options: FlattenOptions) -> None:
     begun = time.monotonic()
     with _new_image(options.out) as image:
         with passing_folder(image) if options.keep is None else kept_folder(options.keep) as folder:
-            before, after = _carry_out(_Doing(options, folder, image), options.layers)
+            before, after = carry_out(_Doing(options, folder, image), options.layers)
     seconds = time.monotonic() - begun
-    note_path(options.out, f"{counted(after, 'layer', 'layers')} in place of {before}, {seconds:.2f} s in all")
+    note_path(options.out.told, f"{counted(after, 'layer', 'layers')} in place of {before}, {seconds:.2f} s in all")
 
 
 def flatten_commands(options: FlattenOptions) -> list[str]:
     """The commands that do the same by hand, each a line for a shell."""
     telling = _Telling(_with_place(options))
-    _carry_out(telling, options.layers)
+    carry_out(telling, options.layers)
     return telling.lines
 
 
@@ -77,190 +74,105 @@ def _with_place(options: FlattenOptions) -> FlattenOptions:
 
 def _require_free(options: FlattenOptions) -> None:
     """Refuses at once what couldn't be written in the end."""
-    if options.keep is not None and os.path.realpath(options.keep) == os.path.realpath(options.out):
+    out = options.out
+    if out.is_standard_output:
+        return
+    if options.keep is not None and os.path.realpath(options.keep) == os.path.realpath(out.path):
         raise UsageFault("--keep and --out must be two places")
-    is_archive = options.out.endswith(ARCHIVE_SUFFIX)
-    if is_archive and os.path.lexists(options.out) and not os.path.isfile(options.out):
-        raise cannot_write(options.out, "it is no regular file")
+    if out.form is Form.ARCHIVE and os.path.lexists(out.path) and not os.path.isfile(out.path):
+        raise cannot_write(out.path, "it is no regular file")
 
 
 @contextlib.contextmanager
-def _new_image(out: str) -> Iterator[str]:
+def _new_image(out: Target) -> Iterator[str]:
     """Where the new image is to be made. It gets its name at the end, and only there."""
-    if not out.endswith(ARCHIVE_SUFFIX):
-        with new_folder(out) as stage:
+    if out.form is not Form.ARCHIVE:
+        with new_folder(out.path) as stage:
             image = f"{stage}/{_IMAGE}"
             yield image
-            with writing(out):
+            with writing(out.path):
                 for name in os.listdir(image):
                     os.rename(f"{image}/{name}", f"{stage}/{name}")
                 os.rmdir(image)
         return
-    place = os.path.realpath(out)
+    place = os.path.realpath(out.place)
     for found in tidy(os.path.dirname(place)):
         note(f"there is {told(found)}")
     with passing_folder(place) as stage:
         image = f"{stage}/{_IMAGE}{ARCHIVE_SUFFIX}"
         yield image
-        with writing(out):
-            os.rename(image, place)
+        if out.is_standard_output:
+            _print_image(image)
+        else:
+            with writing(out.path):
+                os.rename(image, place)
 
 
-class _Steps(Protocol):
-    """The steps, by names in the folder of the work."""
-
-    def unpack(self) -> int:
-        """Unpacks the image into the folder `stack`. Gives the number of its layers."""
-
-    def run(self, step: str, what: str, layers: Sequence[str], new: str) -> None:
-        """Runs the program: its report is the file `new`, or where it makes layers, in a folder `new` with them."""
-
-    def moved(self, layers: Sequence[str]) -> list[int]:
-        """The layers with redirects or metacopy files, which no image can state; the lowest first."""
-
-    def compare(self, report: str) -> None:
-        """Goes on only where a report is that of the given image."""
-
-    def pack(self, layers: Sequence[str]) -> None:
-        """Writes the image, where it shows the same when it is read again."""
+def _print_image(image: str) -> None:
+    with open(image, "rb") as file, standard_output() as write:
+        while piece := file.read(PIECE):
+            write(piece)
 
 
-def _carry_out(steps: _Steps, wanted: int) -> tuple[int, int]:
-    """Does it all. Gives how many layers there were, and how many there are."""
-    count = steps.unpack()
-    layers = stacks.layer_paths(_STACK, count)
-    steps.run("show", "show", layers, _BEFORE)
-    steps.run("fsck", "fsck", layers, f"fsck.{_REPORT}")
-    steps.run("vacuum", "vacuum", layers, "vacuum")
-    layers[0] = _new_layer("vacuum")
-    # Over layers without redirects each loses its own, and then no merge makes any.
-    for number in steps.moved(layers):
-        steps.run(f"deref of layer {number}", "deref", layers[number:], f"deref-{number}")
-        layers[number] = _new_layer(f"deref-{number}")
-    merges = max(0, count - wanted)
-    for number in range(1, merges + 1):
-        steps.run(f"merge {number} of {merges}", "merge", layers, f"merge-{number}")
-        # The new topmost layer holds a root alone, which the one below it has too.
-        layers[:2] = [_new_layer(f"merge-{number}", 1)]
-    if merges and len(layers) > 1:
-        steps.run("vacuum of the merged layer", "vacuum", layers, "vacuum-merged")
-        layers[0] = _new_layer("vacuum-merged")
-    steps.run("show of the new layers", "show", layers, _AFTER)
-    steps.compare(_AFTER)
-    steps.pack(layers)
-    return count, len(layers)
-
-
-def _new_layer(folder: str, number: int = 0) -> str:
-    """Where the program writes a new layer."""
-    return f"{folder}/layer-{number}.json"
-
-
-class _Doing:
-    """Does the steps, and tells each with its time."""
+class _Doing(Doing):
+    """Does the steps of an image, and tells each with its time."""
 
     def __init__(self, options: FlattenOptions, folder: str, image: str) -> None:
+        super().__init__(
+            folder, options.keep is not None, sys.stderr if options.out.is_standard_output else sys.stdout
+        )
         self._options = options
-        self._folder = folder
         self._image = image
-        self._program = require_program()
         self._name: str | None = None
 
-    def _path(self, name: str) -> str:
-        return f"{self._folder}/{name}"
-
     def unpack(self) -> int:
-        """See `_Steps`."""
+        """See `Steps`."""
         options = self._options
-        with _timed("unpack") as words:
+        with timed("unpack") as words:
             image = _unpacked(UnpackOptions(
-                options.image, self._path(_STACK), options.platform, options.tag, options.skip_unsupported,
+                options.image, self.path(STACK), options.platform, options.tag, options.skip_unsupported,
                 options.overlay_marks,
             ))
-            self._name = _name_of(image, options)
-            words.append(counted(len(image.layers), "layer", "layers"))
-        return len(image.layers)
-
-    def run(self, step: str, what: str, layers: Sequence[str], new: str) -> None:
-        """See `_Steps`."""
-        with _timed(step) as words:
-            words.append(self._run(what, [self._path(layer) for layer in layers], self._path(new)))
-
-    def _run(self, what: str, layers: Sequence[str], new: str) -> str:
-        blobs = self._path(f"{_STACK}/{stacks.BLOBS}")
-        words = words_of(what, layers, blobs, new)
-        if not makes_layers(what):
-            return run_program(self._program, words, new)
-        with writing(new):
-            os.mkdir(new)
-        return run_program(self._program, words, f"{new}/{_REPORT}")
-
-    def moved(self, layers: Sequence[str]) -> list[int]:
-        """See `_Steps`."""
-        return [
-            number for number in reversed(range(len(layers)))
-            if has_attribute(self._path(layers[number]), (REDIRECT, METACOPY))
-        ]
-
-    def compare(self, report: str) -> None:
-        """See `_Steps`."""
-        if not filecmp.cmp(self._path(_BEFORE), self._path(report), shallow=False):
-            kept = f"see {_BEFORE} and {report} in {self._folder}"
-            hint = kept if self._options.keep else "--keep DIR keeps both reports"
-            raise Fault(f"the new layers show something else, so nothing is written; {hint}")
+            self._name, self.count = _name_of(image, options), len(image.layers)
+            words.append(counted(self.count, "layer", "layers"))
+        return self.count
 
     def pack(self, layers: Sequence[str]) -> None:
-        """See `_Steps`."""
-        with _timed("pack") as words:
+        """See `Steps`."""
+        blobs, config, links = (self.path(f"{STACK}/{name}") for name in _FOR_PACK)
+        with timed("pack") as words:
             pack(PackOptions(
-                [self._path(layer) for layer in layers], self._path(f"{_STACK}/{stacks.BLOBS}"), self._image,
-                tag=self._name, config=self._path(f"{_STACK}/{stacks.CONFIG}"), compress=self._options.compress,
+                [self.path(layer) for layer in layers], blobs, self._target(), tag=self._name, config=config,
+                compress=self._options.compress, links=links,
             ))
             words.append(counted(len(layers), "layer", "layers"))
-        with _timed("the new image, read again") as words:
+        with timed("the new image, read again") as words:
             words.append(self._shown(self._image))
             self.compare(_SHOWN)
 
+    def _target(self) -> Target:
+        """The image that is made, on its way to its name."""
+        return replace(self._options.out, path=self._image)
+
     def _shown(self, image: str) -> str:
         """Writes what an image shows."""
-        with passing_folder(self._path(_AGAIN)) as folder:
-            again = f"{folder}/{_AGAIN}"
+        with passing_folder(self.path(AGAIN)) as folder:
+            again = f"{folder}/{AGAIN}"
             found = unpack(UnpackOptions(image, again, overlay_marks=self._options.overlay_marks, digests_only=True))
-            return self._run("show", stacks.layer_paths(again, len(found.layers)), self._path(_SHOWN))
+            return self.run_on("show", stacks.layer_paths(again, len(found.layers)), self.path(_SHOWN))
 
 
 def _unpacked(options: UnpackOptions) -> Image:
-    """Unpacks an image, without blobs that no manifest names.
-
-    Such are those of files that a later entry of the same layer replaced; the program would read them too.
-    """
+    """Unpacks an image, without blobs that no manifest names."""
     image = unpack(options)
-    layers = stacks.layer_paths(options.out, len(image.layers))
-    named = {blob for layer in layers for blob in blobs_named_in(layer)}
-    blobs = f"{options.out}/{stacks.BLOBS}"
-    with writing(blobs):
-        for blob in os.listdir(blobs):
-            if blob not in named:
-                os.unlink(f"{blobs}/{blob}")
+    drop_unnamed(options.out, len(image.layers))
     return image
 
 
 def _name_of(image: Image, options: FlattenOptions) -> str | None:
-    """The name of the new image: the one that was asked for, or else the first of the given image."""
-    return options.tag or next(iter(image.names), None)
-
-
-@contextlib.contextmanager
-def _timed(step: str) -> Iterator[list[str]]:
-    """Tells a step that ended well, with the words that it gives and its time."""
-    begun = time.monotonic()
-    words: list[str] = []
-    yield words
-    _tell(step, words, begun)
-
-
-def _tell(step: str, words: Sequence[str], begun: float) -> None:
-    note(f"{step}: {', '.join([*words, f'{time.monotonic() - begun:.2f} s'])}")
+    """The name of the new image: the one that was asked for, as the given image spells it, or else its first."""
+    asked = spellings(options.tag) if options.tag else image.names
+    return options.out.tag or next((name for name in image.names if name in asked), options.tag)
 
 
 class _InWork(str):
@@ -279,29 +191,35 @@ class _Telling:
         if options.keep is None:
             self.lines.append("work=$(mktemp -d)\n")
         else:
-            self.lines.append(f"work={shlex.quote(options.keep)}\n")
+            self.lines.append(f"work={shlex.quote(word_of_path(options.keep))}\n")
             self._add("mkdir", "-p", "--", _InWork(""))
 
     def unpack(self) -> int:
-        """See `_Steps`."""
+        """See `Steps`."""
         options = self._options
         with opened_image(options.image, options.platform, options.tag) as image:
             count, self._name = len(image.layers), _name_of(image, options)
         words = _given("--platform", options.platform) + _given("--tag", options.tag)
         if options.skip_unsupported:
             words.append("--skip-unsupported")
-        self._add_tool("unpack", options.image, "--out", self._path(_STACK), *words, *self._marks)
+        self._add_tool("unpack", _word_of_image(options.image), "--out", self._path(STACK), *words, *self._marks)
         return count
 
     def run(self, step: str, what: str, layers: Sequence[str], new: str) -> None:
-        """See `_Steps`."""
+        """See `Steps`."""
         report = self._path(new)
         if makes_layers(what):
             self._add("mkdir", report)
-            report = self._path(f"{new}/{_REPORT}")
-        blobs = self._path(f"{_STACK}/{stacks.BLOBS}")
+            report = self._path(f"{new}/{REPORT}")
+        blobs = self._path(f"{STACK}/{stacks.BLOBS}")
         words = words_of(what, [self._path(layer) for layer in layers], blobs, self._path(new))
         self._add(self._program, *words, into=report)
+
+    def vacuum(self, step: str, layers: Sequence[str], new: str) -> str:
+        """See `Steps`."""
+        self.run(step, "vacuum", layers, new)
+        self.lines.append("# where it takes away names that a file of links has, go on with the layer before it\n")
+        return new_layer(new)
 
     def moved(self, layers: Sequence[str]) -> list[int]:
         """None: without marks of the image's own there are none, and with them nobody knows before it is unpacked."""
@@ -310,21 +228,24 @@ class _Telling:
         return []
 
     def compare(self, report: str) -> None:
-        """See `_Steps`."""
-        self._add("cmp", self._path(_BEFORE), self._path(report))
+        """See `Steps`."""
+        self._add("cmp", self._path(BEFORE), self._path(report))
 
     def pack(self, layers: Sequence[str]) -> None:
-        """See `_Steps`."""
-        paths, out = [self._path(layer) for layer in layers], self._options.out
-        blobs, config = (self._path(f"{_STACK}/{name}") for name in (stacks.BLOBS, stacks.CONFIG))
+        """See `Steps`."""
+        paths, target = [self._path(layer) for layer in layers], self._options.out
+        out = self._path(f"{_IMAGE}{ARCHIVE_SUFFIX}") if target.is_standard_output else word_of_path(target.word)
+        blobs, config, links = (self._path(f"{STACK}/{name}") for name in _FOR_PACK)
         self._add_tool(
-            "pack", *paths, "--blobs", blobs, "--config", config, "--out", out, "--compress", self._options.compress,
-            *_given("--tag", self._name),
+            "pack", *paths, "--blobs", blobs, "--config", config, "--links", links, "--out", out,
+            "--compress", self._options.compress, *_given("--tag", self._name),
         )
-        self._add_tool("unpack", out, "--out", self._path(_AGAIN), "--digests-only", *self._marks)
-        again = [self._path(layer) for layer in stacks.layer_paths(_AGAIN, len(layers))]
+        self._add_tool("unpack", out, "--out", self._path(AGAIN), "--digests-only", *self._marks)
+        again = [self._path(layer) for layer in stacks.layer_paths(AGAIN, len(layers))]
         self._add(self._program, "show", *again, into=self._path(_SHOWN))
         self.compare(_SHOWN)
+        if target.is_standard_output:
+            self._add("cat", out)
 
     def _path(self, name: str) -> _InWork:
         return _InWork(name)
@@ -335,6 +256,10 @@ class _Telling:
     def _add(self, *words: str, into: str | None = None) -> None:
         report = [] if into is None else [">", _quoted(into)]
         self.lines.append(" ".join([*map(_quoted, words), *report]) + "\n")
+
+
+def _word_of_image(path: str) -> str:
+    return path if path == STANDARD_INPUT else word_of_path(path)
 
 
 def _given(option: str, value: str | None) -> list[str]:

@@ -15,7 +15,7 @@ from .contents import PIECE
 from .faults import ReadFault, UsageFault, cannot_read, reading
 from .members import Members, opened_members
 from .progress import Progress, note
-from .streams import Slice
+from .streams import HEAD_BYTES, Slice, Source, is_packed, unpacked
 
 MAX_DOCUMENTS = 1 << 24  # bytes of an image's documents together, each as often as it is named
 _DIGEST = re.compile(r"(sha256|sha384|sha512):([0-9a-f]{64,128})\Z")
@@ -51,6 +51,18 @@ class ImageLayer:
                 _require_digest(self, part.again(), self.digest)
             yield part
 
+    @contextlib.contextmanager
+    def archive(self) -> Iterator[Source]:
+        """The same, unpacked."""
+        with self.opened() as part, unpacked(part, self.path) as stream:
+            yield stream
+
+    def packed_size(self) -> int | None:
+        """How many bytes it has in the image, where these are compressed."""
+        with self.members.opened(self.name) as part, reading(self.path):
+            size = part.size()
+            return size if is_packed(part.read(HEAD_BYTES) or b"") else None
+
 
 @dataclass(frozen=True)
 class Image:
@@ -73,13 +85,13 @@ class _Choice:
     def matches(self, platform: str | None, tag: str | None) -> bool:
         """Whether it is meant by what a person asked for."""
         is_platform = platform is None or self.platform == platform or self.platform.startswith(platform + "/")
-        return is_platform and (tag is None or not _spellings(tag).isdisjoint(self.names))
+        return is_platform and (tag is None or not spellings(tag).isdisjoint(self.names))
 
     def __str__(self) -> str:
         return " ".join([self.platform, *self.names])
 
 
-def _spellings(tag: str) -> set[str]:
+def spellings(tag: str) -> set[str]:
     """A name, and what docker and skopeo make of it where a part is left out."""
     whole = tag if ":" in tag.rpartition("/")[2] else f"{tag}:latest"
     return {tag, whole, f"docker.io/{whole}", f"docker.io/library/{whole}"}
@@ -189,7 +201,7 @@ def _wrong_bytes(path: str, digest: Digest) -> ReadFault:
 
 def _require_digest(layer: ImageLayer, part: Slice, digest: Digest) -> None:
     found = hashlib.new(digest[0])
-    progress = Progress(f"checking bytes of {layer.name[-20:]}")
+    progress = Progress(f"checking bytes of {layer.name[-20:]}", part.size())
     with reading(layer.path):
         while piece := part.read(PIECE):
             found.update(piece)

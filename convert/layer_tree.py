@@ -66,6 +66,12 @@ class Held:
         self._entries = 0
         self._bytes = 0
         self._sets: dict[RawAttributes, Attributes] = {}
+        self._links = 0
+
+    def new_link(self) -> int:
+        """A number for the names of one file."""
+        self._links += 1
+        return self._links
 
     def grow(self) -> None:
         """One entry more."""
@@ -164,7 +170,7 @@ class LayerTree:
         self._way, self._last = names, folder
         return folder
 
-    def file_at(self, names: list[str], below: "Folder | None") -> Entry | None:
+    def file_at(self, names: list[str], below: "Folder | None", with_whiteouts: bool = False) -> Entry | None:
         """What isn't a directory at a path: of this layer as far as it has come, or of what is below it."""
         here: Folder | None = self.root
         for name in names[:-1]:
@@ -177,7 +183,9 @@ class LayerTree:
         found = here.children.get(name) if here else None
         if found is None:
             found = here.lower(below, name) if here else below.children.get(name) if below else None
-        return None if found is None or isinstance(found, Folder) or is_whiteout(found) else found
+        if found is None or isinstance(found, Folder) or (is_whiteout(found) and not with_whiteouts):
+            return None
+        return found
 
     def settle(self, below: "Folder | None", tell: Callable[[Gap, str], None]) -> None:
         """Gives directories that the archive leaves out what the layers below show there.
@@ -219,22 +227,7 @@ class LayerTree:
 
     def entries(self) -> Iterator[Entry]:
         """All entries, in path order. Each has its path until the next one is asked for."""
-        yield from _with_path(self.root.entry, "/")
-        levels = [("", _sorted_names(self.root), self.root)]
-        while levels:
-            path, names, folder = levels[-1]
-            name = next(names, None)
-            if name is None:
-                levels.pop()
-                continue
-            child = folder.children.get(name) or folder.whiteouts[name]
-            if isinstance(child, Entry):
-                yield from _with_path(child, f"{path}/{name}")
-                continue
-            if child.is_opaque or name in folder.whiteouts:
-                child.entry.attributes = {**child.entry.attributes, OPAQUE: IS_OPAQUE}
-            yield from _with_path(child.entry, f"{path}/{name}")
-            levels.append((f"{path}/{name}", _sorted_names(child), child))
+        return entries_of(self.root)
 
     def _cut(self, folder: Folder) -> None:
         """Counts what is in a directory out."""
@@ -251,31 +244,24 @@ class LayerTree:
         self._held.weigh(sys.getsizeof(name) + (sys.getsizeof(entry.target) if entry.target else 0))
 
 
-class Below:
-    """What the layers so far show together."""
-
-    def __init__(self) -> None:
-        self.root: Folder | None = None
-
-    def cover(self, tree: LayerTree) -> None:
-        """Puts a layer above the others. The layer is used up."""
-        self.root = _merged(self.root, tree.root)
-
-
-def _merged(below: Folder | None, upper: Folder) -> Folder:
-    """What a directory shows above another one, or alone."""
-    children = {} if below is None or upper.hides_all() else below.children
-    for name in upper.whiteouts:
-        children.pop(name, None)
-    for name, child in upper.children.items():
-        if isinstance(child, Folder):
-            under = children.get(name)
-            children[name] = _merged(under if isinstance(under, Folder) else None, child)
-        elif is_whiteout(child):
-            children.pop(name, None)
-        else:
-            children[name] = child
-    return Folder(upper.entry, children)
+def entries_of(root: Folder) -> Iterator[Entry]:
+    """All entries of a tree, in path order. Each has its path until the next one is asked for."""
+    yield from _with_path(root.entry, "/")
+    levels = [("", _sorted_names(root), root)]
+    while levels:
+        path, names, folder = levels[-1]
+        name = next(names, None)
+        if name is None:
+            levels.pop()
+            continue
+        child = folder.children.get(name) or folder.whiteouts[name]
+        if isinstance(child, Entry):
+            yield from _with_path(child, f"{path}/{name}")
+            continue
+        if child.is_opaque or name in folder.whiteouts:
+            child.entry.attributes = {**child.entry.attributes, OPAQUE: IS_OPAQUE}
+        yield from _with_path(child.entry, f"{path}/{name}")
+        levels.append((f"{path}/{name}", _sorted_names(child), child))
 
 
 def whiteout(uid: int = 0, gid: int = 0, mtime_ns: int = 0) -> Entry:

@@ -1,5 +1,6 @@
-"""What a layer of an image has that its manifest doesn't: one note for each kind."""
+"""What a layer has that its manifest doesn't: one note for each kind."""
 
+from dataclasses import dataclass
 from enum import Enum
 
 from .progress import counted, note
@@ -9,7 +10,6 @@ class Loss(Enum):
     """A kind of thing that is lost or put right: one of them, and several."""
 
     CUT_TIME = ("time cut to whole nanoseconds", "times cut to whole nanoseconds")
-    HARD_LINK = ("hard link, now a file with the same contents", "hard links, now files with the same contents")
     LOWER_LINK = (
         "hard link to a file of the layers below, now a copy",
         "hard links to files of the layers below, now copies",
@@ -31,6 +31,16 @@ class Loss(Enum):
         "char device 0:0, which an overlay takes as a whiteout",
         "char devices 0:0, which an overlay takes as whiteouts",
     )
+    WHITEOUT_NAME = (
+        "name that begins with .wh., which means a whiteout in images alone (`unpack` reads those)",
+        "names that begin with .wh., which mean whiteouts in images alone (`unpack` reads those)",
+    )
+    SECONDS = ("time cut to whole seconds", "times cut to whole seconds")
+    FAR_TIME = (
+        "time before 1970 or after the year 2105, now the nearest one that a squashfs has",
+        "times before 1970 or after the year 2105, now the nearest ones that a squashfs has",
+    )
+    SOCKET = ("socket left out, which archives don't have", "sockets left out, which archives don't have")
     UNKNOWN = (
         "directory that no layer states, now of mode 0755, owner 0 and time 0",
         "directories that no layer states, now of mode 0755, owner 0 and time 0",
@@ -57,3 +67,21 @@ class Losses:
         """One note for each kind that was met, with the first path."""
         for loss, count in self._counts.items():
             note(f"{layer}: {counted(count, *loss.value)}: {self._first[loss]}{', ..' if count > 1 else ''}")
+
+
+@dataclass
+class ScanLosses:
+    """What the manifest of a scanned layer doesn't state, counted as it is met."""
+
+    hard_links: int = 0
+    left_out: int = 0
+
+    def tell(self) -> None:
+        """Says what was lost, where anything was."""
+        if self.hard_links:
+            note(
+                counted(self.hard_links, "name of a hard link, now a file", "names of hard links, now files")
+                + " with the same contents"
+            )
+        if self.left_out:
+            note(f"{counted(self.left_out, 'thing', 'things')} left out")

@@ -1,6 +1,7 @@
 """The files of an image, in a folder or in a tar archive, and never one outside of it."""
 
 import contextlib
+import io
 import os
 import posixpath
 import stat
@@ -10,7 +11,7 @@ from typing import Protocol
 
 from .contents import PIECE, write_all
 from .faults import cannot_read, reading, writing
-from .streams import SeekingSlice, Slice
+from .streams import HEAD_BYTES, SeekingSlice, Slice, Source, is_packed, unpacked
 from .tar_headers import HARD_LINK, REGULAR_TYPES, SYMLINK, TarFault
 from .tar_reader import TarReader
 
@@ -47,25 +48,28 @@ def opened_members(path: str) -> Iterator[Members]:
             file = os.dup(0) if is_input else os.open(path, os.O_RDONLY | os.O_CLOEXEC)
             files.callback(os.close, file)
             status = os.fstat(file)
-        if stat.S_ISFIFO(status.st_mode) or stat.S_ISSOCK(status.st_mode):
-            file = _copied(file, told, files)
-        elif not stat.S_ISREG(status.st_mode):
+        is_pipe = stat.S_ISFIFO(status.st_mode) or stat.S_ISSOCK(status.st_mode)
+        if not is_pipe and not stat.S_ISREG(status.st_mode):
             raise cannot_read(told, "it is neither a folder, nor a regular file, nor a pipe")
+        if is_pipe or is_packed(os.pread(file, HEAD_BYTES, 0)):
+            file = _copied(io.FileIO(file, closefd=False) if is_pipe else Slice(file, 0, status.st_size), told, files)
         yield _Archive(file, told)
 
 
-def _copied(pipe: int, told: str, files: contextlib.ExitStack) -> int:
-    """What a pipe gives, in an open file without a name, which can be read here and there."""
+def _copied(source: io.RawIOBase, told: str, files: contextlib.ExitStack) -> int:
+    """What a pipe gives, or a packed archive, unpacked in an open file without a name, to be read here and there."""
     with writing(tempfile.gettempdir()):
         copy = files.enter_context(tempfile.TemporaryFile(buffering=0)).fileno()
-        while piece := _read(pipe, told):
-            write_all(copy, piece)
+    with unpacked(source, told) as stream:
+        while piece := _read(stream, told):
+            with writing(tempfile.gettempdir()):
+                write_all(copy, piece)
     return copy
 
 
-def _read(file: int, told: str) -> bytes:
+def _read(stream: Source, told: str) -> bytes:
     with reading(told):
-        return os.read(file, PIECE)
+        return stream.read(PIECE)
 
 
 def _inner(name: str) -> str | None:
@@ -144,8 +148,7 @@ class _Archive:
                 if len(self._places) + len(self._links) > _MAX_MEMBERS:
                     raise TarFault(f"it has over {_MAX_MEMBERS:,} files")
         except TarFault as problem:
-            hint = "; an image that is packed as a whole must be unpacked first" if not self._places else ""
-            raise cannot_read(self.path, f"it is no tar archive: {problem}{hint}") from None
+            raise cannot_read(self.path, f"it is no tar archive: {problem}") from None
 
     def size(self, name: str) -> int | None:
         """The size of a file."""

@@ -47,6 +47,11 @@ def write_file(path: str, fill: Callable[[Write], None], mode: int = _USUAL_MODE
             _replace(place, fill, mode)
 
 
+def is_replaced(path: str) -> bool:
+    """Whether a file of this name is written as one, and not into what stands there or standard output."""
+    return _place(path) is not None
+
+
 def _place(path: str) -> str | None:
     """Where a regular file is to stand, or nothing where what is there is to be written through."""
     if path == STANDARD_OUTPUT:

@@ -4,7 +4,7 @@ import hashlib
 import json
 import os
 from collections.abc import Callable, Iterator
-from dataclasses import dataclass
+from dataclasses import dataclass, replace
 from typing import Any
 
 from . import rules
@@ -17,15 +17,17 @@ from .configuration import (
 )
 from .contents import PIECE, digest_and_size
 from .entries import (
-    BLOCK, CHAR, DIRECTORY, FIFO, FILE, HOST_MARKS, IS_OPAQUE, OPAQUE, SOCKET, SYMLINK, Entry, is_opaque,
+    BLOCK, CHAR, DIRECTORY, FIFO, FILE, IS_OPAQUE, OPAQUE, SOCKET, SYMLINK, Entry, drop_host_marks, is_opaque,
     is_whiteout, needs_lower_layers,
 )
 from .faults import UsageFault, cannot_read, reading, writing
+from .links import FirstNames, take_links
 from .manifests import read_manifest
 from .outputs import new_folder, write_file
 from .progress import Progress, counted, note, note_path
 from .stages import Stage
 from .tar_headers import Header
+from .targets import Form, Target
 from .tar_writer import TarWriter
 
 _TYPES = {
@@ -39,8 +41,9 @@ _MANIFEST_TYPE = "application/vnd.oci.image.manifest.v1+json"
 _INDEX_TYPE = "application/vnd.oci.image.index.v1+json"
 _LAYOUT = {"imageLayoutVersion": "1.0.0"}
 _REF_NAME = "org.opencontainers.image.ref.name"
-ARCHIVE_SUFFIX = ".tar"
 _BLOBS = "blobs/sha256"
+_SAVED = "manifest.json"  # of docker's archives, and of skopeo's dir:
+_COPY = b"Directory Transport Version: 1.1\n"
 
 
 @dataclass(frozen=True)
@@ -49,12 +52,13 @@ class PackOptions:
 
     layers: list[str]
     blobs: str
-    out: str
+    out: Target
     platform: str | None = None
     tag: str | None = None
     skip_unsupported: bool = False
     config: str | None = None
     compress: str = NONE
+    links: str | None = None
 
 
 @dataclass(frozen=True)
@@ -67,21 +71,21 @@ class _Packed:
 
 
 def pack(options: PackOptions) -> None:
-    """Writes the image: a folder, or one tar archive where the name ends in `.tar`."""
+    """Writes the image: a folder, or one tar archive."""
     if not 1 <= len(options.layers) <= rules.MAX_LAYERS:
         raise UsageFault(f"layers must be 1 to {rules.MAX_LAYERS}")
     require_program(options.compress)
     given = _given_configuration(options)
     layers = [list(_packable(path, options)) for path in reversed(options.layers)]
-    if not options.out.endswith(ARCHIVE_SUFFIX):
-        with new_folder(options.out) as folder:
-            _write_layout(folder, layers, given, options)
+    if options.out.form is not Form.ARCHIVE:
+        with new_folder(options.out.path) as folder:
+            _write_image(folder, layers, given, options)
         return
-    with writing(options.out):
-        stage = Stage(os.path.dirname(options.out))
+    with writing(options.out.told):
+        stage = Stage(os.path.dirname(options.out.place))
     try:
-        _write_layout(stage.path, layers, given, options)
-        write_file(options.out, lambda write: _write_image_archive(stage.path, write), _IMAGE_MODE)
+        _write_image(stage.path, layers, given, options)
+        write_file(options.out.path, lambda write: _write_image_archive(stage.path, write), _IMAGE_MODE)
     finally:
         stage.close()
 
@@ -103,7 +107,9 @@ def _given_configuration(options: PackOptions) -> Document:
 def _packable(path: str, options: PackOptions) -> Iterator[Entry]:
     """The entries of a layer that an archive can state; refuses the others, or leaves them out."""
     marks = 0
-    for entry in read_manifest(path):
+    entries = read_manifest(path)
+    take_links(path, entries, options.links)
+    for entry in entries:
         reason = needs_lower_layers(entry)
         if reason:
             raise cannot_read(
@@ -113,7 +119,7 @@ def _packable(path: str, options: PackOptions) -> Iterator[Entry]:
             )
         problem = _problem(entry)
         if problem is None:
-            marks += _drop_host_marks(entry)
+            marks += drop_host_marks(entry)
             yield entry
         elif options.skip_unsupported:
             note_path(path, f"{entry.path}: left out: {problem}")
@@ -136,36 +142,55 @@ def _problem(entry: Entry) -> str | None:
     return None
 
 
-def _drop_host_marks(entry: Entry) -> int:
-    """Leaves out what means something on the host alone that the layer comes from; tells how many marks."""
-    found = [name for name in entry.attributes if name in HOST_MARKS]
-    if found:
-        entry.attributes = {name: value for name, value in entry.attributes.items() if name not in HOST_MARKS}
-    return len(found)
-
-
-def _write_layout(folder: str, layers: list[list[Entry]], given: Document, options: PackOptions) -> None:
-    """The files of the layout; nothing in them depends on when or where they are made."""
-    with writing(options.out):
-        os.makedirs(f"{folder}/{_BLOBS}")
-        packed = [_write_layer(folder, layer, options) for layer in layers]
+def _write_image(folder: str, layers: list[list[Entry]], given: Document, options: PackOptions) -> None:
+    """The files of the image; nothing in them depends on when or where they are made."""
+    blobs = folder if options.out.form is Form.COPY else f"{folder}/{_BLOBS}"
+    with writing(options.out.told):
+        os.makedirs(blobs, exist_ok=True)
+        packed = [_write_layer(blobs, layer, options) for layer in layers]
         configuration = for_layers(given, options.platform, [layer.unpacked_digest for layer in packed])
         manifest = {
             "schemaVersion": 2, "mediaType": _MANIFEST_TYPE,
-            "config": _put(folder, _CONFIG_TYPE, configuration),
+            "config": _put(blobs, _CONFIG_TYPE, configuration),
             "layers": [_descriptor(media_type(options.compress), layer.digest, layer.size) for layer in packed],
         }
-        listed = _put(folder, _MANIFEST_TYPE, manifest) | {"platform": platform_of(configuration)}
-        if options.tag is not None:
-            listed["annotations"] = {_REF_NAME: options.tag}
-        index = {"schemaVersion": 2, "mediaType": _INDEX_TYPE, "manifests": [listed]}
-        _write_bytes(f"{folder}/index.json", _json(index))
-        _write_bytes(f"{folder}/oci-layout", _json(_LAYOUT))
+        if options.out.form is Form.COPY:
+            _write_copy(folder, manifest, options)
+        else:
+            _write_layout(folder, manifest, platform_of(configuration), options)
 
 
-def _write_layer(folder: str, entries: list[Entry], options: PackOptions) -> _Packed:
+def _write_copy(folder: str, manifest: Document, options: PackOptions) -> None:
+    """What a folder of skopeo's `dir:` has beside the blobs."""
+    if options.tag is not None:
+        note_path(options.out.told, f"a folder dir: has no place for the name {options.tag}")
+    _write_bytes(f"{folder}/{_SAVED}", _json(manifest))
+    _write_bytes(f"{folder}/version", _COPY)
+
+
+def _write_layout(folder: str, manifest: Document, platform: Document, options: PackOptions) -> None:
+    """What an OCI image layout has beside the blobs of layers, and an archive of it for docker."""
+    listed = _put(f"{folder}/{_BLOBS}", _MANIFEST_TYPE, manifest) | {"platform": platform}
+    if options.tag is not None:
+        listed["annotations"] = {_REF_NAME: options.tag}
+    index = {"schemaVersion": 2, "mediaType": _INDEX_TYPE, "manifests": [listed]}
+    _write_bytes(f"{folder}/index.json", _json(index))
+    _write_bytes(f"{folder}/oci-layout", _json(_LAYOUT))
+    if options.out.form is Form.ARCHIVE:
+        saved = {
+            "Config": _blob_name(manifest["config"]), "RepoTags": options.out.docker_names(options.tag) or None,
+            "Layers": [_blob_name(layer) for layer in manifest["layers"]],
+        }
+        _write_bytes(f"{folder}/{_SAVED}", _json([saved]))
+
+
+def _blob_name(descriptor: Document) -> str:
+    return f"{_BLOBS}/{descriptor['digest'].partition(':')[2]}"
+
+
+def _write_layer(blobs: str, entries: list[Entry], options: PackOptions) -> _Packed:
     """Writes a layer's archive under a name that waits for its digest."""
-    path = f"{folder}/{_BLOBS}/layer"
+    path = f"{blobs}/layer"
     unpacked = hashlib.sha256()
     with open(path, "x+b", buffering=PIECE) as file:
         with packing(options.compress, file) as write:
@@ -179,18 +204,19 @@ def _write_layer(folder: str, entries: list[Entry], options: PackOptions) -> _Pa
             digest, size = unpacked.hexdigest(), file.tell()
         else:
             digest, size = digest_and_size(file.fileno())
-    os.rename(path, f"{folder}/{_BLOBS}/{digest}")
+    os.rename(path, f"{blobs}/{digest}")
     return _Packed(digest, size, unpacked.hexdigest())
 
 
 def _write_archive(entries: list[Entry], blobs: str, write: Callable[[bytes], object]) -> None:
     """The archive of a layer. A directory's `.wh..wh..opq` comes right after it."""
-    archive = TarWriter(write)
+    archive, firsts = TarWriter(write), FirstNames()
     progress = Progress("packing entries", len(entries))
     for entry in entries:
-        archive.entry(_header(entry))
-        if entry.names_contents():
-            for piece in _contents(entry, blobs):
+        first = firsts.before(entry)
+        archive.entry(_header(entry) if first is None else _link_header(entry, first))
+        if first is None and entry.names_contents():
+            for piece in contents_of(entry, blobs):
                 archive.data(piece)
             archive.end_data(entry.size)
         if is_opaque(entry):
@@ -219,7 +245,12 @@ def _header(entry: Entry) -> Header:
     )
 
 
-def _contents(entry: Entry, blobs: str) -> Iterator[bytes]:
+def _link_header(entry: Entry, first: str) -> Header:
+    """One more name of a file that came before. What it is dressed with is said again, since some dress it anew."""
+    return replace(_header(entry), type=tar.HARD_LINK, target=first[1:].encode(), size=0, major=0, minor=0)
+
+
+def contents_of(entry: Entry, blobs: str) -> Iterator[bytes]:
     """A file's contents, which are those of its digest."""
     digest, left, path = hashlib.sha256(), entry.size, blob_path(blobs, str(entry.blob))
     with opened_blob(blobs, str(entry.blob), entry.size) as file:
@@ -243,11 +274,11 @@ def _descriptor(kind: str, digest: str, size: int) -> dict[str, Any]:
     return {"mediaType": kind, "digest": f"sha256:{digest}", "size": size}
 
 
-def _put(folder: str, kind: str, document: Any) -> dict[str, Any]:
-    """Writes a document as a blob of the layout; gives its descriptor."""
+def _put(blobs: str, kind: str, document: Any) -> dict[str, Any]:
+    """Writes a document as a blob of the image; gives its descriptor."""
     data = _json(document)
     digest = hashlib.sha256(data).hexdigest()
-    _write_bytes(f"{folder}/{_BLOBS}/{digest}", data)
+    _write_bytes(f"{blobs}/{digest}", data)
     return _descriptor(kind, digest, len(data))
 
 
@@ -262,7 +293,7 @@ def _write_image_archive(folder: str, write: Callable[[bytes], object]) -> None:
     for name in ("blobs/", f"{_BLOBS}/"):
         archive.entry(Header(name.encode(), tar.DIRECTORY, 0o755, 0, 0, 0, 0, b"", 0, 0))
     blobs = [f"{_BLOBS}/{name}" for name in sorted(os.listdir(f"{folder}/{_BLOBS}"))]
-    for name in [*blobs, "index.json", "oci-layout"]:
+    for name in [*blobs, "index.json", _SAVED, "oci-layout"]:
         with open(f"{folder}/{name}", "rb", buffering=0) as file:
             size = os.fstat(file.fileno()).st_size
             archive.entry(Header(name.encode(), b"0", 0o644, 0, 0, size, 0, b"", 0, 0))

@@ -56,27 +56,34 @@ def makes_layers(what: str) -> bool:
     return what not in ("show", "fsck")
 
 
-def words_of(what: str, layers: Sequence[str], blobs: str, out: str) -> list[str]:
+def words_of(what: str, layers: Sequence[str], blobs: str, out: str, data_layers: int = 0) -> list[str]:
     """A command of the program with its words: the folders are given to those that take them."""
     words = [what]
+    if data_layers:
+        words += ["--data-layers", str(data_layers)]
     if what != "show":
-        words += [*_WORDS_ON_CONTENTS, "--blobs", blobs]
+        words += [*_WORDS_ON_CONTENTS, "--blobs", word_of_path(blobs)]
     if makes_layers(what):
-        words += ["--out", out]
-    return [*words, *layers]
+        words += ["--out", word_of_path(out)]
+    return [*words, *map(word_of_path, layers)]
 
 
-def run_program(program: str, words: Sequence[str], report: str) -> str:
+def word_of_path(path: str) -> str:
+    """A path as a word that isn't taken for an option."""
+    return f"./{path}" if path.startswith("-") else path
+
+
+def run_program(program: str, words: Sequence[str], report: str, faults: IO[str]) -> str:
     """Runs it, with its report into a file. Gives the report's last line, which sums it up.
 
-    What it refuses is told as it is: its own words, or the report where that tells faults.
+    What it refuses is told as it is: its own words, or the report, among the faults, where that tells of any.
     """
     with writing(report), open(report, "xb") as file, _running([program, *words], file) as process:
         told = process.communicate()[1]
     print(told.decode("utf-8", "replace"), end="", file=sys.stderr)
     status = process.returncode
     if status == _FAULTY:
-        _print(report)
+        _copy(report, faults)
     if status < 0:
         raise Refused(f"{NAME} {words[0]} was ended by signal {-status}; nothing is written", OTHER)
     if status > 0:
@@ -111,10 +118,10 @@ def _start(words: Sequence[str], report: IO[bytes], mask: set[int]) -> "subproce
         raise ReadFault(f"cannot run {words[0]}: {error.strerror}") from error
 
 
-def _print(report: str) -> None:
+def _copy(report: str, out: IO[str]) -> None:
     with reading(report), open(report, encoding="ascii", errors="backslashreplace", newline="") as file:
-        shutil.copyfileobj(file, sys.stdout)
-    sys.stdout.flush()
+        shutil.copyfileobj(file, out)
+    out.flush()
 
 
 def _last_line(report: str) -> str:

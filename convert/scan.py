@@ -1,5 +1,6 @@
-"""`scan`: a layer's folder as a manifest and blobs."""
+"""`scan`: a layer as a manifest and blobs, whether it is a folder, a squashfs or an archive of its folder."""
 
+import itertools
 import os
 import stat
 from collections.abc import Iterator, Mapping, Sequence
@@ -10,9 +11,11 @@ from .attributes import Unstated, marks_from_user, read_attributes, require_trus
 from .blobs import Writer, writers
 from .entries import BLOCK, CHAR, DIRECTORY, FILE, NO_ATTRIBUTES, SYMLINK, Entry, is_whiteout
 from .faults import cannot_read, reading, reason_of
-from .manifests import write_manifest
+from .layer_files import FileOptions, Form, form_of, scan_file
+from .links import write_layer
+from .losses import ScanLosses
 from .places import Chain, open_root
-from .progress import Progress, counted, note, note_path
+from .progress import Progress, note_path
 from .shares import give_blobs
 from .walks import Found, walk
 
@@ -23,7 +26,7 @@ _READ = os.O_RDONLY | os.O_NOFOLLOW | os.O_NONBLOCK | os.O_CLOEXEC
 class ScanOptions:
     """What the words of `scan` say. Without a folder of blobs contents are digested and not copied."""
 
-    folder: str
+    layer: str
     out: str
     blobs: str | None
     userxattr: bool = False
@@ -32,57 +35,50 @@ class ScanOptions:
     workers: int = 1
 
 
-@dataclass
-class Losses:
-    """What a manifest doesn't state, counted as it is met."""
-
-    hard_links: int = 0
-    left_out: int = 0
-
-    def tell(self) -> None:
-        """Says what was lost, where anything was."""
-        if self.hard_links:
-            note(
-                counted(self.hard_links, "name of a hard link, now a file", "names of hard links, now files")
-                + " with the same contents"
-            )
-        if self.left_out:
-            note(f"{counted(self.left_out, 'thing', 'things')} left out")
-
-
 def scan(options: ScanOptions) -> None:
-    """Writes the manifest of a folder, and the contents of its files. Tells what is lost."""
-    losses = Losses()
-    scan_folder(options, losses)
+    """Writes the manifest of a layer, and the contents of its files. Tells what is lost."""
+    form, losses = form_of(options.layer), ScanLosses()
+    if form is Form.MANIFEST:
+        raise cannot_read(options.layer, "it is no layer, but perhaps the manifest of one")
+    if form is Form.FOLDER:
+        scan_folder(options, losses)
+    else:
+        scan_file(FileOptions(
+            options.layer, options.out, options.blobs, options.userxattr, options.skip_unsupported
+        ), form, losses)
     losses.tell()
 
 
-def scan_folder(options: ScanOptions, losses: Losses) -> None:
-    """The same, with what is lost counted."""
+def scan_folder(options: ScanOptions, losses: ScanLosses, links: Iterator[int] | None = None) -> list[Entry]:
+    """The same of a folder, with what is lost counted; gives the entries. With numbers for files of several names it is
+    of a stack, and has a file of links even where there are none."""
     if not options.userxattr:
-        require_trusted(options.folder)
-    with reading(options.folder):
-        root = open_root(options.folder)
+        require_trusted(options.layer)
+    with reading(options.layer):
+        root = open_root(options.layer)
     try:
-        entries = Survey(options, losses).entries(root)
+        entries = Survey(options, losses, links or itertools.count(1)).entries(root)
         _store_contents(options, root, entries)
     finally:
         os.close(root)
-    write_manifest(options.out, entries, options.folder)
+    losses.hard_links += write_layer(options.out, lambda: entries, options.layer, links is not None)
+    return entries
 
 
 class Survey:
     """The first pass: every entry but for its blob, so that a refusal comes before anything is written."""
 
-    def __init__(self, options: ScanOptions, losses: Losses) -> None:
+    def __init__(self, options: ScanOptions, losses: ScanLosses, links: Iterator[int]) -> None:
         self._options = options
         self._losses = losses
+        self._links = links
+        self._numbers: dict[tuple[int, int], int] = {}
 
     def entries(self, root: int) -> list[Entry]:
         """The entries of an open folder, in path order."""
         entries: list[Entry] = []
         progress = Progress("looking at entries")
-        for found in walk(root, self._options.folder, self._options.cross_file_systems):
+        for found in walk(root, self._options.layer, self._options.cross_file_systems):
             if len(entries) == rules.MAX_ENTRIES:
                 self._leave_out(found, f"the folder has over {rules.MAX_ENTRIES:,} entries")
                 break
@@ -92,7 +88,7 @@ class Survey:
                 self._leave_out(found, problem or "")
                 continue
             if found.is_other_system and not found.enter:
-                note_path(self._options.folder + found.path, "another file system, not entered")
+                note_path(self._options.layer + found.path, "another file system, not entered")
             entries.append(entry)
             progress.step()
         progress.end()
@@ -118,7 +114,11 @@ class Survey:
             entry.size = status.st_size
         # The kernel links the whiteouts of a mount to one another, which nothing shows.
         is_linked = found.kind != DIRECTORY and status.st_nlink > 1
-        self._losses.hard_links += is_linked and not is_whiteout(entry)
+        if is_linked and not is_whiteout(entry):
+            inode = status.st_dev, status.st_ino
+            if inode not in self._numbers:
+                self._numbers[inode] = next(self._links)
+            entry.link = self._numbers[inode]
         return entry
 
     def _attributes(self, found: Found) -> Mapping[str, bytes]:
@@ -151,7 +151,7 @@ class Survey:
         self._losses.left_out += 1
 
     def _path(self, found: Found) -> str:
-        return self._options.folder + (found.path if found.depth else "")
+        return self._options.layer + (found.path if found.depth else "")
 
 
 def _place_problem(found: Found) -> str | None:
@@ -171,7 +171,7 @@ def _store_contents(options: ScanOptions, root: int, entries: list[Entry]) -> No
             chain, writer = Chain(root), new_writer()
             try:
                 for entry in share:
-                    yield _stored(options.folder, chain, writer, entry)
+                    yield _stored(options.layer, chain, writer, entry)
             finally:
                 writer.close()
                 chain.close()

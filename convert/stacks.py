@@ -2,6 +2,7 @@
 
 BLOBS = "blobs"
 CONFIG = "config.json"
+SHOWN_LINKS = "shown.links"
 
 
 def layer_name(number: int) -> str:

@@ -13,10 +13,12 @@ from dataclasses import dataclass
 
 from . import rules, stacks
 from .attributes import require_trusted
+from .below import Below, tree_of, write_shown_links
 from .faults import cannot_read, reading
+from .losses import ScanLosses
 from .outputs import new_folder
 from .progress import note_path
-from .scan import Losses, ScanOptions, scan_folder
+from .scan import ScanOptions, scan_folder
 
 _DIFF = "diff"
 _MERGED = "merged"
@@ -52,14 +54,16 @@ def store(options: StoreOptions) -> None:
     layers = chain(options.folder)
     if len(layers) > rules.MAX_LAYERS:
         raise cannot_read(options.folder, f"it has {len(layers)} layers, over {rules.MAX_LAYERS}")
-    losses = Losses()
+    losses, below, links = ScanLosses(), Below(), itertools.count(1)
     with new_folder(options.out) as stage:
-        for number, layer in enumerate(layers):
-            scan_folder(ScanOptions(
+        for number, layer in reversed(list(enumerate(layers))):
+            entries = scan_folder(ScanOptions(
                 layer, f"{stage}/{stacks.layer_name(number)}",
                 None if options.digests_only else f"{stage}/{stacks.BLOBS}",
                 options.userxattr, options.cross_file_systems, options.skip_unsupported, options.workers,
-            ), losses)
+            ), losses, links)
+            below.cover(tree_of(entries))
+        write_shown_links(stage, below)
     for number, layer in enumerate(layers):
         note_path(layer, f"is {stacks.layer_name(number)}")
     if os.path.ismount(os.path.join(options.folder, _MERGED)):

@@ -22,7 +22,7 @@ _GZIP_WINDOW = 31  # zlib's number for a gzip header and trailer
 _GZIP_PIECE = 1 << 14
 _ZSTD = b"\x28\xb5\x2f\xfd"
 _OTHERS = {b"BZh": "bzip2", b"\xfd7zXZ\0": "xz"}
-_PEEK = 6
+HEAD_BYTES = 6  # that tell how a file is packed
 _ZSTD_INPUT = re.compile(r"(zstd: )?/\*stdin\*\\ ?: ")  # what zstd puts before what it says
 _MOST_TOLD = 1_000
 
@@ -46,6 +46,10 @@ class Slice(io.RawIOBase):
     def again(self) -> "Slice":
         """The same part, from its front."""
         return Slice(self._file, self._begin, self._end - self._begin)
+
+    def size(self) -> int:
+        """How many bytes are left."""
+        return self._end - self.place
 
     def readable(self) -> bool:
         """It is."""
@@ -130,11 +134,16 @@ def buffered(stream: Source) -> Source:
     return io.BufferedReader(stream, PIECE) if isinstance(stream, io.RawIOBase) else stream
 
 
+def is_packed(head: bytes) -> bool:
+    """Whether bytes begin as what gzip, zstd or another such program packs."""
+    return head.startswith((_GZIP, _ZSTD, *_OTHERS))
+
+
 @contextlib.contextmanager
-def unpacked(part: Slice, name: str) -> Iterator[Source]:
-    """The bytes of a layer's archive. Tells what is wrong with its packing as a fault of this name."""
+def unpacked(part: io.RawIOBase, name: str) -> Iterator[Source]:
+    """The bytes of an archive. Tells what is wrong with its packing as a fault of this name."""
     packed = io.BufferedReader(part, PIECE)
-    head = packed.peek(_PEEK)[:_PEEK]
+    head = packed.peek(HEAD_BYTES)[:HEAD_BYTES]
     try:
         if head.startswith(_GZIP):
             yield Gunzip(packed)

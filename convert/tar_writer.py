@@ -45,6 +45,11 @@ class TarWriter:
         self._write(bytes(-size % BLOCK_BYTES))
 
 
+def record_bytes(header: Header) -> int:
+    """How many bytes the PAX records of a header have."""
+    return len(_records(header))
+
+
 def _records(header: Header) -> bytes:
     """PAX records for what a ustar header has no place for, in a fixed order."""
     records = []

@@ -10,6 +10,12 @@ def shown(time_ns: int) -> str:
     return f"{seconds}+{over:0{_DIGITS}}" if over else str(seconds)
 
 
+def of_shown(text: str) -> int:
+    """The time that the show report has so."""
+    seconds, _, over = text.partition("+")
+    return int(seconds) * ONE_SECOND + int(over or 0)
+
+
 def to_decimal(time_ns: int) -> str:
     """A time as a decimal fraction of seconds, such as -1.5 for a second and a half before 1970."""
     whole, below = divmod(abs(time_ns), ONE_SECOND)

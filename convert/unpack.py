@@ -4,10 +4,12 @@ from dataclasses import dataclass
 
 from . import stacks
 from .archives import LayerArchive, Taking
+from .below import Below, write_shown_links
 from .blobs import Writer, writers
 from .configuration import configuration_text
 from .images import Image, ImageLayer, image_place, opened_image
-from .layer_tree import Below, Held
+from .layer_tree import Held
+from .links import LinkNames, links_path
 from .manifests import write_manifest
 from .outputs import new_folder, write_text
 
@@ -31,11 +33,17 @@ def unpack(options: UnpackOptions) -> Image:
     Where digests are enough there is no folder `blobs`.
     """
     path, tag = image_place(options.image, options.tag)
-    with opened_image(path, options.platform, tag) as image, new_folder(options.out) as stage:
+    with opened_image(path, options.platform, tag) as image:
+        unpack_opened(options, image)
+    return image
+
+
+def unpack_opened(options: UnpackOptions, image: Image) -> None:
+    """The same of an image that is open."""
+    with new_folder(options.out) as stage:
         with writers(None if options.digests_only else f"{stage}/{stacks.BLOBS}") as new_writer:
             _unpack_layers(options, image.layers, stage, new_writer())
         write_text(f"{stage}/{stacks.CONFIG}", [configuration_text(image.configuration)])
-    return image
 
 
 def _unpack_layers(options: UnpackOptions, layers: list[ImageLayer], stage: str, writer: Writer) -> None:
@@ -44,8 +52,10 @@ def _unpack_layers(options: UnpackOptions, layers: list[ImageLayer], stage: str,
     try:
         for number, layer in zip(reversed(range(len(layers))), layers):
             tree = LayerArchive(layer, taking).tree()
-            write_manifest(f"{stage}/{stacks.layer_name(number)}", tree.entries(), layer.path)
-            if number:
-                below.cover(tree)
+            path, names = f"{stage}/{stacks.layer_name(number)}", LinkNames()
+            write_manifest(path, names.passing(tree.entries()), layer.path)
+            names.write(links_path(path), tree.entries, path)
+            below.cover(tree.root)
+        write_shown_links(stage, below)
     finally:
         writer.close()

@@ -7,6 +7,7 @@ of the mount, and what it shows of the folders that are built from the manifests
 """
 
 import contextlib
+import glob
 import json
 import os
 import shutil
@@ -78,7 +79,7 @@ def shown(folder: str, top: str) -> str:
     """What the kernel shows of the folders that are built from the manifests of `store`."""
     stored, built = f"{folder}/stored", []
     done("store", top, "--out", stored)
-    for number in range(len(os.listdir(stored)) - 1):
+    for number in range(len(glob.glob(f"{stored}/l*.json"))):
         built.append(f"{folder}/built{number}")
         done("build", f"{stored}/l{number}.json", "--blobs", f"{stored}/blobs", "--out", built[-1])
     os.mkdir(f"{folder}/again")

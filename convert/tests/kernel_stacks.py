@@ -13,13 +13,14 @@ import contextlib
 import errno
 import filecmp
 import itertools
+import json
 import os
 import random
 import shutil
 import stat
 import subprocess
 import sys
-from collections.abc import Callable, Iterator
+from collections.abc import Callable, Iterable, Iterator
 from difflib import unified_diff
 
 from support import call
@@ -223,8 +224,10 @@ class Stack:
         for layer, manifest, again in zip(layers, manifests, built):
             _done("scan", layer, "--out", manifest, "--blobs", f"{self._folder}/blobs")
             _done("build", manifest, "--blobs", f"{self._folder}/blobs", "--out", again)
-        strange = self._stored_otherwise(manifests[:len(self._layers)])
-        others = [self._kernel(built)]
+        strange = self._stored_otherwise(manifests[:len(self._layers)], shown[1])
+        again, names = self._kernel(built)
+        strange += unified_diff(shown[1], names, lineterm="")
+        others = [again]
         if program:
             bottom = ["--data-layers", str(len(self._data_only))] if self._data_only else []
             words = [*program, "show", *bottom, *manifests]
@@ -237,22 +240,23 @@ class Stack:
         else:
             faults = []
         return strange + faults + [
-            line for other in others for line in unified_diff(shown.splitlines(), other.splitlines(), lineterm="")
+            line for other in others for line in unified_diff(shown[0].splitlines(), other.splitlines(), lineterm="")
         ]
 
-    def _stored_otherwise(self, manifests: list[str]) -> list[str]:
-        """What `store` writes otherwise than `scan`; it knows of no data-only layers."""
+    def _stored_otherwise(self, manifests: list[str], linked: list[str]) -> list[str]:
+        """What `store` writes otherwise than `scan` and the kernel's links; it knows of no data-only layers."""
         stored = f"{self._folder}/stored"
         _done("store", self._top, "--out", stored)
         blobs = os.listdir(f"{stored if self._data_only else self._folder}/blobs")
         names = [*map(os.path.basename, manifests), *(f"blobs/{name}" for name in blobs)]
         _, other, unread = filecmp.cmpfiles(self._folder, stored, names, shallow=False)
-        return other + unread
+        return other + unread + list(unified_diff(linked, shown_links(stored), lineterm=""))
 
-    def _kernel(self, layers: list[str]) -> str:
+    def _kernel(self, layers: list[str]) -> tuple[str, list[str]]:
+        """What the kernel shows, and the names that are one file there."""
         place, count = self._new("mnt"), len(self._layers)
         with mounted_overlay(place, layers[:count], layers[count:], _LOOKING):
-            return _done("mounted", place)
+            return _done("mounted", place), linked_names(place)
 
     def _new(self, name: str) -> str:
         for number in itertools.count():
@@ -313,6 +317,32 @@ class StackOverData(Stack):
             elif number < first and self._pick.random() < 0.5:
                 self._pick.choice((os.mkdir, lambda it: os.symlink("objects", it)))(layer + place)
         return place
+
+
+def linked_names(root: str) -> list[str]:
+    """The names of each file below a folder that has several, a line each."""
+    found: dict[tuple[int, int], list[str]] = {}
+    for folder, directories, files in os.walk(root):
+        for path in (os.path.join(folder, name) for name in [*files, *directories]):
+            about = os.lstat(path)
+            if not stat.S_ISDIR(about.st_mode):
+                found.setdefault((about.st_dev, about.st_ino), []).append(path[len(root):])
+    return lines_of(found.values())
+
+
+def shown_links(stack: str) -> list[str]:
+    """The same of what the layers of a stack show, as it is written of them."""
+    with open(f"{stack}/shown.links", encoding="utf-8") as file:
+        numbers = json.load(file)["names"]
+    found: dict[int, list[str]] = {}
+    for name, number in numbers.items():
+        found.setdefault(number, []).append(name)
+    return lines_of(found.values())
+
+
+def lines_of(groups: Iterable[list[str]]) -> list[str]:
+    """Groups of two names and more, in order."""
+    return sorted(repr(sorted(names)) for names in groups if len(names) > 1)
 
 
 def _done(*words: str) -> str:

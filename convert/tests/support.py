@@ -2,6 +2,7 @@
 
 import contextlib
 import io
+import json
 import os
 import shutil
 import subprocess
@@ -80,6 +81,13 @@ def why_no_trusted(folder: str) -> str | None:
             with contextlib.suppress(FileNotFoundError):
                 os.unlink(path)
     return None
+
+
+def links(path: str) -> list[list[str]]:
+    """The names in a file of links, those of one file together."""
+    with open(path, encoding="utf-8") as file:
+        names = json.load(file)["names"]
+    return [[name for name in names if names[name] == number] for number in sorted(set(names.values()))]
 
 
 class FolderTest(unittest.TestCase):

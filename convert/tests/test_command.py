@@ -20,7 +20,7 @@ import time
 import unittest
 from unittest import mock
 
-from support import COMMAND, ROOT, FolderTest, call, run, run_as_anybody, why_no_trusted
+from support import COMMAND, ROOT, FolderTest, call, links, run, run_as_anybody, why_no_trusted
 
 from convert import places
 from convert.entries import Entry
@@ -250,7 +250,8 @@ class Scanning(CommandTest):
         os.utime(self.path("in", "s"), (0, 0))
         result = self.scan()
         self.require_done(result)
-        self.assertIn("2 names of hard links, now files with the same contents", result[2])
+        self.assertEqual(result[2], "")
+        self.assertEqual(links(self.path("out.links")), [["/f", "/g"]])
         entries = read_manifest(self.path("out.json"))
         self.assertEqual(
             [(entry.kind, entry.mtime_ns) for entry in entries],

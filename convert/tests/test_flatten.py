@@ -11,9 +11,10 @@ import sys
 import time
 import unittest
 from collections.abc import Iterator
+from pathlib import Path
 from unittest import mock
 
-from images import archive, folder, member, put_index, put_manifest, write_layout
+from images import archive, folder, member, put_index, put_manifest, write_layout, write_saved
 from support import ROOT, FolderTest, call, program_words, why_no_trusted
 
 LAYERS = [
@@ -104,7 +105,7 @@ class Steps(FlattenTest):
         """How many layers an image has."""
         shutil.rmtree(self.path("in", "stack"), ignore_errors=True)
         self.require_done(call("unpack", image, "--out", self.path("in", "stack")))
-        return len(os.listdir(self.path("in", "stack"))) - 2
+        return len(list(Path(self.path("in", "stack")).glob("l*.json")))
 
     def test_merges_down_to_so_many_layers(self) -> None:
         whole = "stack/l0.json stack/l1.json stack/l2.json"
@@ -159,6 +160,50 @@ class Steps(FlattenTest):
             "deref stack/l2.json stack/l3.json", "deref stack/l1.json deref-2/layer-0.json stack/l3.json",
             "deref vacuum/layer-0.json deref-1/layer-0.json deref-2/layer-0.json stack/l3.json",
         ])
+
+    def test_standard_output(self) -> None:
+        """The image alone goes there, faults of layers to standard error; nothing is left in the temporary folder."""
+        os.environ["TMPDIR"] = self.path("in", "temporary")
+        os.mkdir(os.environ["TMPDIR"])
+        self.addCleanup(os.environ.pop, "TMPDIR")
+        self.require_done(call("flatten", self.image, "--out", f"oci-archive:{self.path('all', 'wanted.tar')}:x:1"))
+        wanted = Path(self.path("all", "wanted.tar")).read_bytes()
+        tool = Path(self.path("in", "tool"))
+        tool.write_text(f"""import sys
+sys.path.insert(0, {str(ROOT)!r})
+from unittest import mock
+from convert import command
+with mock.patch("convert.program.find_program", return_value={self.program!r}):
+    sys.exit(command.main(sys.argv[1:]))
+""", encoding="utf-8")
+        words = [sys.executable, "-B", tool, "flatten", self.image, "--out", "oci-archive:-:x:1"]
+        result = subprocess.run(words, capture_output=True, check=False)
+        self.assertTrue(result.stdout == wanted, result.stderr)
+        self.assertIn(b"layers: standard output: 1 layer in place of 3, ", result.stderr)
+        self.manner("[ $what = fsck ] && { echo report; exit 1; }")
+        result = subprocess.run(words, capture_output=True, check=False)
+        self.assertEqual((result.returncode, result.stdout), (1, b""))
+        self.assertIn(b"\nreport\nlayers: ovl_layers fsck ended with status 1; nothing is written\n", result.stderr)
+        self.manner("")
+        script = call(*words[3:], "--dry-run")[1]
+        result = subprocess.run(["sh"], input=script.encode(), capture_output=True, check=False)
+        self.assertTrue(result.stdout == wanted, result.stderr)
+        self.assertEqual(len(os.listdir(os.environ["TMPDIR"])), 1)  # what the script works in
+        self.left("wanted.tar")
+
+    def test_paths_that_begin_with_a_dash(self) -> None:
+        with contextlib.chdir(self.path("all")):
+            os.rename("image", "-image")
+            self.addCleanup(os.rename, self.path("all", "-image"), self.image)
+            self.require_done(call("flatten", "--out=-flat", "--keep=-kept", "--", "-image"))
+            with open(self.path("in", "calls"), encoding="utf-8") as file:
+                paths = [word for line in file for word in line.split()[1:] if word != "--any-size"]
+            self.assertEqual({word.split("/")[0] for word in paths}, {".", "--blobs", "--out"})
+            self.assertIn("./-kept/stack/l0.json", paths)
+            script = call("flatten", "--out=-more", "--keep=-again", "--dry-run", "--", "-image")[1]
+            subprocess.run(["sh"], input=script, text=True, capture_output=True, check=True)
+            self.assertEqual(sorted(os.listdir()), ["-again", "-flat", "-image", "-kept", "-more"])
+        shutil.rmtree(self.path("in", "stack"), ignore_errors=True)
 
     def test_a_refusal_is_told_as_it_is(self) -> None:
         for what, status in (("show", 3), ("fsck", 1), ("vacuum", 4), ("merge", 5)):
@@ -253,6 +298,13 @@ class Steps(FlattenTest):
         self.require_done(self.flatten(image=f"oci:{self.image}:a", out="named"))
         with open(self.path("all", "named", "index.json"), encoding="utf-8") as file:
             self.assertIn('"a"', file.read())
+        write_saved(self.path("in", "saved"), [archive(LAYERS[0])])
+        self.require_done(self.flatten("--tag", "small", image=self.path("in", "saved"), out="saved"))
+        with open(self.path("all", "saved", "index.json"), encoding="utf-8") as file:
+            self.assertIn('"small:latest"', file.read())
+        self.require_done(call("flatten", self.path("in", "saved"), "--out", f"oci:{self.path('all', 'own')}:x"))
+        with open(self.path("all", "own", "index.json"), encoding="utf-8") as file:
+            self.assertIn('"x"', file.read())
 
     def test_packed_layers(self) -> None:
         for kind, begin in (("gzip", b"\x1f\x8b"), ("none", b"./")):
@@ -381,7 +433,7 @@ class ImageTest(FlattenTest):
         """What the layers of an image show."""
         stack = self.path("in", "stack")
         self.require_done(call("unpack", image, "--out", stack, *more))
-        layers = [f"{stack}/l{number}.json" for number in range(len(os.listdir(stack)) - 2)]
+        layers = [f"{stack}/l{number}.json" for number in range(len(list(Path(stack).glob("l*.json"))))]
         result = subprocess.run([self.program, "show", *layers], capture_output=True, text=True, check=True)
         words = [self.program, "fsck", "--any-size", "--blobs", f"{stack}/blobs", *layers]
         checked = subprocess.run(words, capture_output=True, check=False)

@@ -274,7 +274,7 @@ class Documents(HostileTest):
         write_saved(self.path("image"), [layer], name="x\ny/layer.tar")
         self.require_refused("x\\x0ay/layer.tar")
         self.empty()
-        members = [folder("./"), member("x\ny", b"a"), member("z\n", kind=tarfile.LNKTYPE, target="x\ny")]
+        members = [folder("./"), member("x\ny", b"a", pax={"mtime": "1.0000000001"})]
         write_layout(self.path("image"), [archive(members)])
         result = call("unpack", self.path("image"), "--out", self.path("out"))
         self.assertEqual((result[0], len(result[2].splitlines())), (0, 1), result[2])

@@ -9,14 +9,16 @@ import subprocess
 import tarfile
 import unittest
 from fractions import Fraction
+from pathlib import Path
 from unittest import mock
 
 from images import (
     archive, folder, is_document, member, packed, put_index, put_manifest, write_layout, write_saved,
 )
-from support import FolderTest, call
+from support import FolderTest, call, links
 
 from convert.entries import Entry
+from convert.links import links_path
 from convert.manifests import read_manifest
 
 A = hashlib.sha256(b"a").hexdigest()
@@ -43,8 +45,10 @@ class ImageTest(FolderTest):
         """The layers of an image as short words, the topmost first."""
         result = call("unpack", self.path("image"), "--out", self.path("out"), *words)
         self.require_done(result)
-        names = sorted(name for name in os.listdir(self.path("out")) if name not in ("blobs", "config.json"))
-        self.assertEqual(names, [f"l{number}.json" for number in range(len(names))])
+        names = [f"l{number}.json" for number in range(len(list(Path(self.path("out")).glob("l*.json"))))]
+        beside = [links_path(name) for name in names]
+        others = {"blobs", "config.json"} & set(os.listdir(self.path("out")))
+        self.assertEqual(sorted(os.listdir(self.path("out"))), sorted([*names, *beside, "shown.links", *others]))
         found = [list(map(short, read_manifest(self.path("out", name)))) for name in names]
         shutil.rmtree(self.path("out"))
         return found
@@ -120,7 +124,7 @@ class Entries(ImageTest):
         )
         result = call("unpack", self.path("image"), "--out", self.path("out"))
         self.require_done(result)
-        self.assertIn("1 hard link, now a file with the same contents", result[2])
+        self.assertEqual(links(self.path("out", "l0.links")), [["/f", "/h"]])
         self.assertNotIn("cut", result[2])
         entries = read_manifest(self.path("out", "l0.json"))
         self.assertEqual([entry.mtime_ns for entry in entries], [0, -1_500_000_000, -1_500_000_000])
@@ -228,7 +232,7 @@ class Forms(ImageTest):
         words = ("unpack", self.path("image"), "--out")
         self.require_done(call(*words, self.path("whole")))
         self.require_done(call(*words, self.path("digests"), "--digests-only"))
-        self.assertEqual(sorted(os.listdir(self.path("digests"))), ["config.json", "l0.json"])
+        self.assertEqual(sorted(os.listdir(self.path("digests"))), ["config.json", "l0.json", "l0.links", "shown.links"])
         manifests = [read_manifest(self.path(name, "l0.json")) for name in ("whole", "digests")]
         self.assertEqual(*manifests)
 

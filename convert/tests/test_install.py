@@ -14,7 +14,7 @@ HELP = ROOT / "examples" / "help.txt"
 VERSION_TEXT = ROOT / "examples" / "version.txt"
 _OPTION = re.compile(r"(?<![\w-])--[a-z][a-z-]*")
 _HELP_COMMAND = re.compile(r"^ {2,4}([a-z]+)  ", re.MULTILINE)
-_COMMANDS = ("scan", "store", "build", "unpack", "pack", "flatten", "mounted")
+_COMMANDS = ("scan", "store", "build", "unpack", "pack", "flatten", "sizes", "mounted")
 INSTALLED = ["bin/layers", "bin/ovl_layers", "share/man/man1/layers.1", "share/man/man1/ovl_layers.1"]
 
 
@@ -120,6 +120,8 @@ class Installing(FolderTest):
             self.assertEqual(result.returncode, 0, result.stderr)
         prefix = self.path("new prefix")
         self.assertEqual(self.there(prefix), INSTALLED)
+        modules = {path.name for path in (ROOT / "convert").iterdir() if path.suffix in (".py", ".css", ".js")}
+        self.assertEqual(set(os.listdir(f"{prefix}/lib/ovl_layers/convert")) - {"__pycache__"}, modules)
         shown = subprocess.run([f"{prefix}/bin/ovl_layers"], capture_output=True, text=True, check=True)
         self.assertEqual(shown.stdout, "the program\n")
         os.rename(prefix, self.path("moved"))

@@ -13,7 +13,7 @@ STACKS = 50
 STACKS_OVER_DATA = 30
 SEED = 1
 _SCRIPT = Path(__file__).with_name("kernel_stacks.py")
-_IN_A_NAMESPACE = ["unshare", "--mount", "--propagation", "private"]
+IN_A_NAMESPACE = ["unshare", "--mount", "--propagation", "private"]
 _PROBE = """
 mkdir l d u w m && mount -t tmpfs layers-test u && mkdir u/u u/w &&
 mount -t overlay -o lowerdir=$1,upperdir=u/u,workdir=u/w,redirect_dir=on,metacopy=on layers-test m
@@ -30,7 +30,7 @@ def why_no_overlay(folder: str, lower: str) -> str | None:
     probe = os.path.join(folder, "probe")
     os.mkdir(probe)
     result = subprocess.run(
-        [*_IN_A_NAMESPACE, "sh", "-c", _PROBE, "sh", lower], cwd=probe, capture_output=True, text=True, check=False
+        [*IN_A_NAMESPACE, "sh", "-c", _PROBE, "sh", lower], cwd=probe, capture_output=True, text=True, check=False
     )
     shutil.rmtree(probe)
     return None if result.returncode == 0 else f"no overlay of {lower} can be mounted: {result.stderr.strip()}"
@@ -53,7 +53,7 @@ class Kernel(FolderTest):
         if not program:
             print("\nnot compared with ovl_layers, which isn't built", file=sys.stderr)
         result = subprocess.run(
-            [*_IN_A_NAMESPACE, sys.executable, "-B", str(_SCRIPT), kind, self.folder, str(SEED), str(count), *program],
+            [*IN_A_NAMESPACE, sys.executable, "-B", str(_SCRIPT), kind, self.folder, str(SEED), str(count), *program],
             capture_output=True, text=True, check=False,
         )
         self.assertEqual(result.returncode, 0, result.stdout[-5_000:] + result.stderr[-5_000:])

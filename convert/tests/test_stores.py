@@ -9,7 +9,7 @@ import unittest
 from pathlib import Path
 
 from kernel_stacks import Store
-from support import FolderTest, call, run_as_anybody
+from support import FolderTest, call, links, run_as_anybody
 from test_kernel import why_no_overlay
 
 from convert.manifests import read_manifest
@@ -39,7 +39,7 @@ class Chains(FolderTest):
 
     def stored(self) -> list[list[str]]:
         """The paths of each manifest, the topmost first, and the folder taken away."""
-        names = sorted(name for name in os.listdir(self.path("out")) if name != "blobs")
+        names = sorted(name for name in os.listdir(self.path("out")) if name.endswith(".json"))
         found = [[entry.path for entry in read_manifest(self.path("out", name))][1:] for name in names]
         shutil.rmtree(self.path("out"))
         return found
@@ -56,8 +56,22 @@ class Chains(FolderTest):
 
     def test_digests_only(self) -> None:
         self.require_done(self.store("--digests-only"))
-        self.assertEqual(sorted(os.listdir(self.path("out"))), ["l0.json", "l1.json", "l2.json"])
+        names = ["l0.json", "l0.links", "l1.json", "l1.links", "l2.json", "l2.links", "shown.links"]
+        self.assertEqual(sorted(os.listdir(self.path("out"))), names)
         self.assertEqual(self.stored(), [["/f2"], ["/f1"], ["/f0"]])
+
+    def test_hard_links(self) -> None:
+        """Each layer's own, and what they show: names that a layer above has anew aren't of the file below."""
+        for layer, names in ((0, ("a", "b", "c", "d")), (1, ("b", "e"))):
+            self.write(f"{self.layers[layer]}/diff/{names[0]}", "1")
+            for name in names[1:]:
+                os.link(f"{self.layers[layer]}/diff/{names[0]}", f"{self.layers[layer]}/diff/{name}")
+        self.require_done(self.store())
+        found = {name: links(self.path("out", name)) for name in os.listdir(self.path("out")) if "links" in name}
+        self.assertEqual(found, {
+            "l0.links": [], "l1.links": [["/b", "/e"]], "l2.links": [["/a", "/b", "/c", "/d"]],
+            "shown.links": [["/a", "/c", "/d"], ["/b", "/e"]],
+        })
 
     def test_a_lost_link_is_found_by_the_layer_that_has_its_name(self) -> None:
         os.unlink(f"{self.home}/l/SHORT{0:021}")

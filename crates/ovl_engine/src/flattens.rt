@@ -29,7 +29,7 @@ use std::sync::Wait;
 use std::thread::Threads;
 
 /// What a stack shows, as one layer, where no fault is found in the stack, and the report of what it has. Alone the new
-/// layer shows the same, and is sound.
+/// layer shows the same, and the check finds nothing in it.
 pub(crate) fn flatten<G: Gate + Sync, R: Threads + Wait + Sync>(
     team: &Team<'_, G, R>,
     stack: Stack,
@@ -58,8 +58,8 @@ pub(crate) fn flatten<G: Gate + Sync, R: Threads + Wait + Sync>(
     Ok(rewritten(team.rt, team.alloc, team.workers, report, &[&layer])?)
 }
 
-// What a sound stack shows, as one layer; the stack goes once its work is walked, so that all rows don't stand beside the new
-// layer.
+// What a sound stack shows, as one layer. The stack goes once its work is walked, so that all rows don't stand beside
+// the new layer.
 fn flattened<G: Gate + Sync, R: Threads + Wait + Sync>(
     team: &Team<'_, G, R>,
     stack: Stack,
