@@ -22,12 +22,11 @@ use Rattle.ovl_manifest.specs.Sheets.{path_at, path_of}
 use Rattle.ovl_manifest.proofs.SheetLemmas.{none-past, entry_at-number}
 use Rattle.ovl_lookup.specs.Walk.{mark_at, origin_path, name_in_lower, is_closing, nothing_found, turn, is_shut, walk, walk_from, walk_beyond, natural_path, walk_to_file}
 use Rattle.ovl_lookup.specs.Onwards.{next_on, closed_on}
-use Rattle.ovl_lookup.specs.Passes.{entered_path, entered_closed}
+use Rattle.ovl_lookup.specs.Passes.{IsPast, entered_path, entered_closed}
 use Rattle.ovl_lookup.specs.declared.steps.Step.{Step}
 use Rattle.ovl_lookup.specs.Words.{SameMarks, SameEntries}
 use Rattle.ovl_lookup.specs.WalkLaws.{is_directory_or_none, PassesOver, WalksPass}
-use Rattle.ovl_lookup.proofs.Turns.{turn-child, turn-moved, is_shut-child, is_shut-moved, rest-child}
-use Rattle.ovl_lookup.proofs.Longest.{longest-holds, longest-rest, longest-child}
+use Rattle.ovl_lookup.proofs.Turns.{turn-child, turn-moved, is_shut-child, is_shut-moved}
 use Rattle.ovl_lookup.proofs.LawsOfPaths.{by_child, last-name, length-child, lookup-all, parent_path-child}
 use Rattle.ovl_lookup.proofs.LawsOfInodes.{is_directory_mark, mark-directory, directory-marked, directory-no_whiteout}
 
@@ -108,50 +107,9 @@ pub mark_at-child : (layer : Entries) (path : PathNames) (name : PathName) (mark
 mark_at-child layer [] name mark here = marked (entry_at layer (child_path [] name)) ∙ here
 mark_at-child layer (first ∷ path) name mark here = marked (entry_at layer (child_path (first ∷ path) name)) ∙ here
 
--- ---- a name below what is no directory
-
--- nothing is found with one more name, and the walk is closed, or goes on as the other does with that name
-abbrev pub Below : Step → Step → PathName → Type 0
-Below outer inner name = (inner.found ≡ None) × ((inner.closed ≡ true) ⊎ ((outer.found ≡ None) × (inner.closed ≡ outer.closed) × (inner.next ≡ child_path outer.next name)))
-
-beyond-child : (found : Option Inode) (turned : PathNames) (shut : Bool) (own : PathName) (rest : PathNames) (name : PathName) → Below (walk_beyond found turned shut own rest) (walk_beyond found turned shut own (child_path rest name)) name
-beyond-child None turned shut own rest name = (refl, inr (refl, refl, sym (append_assoc turned (own ∷ rest) (name ∷ []))))
-beyond-child (Some inode) turned shut own [] name = (refl, inl refl)
-beyond-child (Some inode) turned shut own (first ∷ rest) name = (refl, inl refl)
-
--- a directory with one more name that is no entry
-false_from : (a b : Bool) → (a ≡ true → b ≡ true) → b ≡ false → a ≡ false
-false_from true b imp e = sym (imp refl) ∙ e
-false_from false b imp e = refl
+-- ---- a name that a directory doesn't have
 
 module _ (layer : Entries) (path : PathNames) (name : PathName) (is : IsLayer layer) where
-  child_shut : is_directory_at layer path ≡ false → is_directory_at layer (child_path path name) ≡ false
-  child_shut none = false_from (is_directory_at layer (child_path path name)) (is_directory_at layer path) (directory-parent layer path name is) none
-
-  same_longest : is_directory_at layer path ≡ false → longest (is_directory_at layer) (child_path path name) ≡ longest (is_directory_at layer) path
-  same_longest none =
-      longest-child (is_directory_at layer) path name
-      ∙ ap (λ b. cond b (child_path path name) (longest (is_directory_at layer) path)) (child_shut none)
-
-  inner_walk : is_directory_at layer path ≡ false → walk layer (child_path path name) ≡ walk_from layer (longest (is_directory_at layer) path) (child_path (drop (length (longest (is_directory_at layer) path)) path) name)
-  inner_walk none =
-      ap (λ (d : PathNames). walk_from layer d (drop (length d) (child_path path name))) (same_longest none)
-      ∙ ap (walk_from layer (longest (is_directory_at layer) path)) (rest-child (longest (is_directory_at layer) path) path name (longest-rest (is_directory_at layer) path))
-
-  pub walk-below : is_directory_at layer path ≡ false → Below (walk layer path) (walk layer (child_path path name)) name
-  walk-below none = by (drop (length (longest (is_directory_at layer) path)) path) refl
-    where
-      by : (rest : PathNames) → drop (length (longest (is_directory_at layer) path)) path ≡ rest → Below (walk layer path) (walk layer (child_path path name)) name
-      by [] e =
-          let whole : longest (is_directory_at layer) path ≡ path = sym (append-nil (longest (is_directory_at layer) path)) ∙ (ap (λ (r : PathNames). longest (is_directory_at layer) path ++ r) (sym e) ∙ longest-rest (is_directory_at layer) path) in
-          let bad : false ≡ true = sym none ∙ (ap (is_directory_at layer) (sym whole) ∙ longest-holds (is_directory_at layer) path is.rooted) in cc
-      by (own ∷ rest) e =
-          let outer : walk layer path ≡ walk_from layer (longest (is_directory_at layer) path) (own ∷ rest) = ap (walk_from layer (longest (is_directory_at layer) path)) e in
-          let inner : walk layer (child_path path name) ≡ walk_from layer (longest (is_directory_at layer) path) (child_path (own ∷ rest) name) = inner_walk none ∙ ap (λ (r : PathNames). walk_from layer (longest (is_directory_at layer) path) (child_path r name)) e in
-          subst (λ (s : Step). Below s (walk layer (child_path path name)) name) (sym outer)
-          (subst (λ (s : Step). Below (walk_from layer (longest (is_directory_at layer) path) (own ∷ rest)) s name) (sym inner)
-          (beyond-child (entry_at layer (child_path (longest (is_directory_at layer) path) own)) (turn layer (longest (is_directory_at layer) path)) (is_shut layer (longest (is_directory_at layer) path)) own rest name))
-
   pub walk-child_none : is_directory_at layer path ≡ true → entry_at layer (child_path path name) ≡ None → walk layer (child_path path name) ≡ nothing_found (child_path (turn layer path) name) (is_shut layer path)
   walk-child_none holds none =
       walk-stop layer path name [] is holds (ap (λ (o : Option Inode). elim o as (λ _. Bool) [ Some inode ↦ is_directory inode | None ↦ false ]) none)
@@ -426,46 +384,6 @@ found-file inode (Meta (Some (To origin))) turned shut name = refl
 found-file inode (Meta (Some (Beside origin))) turned shut name = refl
 found-file inode _ turned shut name = refl
 
-module _ (layer : Entries) (path : PathNames) (name : PathName) (is : IsLayer layer) where
-  -- a walk that finds nothing and is open goes on by one more name
-  beyond-open : (found : Option Inode) (turned : PathNames) (shut : Bool) (own : PathName) (rest : PathNames) → (walk_beyond found turned shut own rest).found ≡ None → (walk_beyond found turned shut own rest).closed ≡ false
-      → walk_beyond found turned shut own (child_path rest name) ≡ nothing_found (child_path (walk_beyond found turned shut own rest).next name) false
-  beyond-open None turned shut own rest nothing opened =
-      λ j. nothing_found (sym (append_assoc turned (own ∷ rest) (name ∷ [])) j) (opened j)
-  beyond-open (Some inode) turned shut own (first ∷ rest) nothing opened = let bad : true ≡ false = opened in cc
-  beyond-open (Some inode) turned shut own [] nothing opened = by (is_whiteout inode) refl
-    where
-      by : (b : Bool) → is_whiteout inode ≡ b → walk_beyond (Some inode) turned shut own (child_path [] name) ≡ nothing_found (child_path (walk_beyond (Some inode) turned shut own []).next name) false
-      by true e =
-          let bad : true ≡ false = sym (ap (λ b. (cond b (nothing_found (child_path turned own) true) (walk_to_file inode (mark_of inode) turned shut own)).closed) e) ∙ opened in cc
-      by false e =
-          let bad : Some inode ≡ None = sym (ap (λ b. (cond b (nothing_found (child_path turned own) true) (walk_to_file inode (mark_of inode) turned shut own)).found) e ∙ found-file inode (mark_of inode) turned shut own) ∙ nothing in cc
-
-  pub walk-child_beyond : (walk layer path).found ≡ None → (walk layer path).closed ≡ false → walk layer (child_path path name) ≡ nothing_found (child_path (walk layer path).next name) false
-  walk-child_beyond nothing opened = at (is_directory_at layer path) refl
-    where
-      found_none : (o : Option Inode) → o ≡ None → directory_found o ≡ false
-      found_none o e = ap directory_found e
-
-      no_directory : (b : Bool) → is_directory_at layer path ≡ b → b ≡ false
-      no_directory true e = sym e ∙ ap directory_found (sym (ap (λ (s : Step). s.found) (walk-whole layer path e)) ∙ nothing)
-      no_directory false e = refl
-
-      by : is_directory_at layer path ≡ false → (rest : PathNames) → drop (length (longest (is_directory_at layer) path)) path ≡ rest → walk layer (child_path path name) ≡ nothing_found (child_path (walk layer path).next name) false
-      by none [] e =
-          let whole : longest (is_directory_at layer) path ≡ path = sym (append-nil (longest (is_directory_at layer) path)) ∙ (ap (λ (r : PathNames). longest (is_directory_at layer) path ++ r) (sym e) ∙ longest-rest (is_directory_at layer) path) in
-          let bad : false ≡ true = sym none ∙ (ap (is_directory_at layer) (sym whole) ∙ longest-holds (is_directory_at layer) path is.rooted) in cc
-      by none (own ∷ rest) e =
-          let d : PathNames = longest (is_directory_at layer) path in
-          let outer : walk layer path ≡ walk_beyond (entry_at layer (child_path d own)) (turn layer d) (is_shut layer d) own rest = ap (walk_from layer d) e in
-          let inner : walk layer (child_path path name) ≡ walk_beyond (entry_at layer (child_path d own)) (turn layer d) (is_shut layer d) own (child_path rest name) = inner_walk layer path name is none ∙ ap (λ (r : PathNames). walk_from layer d (child_path r name)) e in
-          inner
-          ∙ (beyond-open (entry_at layer (child_path d own)) (turn layer d) (is_shut layer d) own rest (ap (λ (s : Step). s.found) (sym outer) ∙ nothing) (ap (λ (s : Step). s.closed) (sym outer) ∙ opened)
-          ∙ ap (λ (s : Step). nothing_found (child_path s.next name) false) (sym outer))
-
-      at : (b : Bool) → is_directory_at layer path ≡ b → walk layer (child_path path name) ≡ nothing_found (child_path (walk layer path).next name) false
-      at b e = by (e ∙ no_directory b e) (drop (length (longest (is_directory_at layer) path)) path) refl
-
 pub file-found : (inode : Inode) (turned : PathNames) (shut : Bool) (own : PathName) → is_whiteout inode ≡ false → walk_beyond (Some inode) turned shut own [] ≡ walk_to_file inode (mark_of inode) turned shut own
 file-found inode turned shut own is = ap (λ b. cond b (nothing_found (child_path turned own) true) (walk_to_file inode (mark_of inode) turned shut own)) is
 
@@ -474,74 +392,6 @@ file-is_found inode turned shut own is = ap (λ (s : Step). s.found) (file-found
 
 pub whiteout-closes : (inode : Inode) (turned : PathNames) (shut : Bool) (own : PathName) → is_whiteout inode ≡ true → walk_beyond (Some inode) turned shut own [] ≡ nothing_found (child_path turned own) true
 whiteout-closes inode turned shut own is = ap (λ b. cond b (nothing_found (child_path turned own) true) (walk_to_file inode (mark_of inode) turned shut own)) is
-
-pub passes-over : (layer : Entries) (path : PathNames) (name : PathName) → IsLayer layer → (walk layer (child_path path name)).found ≡ None → (walk layer (child_path path name)).closed ≡ false → PassesOver layer path name
-passes-over layer path name is nothing opened = by (is_directory_at layer path) refl
-  where
-    outside : Below (walk layer path) (walk layer (child_path path name)) name → PassesOver layer path name
-    outside (none, inl closed) = let bad : true ≡ false = sym closed ∙ opened in cc
-    outside (none, inr (found, same, next)) = record { opened = sym same ∙ opened; next = next; passed = ap (is_directory_or_none) found }
-
-    passed_directory : (o : Option Inode) → directory_found o ≡ true → is_directory_or_none o ≡ true
-    passed_directory None e = refl
-    passed_directory (Some inode) e = e
-
-    inside : is_directory_at layer path ≡ true → (found : Option Inode) → entry_at layer (child_path path name) ≡ found → (b : Bool) → directory_found found ≡ b → PassesOver layer path name
-    inside above None here b d =
-        let step : walk layer (child_path path name) ≡ nothing_found (child_path (walk layer path).next name) (walk layer path).closed = walk-child_end layer path name is None above here refl [] in
-        record {
-          opened = ap (λ (s : Step). s.closed) (sym step) ∙ opened;
-          next = ap (λ (s : Step). s.next) step;
-          passed = ap (λ (s : Step). is_directory_or_none s.found) (walk-whole layer path above) ∙ passed_directory (entry_at layer path) above;
-        }
-    inside above (Some inode) here true d =
-        let bad : Some inode ≡ None = sym (ap (λ (s : Step). s.found) (walk-child_directory layer path name is inode here d)) ∙ nothing in cc
-    inside above (Some inode) here false d = white (is_whiteout inode) refl
-      where
-        step : walk layer (child_path path name) ≡ walk_beyond (Some inode) (walk layer path).next (walk layer path).closed name []
-        step = walk-child_end layer path name is (Some inode) above here d []
-
-        white : (b : Bool) → is_whiteout inode ≡ b → PassesOver layer path name
-        white true w =
-            let bad : true ≡ false = sym (ap (λ (s : Step). s.closed) (step ∙ whiteout-closes inode (walk layer path).next (walk layer path).closed name w)) ∙ opened in cc
-        white false w =
-            let bad : Some inode ≡ None = sym (ap (λ (s : Step). s.found) step ∙ file-is_found inode (walk layer path).next (walk layer path).closed name w) ∙ nothing in cc
-
-    by : (b : Bool) → is_directory_at layer path ≡ b → PassesOver layer path name
-    by true e = inside e (entry_at layer (child_path path name)) refl (directory_found (entry_at layer (child_path path name))) refl
-    by false e = outside (walk-below layer path name is e)
-
--- a file that is no metacopy file closes its walk
-other-closes : (inode : Inode) (mark : Mark) (turned : PathNames) (shut : Bool) (own : PathName) → is_metacopy_mark mark ≡ false → (walk_to_file inode mark turned shut own).closed ≡ true
-other-closes inode (Meta redirect) turned shut own e = let bad : true ≡ false = e in cc
-other-closes inode _ turned shut own e = refl
-
-pub found-closes : (layer : Entries) (path : PathNames) (inode : Inode) → IsLayer layer → (walk layer path).found ≡ Some inode → is_directory inode ≡ false → is_metacopy inode ≡ false → (walk layer path).closed ≡ true
-found-closes layer path inode is found none other = by (drop (length (longest (is_directory_at layer) path)) path) refl
-  where
-    beyond : (o : Option Inode) (turned : PathNames) (shut : Bool) (own : PathName) (rest : PathNames) → (walk_beyond o turned shut own rest).found ≡ Some inode → (walk_beyond o turned shut own rest).closed ≡ true
-    beyond None turned shut own rest f = let bad : None ≡ Some inode = f in cc
-    beyond (Some thing) turned shut own (first ∷ rest) f = refl
-    beyond (Some thing) turned shut own [] f = white (is_whiteout thing) refl (mark_of thing) refl
-      where
-        white : (b : Bool) → is_whiteout thing ≡ b → (mark : Mark) → mark_of thing ≡ mark → (walk_beyond (Some thing) turned shut own []).closed ≡ true
-        white true w mark k = ap (λ (s : Step). s.closed) (whiteout-closes thing turned shut own w)
-        white false w mark k =
-            let step = file-found thing turned shut own w in
-            let some : Some thing ≡ Some inode = sym (found-file thing (mark_of thing) turned shut own) ∙ (ap (λ (s : Step). s.found) (sym step) ∙ f) in
-            let same : thing ≡ inode = cc in
-            ap (λ (s : Step). s.closed) step ∙ other-closes thing (mark_of thing) turned shut own (ap is_metacopy same ∙ other)
-
-    by : (rest : PathNames) → drop (length (longest (is_directory_at layer) path)) path ≡ rest → (walk layer path).closed ≡ true
-    by [] e =
-        let whole_path : longest (is_directory_at layer) path ≡ path = sym (append-nil (longest (is_directory_at layer) path)) ∙ (ap (λ (r : PathNames). longest (is_directory_at layer) path ++ r) (sym e) ∙ longest-rest (is_directory_at layer) path) in
-        let holds : is_directory_at layer path ≡ true = ap (is_directory_at layer) (sym whole_path) ∙ longest-holds (is_directory_at layer) path is.rooted in
-        let here : entry_at layer path ≡ Some inode = sym (ap (λ (s : Step). s.found) (walk-whole layer path holds)) ∙ found in
-        let bad : true ≡ false = sym (ap directory_found (sym here) ∙ holds) ∙ none in cc
-    by (own ∷ rest) e =
-        let d : PathNames = longest (is_directory_at layer) path in
-        ap (λ (r : PathNames). (walk_from layer d r).closed) e
-        ∙ beyond (entry_at layer (child_path d own)) (turn layer d) (is_shut layer d) own rest (sym (ap (λ (r : PathNames). (walk_from layer d r).found) e) ∙ found)
 
 -- ---- what a walk finds is the entry at its path, and no whiteout
 
@@ -682,3 +532,143 @@ hides-alike layer path is = by (entry_at layer path) refl (walk layer path).foun
     by None e (Some inode) f = let bad : None ≡ Some inode = sym e ∙ (walk-finds layer path inode is f).0 in cc
     by (Some inode) e None f = sym (unfound-closed layer path inode is e f)
     by (Some inode) e (Some other) f = refl
+
+pub none-is : {X : Type 0} (o : Option X) → is_some o ≡ false → o ≡ None
+none-is None e = refl
+none-is (Some x) e = let bad : true ≡ false = e in cc
+
+-- ---- a walk that stops at a name in a directory
+
+module _ (layer : Entries) (is : IsLayer layer) (above : PathNames) (name : PathName) (holds : is_directory_at layer above ≡ true) (stops : is_directory_at layer (child_path above name) ≡ false) where
+  abbrev next : PathNames
+  next = (walk layer above).next
+
+  abbrev closed : Bool
+  closed = (walk layer above).closed
+
+  pub stop-walk : (found : Option Inode) → entry_at layer (child_path above name) ≡ found → (rest : PathNames) → walk layer (above ++ name ∷ rest) ≡ walk_beyond found next closed name rest
+  stop-walk found here rest = walk-child_end layer above name is found holds here (ap (λ (o : Option Inode). elim o as (λ _. Bool) [ Some inode ↦ is_directory inode | None ↦ false ]) (sym here) ∙ stops) rest
+
+  -- below that, nothing is found, and each path goes on by its own names
+  passed : (rest : PathNames) (own : PathName) (names : PathNames) → walk layer (above ++ name ∷ (rest ++ own ∷ names)) ≡ nothing_found (next ++ name ∷ (rest ++ own ∷ names)) (closed || is_some (entry_at layer (child_path above name)))
+  passed [] own names = walks-pass layer above name own is names holds stops
+  passed (first ∷ rest) own names = walks-pass layer above name first is (rest ++ own ∷ names) holds stops
+
+  nothing-there : entry_at layer (child_path above name) ≡ None → (rest : PathNames) → entry_at layer (above ++ name ∷ rest) ≡ None
+  nothing-there here [] = here
+  nothing-there here (other ∷ rest) = ap (entry_at layer) (sym (append_assoc above (name ∷ []) (other ∷ rest))) ∙ nothing-below layer (child_path above name) other rest is stops
+
+  ended : (found : Option Inode) → entry_at layer (child_path above name) ≡ found → (rest : PathNames) → (closed || is_some found) ≡ (is_some (entry_at layer (above ++ name ∷ rest)) || (walk layer (above ++ name ∷ rest)).closed)
+  ended None here rest = or-false closed ∙ sym (λ j. is_some (nothing-there here rest j) || (stop-walk None here rest j).closed)
+  ended (Some inode) here [] = or-true closed ∙ sym (ap (λ (o : Option Inode). is_some o || (walk layer (child_path above name)).closed) here)
+  ended (Some inode) here (other ∷ rest) =
+      or-true closed
+      ∙ sym (ap (λ (s : Step). is_some (entry_at layer (above ++ name ∷ other ∷ rest)) || s.closed) (stop-walk (Some inode) here (other ∷ rest)) ∙ or-true (is_some (entry_at layer (above ++ name ∷ other ∷ rest))))
+
+  goes : (found : Option Inode) → entry_at layer (child_path above name) ≡ found → (rest : PathNames) → (closed || is_some found) ≡ false → next ++ name ∷ rest ≡ (walk layer (above ++ name ∷ rest)).next
+  goes None here rest opened = ap (λ (s : Step). s.next) (sym (stop-walk None here rest))
+  goes (Some inode) here rest opened = let bad : true ≡ false = sym (or-true closed) ∙ opened in cc
+
+  -- the path by its names, past the directory
+  pub past-there : (found : Option Inode) → entry_at layer (child_path above name) ≡ found → (rest : PathNames) (hidden : Bool) → hidden ≡ (closed || is_some found) → IsPast layer (above ++ name ∷ rest) (next ++ name ∷ rest) hidden
+  past-there found here rest hidden told = record {
+    none = no-directory-below layer above name is stops rest;
+    ended = told ∙ ended found here rest;
+    next = λ opened. goes found here rest (sym told ∙ opened);
+    below = λ own names.
+        ap (walk layer) (append_assoc above (name ∷ rest) (own ∷ names))
+        ∙ (passed rest own names
+        ∙ (λ j. nothing_found (sym (append_assoc next (name ∷ rest) (own ∷ names)) j) ((ap (λ (o : Option Inode). closed || is_some o) here ∙ sym told) j)));
+  }
+
+-- where the walk of a path leads that goes beyond a directory
+pub past-beyond : (layer : Entries) (path : PathNames) → IsLayer layer → Beyond layer path → (onward : PathNames) × (hidden : Bool) × IsPast layer path onward hidden
+past-beyond layer path is b =
+    let found = entry_at layer (child_path b.directory b.name) in
+    let onward : PathNames = (walk layer b.directory).next ++ b.name ∷ b.rest in
+    let hidden : Bool = (walk layer b.directory).closed || is_some found in
+    (onward, hidden, subst (λ (p : PathNames). IsPast layer p onward hidden) b.whole (past-there layer is b.directory b.name b.holds b.stops found refl b.rest hidden refl))
+
+-- the same of each path that is no directory
+past-at : (layer : Entries) (path : PathNames) → IsLayer layer → is_directory_at layer path ≡ false → (onward : PathNames) × (hidden : Bool) × IsPast layer path onward hidden
+past-at layer path is none = by (walk-end layer path is)
+  where
+    by : (is_directory_at layer path ≡ true) ⊎ Beyond layer path → (onward : PathNames) × (hidden : Bool) × IsPast layer path onward hidden
+    by (inl holds) = let bad : true ≡ false = sym holds ∙ none in cc
+    by (inr b) = past-beyond layer path is b
+
+-- ---- one more name past that
+
+-- nothing is found with it, and the walk is closed, or goes on as the other does with that name
+abbrev pub Below : Step → Step → PathName → Type 0
+Below outer inner name = (inner.found ≡ None) × ((inner.closed ≡ true) ⊎ ((outer.found ≡ None) × (inner.closed ≡ outer.closed) × (inner.next ≡ child_path outer.next name)))
+
+module _ (layer : Entries) (path : PathNames) (name : PathName) (is : IsLayer layer) where
+  pub walk-below : is_directory_at layer path ≡ false → Below (walk layer path) (walk layer (child_path path name)) name
+  walk-below none = let past = past-at layer path is none in by past.0 past.1 past.2
+    where
+      passed : (found : Option Inode) (closed : Bool) → (is_some found || closed) ≡ false → (found ≡ None) × (closed ≡ false)
+      passed None closed e = (refl, e)
+      passed (Some inode) closed e = let bad : true ≡ false = e in cc
+
+      by : (onward : PathNames) (hidden : Bool) → IsPast layer path onward hidden → Below (walk layer path) (walk layer (child_path path name)) name
+      by onward true past = (ap (λ (s : Step). s.found) (past.below name []), inl (ap (λ (s : Step). s.closed) (past.below name [])))
+      by onward false past =
+          let step : walk layer (child_path path name) ≡ nothing_found (child_path onward name) false = past.below name [] in
+          let open_ = passed (walk layer path).found (walk layer path).closed (sym (past.ended ∙ hides-alike layer path is)) in
+          (ap (λ (s : Step). s.found) step, inr (open_.0, ap (λ (s : Step). s.closed) step ∙ sym open_.1, ap (λ (s : Step). s.next) step ∙ ap (λ (p : PathNames). child_path p name) (past.next refl)))
+
+  -- a walk that finds nothing and is open goes on by one more name
+  pub walk-child_beyond : (walk layer path).found ≡ None → (walk layer path).closed ≡ false → walk layer (child_path path name) ≡ nothing_found (child_path (walk layer path).next name) false
+  walk-child_beyond nothing opened =
+      let past = past-at layer path is (no_directory (is_directory_at layer path) refl) in
+      let shown : past.1 ≡ false = past.2.ended ∙ (hides-alike layer path is ∙ (λ j. is_some (nothing j) || opened j)) in
+      past.2.below name [] ∙ (λ j. nothing_found (child_path (past.2.next shown j) name) (shown j))
+    where
+      no_directory : (b : Bool) → is_directory_at layer path ≡ b → is_directory_at layer path ≡ false
+      no_directory false e = e
+      no_directory true e = let bad : true ≡ false = sym e ∙ ap directory_found (sym (ap (λ (s : Step). s.found) (walk-whole layer path e)) ∙ nothing) in cc
+
+pub passes-over : (layer : Entries) (path : PathNames) (name : PathName) → IsLayer layer → (walk layer (child_path path name)).found ≡ None → (walk layer (child_path path name)).closed ≡ false → PassesOver layer path name
+passes-over layer path name is nothing opened = by (is_directory_at layer path) refl
+  where
+    outside : Below (walk layer path) (walk layer (child_path path name)) name → PassesOver layer path name
+    outside (none, inl closed) = let bad : true ≡ false = sym closed ∙ opened in cc
+    outside (none, inr (found, same, next)) = record { opened = sym same ∙ opened; next = next; passed = ap (is_directory_or_none) found }
+
+    passed_directory : (o : Option Inode) → directory_found o ≡ true → is_directory_or_none o ≡ true
+    passed_directory None e = refl
+    passed_directory (Some inode) e = e
+
+    inside : is_directory_at layer path ≡ true → (found : Option Inode) → entry_at layer (child_path path name) ≡ found → PassesOver layer path name
+    inside above (Some inode) here = let bad : true ≡ false = sym (unfound-closed layer (child_path path name) inode is here nothing) ∙ opened in cc
+    inside above None here =
+        let step : walk layer (child_path path name) ≡ nothing_found (child_path (walk layer path).next name) (walk layer path).closed = walk-child_end layer path name is None above here refl [] in
+        record {
+          opened = ap (λ (s : Step). s.closed) (sym step) ∙ opened;
+          next = ap (λ (s : Step). s.next) step;
+          passed = ap (λ (s : Step). is_directory_or_none s.found) (walk-whole layer path above) ∙ passed_directory (entry_at layer path) above;
+        }
+
+    by : (b : Bool) → is_directory_at layer path ≡ b → PassesOver layer path name
+    by true e = inside e (entry_at layer (child_path path name)) refl
+    by false e = outside (walk-below layer path name is e)
+
+-- a file that is no metacopy file closes its walk
+other-closes : (mark : Mark) (name : PathName) (closed : Bool) → is_directory_mark mark ≡ false → is_metacopy_mark mark ≡ false → closed_on mark name closed ≡ true
+other-closes DirPlain name closed file other = let bad : true ≡ false = file in cc
+other-closes (DirMoved redirect) name closed file other = let bad : true ≡ false = file in cc
+other-closes (Meta redirect) name closed file other = let bad : true ≡ false = other in cc
+other-closes _ name closed file other = refl
+
+pub found-closes : (layer : Entries) (path : PathNames) (inode : Inode) → IsLayer layer → (walk layer path).found ≡ Some inode → is_directory inode ≡ false → is_metacopy inode ≡ false → (walk layer path).closed ≡ true
+found-closes layer path inode is found none other = by (last-name path)
+  where
+    here : (entry_at layer path ≡ Some inode) × (is_whiteout inode ≡ false)
+    here = walk-finds layer path inode is found
+
+    by : (path ≡ []) ⊎ ((directory : PathNames) × (name : PathName) × (path ≡ child_path directory name)) → (walk layer path).closed ≡ true
+    by (inl e) = let bad : false ≡ true = sym none ∙ (ap directory_found (sym here.0) ∙ (ap (is_directory_at layer) e ∙ is.rooted)) in cc
+    by (inr (directory, name, e)) =
+        ap (λ (s : Step). s.closed) (ap (walk layer) e ∙ walk-child layer directory name is inode (ap (entry_at layer) (sym e) ∙ here.0))
+        ∙ other-closes (mark_of inode) name (walk layer directory).closed (mark-directory inode here.1 ∙ none) other

@@ -20,10 +20,9 @@ use Rattle.ovl_lookup.specs.Passes.{IsPast, entered_path, entered_closed}
 use Rattle.ovl_lookup.specs.Views.{Reached, reached, is_reached, entry_in, entered, below_entry, reached_below, found_below}
 use Rattle.ovl_lookup.proofs.LawsOfPaths.{all-first, all-rest}
 use Rattle.ovl_lookup.proofs.LawsOfInodes.{directory-kind, directory-marked}
-use Rattle.ovl_lookup.proofs.LawsOfWalks.{Beyond, directory-entry, directory_found, entered-on, hides-alike, marked-whiteout, nothing-below, walk-child, walk-child_directory, walk-child_end, walk-end, walk-finds, walk-whole}
+use Rattle.ovl_lookup.proofs.LawsOfWalks.{Beyond, directory-entry, directory_found, entered-on, hides-alike, marked-whiteout, nothing-below, past-beyond, walk-child, walk-child_directory, walk-child_end, walk-end, walk-finds, walk-whole}
 use Rattle.ovl_lookup.proofs.LawsOfFound.{shown_of-full, things_found-step}
 use Rattle.ovl_lookup.proofs.LawsOfLooks.{file-shown, found-by, found_by}
-use Rattle.ovl_lookup.proofs.WalkFacts.{past-beyond}
 
 -- ---- the first of the layers from a number on
 

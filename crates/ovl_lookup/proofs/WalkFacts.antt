@@ -1,15 +1,14 @@
 -- How far a walk goes through directories of a layer, and where it ends.
-use Rattle.std.proofs.Common.{◌≡◌, ℕ, ◌+◌, ◌-◌, ◌<◌, ◌≤◌, Bool, true, false, cond, Option, Some, None, is_some, List, [], ◌∷◌, ◌++◌, length, take, drop, refl, sym, ap, ◌∙◌, subst, append_assoc, append-nil, length-drop, arith}
+use Rattle.std.proofs.Common.{◌≡◌, ℕ, ◌+◌, ◌-◌, ◌<◌, ◌≤◌, Bool, true, false, cond, Option, Some, None, is_some, List, [], ◌∷◌, ◌++◌, length, take, drop, refl, sym, ap, ◌∙◌, subst, append-nil, length-drop, arith}
 use Rattle.std.specs.Prelude.{◌||◌, unwrap_or, MatchOption}
 use Rattle.std.specs.Option.{option_map}
-use Rattle.std.proofs.Math.Bool.{or-true, or-false}
 use Rattle.std.proofs.Math.Seq.{take-length, drop-append_seam}
 use Rattle.ovl_names.specs.Names.{PathName}
 use Rattle.ovl_names.specs.Paths.{PathNames, child_path}
 use Rattle.ovl_inode.specs.declared.inodes.Inode.{Inode}
 use Rattle.ovl_inode.specs.declared.marks.Mark.{Mark}
 use Rattle.ovl_inode.specs.declared.marks.Mark.TheVariants.{DirPlain}
-use Rattle.ovl_inode.specs.Marks.{mark_of, is_directory, is_whiteout}
+use Rattle.ovl_inode.specs.Marks.{mark_of, is_whiteout}
 use Rattle.ovl_manifest.specs.Layers.{Entries, IsLayer, entry_at, is_directory_at}
 use Rattle.ovl_manifest.specs.LayerTrees.{entries_under}
 use Rattle.ovl_manifest.specs.Sheets.{path_at}
@@ -21,15 +20,11 @@ use Rattle.ovl_lookup.specs.declared.steps.OwnDirectory.{OwnDirectory}
 use Rattle.ovl_lookup.specs.declared.steps.Step.{Step}
 use Rattle.ovl_lookup.specs.Passes.{IsNumberAt, IsOwnDirectory, IsOwnEntry, IsStop, IsDescent, IsPast}
 use Rattle.ovl_lookup.proofs.LawsOfInodes.{is_directory_mark}
-use Rattle.ovl_lookup.proofs.LawsOfWalks.{Beyond, directory_found, entry-of_row, marked-directory, no-directory-below, nothing-below, own-mark, walk-child, walk-child_end, walk-whole, walks-pass}
+use Rattle.ovl_lookup.proofs.LawsOfWalks.{directory_found, entry-of_row, marked-directory, own-mark, past-there, stop-walk, walk-child, walk-whole}
 
 -- the rest of a list as a slice gives it
 pub take-rest : {X : Type 0} (xs : List X) (i : ℕ) → take (length xs - i) (drop i xs) ≡ drop i xs
 take-rest xs i = ap (λ n. take n (drop i xs)) (sym (length-drop i xs)) ∙ take-length (drop i xs)
-
-pub none-is : {X : Type 0} (o : Option X) → is_some o ≡ false → o ≡ None
-none-is None e = refl
-none-is (Some x) e = let bad : true ≡ false = e in cc
 
 -- the root
 pub root-own : (layer : Entries) → IsLayer layer → (row : ℕ) → row < length layer → path_at layer row ≡ [] → IsOwnDirectory layer [] (record { row = row; turned = None; closed = false })
@@ -81,58 +76,6 @@ sought layer above name row here (Some child) there = (there.0, there.1 ∙ ap (
 pub length-seam : (above : PathNames) (name : PathName) (rest : PathNames) → length (above ++ name ∷ rest) ≡ length above + 1 + length rest
 length-seam [] name rest = omega arith
 length-seam (own ∷ above) name rest = let later = length-seam above name rest in omega (arith, later)
-
--- ---- a walk that stops at a name in a directory
-
-module _ (layer : Entries) (is : IsLayer layer) (above : PathNames) (name : PathName) (holds : is_directory_at layer above ≡ true) (stops : is_directory_at layer (child_path above name) ≡ false) where
-  abbrev next : PathNames
-  next = (walk layer above).next
-
-  abbrev closed : Bool
-  closed = (walk layer above).closed
-
-  pub stop-walk : (found : Option Inode) → entry_at layer (child_path above name) ≡ found → (rest : PathNames) → walk layer (above ++ name ∷ rest) ≡ walk_beyond found next closed name rest
-  stop-walk found here rest = walk-child_end layer above name is found holds here (ap (λ (o : Option Inode). elim o as (λ _. Bool) [ Some inode ↦ is_directory inode | None ↦ false ]) (sym here) ∙ stops) rest
-
-  -- below that, nothing is found, and each path goes on by its own names
-  passed : (rest : PathNames) (own : PathName) (names : PathNames) → walk layer (above ++ name ∷ (rest ++ own ∷ names)) ≡ nothing_found (next ++ name ∷ (rest ++ own ∷ names)) (closed || is_some (entry_at layer (child_path above name)))
-  passed [] own names = walks-pass layer above name own is names holds stops
-  passed (first ∷ rest) own names = walks-pass layer above name first is (rest ++ own ∷ names) holds stops
-
-  nothing-there : entry_at layer (child_path above name) ≡ None → (rest : PathNames) → entry_at layer (above ++ name ∷ rest) ≡ None
-  nothing-there here [] = here
-  nothing-there here (other ∷ rest) = ap (entry_at layer) (sym (append_assoc above (name ∷ []) (other ∷ rest))) ∙ nothing-below layer (child_path above name) other rest is stops
-
-  ended : (found : Option Inode) → entry_at layer (child_path above name) ≡ found → (rest : PathNames) → (closed || is_some found) ≡ (is_some (entry_at layer (above ++ name ∷ rest)) || (walk layer (above ++ name ∷ rest)).closed)
-  ended None here rest = or-false closed ∙ sym (λ j. is_some (nothing-there here rest j) || (stop-walk None here rest j).closed)
-  ended (Some inode) here [] = or-true closed ∙ sym (ap (λ (o : Option Inode). is_some o || (walk layer (child_path above name)).closed) here)
-  ended (Some inode) here (other ∷ rest) =
-      or-true closed
-      ∙ sym (ap (λ (s : Step). is_some (entry_at layer (above ++ name ∷ other ∷ rest)) || s.closed) (stop-walk (Some inode) here (other ∷ rest)) ∙ or-true (is_some (entry_at layer (above ++ name ∷ other ∷ rest))))
-
-  goes : (found : Option Inode) → entry_at layer (child_path above name) ≡ found → (rest : PathNames) → (closed || is_some found) ≡ false → next ++ name ∷ rest ≡ (walk layer (above ++ name ∷ rest)).next
-  goes None here rest opened = ap (λ (s : Step). s.next) (sym (stop-walk None here rest))
-  goes (Some inode) here rest opened = let bad : true ≡ false = sym (or-true closed) ∙ opened in cc
-
-  -- the path by its names, past the directory
-  pub past-there : (found : Option Inode) → entry_at layer (child_path above name) ≡ found → (rest : PathNames) (hidden : Bool) → hidden ≡ (closed || is_some found) → IsPast layer (above ++ name ∷ rest) (next ++ name ∷ rest) hidden
-  past-there found here rest hidden told = record {
-    none = no-directory-below layer above name is stops rest;
-    ended = told ∙ ended found here rest;
-    next = λ opened. goes found here rest (sym told ∙ opened);
-    below = λ own names.
-        ap (walk layer) (append_assoc above (name ∷ rest) (own ∷ names))
-        ∙ (passed rest own names
-        ∙ (λ j. nothing_found (sym (append_assoc next (name ∷ rest) (own ∷ names)) j) ((ap (λ (o : Option Inode). closed || is_some o) here ∙ sym told) j)));
-  }
-
--- where the walk of a path leads that goes beyond a directory
-pub past-beyond : (layer : Entries) (path : PathNames) → IsLayer layer → Beyond layer path → (onward : PathNames) × (hidden : Bool) × IsPast layer path onward hidden
-past-beyond layer path is b =
-    let found = entry_at layer (child_path b.directory b.name) in
-    let onward : PathNames = (walk layer b.directory).next ++ b.name ∷ b.rest in
-    let hidden : Bool = (walk layer b.directory).closed || is_some found in
-    (onward, hidden, subst (λ (p : PathNames). IsPast layer p onward hidden) b.whole (past-there layer is b.directory b.name b.holds b.stops found refl b.rest hidden refl))
 
 -- ---- a descent
 

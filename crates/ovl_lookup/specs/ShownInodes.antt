@@ -1,5 +1,5 @@
 -- What a stack shows, as inodes.
-use Rattle.std.specs.Prelude.{◌*◌, Option, Some, None, List}
+use Rattle.std.specs.Prelude.{Option, Some, None, List}
 use Rattle.std.specs.List.{filter_map}
 use Rattle.std.specs.Option.{option_map}
 use Rattle.ovl_names.specs.Names.{PathName}

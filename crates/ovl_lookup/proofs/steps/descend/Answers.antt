@@ -5,8 +5,8 @@ use Rattle.ovl_names.specs.Paths.{PathNames, child_path}
 use Rattle.ovl_inode.specs.declared.marks.Mark.TheVariants.{DirPlain}
 use Rattle.ovl_manifest.specs.Layers.{Entries, is_directory_at}
 use Rattle.ovl_lookup.specs.Passes.{IsNumberAt, IsOwnDirectory}
-use Rattle.ovl_lookup.proofs.LawsOfWalks.{directory_found}
-use Rattle.ovl_lookup.proofs.WalkFacts.{none-is, plain-entered, root-own, sought, length-seam}
+use Rattle.ovl_lookup.proofs.LawsOfWalks.{directory_found, none-is}
+use Rattle.ovl_lookup.proofs.WalkFacts.{plain-entered, root-own, sought, length-seam}
 use Rattle.ovl_lookup.proofs.steps.descend.Goals.{in-DirPlain, in_default-matches}
 use Rattle.ovl_lookup.proofs.steps.descend.Goals as goal
 
