@@ -51,7 +51,7 @@ ln system/usr/bin/perl system/usr/bin/perl-again
 "$layers" mounted system > system.show
 umount system
 
-"$layers" flatten --stack upper filesystem.squashfs --out flat.squashfs
+"$layers" flatten --stack upper filesystem.squashfs --out flat.squashfs --compress gzip
 
 mount -t squashfs -o loop,ro flat.squashfs flat
 "$layers" mounted flat > flat.show
