@@ -92,6 +92,7 @@ class Room(FolderTest):
                 command = [sys.executable, "-B", str(COMMAND), *words, "--out", name]
                 result = subprocess.run(
                     command, capture_output=True, text=True, check=False, cwd=self.folder,
+                    env={**os.environ, "PATH": f"{self.folder}:{os.environ['PATH']}"},
                     preexec_fn=lambda: resource.setrlimit(resource.RLIMIT_FSIZE, (50_000, 50_000)),
                 )
                 told = f"layers: cannot write {name}: File too large\n"
