@@ -26,6 +26,7 @@ _ROOT = Path(__file__).resolve().parents[1]
 _BUILT = _ROOT / "crates" / PROGRAM / "out" / PROGRAM
 _SMALLEST = _ROOT / "examples" / "root.json"
 _MEMORY = 2_000_000_000  # bytes that a proof takes, some
+_JOBS = 4  # of which a proof gains
 _LOOK = 0.1  # seconds
 
 
@@ -94,9 +95,9 @@ class Proofs:
         return Proof(process, time.monotonic(), said)
 
     def _jobs(self, crate: Crate) -> list[str]:
-        """The longest chain gets as many jobs as `rt` gives a crate alone, and each beside it half of the processors."""
+        """The longest chain gets as many jobs as `rt` gives a crate alone, up to four; what is beside it gets fewer."""
         longest = all(self._crates[it].chain <= crate.chain for it in self._running)
-        return [] if longest else ["--jobs", str(max(self._processors // 2, 1))]
+        return [] if longest else ["--jobs", str(jobs_beside(self._processors))]
 
     def _look(self) -> None:
         """Takes notice of proofs that have ended."""
@@ -105,11 +106,11 @@ class Proofs:
             if status is None:
                 continue
             del self._running[name]
-            if status == 0:
-                self._tell_proved(name, proof)
-            else:
+            if status != 0:
                 self._tell_failed(name, proof, status)
             self._copies.take_back(name)
+            if status == 0:
+                self._tell_proved(name, proof)
 
     def _tell_proved(self, name: str, proof: Proof) -> None:
         del self._left[name]
@@ -138,6 +139,11 @@ def places(processors: int) -> int:
     found = re.search(r"^MemAvailable: *(\d+) kB$", text, re.MULTILINE)
     free = int(found[1]) * 1024 if found else _MEMORY
     return max(min(processors, free // _MEMORY), 1)
+
+
+def jobs_beside(processors: int) -> int:
+    """How many jobs a proof gets that isn't of the longest chain."""
+    return max(min(processors // 2, _JOBS), 1)
 
 
 def look_for_signals() -> None:

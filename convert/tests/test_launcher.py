@@ -172,7 +172,7 @@ class Build(Making):
         status, _, told = self.run_launcher("show")
         self.assertEqual(status, 0, told)
         self.assertEqual([self.asked(it) for it in ("low", "left", "high")], ["lib"] * 3)
-        self.assertEqual(self.asked("right"), f"lib --jobs {max(len(os.sched_getaffinity(0)) // 2, 1)}")
+        self.assertEqual(self.asked("right"), f"lib --jobs {max(min(len(os.sched_getaffinity(0)) // 2, 4), 1)}")
 
     def test_little_memory(self) -> None:
         file = Path(self.path("launch", "prove.py"))
