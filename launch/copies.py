@@ -33,10 +33,11 @@ class Copies:
         copy = self._folder / name
         below = self._crates[name].below
         for it in (*below, name):
-            _link(self._folder / _SOURCES / "crates" / it, copy / "crates" / it)
+            _link(self._folder / _SOURCES / it, copy / "crates" / it)
         for it in below:
             _link(_out(self._root, it) / "rlib", _out(copy, it) / "rlib")
-        shutil.copy2(self._folder / _SOURCES / LIST, copy / LIST)
+        lines = (f"{self._crates[it].line}\n" for it in (*below, name))
+        (copy / LIST).write_text("".join(lines), encoding="utf-8")
         out = _out(copy, name)
         out.mkdir()
         for part in _KEPT:
@@ -68,13 +69,10 @@ class Copies:
         shutil.rmtree(self._folder, ignore_errors=True)
 
     def _copy_sources(self) -> None:
-        sources = self._folder / _SOURCES
-        sources.mkdir(parents=True)
-        shutil.copy2(self._root / LIST, sources / LIST)
         for name in self._crates:
             for part in PARTS:
                 if (self._root / "crates" / name / part).exists():
-                    shutil.copytree(self._root / "crates" / name / part, sources / "crates" / name / part)
+                    shutil.copytree(self._root / "crates" / name / part, self._folder / _SOURCES / name / part)
 
 
 def _out(root: Path, name: str) -> Path:

@@ -144,8 +144,8 @@ class Making(LauncherTest):
         self.wait_until(lambda: not os.path.exists(f"/proc/{process}"))
 
     def edit(self, name: str) -> None:
-        """Makes a source newer than all else."""
-        os.utime(self.source(name), (time.time() + 1, time.time() + 1))
+        """Makes a source newer than what was begun before."""
+        os.utime(self.source(name))
 
 
 class Build(Making):
