@@ -8,11 +8,10 @@ ghost use Rattle.ovl_flatten.specs.Limits.{PassesLimit};
 ghost use Rattle.ovl_engine.specs.declared.requests.Command.TheVariants.{Flatten};
 ghost use Rattle.ovl_engine.specs.FsckReports.{is_clean};
 ghost use Rattle.ovl_engine.specs.Outcomes.{IsFailure, IsRun, MayRefuseOwn};
-ghost use Rattle.ovl_engine.specs.LayerReports.{layer_report};
+ghost use Rattle.ovl_reports.specs.LayerReports.{layer_report};
 ghost use Rattle.ovl_engine.specs.Kept.{KeepsTreeOf, KeepsSoundness, IsQuietOf};
 
 use crate::faults::EngineFault;
-use crate::layer_reports::layer_report_of;
 use crate::requests::Answer;
 use crate::rewrites::{expect_clean, rewritten};
 use crate::stacks::let_go;
@@ -24,6 +23,7 @@ use ovl_flatten::laws::{flatten_has_no_marks, flatten_is_sound, flatten_keeps_th
 use ovl_lookup::Stack;
 use ovl_manifest::Layer;
 use ovl_pool::Gate;
+use ovl_reports::layer_report_of;
 use std::alloc::AllocError;
 use std::sync::Wait;
 use std::thread::Threads;

@@ -21,7 +21,7 @@ use Rattle.ovl_board.specs.declared.pieces.Piece.{Piece}
 use Rattle.ovl_board.specs.Pieces.{IsBefore, IsOneBelow, HasLawfulKids}
 use Rattle.ovl_board.proofs.LawsOfMembers.{In, Rises, All-Every, AllPairs-Rises}
 use Rattle.ovl_board.proofs.LawsOfPieces.{fork_before}
-use Rattle.ovl_engine.specs.Directories.{HasAllNames, NamedLook, named_look, looks_in, piece_in, show_kids, show_depth}
+use Rattle.ovl_reports.specs.Directories.{HasAllNames, NamedLook, named_look, looks_in, piece_in, show_kids, show_depth}
 
 -- ---- directories without names
 

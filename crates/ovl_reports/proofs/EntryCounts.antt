@@ -13,13 +13,13 @@ use Rattle.ovl_lookup.specs.Passes.{kids_along}
 use Rattle.ovl_board.specs.declared.pieces.Piece.{Piece}
 use Rattle.ovl_board.specs.Walks.{preorder}
 use Rattle.ovl_board.specs.Parcels.{ParcelView}
-use Rattle.ovl_engine.specs.Directories.{NamedLook, ShowParcel, named_look, looks_in, piece_in, directories_in, show_kids, show_root, IsShowWalk}
-use Rattle.ovl_engine.specs.Listings.{merged_tree}
-use Rattle.ovl_engine.specs.Outcomes.{IsShowReport}
-use Rattle.ovl_engine.specs.Reports.{show_line}
-use Rattle.ovl_engine.proofs.DirectoryLemmas.{none_deepest, none_elsewhere}
-use Rattle.ovl_engine.proofs.ListingLemmas.{views_of}
-use Rattle.ovl_engine.proofs.MergedLemmas.{at, with_look, paths_from, below, own, tree_paths, tree_merged, views_are}
+use Rattle.ovl_reports.specs.Directories.{NamedLook, ShowParcel, named_look, looks_in, piece_in, directories_in, show_kids, show_root, IsShowWalk}
+use Rattle.ovl_reports.specs.Listings.{merged_tree}
+use Rattle.ovl_reports.specs.Listings.{IsShowReport}
+use Rattle.ovl_reports.specs.Reports.{show_line}
+use Rattle.ovl_reports.proofs.DirectoryLemmas.{none_deepest, none_elsewhere}
+use Rattle.ovl_reports.proofs.ListingLemmas.{views_of}
+use Rattle.ovl_reports.proofs.MergedLemmas.{at, with_look, paths_from, below, own, tree_paths, tree_merged, views_are}
 
 sum_by-map : {X Y : Type 0} (f : Y → ℕ) (g : X → Y) (xs : List X) → sum_by f (map g xs) ≡ sum_by (λ x. f (g x)) xs
 sum_by-map f g [] = refl

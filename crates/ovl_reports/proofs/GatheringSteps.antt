@@ -8,10 +8,10 @@ use Rattle.ovl_manifest.specs.Layers.{IsLayer}
 use Rattle.ovl_lookup.specs.declared.looks.Look.{Look}
 use Rattle.ovl_lookup.specs.Stacks.{StackView}
 use Rattle.ovl_lookup.specs.Merged.{IsMerged, look, is_shown_directory}
-use Rattle.ovl_engine.specs.declared.works.OpenDirectory.{OpenDirectory}
-use Rattle.ovl_engine.specs.Directories.{NamedLook, ShowParcel, IsShowWalk}
-use Rattle.ovl_engine.proofs.MergedLemmas.{with_look}
-use Rattle.ovl_engine.proofs.ListingLemmas.{OpenView, IsTold, all_paths, views_of, opened_by, told_some, left-exhausted, left-look, left-told, left-entered, left-first, told-last}
+use Rattle.ovl_reports.specs.declared.works.OpenDirectory.{OpenDirectory}
+use Rattle.ovl_reports.specs.Directories.{NamedLook, ShowParcel, IsShowWalk}
+use Rattle.ovl_reports.proofs.MergedLemmas.{with_look}
+use Rattle.ovl_reports.proofs.ListingLemmas.{OpenView, IsTold, all_paths, views_of, opened_by, told_some, left-exhausted, left-look, left-told, left-entered, left-first, told-last}
 
 abbrev Looks : Type 0
 Looks = List (PathNames × Look)

@@ -11,9 +11,9 @@ use Rattle.ovl_inode.specs.Marks.{mark_of}
 use Rattle.ovl_manifest.specs.Layers.{Entry, Entries}
 use Rattle.ovl_manifest.specs.LayerTrees.{NodeView, under, entries_from, entries_of_nodes}
 use Rattle.ovl_manifest.proofs.NodeLemmas.{entries_of_nodes-more}
-use Rattle.ovl_engine.specs.Reports.{shown_names}
-use Rattle.ovl_engine.specs.LayerReports.{marked_line, entry_line}
-use Rattle.ovl_engine.proofs.ListingSteps.{shown-child}
+use Rattle.ovl_reports.specs.Reports.{shown_names}
+use Rattle.ovl_reports.specs.LayerReports.{marked_line, entry_line}
+use Rattle.ovl_reports.proofs.ListingSteps.{shown-child}
 
 -- a node has fewer entries below it than its directory
 pub fewer_below : (nodes : List NodeView) (k : ℕ) (node : NodeView) → k < length nodes → node ≡ get_or nodes k node → length node.below < length (entries_of_nodes nodes)

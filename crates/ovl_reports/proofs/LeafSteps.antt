@@ -5,8 +5,8 @@ use Rattle.std.proofs.lemmas.List.{drop-append-le, drop_all}
 use Rattle.std.proofs.lemmas.List.Concat.{flat_map-append}
 use Rattle.std.proofs.lemmas.List.Elements.{All-push}
 use Rattle.ovl_lookup.specs.Merged.{is_shown_directory}
-use Rattle.ovl_engine.specs.Directories.{NamedLook}
-use Rattle.ovl_engine.specs.Listings.{TellsLeaves, name_line}
+use Rattle.ovl_reports.specs.Directories.{NamedLook}
+use Rattle.ovl_reports.specs.Listings.{TellsLeaves, name_line}
 
 abbrev IsLeaf : NamedLook → Type 0
 IsLeaf entry = is_shown_directory entry.1 ≡ false

@@ -15,12 +15,12 @@ use Rattle.ovl_manifest.specs.Layers.{IsLayer}
 use Rattle.ovl_lookup.specs.Stacks.{StackView}
 use Rattle.ovl_lookup.specs.Merged.{is_shown_directory}
 use Rattle.ovl_board.proofs.LawsOfMembers.{Every}
-use Rattle.ovl_engine.specs.declared.listings.Open.{Open}
-use Rattle.ovl_engine.specs.Directories.{NamedLook, ShowParcel, IsShowWalk}
-use Rattle.ovl_engine.specs.Reports.{look_line, show_line, shown_names}
-use Rattle.ovl_engine.specs.Listings.{TellsLeaves, name_line, merged_tree}
-use Rattle.ovl_engine.proofs.MergedLemmas.{with_look, tree_paths}
-use Rattle.ovl_engine.proofs.ListingLemmas.{OpenView, IsTold, stacked, paths_left, all_paths, views_of, left-exhausted, left-look, left-told, next-path, left-entered, first-path, left-first, every-front, every-last, every-push}
+use Rattle.ovl_reports.specs.declared.listings.Open.{Open}
+use Rattle.ovl_reports.specs.Directories.{NamedLook, ShowParcel, IsShowWalk}
+use Rattle.ovl_reports.specs.Reports.{look_line, show_line, shown_names}
+use Rattle.ovl_reports.specs.Listings.{TellsLeaves, name_line, merged_tree}
+use Rattle.ovl_reports.proofs.MergedLemmas.{with_look, tree_paths}
+use Rattle.ovl_reports.proofs.ListingLemmas.{OpenView, IsTold, stacked, paths_left, all_paths, views_of, left-exhausted, left-look, left-told, next-path, left-entered, first-path, left-first, every-front, every-last, every-push}
 
 abbrev pub view : Open → OpenView
 view o = (o.parcel.now.piece.dir, drop o.told o.parcel.now.out.items)

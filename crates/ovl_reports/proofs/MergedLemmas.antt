@@ -14,8 +14,8 @@ use Rattle.ovl_board.specs.declared.pieces.Piece.{Piece}
 use Rattle.ovl_board.specs.Walks.{preorder}
 use Rattle.ovl_board.specs.Parcels.{ParcelView, own_view}
 use Rattle.ovl_board.proofs.LawsOfWalks.{IsPlain-from_preorder, HasReachedPieces-holds}
-use Rattle.ovl_engine.specs.Directories.{NamedLook, show_kids, show_out, show_root, IsShowWalk}
-use Rattle.ovl_engine.proofs.DirectoryLemmas.{kids_lawful}
+use Rattle.ovl_reports.specs.Directories.{NamedLook, show_kids, show_out, show_root, IsShowWalk}
+use Rattle.ovl_reports.proofs.DirectoryLemmas.{kids_lawful}
 
 abbrev Looks : Type 0
 Looks = List (PathNames × Look)

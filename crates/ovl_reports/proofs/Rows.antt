@@ -9,7 +9,7 @@ use Rattle.ovl_inode.specs.declared.inodes.Kind.{Kind}
 use Rattle.ovl_inode.specs.declared.inodes.Kind.TheVariants.{Dir, File, Symlink, Char, Block}
 use Rattle.ovl_lookup.specs.declared.looks.Look.{Look}
 use Rattle.ovl_lookup.specs.declared.looks.Look.TheVariants.{Shown}
-use Rattle.ovl_engine.specs.Reports.{octal, inode_line, show_report}
+use Rattle.ovl_reports.specs.Reports.{octal, inode_line, show_report}
 
 -- an inode of user, group and time 0
 abbrev inode : Kind → ℕ → Attributes → Inode

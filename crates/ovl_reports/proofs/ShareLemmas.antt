@@ -6,7 +6,7 @@ use Rattle.std.specs.Fork.{slice_chunk}
 use Rattle.std.specs.List.{flat_map}
 use Rattle.std.proofs.lemmas.List.{take-take, drop-take, take-append-drop, take_more, take_all, get_or-map, length-map}
 use Rattle.std.proofs.lemmas.List.Concat.{flat_map-append}
-use Rattle.ovl_engine.specs.Shares.{AreJoined}
+use Rattle.ovl_reports.specs.Shares.{AreJoined}
 
 -- one share more
 pub share_here : {X : Type 0} (xs : List X) (size n : ℕ) → take (suc n * size) xs ≡ take (n * size) xs ++ slice_chunk xs size n

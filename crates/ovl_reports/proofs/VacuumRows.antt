@@ -2,7 +2,7 @@
 use Rattle.std.specs.Prelude.{◌≡◌, [], ◌∷◌, codes, refl}
 use Rattle.std.specs.Fmt.{digits}
 use Rattle.hex.specs.Hex.{encode_with}
-use Rattle.ovl_engine.specs.VacuumReports.{vacuum_report}
+use Rattle.ovl_reports.specs.VacuumReports.{vacuum_report}
 
 nothing_removed : vacuum_report [] 1 ≡ codes "removed 0 kept 1\n"
 unfolding digits

@@ -6,15 +6,21 @@ use Rattle.ovl_names.specs.Escapes.{escaped}
 use Rattle.ovl_manifest.specs.Layers.{IsLayer}
 use Rattle.ovl_lookup.specs.declared.looks.Look.{Look}
 use Rattle.ovl_lookup.specs.Stacks.{StackView}
-use Rattle.ovl_lookup.specs.Merged.{look, is_shown_directory}
+use Rattle.ovl_lookup.specs.Merged.{IsMerged, look, is_shown_directory}
 use Rattle.ovl_lookup.specs.Passes.{looks_from, looks_placed}
 use Rattle.ovl_board.specs.Parcels.{ParcelView}
-use Rattle.ovl_engine.specs.Directories.{NamedLook, IsShowWalk}
-use Rattle.ovl_engine.specs.Reports.{look_line}
+use Rattle.ovl_reports.specs.Directories.{NamedLook, IsShowWalk}
+use Rattle.ovl_reports.specs.Reports.{look_line, show_report}
 
 -- the paths of the merged tree of a stack, in order, `/` first, each with what is shown there
 abbrev pub merged_tree : StackView → List (PathNames × Look)
 merged_tree stack = looks_placed [] (looks_from (depth_limit * length stack.layers + 1) stack [])
+
+-- the report of `show` over this stack is that of its merged tree
+pub record IsShowReport (stack : StackView) (report : List ℕ) : Type 0 where
+  pub looks : List (PathNames × Look)
+  pub merged : IsMerged stack looks
+  pub printed : report ≡ show_report looks
 
 -- this is what the stack shows at `/`, and these are the parcels of the walk over its merged tree
 pub record IsTreeOf (stack : StackView) (root : Look) (parcels : List (ParcelView (List NamedLook))) : Type 0 where

@@ -3,7 +3,7 @@ use Rattle.std.specs.Prelude.{ℕ, List, ◌++◌, length, decimal, codes}
 use Rattle.std.specs.List.{flat_map}
 use Rattle.ovl_names.specs.Paths.{PathNames}
 use Rattle.ovl_names.specs.Escapes.{shown_path}
-use Rattle.ovl_engine.specs.Reports.{spaced}
+use Rattle.ovl_reports.specs.Reports.{spaced}
 
 -- `removed PATH`
 abbrev pub removed_line : PathNames → List ℕ

@@ -4,8 +4,8 @@ ghost use Rattle.ovl_names.specs.Escapes.{escaped};
 ghost use Rattle.ovl_names.specs.Paths.{PathNames, child_path};
 ghost use Rattle.ovl_inode.specs.Marks.{mark_of as mark_of_inode};
 ghost use Rattle.ovl_manifest.specs.LayerTrees.{entries_from, placed};
-ghost use Rattle.ovl_engine.specs.LayerReports.{mark_word as the_mark_word, redirect_word, redirect_end, marked_line, entry_line, layer_report};
-ghost use Rattle.ovl_engine.specs.Reports.{shown_names};
+ghost use Rattle.ovl_reports.specs.LayerReports.{mark_word as the_mark_word, redirect_word, redirect_end, marked_line, entry_line, layer_report};
+ghost use Rattle.ovl_reports.specs.Reports.{shown_names};
 ghost use Rattle.ovl_manifest.specs.Layers.{IsLayer};
 
 use crate::listings::{one_more, push_place, text_of};
@@ -17,7 +17,7 @@ use std::alloc::{AllocError, Global};
 
 /// The report of a new layer: a line for each entry below its root, in their order, by what it means to the overlay, and
 /// the number of all entries. Fails only when out of memory.
-pub(crate) fn layer_report_of(alloc: Global, layer: &Layer) -> Result<Vec<u8>, AllocError>
+pub fn layer_report_of(alloc: Global, layer: &Layer) -> Result<Vec<u8>, AllocError>
     ensures value { IfOk result (λ report. report.items ≡ layer_report layer.now) }
     ensures layer { OnOk result (IsLayer layer.now) }
 {
@@ -53,7 +53,7 @@ fn push_under(
 }
 
 /// The number of all entries of a layer. Memory can't hold as many as have none.
-pub(crate) fn entry_count(layer: &Layer) -> Result<u64, AllocError>
+pub fn entry_count(layer: &Layer) -> Result<u64, AllocError>
     ensures { IfOk result (λ count. count ≡ length layer.now) }
 {
     let mut entries = 1;

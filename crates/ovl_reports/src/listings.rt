@@ -4,12 +4,11 @@ ghost use Rattle.std.specs.List.{flat_map, sum_by};
 ghost use Rattle.ovl_names.specs.Escapes.{escaped as escaped_text};
 ghost use Rattle.ovl_lookup.specs.Stacks.{StackView};
 ghost use Rattle.ovl_board.specs.Parcels.{parcel_views};
-ghost use Rattle.ovl_engine.specs.declared.listings.Open.{Open};
-ghost use Rattle.ovl_engine.specs.Directories.{ShowParcel, IsShowWalk};
-ghost use Rattle.ovl_engine.specs.Listings.{IsTreeOf, StartsAtDirectory, TellsLeaves, merged_tree};
-ghost use Rattle.ovl_engine.specs.Reports.{line_of, look_line, show_line};
-ghost use Rattle.ovl_engine.specs.Outcomes.{IsShowReport};
-ghost use Rattle.ovl_engine.specs.Shares.{AreJoined};
+ghost use Rattle.ovl_reports.specs.declared.listings.Open.{Open};
+ghost use Rattle.ovl_reports.specs.Directories.{ShowParcel, IsShowWalk};
+ghost use Rattle.ovl_reports.specs.Listings.{IsShowReport, IsTreeOf, StartsAtDirectory, TellsLeaves, merged_tree};
+ghost use Rattle.ovl_reports.specs.Reports.{line_of, look_line, show_line};
+ghost use Rattle.ovl_reports.specs.Shares.{AreJoined};
 
 use crate::reports::{push_attributes, push_contents, push_count, push_name, push_status};
 use crate::shares::{joined, share_of, side_by_side};
@@ -56,7 +55,7 @@ fn report_of_tree(
 
 /// The report of `show` by what is shown at `/` and the parcels of the walk, written by at most as many threads as there
 /// are workers: each writes a share of the lines. The parcels are let go while these are put together.
-pub(crate) fn report_by<R: Threads + Sync>(
+pub fn report_by<R: Threads + Sync>(
     rt: &R,
     alloc: Global,
     root: &Look,

@@ -2,7 +2,7 @@ ghost use Rattle.std.specs.Prelude.{◌≡◌, ◌+◌, ◌%◌, ◌++◌, IfOk,
 ghost use Rattle.std.specs.List.{flat_map};
 ghost use Rattle.ovl_names.specs.Escapes.{escaped as escaped_text, shown_path};
 ghost use Rattle.ovl_inode.specs.Kinds.{kind_word};
-ghost use Rattle.ovl_engine.specs.Reports.{octal_digit as last_digit, octal, size_word, blob_word, device_word, what_word, attribute_word, nine_digits as nine_digits_of, time_word, spaced, inode_line, show_report};
+ghost use Rattle.ovl_reports.specs.Reports.{octal_digit as last_digit, octal, size_word, blob_word, device_word, what_word, attribute_word, nine_digits as nine_digits_of, time_word, spaced, inode_line, show_report};
 
 use ovl_inode::{Attrs, Digest, Inode, Kind};
 use ovl_lookup::Look;
@@ -65,7 +65,8 @@ pub(crate) fn push_status(report: &mut String, inode: &Inode) -> Result<(), Allo
     push_time(report, inode.mtime, inode.nsec)
 }
 
-pub(crate) fn push_word(report: &mut String, word: &str) -> Result<(), AllocError>
+/// Appends a word, and a space after it. Fails only when out of memory.
+pub fn push_word(report: &mut String, word: &str) -> Result<(), AllocError>
     ensures { OnOk result (string_bytes report.new ≡ string_bytes report.old ++ spaced word.now) }
 {
     report.push_str(word)?;
@@ -120,9 +121,11 @@ fn octal_digit(number: u16) -> char
     (b'0' + (number % 8) as u8) as char
 }
 
+/// Appends a number in decimal digits. Fails only when out of memory.
+/// Appends a number in decimal digits. Fails only when out of memory.
 // Many numbers have one digit, as those of root: it needs no buffer.
 #[tactic(auto, using(std::proofs::lemmas::Fmt::decimal_digit, std::proofs::lemmas::Grind::common_steps))]
-pub(crate) fn push_number(report: &mut String, number: u64) -> Result<(), AllocError>
+pub fn push_number(report: &mut String, number: u64) -> Result<(), AllocError>
     ensures { OnOk result (string_bytes report.new ≡ string_bytes report.old ++ decimal number) }
 {
     if number < 10 {
@@ -131,8 +134,8 @@ pub(crate) fn push_number(report: &mut String, number: u64) -> Result<(), AllocE
     report.push_str(itoa::Buffer::new().format(number))
 }
 
-// A number, and a space after it.
-pub(crate) fn push_number_word(report: &mut String, number: u64) -> Result<(), AllocError>
+/// Appends a number, and a space after it. Fails only when out of memory.
+pub fn push_number_word(report: &mut String, number: u64) -> Result<(), AllocError>
     ensures { OnOk result (string_bytes report.new ≡ string_bytes report.old ++ spaced (decimal number)) }
 {
     push_number(report, number)?;
@@ -212,8 +215,8 @@ pub(crate) fn push_path(alloc: Global, report: &mut String, path: &Path) -> Resu
     Ok(())
 }
 
-// A name of a path, and `/` before it.
-pub(crate) fn push_name(alloc: Global, report: &mut String, name: &str) -> Result<(), AllocError>
+/// Appends a name of a path, and `/` before it. Fails only when out of memory.
+pub fn push_name(alloc: Global, report: &mut String, name: &str) -> Result<(), AllocError>
     ensures { OnOk result (string_bytes report.new ≡ string_bytes report.old ++ (codes "/" ++ escaped_text name.now)) }
 {
     report.push_str("/")?;

@@ -1,7 +1,7 @@
 //! Texts of which several threads write a share each, and work of two parts that are done side by side.
 ghost use Rattle.std.specs.Prelude.{◌≡◌, ◌<◌, ◌≤◌, ◌*◌, ◌++◌, IfOk, Ok, map, string_bytes};
 ghost use Rattle.std.specs.List.{flat_map};
-ghost use Rattle.ovl_engine.specs.Shares.{AreJoined, least_share};
+ghost use Rattle.ovl_reports.specs.Shares.{AreJoined, least_share};
 
 use std::alloc::{AllocError, Global};
 use std::thread::{Threads, join};
@@ -13,7 +13,7 @@ const LAST_LINE: usize = 64;
 
 /// How many lines a thread writes, where so many lines are shared by so many workers: no more threads are needed than there
 /// are workers, and none for few lines or one worker.
-pub(crate) fn share_of(lines: usize, workers: usize) -> usize
+pub fn share_of(lines: usize, workers: usize) -> usize
     requires { 0 < workers }
     ensures some { 0 < result }
     ensures least { least_share ≤ result }
@@ -23,7 +23,7 @@ pub(crate) fn share_of(lines: usize, workers: usize) -> usize
 }
 
 /// What two parts of work give: side by side where there are several workers, else one after the other.
-pub(crate) fn side_by_side<R: Threads, F: FnOnce() -> A + Send, G: FnOnce() -> B, A: Send, B>(
+pub fn side_by_side<R: Threads, F: FnOnce() -> A + Send, G: FnOnce() -> B, A: Send, B>(
     rt: &R,
     workers: usize,
     first: F,
@@ -40,8 +40,8 @@ pub(crate) fn side_by_side<R: Threads, F: FnOnce() -> A + Send, G: FnOnce() -> B
     }
 }
 
-/// The texts of all shares one after another, or the first fault.
-pub(crate) fn joined(
+/// The texts of all shares one after another, or the first fault. Fails too when out of memory. Fails too when out of memory.
+pub fn joined(
     alloc: Global,
     parts: Vec<Result<String, AllocError>>,
 ) -> Result<String, AllocError>

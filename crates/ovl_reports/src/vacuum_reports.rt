@@ -1,5 +1,5 @@
 ghost use Rattle.std.specs.Prelude.{◌≡◌, ◌++◌, IfOk, OnOk, string_bytes};
-ghost use Rattle.ovl_engine.specs.VacuumReports.{removed_line, vacuum_report};
+ghost use Rattle.ovl_reports.specs.VacuumReports.{removed_line, vacuum_report};
 
 use crate::reports::{push_number, push_path, push_word};
 use ovl_names::Path;
@@ -7,7 +7,7 @@ use std::alloc::{AllocError, Global};
 
 /// The report of `vacuum`: a line for each path that is removed, in their order, how many these are, and how many
 /// entries are kept. Fails only when out of memory.
-pub(crate) fn vacuum_report_of(
+pub fn vacuum_report_of(
     alloc: Global,
     removed: &[Path],
     kept: u64,

@@ -4,8 +4,8 @@ ghost use Rattle.ovl_names.specs.Paths.{child_path};
 ghost use Rattle.ovl_manifest.specs.Layers.{IsLayer};
 ghost use Rattle.ovl_lookup.specs.Merged.{look as the_look, IsMerged};
 ghost use Rattle.ovl_board.specs.Parcels.{parcel_views};
-ghost use Rattle.ovl_engine.specs.declared.works.OpenDirectory.{OpenDirectory};
-ghost use Rattle.ovl_engine.specs.Directories.{HasAllNames, ShowParcel, IsShowWalk, looks_in, directories_in as the_directories_in};
+ghost use Rattle.ovl_reports.specs.declared.works.OpenDirectory.{OpenDirectory};
+ghost use Rattle.ovl_reports.specs.Directories.{HasAllNames, ShowParcel, IsShowWalk, looks_in, directories_in as the_directories_in};
 
 use ovl_board::{Parcel, Piece, Work};
 use ovl_lookup::{DirView, Look, Stack};
@@ -40,8 +40,8 @@ impl<'a> ShowWork<'a> {
         ShowWork { stack }
     }
 
-    // What is shown at `/`, of a stack of 1 to 128 layers.
-    pub(crate) fn root_look(&self, alloc: Global) -> Result<Look, AllocError>
+    /// What is shown at `/`, of a stack of 1 to 128 layers.
+    pub fn root_look(&self, alloc: Global) -> Result<Look, AllocError>
         ensures value { IfOk result (λ look. look ≡ the_look self.now []) }
         ensures some { 0 < length self.now.layers }
         ensures each { All IsLayer self.now.layers }
@@ -55,7 +55,7 @@ impl<'a> Work for ShowWork<'a> {
     type Out = Vec<(Name, Look)>;
 
     ghost use Rattle.std.specs.Prelude.{List};
-    ghost use Rattle.ovl_engine.specs.Directories.{NamedLook, looks_set, show_kids, show_out, show_depth};
+    ghost use Rattle.ovl_reports.specs.Directories.{NamedLook, looks_set, show_kids, show_out, show_depth};
 
     ghost Seen = { List NamedLook };
 

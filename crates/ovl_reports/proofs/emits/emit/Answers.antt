@@ -1,6 +1,6 @@
-use Rattle.ovl_engine.proofs.EmitLemmas.{more_gone, same_gone}
-use Rattle.ovl_engine.proofs.emits.emit.Goals as goal
-use Rattle.ovl_engine.proofs.emits.emit.Goals.{in-Ok, in-Err+else-ne}
+use Rattle.ovl_reports.proofs.EmitLemmas.{more_gone, same_gone}
+use Rattle.ovl_reports.proofs.emits.emit.Goals as goal
+use Rattle.ovl_reports.proofs.emits.emit.Goals.{in-Ok, in-Err+else-ne}
 
 pub loop-preserved : goal.loop-preserved
 loop-preserved g c = elim c.match-write.branch [

@@ -1,5 +1,5 @@
-use Rattle.ovl_engine.proofs.EmitLemmas.{HaveGone}
-use Rattle.ovl_engine.proofs.emits.emit.Given as goal
+use Rattle.ovl_reports.proofs.EmitLemmas.{HaveGone}
+use Rattle.ovl_reports.proofs.emits.emit.Given as goal
 
 -- the first `written` bytes have gone out
 abbrev pub invariant-loop : goal.invariant-loop

@@ -1,6 +1,6 @@
 use Rattle.std.proofs.Common.{◌≡◌, ◌+◌, length, take}
 use Rattle.ovl_manifest.specs.LayerTrees.{entries_of_nodes}
-use Rattle.ovl_engine.proofs.layer_reports.+count_under.Given as goal
+use Rattle.ovl_reports.proofs.layer_reports.+count_under.Given as goal
 
 abbrev pub decreases-count_under : goal.decreases-count_under
 decreases-count_under l = length l.node.now.below

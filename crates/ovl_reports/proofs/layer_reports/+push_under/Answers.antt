@@ -9,11 +9,11 @@ use Rattle.ovl_inode.specs.Marks.{mark_of}
 use Rattle.ovl_manifest.specs.Layers.{Entries}
 use Rattle.ovl_manifest.specs.LayerTrees.{NodeView, entries_of_nodes, under, entries_from, placed}
 use Rattle.ovl_manifest.proofs.NodeLemmas.{entries_of_nodes-more, placed-under, placed-append}
-use Rattle.ovl_engine.specs.Reports.{shown_names}
-use Rattle.ovl_engine.specs.LayerReports.{marked_line, entry_line}
-use Rattle.ovl_engine.proofs.ListingSteps.{text-child}
-use Rattle.ovl_engine.proofs.LayerReportSteps.{fewer_below, nothing_below, told}
-use Rattle.ovl_engine.proofs.layer_reports.+push_under.Goals as goal
+use Rattle.ovl_reports.specs.Reports.{shown_names}
+use Rattle.ovl_reports.specs.LayerReports.{marked_line, entry_line}
+use Rattle.ovl_reports.proofs.ListingSteps.{text-child}
+use Rattle.ovl_reports.proofs.LayerReportSteps.{fewer_below, nothing_below, told}
+use Rattle.ovl_reports.proofs.layer_reports.+push_under.Goals as goal
 
 pub push_under-requires : goal.push_under-requires
 push_under-requires t c =

@@ -2,9 +2,9 @@ use Rattle.std.proofs.Common.{◌≡◌, ◌++◌, length, take, string_bytes}
 use Rattle.std.specs.List.{flat_map}
 use Rattle.ovl_names.specs.Paths.{PathNames, child_path}
 use Rattle.ovl_manifest.specs.LayerTrees.{entries_of_nodes, placed}
-use Rattle.ovl_engine.specs.Reports.{shown_names}
-use Rattle.ovl_engine.specs.LayerReports.{entry_line}
-use Rattle.ovl_engine.proofs.layer_reports.+push_under.Given as goal
+use Rattle.ovl_reports.specs.Reports.{shown_names}
+use Rattle.ovl_reports.specs.LayerReports.{entry_line}
+use Rattle.ovl_reports.proofs.layer_reports.+push_under.Given as goal
 
 abbrev pub decreases-push_under : goal.decreases-push_under
 decreases-push_under l = length l.node.now.below

@@ -1,6 +1,6 @@
 use Rattle.std.proofs.Common.{◌≡◌, ◌+◌, length, take}
 use Rattle.ovl_manifest.specs.LayerTrees.{entries_of_nodes}
-use Rattle.ovl_engine.proofs.layer_reports.entry_count.Given as goal
+use Rattle.ovl_reports.proofs.layer_reports.entry_count.Given as goal
 
 -- the number of the entries under the nodes so far, and the root's
 abbrev pub invariant-loop-node : goal.invariant-loop-node

@@ -7,8 +7,8 @@ use Rattle.ovl_inode.specs.declared.inodes.Inode.{Inode}
 use Rattle.ovl_manifest.specs.Layers.{Entries}
 use Rattle.ovl_manifest.specs.LayerTrees.{NodeView, entries_of_nodes, under, entries_from, placed}
 use Rattle.ovl_manifest.proofs.NodeLemmas.{entries_of_nodes-more, placed_at-under}
-use Rattle.ovl_engine.specs.LayerReports.{entry_line}
-use Rattle.ovl_engine.proofs.layer_reports.layer_report_of.Goals as goal
+use Rattle.ovl_reports.specs.LayerReports.{entry_line}
+use Rattle.ovl_reports.proofs.layer_reports.layer_report_of.Goals as goal
 
 pub loop-node-preserved : goal.loop-node-preserved
 loop-node-preserved c =

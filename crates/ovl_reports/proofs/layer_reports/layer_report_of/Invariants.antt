@@ -1,8 +1,8 @@
 use Rattle.std.proofs.Common.{◌≡◌, take, string_bytes}
 use Rattle.std.specs.List.{flat_map}
 use Rattle.ovl_manifest.specs.LayerTrees.{entries_of_nodes}
-use Rattle.ovl_engine.specs.LayerReports.{entry_line}
-use Rattle.ovl_engine.proofs.layer_reports.layer_report_of.Given as goal
+use Rattle.ovl_reports.specs.LayerReports.{entry_line}
+use Rattle.ovl_reports.proofs.layer_reports.layer_report_of.Given as goal
 
 -- the lines of what lies under the nodes so far
 abbrev pub invariant-loop-node : goal.invariant-loop-node

@@ -1,5 +1,5 @@
 use Rattle.std.proofs.Common.{◌≡◌, ◌∷◌, refl, sym, ◌∙◌}
-use Rattle.ovl_engine.proofs.listings.enter.Goals as goal
+use Rattle.ovl_reports.proofs.listings.enter.Goals as goal
 
 pub returns-clause-next : goal.returns-clause-next
 returns-clause-next c parcel others e =

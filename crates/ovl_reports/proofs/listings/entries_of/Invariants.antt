@@ -1,6 +1,6 @@
 use Rattle.std.proofs.Common.{◌≡◌, ◌+◌, length, take}
 use Rattle.std.specs.List.{sum_by}
-use Rattle.ovl_engine.proofs.listings.entries_of.Given as goal
+use Rattle.ovl_reports.proofs.listings.entries_of.Given as goal
 
 -- the paths of the directories so far
 abbrev pub invariant-loop-parcel : goal.invariant-loop-parcel

@@ -5,12 +5,12 @@ use Rattle.std.proofs.lemmas.Bool.{leb-true, leb-false}
 use Rattle.std.proofs.lemmas.List.{drop_all}
 use Rattle.ovl_names.specs.Escapes.{escaped}
 use Rattle.ovl_lookup.specs.Merged.{is_shown_directory}
-use Rattle.ovl_engine.specs.Directories.{IsShowWalk}
-use Rattle.ovl_engine.specs.Reports.{look_line}
-use Rattle.ovl_engine.proofs.ListingLemmas.{views_of, has-first, has-next}
-use Rattle.ovl_engine.proofs.ListingSteps.{view, IsListing, next_left, listing-first, listing-exhausted, listing-leaves_told, listing-entered, listing-share, listing-last}
-use Rattle.ovl_engine.proofs.listings.lines_from.Goals.{in-Some+in_ok-told+then-told-end, in_default}
-use Rattle.ovl_engine.proofs.listings.lines_from.Goals as goal
+use Rattle.ovl_reports.specs.Directories.{IsShowWalk}
+use Rattle.ovl_reports.specs.Reports.{look_line}
+use Rattle.ovl_reports.proofs.ListingLemmas.{views_of, has-first, has-next}
+use Rattle.ovl_reports.proofs.ListingSteps.{view, IsListing, next_left, listing-first, listing-exhausted, listing-leaves_told, listing-entered, listing-share, listing-last}
+use Rattle.ovl_reports.proofs.listings.lines_from.Goals.{in-Some+in_ok-told+then-told-end, in_default}
+use Rattle.ovl_reports.proofs.listings.lines_from.Goals as goal
 
 pub loop-directory-init : goal.loop-directory-init
 loop-directory-init c =

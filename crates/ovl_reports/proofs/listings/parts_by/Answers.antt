@@ -2,11 +2,11 @@ use Rattle.std.proofs.Common.{◌≡◌, ◌∙◌, ◌*◌, ap, arith, get_or, 
 use Rattle.std.specs.Fork.{slice_chunk}
 use Rattle.std.specs.List.{flat_map}
 use Rattle.ovl_lookup.specs.Stacks.{StackView}
-use Rattle.ovl_engine.specs.Listings.{IsTreeOf, merged_tree}
-use Rattle.ovl_engine.specs.Reports.{show_line}
-use Rattle.ovl_engine.proofs.ListingLemmas.{views_of}
-use Rattle.ovl_engine.proofs.ShareLemmas.{if_given, shares_told}
-use Rattle.ovl_engine.proofs.listings.parts_by.Goals as goal
+use Rattle.ovl_reports.specs.Listings.{IsTreeOf, merged_tree}
+use Rattle.ovl_reports.specs.Reports.{show_line}
+use Rattle.ovl_reports.proofs.ListingLemmas.{views_of}
+use Rattle.ovl_reports.proofs.ShareLemmas.{if_given, shares_told}
+use Rattle.ovl_reports.proofs.listings.parts_by.Goals as goal
 
 pub returns : goal.returns
 returns g c stack tree whole joined =

@@ -3,11 +3,11 @@ use Rattle.std.specs.Prelude.{codes}
 use Rattle.std.proofs.Math.Dec.{leb}
 use Rattle.std.proofs.lemmas.Bool.{leb-true, leb-false}
 use Rattle.ovl_names.specs.Escapes.{escaped}
-use Rattle.ovl_engine.specs.Listings.{name_line}
-use Rattle.ovl_engine.specs.Reports.{look_line}
-use Rattle.ovl_engine.proofs.LeafSteps.{leaves-more}
-use Rattle.ovl_engine.proofs.ListingSteps.{next_left}
-use Rattle.ovl_engine.proofs.listings.push_leaves.Goals as goal
+use Rattle.ovl_reports.specs.Listings.{name_line}
+use Rattle.ovl_reports.specs.Reports.{look_line}
+use Rattle.ovl_reports.proofs.LeafSteps.{leaves-more}
+use Rattle.ovl_reports.proofs.ListingSteps.{next_left}
+use Rattle.ovl_reports.proofs.listings.push_leaves.Goals as goal
 
 pub loop-name-preserved : goal.loop-name-preserved
 loop-name-preserved c =

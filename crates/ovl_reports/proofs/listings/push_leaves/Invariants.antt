@@ -1,6 +1,6 @@
 use Rattle.std.proofs.Common.{◌≡◌, ◌+◌, ◌-◌, ◌≤◌, drop, string_bytes}
-use Rattle.ovl_engine.specs.Listings.{TellsLeaves}
-use Rattle.ovl_engine.proofs.listings.push_leaves.Given as goal
+use Rattle.ovl_reports.specs.Listings.{TellsLeaves}
+use Rattle.ovl_reports.proofs.listings.push_leaves.Given as goal
 
 abbrev pub invariant-loop-name : goal.invariant-loop-name
 invariant-loop-name l =

@@ -2,12 +2,12 @@ use Rattle.std.proofs.Common.{rules, ◌≡◌, ◌∙◌, ◌+◌, ◌*◌, ◌
 use Rattle.std.specs.List.{flat_map, sum_by}
 use Rattle.std.proofs.lemmas.Grind.{div_ceil_times}
 use Rattle.std.proofs.lemmas.List.{take_all}
-use Rattle.ovl_engine.specs.Listings.{IsTreeOf, merged_tree}
-use Rattle.ovl_engine.specs.Reports.{show_line}
-use Rattle.ovl_engine.specs.Shares.{AreJoined}
-use Rattle.ovl_engine.proofs.EntryCounts.{tree_counted, whole_report}
-use Rattle.ovl_engine.proofs.ListingLemmas.{views_of}
-use Rattle.ovl_engine.proofs.listings.report_by.Goals as goal
+use Rattle.ovl_reports.specs.Listings.{IsTreeOf, merged_tree}
+use Rattle.ovl_reports.specs.Reports.{show_line}
+use Rattle.ovl_reports.specs.Shares.{AreJoined}
+use Rattle.ovl_reports.proofs.EntryCounts.{tree_counted, whole_report}
+use Rattle.ovl_reports.proofs.ListingLemmas.{views_of}
+use Rattle.ovl_reports.proofs.listings.report_by.Goals as goal
 
 pub returns : goal.returns
 returns g c stack tree =

@@ -1,10 +1,10 @@
 use Rattle.std.proofs.Common.{◌≡◌, ◌∙◌, length, sym, ap, arith, string_bytes}
 use Rattle.std.specs.List.{flat_map}
 use Rattle.std.proofs.lemmas.List.{take_all}
-use Rattle.ovl_engine.specs.Listings.{merged_tree}
-use Rattle.ovl_engine.specs.Reports.{show_line}
-use Rattle.ovl_engine.proofs.EntryCounts.{tree_counted, whole_report}
-use Rattle.ovl_engine.proofs.listings.report_of_tree.Goals as goal
+use Rattle.ovl_reports.specs.Listings.{merged_tree}
+use Rattle.ovl_reports.specs.Reports.{show_line}
+use Rattle.ovl_reports.proofs.EntryCounts.{tree_counted, whole_report}
+use Rattle.ovl_reports.proofs.listings.report_of_tree.Goals as goal
 
 pub returns : goal.returns
 returns c stack tree =

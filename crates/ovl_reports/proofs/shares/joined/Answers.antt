@@ -1,7 +1,7 @@
 use Rattle.std.proofs.Common.{rules, ◌≡◌, ◌∙◌, ◌<◌, ◌∷◌, length, sym, ap, drop-cons, string_bytes}
 use Rattle.std.specs.List.{flat_map}
 use Rattle.std.proofs.lemmas.Result.{IfOk-weaker}
-use Rattle.ovl_engine.proofs.shares.joined.Goals as goal
+use Rattle.ovl_reports.proofs.shares.joined.Goals as goal
 
 pub returns : goal.returns
 returns c =

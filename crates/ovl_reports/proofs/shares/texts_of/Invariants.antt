@@ -1,5 +1,5 @@
 use Rattle.std.proofs.Common.{◌≡◌, Ok, map}
-use Rattle.ovl_engine.proofs.shares.texts_of.Given as goal
+use Rattle.ovl_reports.proofs.shares.texts_of.Given as goal
 
 -- the texts of the parts so far
 abbrev pub invariant-loop-part : goal.invariant-loop-part

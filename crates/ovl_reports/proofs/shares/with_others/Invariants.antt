@@ -1,6 +1,6 @@
 use Rattle.std.proofs.Common.{◌≡◌, ◌++◌, string_bytes}
 use Rattle.std.specs.List.{flat_map}
-use Rattle.ovl_engine.proofs.shares.with_others.Given as goal
+use Rattle.ovl_reports.proofs.shares.with_others.Given as goal
 
 -- the text, and the others so far
 abbrev pub invariant-loop-other : goal.invariant-loop-other

@@ -2,10 +2,10 @@ use Rattle.std.proofs.Common.{rules, ◌≡◌, ◌∙◌, ◌++◌, ◌∷◌, 
 use Rattle.std.specs.Vec.Iter.{into_iter_items}
 use Rattle.std.proofs.lemmas.List.{nil_from_length}
 use Rattle.ovl_names.specs.Paths.{child_path}
-use Rattle.ovl_engine.specs.Directories.{NamedLook, IsShowWalk}
-use Rattle.ovl_engine.proofs.ListingLemmas.{views_of, has-first, has-next}
-use Rattle.ovl_engine.proofs.GatheringSteps.{view, IsGathering, gathered_some, gathering-first, gathering-exhausted, gathering-told, gathering-entered, gathering-last}
-use Rattle.ovl_engine.proofs.works.finish_show.Goals as goal
+use Rattle.ovl_reports.specs.Directories.{NamedLook, IsShowWalk}
+use Rattle.ovl_reports.proofs.ListingLemmas.{views_of, has-first, has-next}
+use Rattle.ovl_reports.proofs.GatheringSteps.{view, IsGathering, gathered_some, gathering-first, gathering-exhausted, gathering-told, gathering-entered, gathering-last}
+use Rattle.ovl_reports.proofs.works.finish_show.Goals as goal
 
 pub loop-directory-init : goal.loop-directory-init
 loop-directory-init c =

@@ -1,8 +1,8 @@
 use Rattle.std.proofs.Common.{◌+◌, ◌-◌, ◌*◌, length}
 use Rattle.std.specs.Vec.Iter.{into_iter_items}
-use Rattle.ovl_engine.proofs.ListingLemmas.{all_paths}
-use Rattle.ovl_engine.proofs.GatheringSteps.{IsGathering}
-use Rattle.ovl_engine.proofs.works.finish_show.Given as goal
+use Rattle.ovl_reports.proofs.ListingLemmas.{all_paths}
+use Rattle.ovl_reports.proofs.GatheringSteps.{IsGathering}
+use Rattle.ovl_reports.proofs.works.finish_show.Given as goal
 
 abbrev pub invariant-loop-directory : goal.invariant-loop-directory
 invariant-loop-directory l = IsGathering l.work l.looks.items l.open.items (into_iter_items l.rest)

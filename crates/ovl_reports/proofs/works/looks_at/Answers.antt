@@ -6,9 +6,9 @@ use Rattle.ovl_lookup.specs.Stacks.{StackView, from_layer}
 use Rattle.ovl_lookup.specs.Merged.{shows_directory}
 use Rattle.ovl_lookup.specs.DirViews.{IsViewOf}
 use Rattle.ovl_lookup.specs.ViewPasses.{AreLooks}
-use Rattle.ovl_engine.specs.Directories.{NamedLook, named_look}
-use Rattle.ovl_engine.proofs.DirectoryLemmas.{looks_unique, none_elsewhere}
-use Rattle.ovl_engine.proofs.works.looks_at.Goals as goal
+use Rattle.ovl_reports.specs.Directories.{NamedLook, named_look}
+use Rattle.ovl_reports.proofs.DirectoryLemmas.{looks_unique, none_elsewhere}
+use Rattle.ovl_reports.proofs.works.looks_at.Goals as goal
 
 -- there is a view exactly where a directory is shown
 abbrev IsFound : StackView → PathNames → Option DirView → Type 0

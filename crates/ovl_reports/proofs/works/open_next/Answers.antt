@@ -1,7 +1,7 @@
 use Rattle.std.proofs.Common.{◌≡◌, ◌∷◌, ◌∙◌, ap, sym}
 use Rattle.std.specs.Vec.Iter.{into_iter_items}
-use Rattle.ovl_engine.specs.Directories.{ShowParcel}
-use Rattle.ovl_engine.proofs.works.open_next.Goals as goal
+use Rattle.ovl_reports.specs.Directories.{ShowParcel}
+use Rattle.ovl_reports.proofs.works.open_next.Goals as goal
 
 pub returns-clause-next : goal.returns-clause-next
 returns-clause-next c parcel others e =
