@@ -18,12 +18,12 @@ use Rattle.clap.specs.declared.builder.value_parser.Reading.{Reading}
 use Rattle.clap.specs.declared.builder.value_parser.Reading.TheVariants.{AsWritten}
 use Rattle.clap.specs.declared.builder.value_parser.ValueParser.TheVariants.{Bool as Boolean, NonEmptyString, Unsigned}
 use Rattle.clap.proofs.ValueTestLemmas.{accepts-Accepts}
-use Rattle.ovl_program.specs.Commands.{any_size_rule, blobs_rule, data_layers_rule, fsck_shape, out_rule, show_shape, rewriting_shape, tool_app, workers_rule}
-use Rattle.ovl_program.specs.Lines.{HasNumber, IsFlag, IsGiven, name_of}
-use Rattle.ovl_engine.specs.declared.requests.Command.{Command}
-use Rattle.ovl_engine.specs.Commands.{checks, makes_layers}
-use Rattle.ovl_engine.specs.declared.requests.Command.TheVariants.{Show, Fsck, Vacuum, Deref, Merge, Flatten}
-use Rattle.ovl_program.proofs.Taken.{AllFit, AllPass, Each, Fits, IsOwn, each_find, no_kinds, values_fit, walk_fits, settled_fits}
+use Rattle.ovl_command_line.specs.Commands.{any_size_rule, blobs_rule, data_layers_rule, fsck_shape, out_rule, show_shape, rewriting_shape, tool_app, workers_rule}
+use Rattle.ovl_command_line.specs.Lines.{HasNumber, IsFlag, IsGiven, name_of}
+use Rattle.ovl_commands.specs.declared.requests.Command.{Command}
+use Rattle.ovl_commands.specs.Commands.{checks, makes_layers}
+use Rattle.ovl_commands.specs.declared.requests.Command.TheVariants.{Show, Fsck, Vacuum, Deref, Merge, Flatten}
+use Rattle.ovl_command_line.proofs.Taken.{AllFit, AllPass, Each, Fits, IsOwn, each_find, no_kinds, values_fit, walk_fits, settled_fits}
 
 -- ---- searches
 

@@ -4,7 +4,7 @@ use Rattle.std.specs.Prelude.{Ok, Err, Result}
 use Rattle.std.specs.Str.Parse.{ParsesUnsigned}
 use Rattle.clap.specs.Words.{ReadsOne}
 use Rattle.clap.specs.Values.{IsUnsignedIn}
-use Rattle.ovl_program.specs.Lines.{number_in}
+use Rattle.ovl_command_line.specs.Lines.{number_in}
 
 -- a text that spells a number within bounds is read as that number
 pub number_read : (E : Type 0) (gives : List ℕ → Result ℕ E → Type 0) (low high : ℕ) (text : List ℕ) (read : Option ℕ)

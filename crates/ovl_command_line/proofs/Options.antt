@@ -10,8 +10,8 @@ use Rattle.clap.specs.Words.{ReadsOne, one_text}
 use Rattle.clap.specs.Walk.{Text, one_of, rows_of}
 use Rattle.clap.specs.declared.parser.matches.Found.{Found}
 use Rattle.clap.proofs.WalkLemmas.{one_text-rows}
-use Rattle.ovl_program.specs.Lines.{HasNumber, IsFlag, has_flag, number_in}
-use Rattle.ovl_program.proofs.Numbers.{number_read}
+use Rattle.ovl_command_line.specs.Lines.{HasNumber, IsFlag, has_flag, number_in}
+use Rattle.ovl_command_line.proofs.Numbers.{number_read}
 
 -- the number that an option has is read
 pub option_read : (id : Text) (low high : ℕ) (E : Type 0) (gives : List ℕ → Result ℕ E → Type 0) (f : Found) (read : Option ℕ) → HasNumber id low high (rows_of f)

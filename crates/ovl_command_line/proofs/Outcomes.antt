@@ -10,13 +10,13 @@ use Rattle.clap.specs.Walk.{Row, Text}
 use Rattle.clap.specs.declared.error.Error.{Error}
 use Rattle.clap.specs.declared.parser.matches.ArgMatches.{ArgMatches}
 use Rattle.clap.proofs.OnLiterals.{clap_on_literals}
-use Rattle.ovl_program.specs.Commands.{tool_app}
-use Rattle.ovl_program.specs.Lines.{IsFaultBy, IsFaultOf, IsGiven, name_of}
-use Rattle.ovl_engine.specs.declared.requests.Command.{Command}
-use Rattle.ovl_engine.specs.declared.requests.Command.TheVariants.{Show, Fsck, Vacuum, Deref, Merge, Flatten}
-use Rattle.ovl_program.specs.declared.command_line.options.LineFault.{LineFault}
-use Rattle.ovl_program.specs.declared.command_line.options.LineFault.TheVariants.{Help, Usage, Memory}
-use Rattle.ovl_program.proofs.Accepted.{accepted}
+use Rattle.ovl_command_line.specs.Commands.{tool_app}
+use Rattle.ovl_command_line.specs.Lines.{IsFaultBy, IsFaultOf, IsGiven, name_of}
+use Rattle.ovl_commands.specs.declared.requests.Command.{Command}
+use Rattle.ovl_commands.specs.declared.requests.Command.TheVariants.{Show, Fsck, Vacuum, Deref, Merge, Flatten}
+use Rattle.ovl_command_line.specs.declared.options.LineFault.{LineFault}
+use Rattle.ovl_command_line.specs.declared.options.LineFault.TheVariants.{Help, Usage, Memory}
+use Rattle.ovl_command_line.proofs.Accepted.{accepted}
 
 -- all that clap says of simple commands, it says of this one
 pub tool_is_simple : is_simple tool_app ≡ true

@@ -12,13 +12,13 @@ use Rattle.clap.specs.declared.error.kind.ErrorKind.{ErrorKind}
 use Rattle.clap.specs.declared.error.kind.ErrorKind.TheVariants.{DisplayHelp, DisplayVersion, OutOfMemory}
 use Rattle.ovl_lookup.specs.Stacks.{layer_limit}
 use Rattle.ovl_board.specs.Machine.{worker_limit}
-use Rattle.ovl_program.specs.Commands.{tool_app}
-use Rattle.ovl_engine.specs.declared.requests.Command.{Command}
-use Rattle.ovl_engine.specs.declared.requests.Command.TheVariants.{Show, Fsck, Vacuum, Deref, Merge, Flatten}
-use Rattle.ovl_engine.specs.Commands.{checks, makes_layers}
-use Rattle.ovl_program.specs.declared.command_line.options.Line.{Line}
-use Rattle.ovl_program.specs.declared.command_line.options.LineFault.{LineFault}
-use Rattle.ovl_program.specs.declared.command_line.options.LineFault.TheVariants.{Help, Usage, Memory}
+use Rattle.ovl_command_line.specs.Commands.{tool_app}
+use Rattle.ovl_commands.specs.declared.requests.Command.{Command}
+use Rattle.ovl_commands.specs.declared.requests.Command.TheVariants.{Show, Fsck, Vacuum, Deref, Merge, Flatten}
+use Rattle.ovl_commands.specs.Commands.{checks, makes_layers}
+use Rattle.ovl_command_line.specs.declared.options.Line.{Line}
+use Rattle.ovl_command_line.specs.declared.options.LineFault.{LineFault}
+use Rattle.ovl_command_line.specs.declared.options.LineFault.TheVariants.{Help, Usage, Memory}
 
 -- the command's name on the command line
 abbrev pub name_of : Command → Text

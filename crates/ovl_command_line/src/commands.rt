@@ -2,8 +2,8 @@
 ghost use Rattle.std.specs.Prelude.{◌≡◌, IfOk, false};
 ghost use Rattle.clap.specs.Words.{app_of, rule_of};
 ghost use Rattle.clap.specs.declared.builder.command.Command.TheViews.{out-Command as fields_of};
-ghost use Rattle.ovl_program.specs.Commands.{any_size_rule, bare_app, blobs_rule, blobs_shape, data_layers_rule, default_word, default_workers, folders_shape, fsck_shape, layers_rule, out_rule, rewriting_shape, show_shape, tool_app, workers_rule};
-ghost use Rattle.ovl_program.specs.Lines.{number_in};
+ghost use Rattle.ovl_command_line.specs.Commands.{any_size_rule, bare_app, blobs_rule, blobs_shape, data_layers_rule, default_word, default_workers, folders_shape, fsck_shape, layers_rule, out_rule, rewriting_shape, show_shape, tool_app, workers_rule};
+ghost use Rattle.ovl_command_line.specs.Lines.{number_in};
 ghost use Rattle.clap.specs.Simple.{shape_of};
 
 use clap::builder::ValueParser;

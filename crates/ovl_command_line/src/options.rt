@@ -1,8 +1,8 @@
 //! What the words of a command line ask for.
 ghost use Rattle.std.specs.Prelude.{◌≡◌};
-ghost use Rattle.ovl_program.specs.declared.command_line.options.LineFault.TheVariants.{Memory};
+ghost use Rattle.ovl_command_line.specs.declared.options.LineFault.TheVariants.{Memory};
 
-use ovl_engine::Command;
+use ovl_commands::Command;
 use std::alloc::AllocError;
 use thiserror::Error;
 

@@ -1,13 +1,13 @@
 //! Reads the words of the command line by `clap`.
 ghost use Rattle.std.specs.Prelude.{◌≡◌, IfOk, map, option_map, string_bytes};
 ghost use Rattle.clap.specs.Words.{found_of, kind_of, rows_of};
-ghost use Rattle.ovl_program.specs.Lines.{HasValues, IsFaultOf, IsGiven, IsRead, IsSound, NamesCommand, name_of};
+ghost use Rattle.ovl_command_line.specs.Lines.{HasValues, IsFaultOf, IsGiven, IsRead, IsSound, NamesCommand, name_of};
 
-use crate::command_line::commands::tool;
-use crate::command_line::options::{Line, LineFault};
+use crate::commands::tool;
+use crate::options::{Line, LineFault};
 use clap::ArgMatches;
 use clap::error::ErrorKind;
-use ovl_engine::Command;
+use ovl_commands::Command;
 use std::alloc::{AllocError, Global};
 
 /// The line that the words after the program's name ask for. Which words those are, and the texts of

@@ -1,7 +1,7 @@
 -- What commands do.
 use Rattle.std.specs.Prelude.{Bool, true, false}
-use Rattle.ovl_engine.specs.declared.requests.Command.{Command}
-use Rattle.ovl_engine.specs.declared.requests.Command.TheVariants.{Show, Fsck, Vacuum, Deref, Merge, Flatten}
+use Rattle.ovl_commands.specs.declared.requests.Command.{Command}
+use Rattle.ovl_commands.specs.declared.requests.Command.TheVariants.{Show, Fsck, Vacuum, Deref, Merge, Flatten}
 
 -- the layers are checked with the contents of their files
 abbrev pub checks : Command → Bool

@@ -28,9 +28,9 @@ use Rattle.ovl_merge.specs.MergeDown.{IsMergedDown, merged_top}
 use Rattle.ovl_merge.specs.Laws.{MergeKeepsTree}
 use Rattle.ovl_engine.specs.declared.faults.EngineFault.{EngineFault}
 use Rattle.ovl_engine.specs.declared.faults.EngineFault.TheVariants.{Layer}
-use Rattle.ovl_engine.specs.declared.requests.Answer.{Answer}
-use Rattle.ovl_engine.specs.declared.requests.Command.{Command}
-use Rattle.ovl_engine.specs.Commands.{stands_alone}
+use Rattle.ovl_commands.specs.declared.requests.Answer.{Answer}
+use Rattle.ovl_commands.specs.declared.requests.Command.{Command}
+use Rattle.ovl_commands.specs.Commands.{stands_alone}
 use Rattle.ovl_engine.specs.FsckReports.{is_clean}
 use Rattle.ovl_engine.specs.Refusals.{layers_from, under_layer, stated_layers, first_unread}
 use Rattle.ovl_engine.specs.Requests.{Request}

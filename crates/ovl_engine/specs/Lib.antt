@@ -1,4 +1,3 @@
-pub mod Commands
 pub mod FsckReports
 pub mod Kept
 pub mod NamedBlobs

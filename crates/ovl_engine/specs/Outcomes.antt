@@ -30,12 +30,12 @@ use Rattle.ovl_engine.specs.FsckReports.{fsck_report, is_clean}
 use Rattle.ovl_reports.specs.VacuumReports.{vacuum_report}
 use Rattle.ovl_reports.specs.LayerReports.{layer_report}
 use Rattle.ovl_reports.specs.Directories.{show_kids, show_root}
-use Rattle.ovl_engine.specs.declared.requests.Command.{Command}
-use Rattle.ovl_engine.specs.declared.requests.Command.TheVariants.{Show, Fsck, Vacuum, Deref, Merge, Flatten}
-use Rattle.ovl_engine.specs.declared.requests.Answer.{Answer}
+use Rattle.ovl_commands.specs.declared.requests.Command.{Command}
+use Rattle.ovl_commands.specs.declared.requests.Command.TheVariants.{Show, Fsck, Vacuum, Deref, Merge, Flatten}
+use Rattle.ovl_commands.specs.declared.requests.Answer.{Answer}
 use Rattle.ovl_engine.specs.declared.faults.EngineFault.{EngineFault}
 use Rattle.ovl_engine.specs.declared.faults.EngineFault.TheVariants.{Workers, Layers, Layer, BlobOrder, BlobSize, NoLower, Faulty, LimitOut, Run, Memory, DataLayers}
-use Rattle.ovl_engine.specs.Commands.{checks, makes_layers}
+use Rattle.ovl_commands.specs.Commands.{checks, makes_layers}
 use Rattle.ovl_engine.specs.Requests.{Request}
 use Rattle.ovl_engine.specs.Refusals.{stated_layers, first_refusal}
 

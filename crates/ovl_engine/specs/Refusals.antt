@@ -17,7 +17,7 @@ use Rattle.ovl_merge.specs.declared.faults.MergeFault.{MergeFault}
 use Rattle.ovl_merge.specs.declared.faults.MergeFault.TheVariants.{NoLower as MergeLower, LimitOut as MergeLimit, Memory as MergeMemory}
 use Rattle.ovl_engine.specs.declared.faults.EngineFault.{EngineFault}
 use Rattle.ovl_engine.specs.declared.faults.EngineFault.TheVariants.{Workers, Layers, Layer, BlobOrder, BlobSize, NoLower, Faulty, LimitOut, Run, Memory, DataLayers}
-use Rattle.ovl_engine.specs.Commands.{wants_lower}
+use Rattle.ovl_commands.specs.Commands.{wants_lower}
 use Rattle.ovl_engine.specs.Requests.{Request}
 
 -- a number is none, or over a limit

@@ -1,18 +1,18 @@
 ghost use Rattle.std.specs.Prelude.{◌≡◌, ◌<◌, ◌≤◌, true, IfOk, MatchResult};
 ghost use Rattle.ovl_board.specs.Machine.{worker_limit};
 ghost use Rattle.ovl_lookup.specs.Sound.{IsSoundStack};
-ghost use Rattle.ovl_engine.specs.declared.requests.Command.TheVariants.{Vacuum};
+ghost use Rattle.ovl_commands.specs.declared.requests.Command.TheVariants.{Vacuum};
 ghost use Rattle.ovl_engine.specs.Outcomes.{IsFailedWalk, IsRun, MayRefuseOwn, left_by_vacuum, removed_by_vacuum};
 ghost use Rattle.ovl_engine.specs.FsckReports.{is_clean};
 ghost use Rattle.ovl_reports.specs.VacuumReports.{vacuum_report};
 ghost use Rattle.ovl_engine.specs.Kept.{KeepsTreeOf, KeepsSoundness};
 
 use crate::faults::EngineFault;
-use crate::requests::Answer;
 use crate::rewrites::{expect_clean, rewritten};
 use crate::stacks::let_go;
 use crate::teams::Team;
 use ovl_check::Finding;
+use ovl_commands::Answer;
 use ovl_lookup::Stack;
 use ovl_pool::Gate;
 use ovl_reports::{entry_count, vacuum_report_of};

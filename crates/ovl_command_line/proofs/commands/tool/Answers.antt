@@ -1,7 +1,7 @@
 use Rattle.std.proofs.Common.{◌∙◌, ap₂}
 use Rattle.std.proofs.lemmas.Result.{IfOk-weaker}
 use Rattle.clap.specs.Simple.{with_subcommand}
-use Rattle.ovl_program.proofs.command_line.commands.tool.Goals as goal
+use Rattle.ovl_command_line.proofs.commands.tool.Goals as goal
 
 pub returns : goal.returns
 returns c =

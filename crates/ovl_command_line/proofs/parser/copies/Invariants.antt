@@ -1,5 +1,5 @@
 use Rattle.std.proofs.Common.{◌≡◌, map, take, string_bytes}
-use Rattle.ovl_program.proofs.command_line.parser.copies.Given as goal
+use Rattle.ovl_command_line.proofs.parser.copies.Given as goal
 
 -- so far the copies are of the texts up to here
 abbrev pub invariant-loop-text : goal.invariant-loop-text

@@ -4,10 +4,10 @@ use Rattle.clap.specs.Kinds.{HasKind}
 use Rattle.clap.specs.Simple.{App}
 use Rattle.clap.specs.Walk.{rows_of}
 use Rattle.clap.specs.Matches.{found_of}
-use Rattle.ovl_program.specs.Lines.{IsGiven, name_of}
-use Rattle.ovl_engine.specs.declared.requests.Command.{Command}
-use Rattle.ovl_program.proofs.Outcomes.{command_met, fault_by, same_name, tool_is_free}
-use Rattle.ovl_program.proofs.command_line.parser.line.Goals as goal
+use Rattle.ovl_command_line.specs.Lines.{IsGiven, name_of}
+use Rattle.ovl_commands.specs.declared.requests.Command.{Command}
+use Rattle.ovl_command_line.proofs.Outcomes.{command_met, fault_by, same_name, tool_is_free}
+use Rattle.ovl_command_line.proofs.parser.line.Goals as goal
 
 pub returns-in-Err-clause-read : goal.returns-in-Err-clause-read
 returns-in-Err-clause-read c =
