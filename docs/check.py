@@ -61,7 +61,7 @@ def definitions():
 
 
 def reached(found, taken):
-    todo = [key for key in found if key[0].startswith("ovl_engine/") and key[1] in CLAUSES]
+    todo = [key for key in found if key[0].startswith(("ovl_engine/", "ovl_commands/")) and key[1] in CLAUSES]
     seen = set()
     while todo:
         key = todo.pop()
