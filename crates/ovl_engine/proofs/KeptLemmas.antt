@@ -8,9 +8,9 @@ use Rattle.std.proofs.lemmas.List.Elements.{All-head, All-tail}
 use Rattle.std.proofs.lemmas.List.Folds.{sum_by-zero}
 use Rattle.ovl_names.specs.Paths.{PathNames}
 use Rattle.ovl_names.proofs.Ascending.{both}
-use Rattle.ovl_manifest.specs.Layers.{Entries, IsLayer}
+use Rattle.ovl_layer.specs.Layers.{Entries, IsLayer}
 use Rattle.ovl_manifest.specs.Manifest.{read_layer}
-use Rattle.ovl_manifest.specs.declared.faults.LayerFault.{LayerFault}
+use Rattle.ovl_layer.specs.declared.faults.LayerFault.{LayerFault}
 use Rattle.ovl_lookup.specs.Stacks.{StackView, stack_with}
 use Rattle.ovl_lookup.specs.Merged.{look}
 use Rattle.ovl_lookup.specs.Sound.{IsSoundStack}

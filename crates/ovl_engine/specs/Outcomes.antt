@@ -1,7 +1,7 @@
 -- What a command answers.
 use Rattle.std.specs.Prelude.{◌≡◌, ◌⊎◌, ◌<◌, ⊤, ℕ, true, false, Some, None, Result, Ok, Err, List, [], ◌∷◌, length, map}
 use Rattle.ovl_names.specs.Paths.{PathNames}
-use Rattle.ovl_manifest.specs.Layers.{Entries, IsLayer}
+use Rattle.ovl_layer.specs.Layers.{Entries, IsLayer}
 use Rattle.ovl_manifest.specs.Text.{manifest_text}
 use Rattle.ovl_lookup.specs.Stacks.{StackView, all_layers, stack_with}
 use Rattle.ovl_lookup.specs.Words.{top_layer, lower_layers}

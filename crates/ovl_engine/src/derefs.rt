@@ -1,5 +1,5 @@
 ghost use Rattle.std.specs.Prelude.{◌≡◌, ◌<◌, ◌≤◌, true, List, IfOk, IfErr, OnOk};
-ghost use Rattle.ovl_manifest.specs.Layers.{IsLayer};
+ghost use Rattle.ovl_layer.specs.Layers.{IsLayer};
 ghost use Rattle.ovl_lookup.specs.Sound.{IsSoundStack};
 ghost use Rattle.ovl_lookup.specs.Words.{top_layer, lower_layers};
 ghost use Rattle.ovl_board.specs.Machine.{worker_limit};
@@ -20,8 +20,8 @@ use ovl_check::Finding;
 use ovl_commands::Answer;
 use ovl_deref::laws::{deref_keeps_soundness, deref_keeps_the_tree};
 use ovl_deref::{DerefWork, finish_deref};
+use ovl_layer::Layer;
 use ovl_lookup::Stack;
-use ovl_manifest::Layer;
 use ovl_pool::Gate;
 use ovl_reports::layer_report_of;
 use std::alloc::AllocError;

@@ -1,5 +1,5 @@
 ghost use Rattle.std.specs.Prelude.{◌≡◌, ◌<◌, ◌≤◌, true, List, IfOk, IfErr, OnOk};
-ghost use Rattle.ovl_manifest.specs.Layers.{IsLayer};
+ghost use Rattle.ovl_layer.specs.Layers.{IsLayer};
 ghost use Rattle.ovl_lookup.specs.Sound.{IsSoundStack};
 ghost use Rattle.ovl_board.specs.Machine.{worker_limit};
 ghost use Rattle.ovl_check.specs.declared.findings.Finding.{Finding};
@@ -20,8 +20,8 @@ use ovl_check::laws::{shown_layers_are_clean, unmarked_layers_are_quiet};
 use ovl_commands::Answer;
 use ovl_flatten::FlattenWork;
 use ovl_flatten::laws::{flatten_has_no_marks, flatten_is_sound, flatten_keeps_the_tree};
+use ovl_layer::Layer;
 use ovl_lookup::Stack;
-use ovl_manifest::Layer;
 use ovl_pool::Gate;
 use ovl_reports::layer_report_of;
 use std::alloc::AllocError;

@@ -1,5 +1,5 @@
 ghost use Rattle.std.specs.Prelude.{◌≡◌, ◌<◌, ◌≤◌, true, List, IfOk, IfErr, OnOk, length};
-ghost use Rattle.ovl_manifest.specs.Layers.{IsLayer};
+ghost use Rattle.ovl_layer.specs.Layers.{IsLayer};
 ghost use Rattle.ovl_lookup.specs.Sound.{IsSoundStack};
 ghost use Rattle.ovl_board.specs.Machine.{worker_limit};
 ghost use Rattle.ovl_check.specs.declared.findings.Finding.{Finding};

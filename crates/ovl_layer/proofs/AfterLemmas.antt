@@ -11,12 +11,12 @@ use Rattle.std.proofs.Math.Seq.{drop-nil, get_or-append_seam}
 use Rattle.ovl_names.specs.Names.{PathName}
 use Rattle.ovl_inode.specs.declared.marks.Mark.{Mark}
 use Rattle.ovl_inode.specs.Marks.{mark_of}
-use Rattle.ovl_manifest.specs.declared.sheets.SheetRow.{SheetRow}
-use Rattle.ovl_manifest.specs.Layers.{Entry, Entries, IsLayer}
-use Rattle.ovl_manifest.specs.Sheets.{path_of, path_at, row_path, entries_with, entries_of_rows, count_deeper, afters_from, kid_numbers, parents_of, are_earlier, AreRows, IsSheet}
-use Rattle.ovl_manifest.specs.SheetPasses.{depths_of, with_afters}
-use Rattle.ovl_manifest.proofs.SheetLemmas.{afters-get, with-length, length-child, row-known, entry-of}
-use Rattle.ovl_manifest.proofs.SheetPassLemmas.{afters-length}
+use Rattle.ovl_layer.specs.declared.sheets.SheetRow.{SheetRow}
+use Rattle.ovl_layer.specs.Layers.{Entry, Entries, IsLayer}
+use Rattle.ovl_layer.specs.Sheets.{path_of, path_at, row_path, entries_with, entries_of_rows, count_deeper, afters_from, kid_numbers, parents_of, are_earlier, AreRows, IsSheet}
+use Rattle.ovl_layer.specs.SheetPasses.{depths_of, with_afters}
+use Rattle.ovl_layer.proofs.SheetLemmas.{afters-get, with-length, length-child, row-known, entry-of}
+use Rattle.ovl_layer.proofs.SheetPassLemmas.{afters-length}
 
 -- ---- entries that have more names than one before them
 

@@ -1,4 +1,4 @@
--- What is written of a layer states that layer.
+-- The entries of a layer, one after another, are that layer.
 use Rattle.std.proofs.Common.{◌≡◌, ◌-◌, ◌<◌, ◌≤◌, ◌∙◌, [], ◌∷◌, ◌++◌, Bool, true, false, Some, None, Ok, refl, sym, ap, subst, append_assoc, append-nil, length, map, get_or, arith, leb-true}
 use Rattle.std.specs.Prelude.{◌&&◌, ◌||◌, not, if◌then◌else◌, nat_le}
 use Rattle.std.specs.List.{list_all}
@@ -12,18 +12,19 @@ use Rattle.ovl_names.proofs.Ascending.{both, not_true, is_lt-Less, list_all-fron
 use Rattle.ovl_inode.specs.declared.inodes.Inode.{Inode}
 use Rattle.ovl_inode.specs.Attributes.{has_escaped_name}
 use Rattle.ovl_inode.specs.Marks.{is_directory}
-use Rattle.ovl_manifest.specs.Layers.{Entry, Entries, entry_cmp, entry_at, is_directory_at, has_parent, is_within_limits, entry_limit, IsLayer}
+use Rattle.ovl_layer.specs.Layers.{Entry, Entries, entry_cmp, entry_at, is_directory_at, has_parent, is_within_limits, entry_limit, IsLayer}
 use Rattle.ovl_inode.specs.Sound.{is_sound_inode}
-use Rattle.ovl_manifest.specs.Manifest.{comes_after, root_fault, entry_fault, entry_after, entries_after, layer_of_entries, stated_pair, layer_of_pairs, layer_of_value}
-use Rattle.ovl_manifest.specs.declared.faults.LayerFault.TheVariants.{Root, Escaped}
+use Rattle.ovl_layer.specs.Entries.{comes_after, root_fault, entry_fault, entry_after, entries_after, layer_of_entries, stated_pair, layer_of_pairs}
+use Rattle.ovl_manifest.specs.Manifest.{layer_of_value}
+use Rattle.ovl_layer.specs.declared.faults.LayerFault.TheVariants.{Root, Escaped}
 use Rattle.ovl_manifest.specs.Text.{layer_value}
 use Rattle.ovl_manifest.specs.Versions.{is_stated_by, written}
 use Rattle.ovl_manifest.specs.declared.versions.Version.{Version}
 use Rattle.ovl_manifest.specs.declared.versions.Version.TheVariants.{One, Two}
-use Rattle.ovl_manifest.proofs.OpenLemmas.{path_cmp-under}
-use Rattle.ovl_manifest.proofs.LayerLemmas.{path_order, path_cmp-same, in_parent, after-some}
-use Rattle.ovl_manifest.proofs.ReadLemmas.{entry-taken, counted}
-use Rattle.ovl_manifest.proofs.EntryLemmas.{one_taken}
+use Rattle.ovl_layer.proofs.OpenLemmas.{path_cmp-under}
+use Rattle.ovl_layer.proofs.LayerLemmas.{path_order, path_cmp-same, in_parent, after-some}
+use Rattle.ovl_layer.proofs.EntryLemmas.{entry-taken, counted}
+use Rattle.ovl_layer.proofs.EntryLemmas.{one_taken}
 use Rattle.ovl_manifest.proofs.StatedLemmas.{entries-stated}
 
 -- ---- the directory of an entry stands before it
@@ -123,7 +124,7 @@ all-taken before (entry ∷ more) is =
     one_taken before (Some entry) (map (λ e. Some e) more) (before ++ entry ∷ []) (next-taken before entry more is)
     ∙ (all-taken (before ++ entry ∷ []) more (subst IsLayer (sym same) is) ∙ ap (λ (es : Entries). Ok es) same)
 
-layer-counted : (layer : Entries) → IsLayer layer → layer_of_entries (map (λ entry. Some entry) layer) ≡ Ok layer
+pub layer-counted : (layer : Entries) → IsLayer layer → layer_of_entries (map (λ entry. Some entry) layer) ≡ Ok layer
 layer-counted layer is =
     let count : length (map (λ (entry : Entry). Some entry) layer) ≡ length layer = length-map layer (λ (entry : Entry). Some entry) in
     let limit : length layer ≤ entry_limit = leb-true (length layer) entry_limit is.counted in
@@ -134,19 +135,7 @@ layer-counted layer is =
     some [] rooted = let bad : false ≡ true = rooted in cc
     some (entry ∷ layer) rooted = omega arith
 
--- ---- the value of a layer, and its pairs
-
-pub layer-back : (version : Version) (layer : Entries) → IsLayer layer → list_all (is_stated_by version) layer ≡ true → layer_of_value (layer_value version layer) ≡ Ok layer
-layer-back One layer is stated = ap layer_of_entries (entries-stated One layer is.named is.limited stated is.sound) ∙ layer-counted layer is
-layer-back Two layer is stated = ap layer_of_entries (entries-stated Two layer is.named is.limited stated is.sound) ∙ layer-counted layer is
-
--- what is written can state each layer
-pub written-states : (layer : Entries) → list_all (λ entry. is_within_limits entry.0) layer ≡ true → list_all (is_stated_by written) layer ≡ true
-written-states [] limited = refl
-written-states (entry ∷ entries) limited =
-    let limits = both {a = is_within_limits entry.0} {b = list_all (λ e. is_within_limits e.0) entries} limited in
-    let own = both {a = nat_le (length entry.0) depth_limit} {b = nat_le (length (path_text entry.0)) text_limit} limits.0 in
-    rw own.0 (written-states entries limits.1)
+-- ---- the pairs of a layer
 
 pub stated-own : (entry : Entry) → is_within_limits entry.0 ≡ true → is_sound_inode entry.1 ≡ true → stated_pair entry ≡ Some entry
 stated-own entry limited sound = ap (λ b. if b && is_sound_inode entry.1 then Some entry else None) limited ∙ ap (λ b. if b then Some entry else None) sound

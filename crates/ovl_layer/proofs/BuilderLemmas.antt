@@ -5,11 +5,11 @@ use Rattle.std.specs.List.{list_all}
 use Rattle.std.proofs.lemmas.Bool.Decides.{nat_tests}
 use Rattle.ovl_names.proofs.Ascending.{both, list_all-front}
 use Rattle.ovl_inode.specs.Sound.{is_sound_inode}
-use Rattle.ovl_manifest.specs.Layers.{Entry, Entries, IsLayer, is_within_limits, entry_limit}
-use Rattle.ovl_manifest.specs.Manifest.{entry_after, stated_pair}
-use Rattle.ovl_manifest.specs.Builders.{pair_after}
-use Rattle.ovl_manifest.specs.declared.faults.LayerFault.TheVariants.{Count}
-use Rattle.ovl_manifest.proofs.BackLemmas.{next-taken, stated-own}
+use Rattle.ovl_layer.specs.Layers.{Entry, Entries, IsLayer, is_within_limits, entry_limit}
+use Rattle.ovl_layer.specs.Entries.{entry_after, stated_pair}
+use Rattle.ovl_layer.specs.Builders.{pair_after}
+use Rattle.ovl_layer.specs.declared.faults.LayerFault.TheVariants.{Count}
+use Rattle.ovl_layer.proofs.BackLemmas.{next-taken, stated-own}
 
 pub pair-room : (before : Entries) (pair : Entry) → length before < entry_limit → pair_after before pair ≡ entry_after before (stated_pair pair)
 pair-room before pair room = ap (λ b. if b then entry_after before (stated_pair pair) else Err Count) few

@@ -9,13 +9,13 @@ use Rattle.ovl_names.specs.Order.{ascends}
 use Rattle.ovl_names.proofs.Ascending.{both, list_all-front}
 use Rattle.ovl_inode.specs.declared.inodes.Inode.{Inode}
 use Rattle.ovl_inode.specs.Marks.{is_directory}
-use Rattle.ovl_manifest.specs.Layers.{Entry, Entries, entry_cmp, entry_at, is_directory_at}
-use Rattle.ovl_manifest.specs.LayerTrees.{NodeView, entries_from, entries_of_nodes}
-use Rattle.ovl_manifest.specs.Manifest.{comes_after}
-use Rattle.ovl_manifest.specs.Drafts.{entries_of_open, draft_entries, inode_on_way, IsDraft}
-use Rattle.ovl_manifest.specs.declared.drafts.Draft.{Draft}
-use Rattle.ovl_manifest.proofs.OpenLemmas.{opened, entry_at-on_way}
-use Rattle.ovl_manifest.proofs.LayerLemmas.{parent_on_way, no_parent-deep, no_parent-other, comes_after-last}
+use Rattle.ovl_layer.specs.Layers.{Entry, Entries, entry_cmp, entry_at, is_directory_at}
+use Rattle.ovl_layer.specs.LayerTrees.{NodeView, entries_from, entries_of_nodes}
+use Rattle.ovl_layer.specs.Entries.{comes_after}
+use Rattle.ovl_layer.specs.Drafts.{entries_of_open, draft_entries, inode_on_way, IsDraft}
+use Rattle.ovl_layer.specs.declared.drafts.Draft.{Draft}
+use Rattle.ovl_layer.proofs.OpenLemmas.{opened, entry_at-on_way}
+use Rattle.ovl_layer.proofs.LayerLemmas.{parent_on_way, no_parent-deep, no_parent-other, comes_after-last}
 
 -- the names of a spine, as a path
 abbrev pub names_of : List NodeView → PathNames

@@ -5,8 +5,8 @@ use Rattle.std.proofs.lemmas.Bool.{ltb-true, ltb-false, cases_lt}
 use Rattle.std.proofs.lemmas.Bool.Decides.{nat_tests}
 use Rattle.std.proofs.lemmas.List.{take-append-drop, take_more, ext_get_or, get_or-take, get_or-drop, get_or-set_same, get_or-set_other, length-set}
 use Rattle.ovl_names.proofs.Ascending.{both}
-use Rattle.ovl_manifest.specs.Sheets.{kid_numbers, are_earlier}
-use Rattle.ovl_manifest.specs.KidLists.{parts_of, AreStarts, count_below, AreCounts, AreEnds}
+use Rattle.ovl_layer.specs.Sheets.{kid_numbers, are_earlier}
+use Rattle.ovl_layer.specs.KidLists.{parts_of, AreStarts, count_below, AreCounts, AreEnds}
 
 -- ---- a part of a list by its number
 

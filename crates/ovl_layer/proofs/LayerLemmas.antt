@@ -20,9 +20,9 @@ use Rattle.ovl_names.proofs.Ascending.{both, is_lt-Less, ascends-across, ascends
 use Rattle.ovl_inode.specs.declared.inodes.Inode.{Inode}
 use Rattle.ovl_inode.specs.Attributes.{has_escaped_name}
 use Rattle.ovl_inode.specs.Sound.{is_sound_inode}
-use Rattle.ovl_manifest.specs.Layers.{Entry, Entries, entry_cmp, entry_at, is_directory_at, has_parent, is_within_limits, entry_limit, IsLayer}
-use Rattle.ovl_manifest.specs.Manifest.{comes_after}
-use Rattle.ovl_manifest.proofs.NodeLemmas.{name_eq-cmp}
+use Rattle.ovl_layer.specs.Layers.{Entry, Entries, entry_cmp, entry_at, is_directory_at, has_parent, is_within_limits, entry_limit, IsLayer}
+use Rattle.ovl_layer.specs.Entries.{comes_after}
+use Rattle.ovl_layer.proofs.NodeLemmas.{name_eq-cmp}
 
 pub path_order : IsTotalOrder path_cmp
 path_order = lists_total nat_list_cmp_total

@@ -18,8 +18,8 @@ use Rattle.ovl_names.specs.Names.{PathName, name_cmp, name_eq}
 use Rattle.ovl_names.specs.Paths.{PathNames, path_eq, child_path}
 use Rattle.ovl_names.specs.Order.{ascends}
 use Rattle.ovl_names.proofs.Ascending.{both, is_lt-Less, list_all-get, not_true, reversed, ascends-next, list_all-from_each}
-use Rattle.ovl_manifest.specs.Layers.{Entry, Entries, entry_at, name_below, names_below}
-use Rattle.ovl_manifest.specs.LayerTrees.{NodeView, node_cmp, under, entries_from, entries_of_nodes, entry_in, entries_in, entries_under, placed}
+use Rattle.ovl_layer.specs.Layers.{Entry, Entries, entry_at, name_below, names_below}
+use Rattle.ovl_layer.specs.LayerTrees.{NodeView, node_cmp, under, entries_from, entries_of_nodes, entry_in, entries_in, entries_under, placed}
 
 -- a name is equal to itself, and to no name that comes before or after it
 pub name_eq-same : (name : PathName) → name_eq name name ≡ true

@@ -15,10 +15,10 @@ use Rattle.ovl_names.specs.Paths.{PathNames, path_cmp}
 use Rattle.ovl_names.specs.Order.{ascends}
 use Rattle.ovl_names.proofs.Ascending.{both, list_all-front, ascends-back, ascends-across}
 use Rattle.ovl_inode.specs.declared.inodes.Inode.{Inode}
-use Rattle.ovl_manifest.specs.Layers.{Entry, Entries, entry_cmp, entry_at}
-use Rattle.ovl_manifest.specs.LayerTrees.{NodeView, node_cmp, under, entries_from, entries_of_nodes, entry_in, entries_in, placed, grown}
-use Rattle.ovl_manifest.specs.Drafts.{entries_of_open, inode_on_way}
-use Rattle.ovl_manifest.proofs.NodeLemmas.{name_eq-same, entries_in-under_same, entry_at-in, placed-root, entries_of_nodes-append}
+use Rattle.ovl_layer.specs.Layers.{Entry, Entries, entry_cmp, entry_at}
+use Rattle.ovl_layer.specs.LayerTrees.{NodeView, node_cmp, under, entries_from, entries_of_nodes, entry_in, entries_in, placed, grown}
+use Rattle.ovl_layer.specs.Drafts.{entries_of_open, inode_on_way}
+use Rattle.ovl_layer.proofs.NodeLemmas.{name_eq-same, entries_in-under_same, entry_at-in, placed-root, entries_of_nodes-append}
 
 -- ---- order under a name
 

@@ -19,14 +19,14 @@ use Rattle.ovl_inode.specs.declared.inodes.Inode.{Inode}
 use Rattle.ovl_inode.specs.Attributes.{has_escaped_name}
 use Rattle.ovl_inode.specs.Marks.{is_directory}
 use Rattle.ovl_inode.specs.Sound.{is_sound_inode}
-use Rattle.ovl_manifest.specs.declared.sheets.SheetRow.{SheetRow}
-use Rattle.ovl_manifest.specs.Layers.{Entry, Entries, entry_cmp, entry_at, is_directory_at, is_within_limits, entry_limit, IsLayer}
-use Rattle.ovl_manifest.specs.Manifest.{comes_after}
-use Rattle.ovl_manifest.specs.Sheets.{last_name, path_of, path_at, row_path, entries_with, entries_of_rows, are_earlier, AreRows}
-use Rattle.ovl_manifest.specs.SheetDrafts.{AreDrafted}
-use Rattle.ovl_manifest.proofs.OpenLemmas.{path_cmp-under}
-use Rattle.ovl_manifest.proofs.LayerLemmas.{comes_after-last, IsLayer-more, IsLayer-root}
-use Rattle.ovl_manifest.proofs.SheetLemmas.{name-at, slice_get-front, slice_get-seam, some-same, length-child, parent_path-child, with-front, with-length, entry_at-number}
+use Rattle.ovl_layer.specs.declared.sheets.SheetRow.{SheetRow}
+use Rattle.ovl_layer.specs.Layers.{Entry, Entries, entry_cmp, entry_at, is_directory_at, is_within_limits, entry_limit, IsLayer}
+use Rattle.ovl_layer.specs.Entries.{comes_after}
+use Rattle.ovl_layer.specs.Sheets.{last_name, path_of, path_at, row_path, entries_with, entries_of_rows, are_earlier, AreRows}
+use Rattle.ovl_layer.specs.SheetDrafts.{AreDrafted}
+use Rattle.ovl_layer.proofs.OpenLemmas.{path_cmp-under}
+use Rattle.ovl_layer.proofs.LayerLemmas.{comes_after-last, IsLayer-more, IsLayer-root}
+use Rattle.ovl_layer.proofs.SheetLemmas.{name-at, slice_get-front, slice_get-seam, some-same, length-child, parent_path-child, with-front, with-length, entry_at-number}
 
 -- ---- an entry in a directory on the way to the last
 

@@ -21,14 +21,14 @@ use Rattle.ovl_names.proofs.Ascending.{both, list_all-get, reversed}
 use Rattle.ovl_inode.specs.declared.inodes.Inode.{Inode}
 use Rattle.ovl_inode.specs.declared.marks.Mark.{Mark}
 use Rattle.ovl_inode.specs.Marks.{mark_of}
-use Rattle.ovl_manifest.specs.declared.sheets.SheetRow.{SheetRow}
-use Rattle.ovl_manifest.specs.Layers.{Entry, Entries, entry_cmp, entry_at, name_below, names_below}
-use Rattle.ovl_manifest.specs.LayerTrees.{entries_in, entries_under}
-use Rattle.ovl_manifest.specs.Sheets.{last_name, path_of, path_at, row_path, entries_with, entries_of_rows, count_deeper, afters_from, IsRowOf, kid_numbers, parents_of, are_earlier, AreRows, IsSheet}
-use Rattle.ovl_manifest.specs.SheetPasses.{name_order, name_of_row, row_name, kid_order}
-use Rattle.ovl_manifest.proofs.NodeLemmas.{name_eq-same, name_eq-cmp, entry_at-under}
-use Rattle.ovl_manifest.proofs.OpenLemmas.{path_cmp-under}
-use Rattle.ovl_manifest.proofs.LayerLemmas.{path_cmp-same}
+use Rattle.ovl_layer.specs.declared.sheets.SheetRow.{SheetRow}
+use Rattle.ovl_layer.specs.Layers.{Entry, Entries, entry_cmp, entry_at, name_below, names_below}
+use Rattle.ovl_layer.specs.LayerTrees.{entries_in, entries_under}
+use Rattle.ovl_layer.specs.Sheets.{last_name, path_of, path_at, row_path, entries_with, entries_of_rows, count_deeper, afters_from, IsRowOf, kid_numbers, parents_of, are_earlier, AreRows, IsSheet}
+use Rattle.ovl_layer.specs.SheetPasses.{name_order, name_of_row, row_name, kid_order}
+use Rattle.ovl_layer.proofs.NodeLemmas.{name_eq-same, name_eq-cmp, entry_at-under}
+use Rattle.ovl_layer.proofs.OpenLemmas.{path_cmp-under}
+use Rattle.ovl_layer.proofs.LayerLemmas.{path_cmp-same}
 
 -- ---- an element of a list by its number
 

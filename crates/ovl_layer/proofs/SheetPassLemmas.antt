@@ -13,14 +13,14 @@ use Rattle.ovl_names.proofs.Ascending.{both}
 use Rattle.ovl_inode.specs.declared.inodes.Inode.{Inode}
 use Rattle.ovl_inode.specs.declared.marks.Mark.{Mark}
 use Rattle.ovl_inode.specs.Marks.{mark_of}
-use Rattle.ovl_manifest.specs.declared.sheets.SheetRow.{SheetRow}
-use Rattle.ovl_manifest.specs.Layers.{Entry, Entries, IsLayer}
-use Rattle.ovl_manifest.specs.LayerTrees.{NodeView, under, entries_from, entries_of_nodes, placed}
-use Rattle.ovl_manifest.specs.TreeFalls.{length-under}
-use Rattle.ovl_manifest.specs.Sheets.{last_name, path_of, path_at, row_path, entries_with, entries_of_rows, count_deeper, afters_from, kid_numbers, parents_of, are_earlier, IsSheet}
-use Rattle.ovl_manifest.specs.SheetPasses.{placed_by, Place, AddsParents, rows_from}
-use Rattle.ovl_manifest.proofs.NodeLemmas.{entries_of_nodes-append, entries_of_nodes-push, entries_of_nodes-more, placed-root, placed-under, placed-append}
-use Rattle.ovl_manifest.proofs.SheetLemmas.{slice_get-front, slice_get-seam}
+use Rattle.ovl_layer.specs.declared.sheets.SheetRow.{SheetRow}
+use Rattle.ovl_layer.specs.Layers.{Entry, Entries, IsLayer}
+use Rattle.ovl_layer.specs.LayerTrees.{NodeView, under, entries_from, entries_of_nodes, placed}
+use Rattle.ovl_layer.specs.TreeFalls.{length-under}
+use Rattle.ovl_layer.specs.Sheets.{last_name, path_of, path_at, row_path, entries_with, entries_of_rows, count_deeper, afters_from, kid_numbers, parents_of, are_earlier, IsSheet}
+use Rattle.ovl_layer.specs.SheetPasses.{placed_by, Place, AddsParents, rows_from}
+use Rattle.ovl_layer.proofs.NodeLemmas.{entries_of_nodes-append, entries_of_nodes-push, entries_of_nodes-more, placed-root, placed-under, placed-append}
+use Rattle.ovl_layer.proofs.SheetLemmas.{slice_get-front, slice_get-seam}
 
 -- ---- marks
 

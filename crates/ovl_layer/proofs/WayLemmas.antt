@@ -7,10 +7,10 @@ use Rattle.std.proofs.lemmas.List.{take-append-drop}
 use Rattle.std.proofs.lemmas.Grind.{flat_map-append}
 use Rattle.ovl_names.specs.Names.{PathName, slash}
 use Rattle.ovl_names.specs.Paths.{PathNames, child_path, path_text, depth_limit, text_limit}
-use Rattle.ovl_manifest.specs.Layers.{is_within_limits}
-use Rattle.ovl_manifest.specs.TextPaths.{slashed, AreEnds}
-use Rattle.ovl_manifest.proofs.SheetLemmas.{slice_get-front, slice_get-seam, length-child}
-use Rattle.ovl_manifest.proofs.SheetDraftLemmas.{take-child, slice_get-take}
+use Rattle.ovl_layer.specs.Layers.{is_within_limits}
+use Rattle.ovl_layer.specs.TextPaths.{slashed, AreEnds}
+use Rattle.ovl_layer.proofs.SheetLemmas.{slice_get-front, slice_get-seam, length-child}
+use Rattle.ovl_layer.proofs.SheetDraftLemmas.{take-child, slice_get-take}
 
 -- the text of a directory's entry
 pub slashed-child : (path : PathNames) (name : List ℕ) → slashed (child_path path name) ≡ slashed path ++ slash ∷ name

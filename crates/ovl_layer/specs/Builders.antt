@@ -1,9 +1,9 @@
 -- A layer while its entries come one after another.
 use Rattle.std.specs.Prelude.{Result, Err, if◌then◌else◌, length, nat_lt}
-use Rattle.ovl_manifest.specs.Layers.{Entry, Entries, entry_limit}
-use Rattle.ovl_manifest.specs.Manifest.{entry_after, stated_pair}
-use Rattle.ovl_manifest.specs.declared.faults.LayerFault.{LayerFault}
-use Rattle.ovl_manifest.specs.declared.faults.LayerFault.TheVariants.{Count}
+use Rattle.ovl_layer.specs.Layers.{Entry, Entries, entry_limit}
+use Rattle.ovl_layer.specs.Entries.{entry_after, stated_pair}
+use Rattle.ovl_layer.specs.declared.faults.LayerFault.{LayerFault}
+use Rattle.ovl_layer.specs.declared.faults.LayerFault.TheVariants.{Count}
 
 -- the entries with that of one more pair, or its fault
 abbrev pub pair_after : Entries → Entry → Result Entries LayerFault

@@ -4,10 +4,10 @@ use Rattle.ovl_names.specs.Paths.{PathNames, parent_path}
 use Rattle.ovl_inode.specs.Attributes.{has_escaped_name}
 use Rattle.ovl_inode.specs.Sound.{is_sound_inode}
 use Rattle.ovl_inode.specs.declared.inodes.Inode.{Inode}
-use Rattle.ovl_manifest.specs.Layers.{Entries, IsLayer, is_directory_at, is_within_limits, entry_limit}
-use Rattle.ovl_manifest.specs.LayerTrees.{NodeView, under, entries_from, entries_of_nodes}
-use Rattle.ovl_manifest.specs.Manifest.{comes_after}
-use Rattle.ovl_manifest.specs.declared.drafts.Draft.{Draft}
+use Rattle.ovl_layer.specs.Layers.{Entries, IsLayer, is_directory_at, is_within_limits, entry_limit}
+use Rattle.ovl_layer.specs.LayerTrees.{NodeView, under, entries_from, entries_of_nodes}
+use Rattle.ovl_layer.specs.Entries.{comes_after}
+use Rattle.ovl_layer.specs.declared.drafts.Draft.{Draft}
 
 -- the entries of open nodes, each inside the one before
 abbrev pub entries_of_open : List NodeView → Entries

@@ -1,6 +1,6 @@
 -- The kids of rows in two flat lists: one of their numbers, and one of where those of each row begin.
 use Rattle.std.specs.Prelude.{◌≡◌, ℕ, zero, suc, ◌-◌, ◌<◌, ◌≤◌, List, [], ◌∷◌, if◌then◌else◌, length, take, drop, nat_lt, slice_index}
-use Rattle.ovl_manifest.specs.Sheets.{kid_numbers}
+use Rattle.ovl_layer.specs.Sheets.{kid_numbers}
 
 -- the parts of a list, each from its start to the next one
 abbrev pub parts_of : List ℕ → List ℕ → List (List ℕ)

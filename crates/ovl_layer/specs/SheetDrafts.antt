@@ -6,10 +6,10 @@ use Rattle.ovl_names.specs.Paths.{PathNames, path_cmp, child_path}
 use Rattle.ovl_inode.specs.Attributes.{has_escaped_name}
 use Rattle.ovl_inode.specs.Sound.{is_sound_inode}
 use Rattle.ovl_inode.specs.declared.inodes.Inode.{Inode}
-use Rattle.ovl_manifest.specs.Layers.{Entries, is_directory_at, is_within_limits, entry_limit}
-use Rattle.ovl_manifest.specs.Sheets.{path_at, entries_of_rows, AreRows}
-use Rattle.ovl_manifest.specs.declared.sheets.SheetRow.{SheetRow}
-use Rattle.ovl_manifest.specs.declared.sheet_drafts.SheetDraft.{SheetDraft}
+use Rattle.ovl_layer.specs.Layers.{Entries, is_directory_at, is_within_limits, entry_limit}
+use Rattle.ovl_layer.specs.Sheets.{path_at, entries_of_rows, AreRows}
+use Rattle.ovl_layer.specs.declared.sheets.SheetRow.{SheetRow}
+use Rattle.ovl_layer.specs.declared.sheet_drafts.SheetDraft.{SheetDraft}
 
 -- the entries so far
 abbrev pub drafted : SheetDraft → Entries

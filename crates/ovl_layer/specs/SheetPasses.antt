@@ -5,11 +5,11 @@ use Rattle.std.specs.declared.cmp.Ordering.{Ordering}
 use Rattle.std.specs.declared.cmp.Ordering.TheVariants.{Less}
 use Rattle.ovl_names.specs.Names.{PathName, name_cmp}
 use Rattle.ovl_inode.specs.Marks.{mark_of}
-use Rattle.ovl_manifest.specs.declared.sheets.SheetRow.{SheetRow}
-use Rattle.ovl_manifest.specs.declared.sheets.Room.{Room}
-use Rattle.ovl_manifest.specs.Layers.{Entries}
-use Rattle.ovl_manifest.specs.LayerTrees.{placed}
-use Rattle.ovl_manifest.specs.Sheets.{last_name, path_at, row_path, afters_from, kid_numbers, are_earlier}
+use Rattle.ovl_layer.specs.declared.sheets.SheetRow.{SheetRow}
+use Rattle.ovl_layer.specs.declared.sheets.Room.{Room}
+use Rattle.ovl_layer.specs.Layers.{Entries}
+use Rattle.ovl_layer.specs.LayerTrees.{placed}
+use Rattle.ovl_layer.specs.Sheets.{last_name, path_at, row_path, afters_from, kid_numbers, are_earlier}
 
 -- how an optional name is to another; none comes before each
 abbrev pub name_order : Option PathName → PathName → Ordering

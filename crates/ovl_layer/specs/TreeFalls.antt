@@ -3,8 +3,8 @@ use Rattle.std.specs.Prelude.{◌≡◌, ◌+◌, ◌≤◌, List, [], ◌∷◌
 use Rattle.std.proofs.Common.{arith, length-append, refl, ap, suc}
 use denote.Param.Weighed.{most}
 use Rattle.ovl_names.specs.Names.{PathName}
-use Rattle.ovl_manifest.specs.Layers.{Entries}
-use Rattle.ovl_manifest.specs.LayerTrees.{NodeView, entries_from, entries_of_nodes, under}
+use Rattle.ovl_layer.specs.Layers.{Entries}
+use Rattle.ovl_layer.specs.LayerTrees.{NodeView, entries_from, entries_of_nodes, under}
 
 -- as many entries stand under a name
 pub length-under : (name : PathName) (entries : Entries) → length (under name entries) ≡ length entries

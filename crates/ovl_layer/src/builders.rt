@@ -1,10 +1,10 @@
 ghost use Rattle.std.specs.Prelude.{◌≡◌, [], Ok, Err, IfOk, MatchResult};
 ghost use Rattle.ovl_names.specs.Paths.{child_path};
-ghost use Rattle.ovl_manifest.specs.Manifest.{entry_after, stated_pair, IsFaultOf};
-ghost use Rattle.ovl_manifest.specs.Builders.{pair_after};
+ghost use Rattle.ovl_layer.specs.Entries.{entry_after, stated_pair, IsFaultOf};
+ghost use Rattle.ovl_layer.specs.Builders.{pair_after};
 
 use crate::drafts::Draft;
-use crate::entries::{ENTRY_LIMIT, add_child, start, stated};
+use crate::entries::{ENTRY_LIMIT, add_child, start_draft, stated};
 use crate::faults::LayerFault;
 use crate::trees::Layer;
 use ovl_inode::Inode;
@@ -23,8 +23,8 @@ pub struct LayerBuilder {
 
 impl Model for LayerBuilder {
     ghost use Rattle.std.specs.Prelude.{◌≡◌, ◌≤◌, false, length};
-    ghost use Rattle.ovl_manifest.specs.Layers.{Entries, entry_limit};
-    ghost use Rattle.ovl_manifest.specs.Drafts.{draft_entries, IsDraft};
+    ghost use Rattle.ovl_layer.specs.Layers.{Entries, entry_limit};
+    ghost use Rattle.ovl_layer.specs.Drafts.{draft_entries, IsDraft};
 
     ghost Value = { Entries };
 
@@ -40,7 +40,7 @@ impl LayerBuilder {
             (λ builder. entry_after [] (stated_pair ([], root)) ≡ Ok builder)
             (λ fault. entry_after [] (stated_pair ([], root)) ≡ Err fault) }
     {
-        let draft = start(alloc, stated((Path::root(alloc), root)))?;
+        let draft = start_draft(alloc, stated((Path::root(alloc), root)))?;
         Ok(LayerBuilder {
             draft,
             count: 1,

@@ -7,10 +7,10 @@ ghost use Rattle.ovl_inode.specs.Attributes.{has_escaped_name};
 ghost use Rattle.ovl_inode.specs.Marks.{is_directory};
 ghost use Rattle.ovl_inode.specs.Sound.{is_sound_inode};
 ghost use Rattle.std.specs.Ordering.{is_lt};
-ghost use Rattle.ovl_manifest.specs.Layers.{entry_cmp, is_directory_at};
-ghost use Rattle.ovl_manifest.specs.LayerTrees.{under, entries_from, grown};
-ghost use Rattle.ovl_manifest.specs.Manifest.{comes_after};
-ghost use Rattle.ovl_manifest.specs.Drafts.{draft_entries, inode_on_way as way_inode, IsDraft, CanTake};
+ghost use Rattle.ovl_layer.specs.Layers.{entry_cmp, is_directory_at};
+ghost use Rattle.ovl_layer.specs.LayerTrees.{under, entries_from, grown};
+ghost use Rattle.ovl_layer.specs.Entries.{comes_after};
+ghost use Rattle.ovl_layer.specs.Drafts.{draft_entries, inode_on_way as way_inode, IsDraft, CanTake};
 
 use crate::trees::{Layer, Node};
 use ovl_inode::{Inode, is_directory};
@@ -19,7 +19,7 @@ use std::alloc::{AllocError, Global};
 
 /// A layer while it is built: the finished nodes of its root, and the nodes on the way to its last entry.
 #[derive(Drop)]
-pub(crate) struct Draft {
+pub struct Draft {
     inode: Inode,
     children: Vec<Node>,
     spine: Vec<Node>,
@@ -166,7 +166,7 @@ impl Draft {
     }
 
     /// The finished layer.
-    pub(crate) fn finish(self) -> Result<Layer, AllocError>
+    pub fn finish(self) -> Result<Layer, AllocError>
         requires { IsDraft self }
         ensures { IfOk result (λ layer. layer ≡ draft_entries self) }
     {

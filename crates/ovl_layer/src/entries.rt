@@ -1,11 +1,11 @@
 ghost use Rattle.std.specs.Prelude.{◌≡◌, ◌<◌, ◌≤◌, ◌↔◌, Ok, Err, Some, IfSome, IsTrue, MatchResult, [], length, take};
 ghost use Rattle.ovl_names.specs.Paths.{child_path};
 ghost use Rattle.ovl_inode.specs.Attributes.{has_escaped_name as escaped_test, is_escaped_name as escaped_name_test};
-ghost use Rattle.ovl_manifest.specs.Layers.{entry_limit, is_within_limits as within_limits_test};
-ghost use Rattle.ovl_manifest.specs.Manifest.{is_statable, stated_pair, entry_after, layer_of_pairs, is_miscounted, first_fault, is_of_first, IsFaultOf};
-ghost use Rattle.ovl_manifest.specs.declared.faults.LayerFault.{LayerFault};
-ghost use Rattle.ovl_manifest.specs.declared.faults.LayerFault.TheVariants.{Count};
-ghost use Rattle.ovl_manifest.specs.Drafts.{draft_entries, IsDraft};
+ghost use Rattle.ovl_layer.specs.Layers.{entry_limit, is_within_limits as within_limits_test};
+ghost use Rattle.ovl_layer.specs.Entries.{is_statable, stated_pair, entry_after, layer_of_pairs, is_miscounted, first_fault, is_of_first, IsFaultOf};
+ghost use Rattle.ovl_layer.specs.declared.faults.LayerFault.{LayerFault};
+ghost use Rattle.ovl_layer.specs.declared.faults.LayerFault.TheVariants.{Count};
+ghost use Rattle.ovl_layer.specs.Drafts.{draft_entries, IsDraft};
 
 use crate::drafts::Draft;
 use crate::faults::LayerFault;
@@ -36,17 +36,17 @@ pub fn from_entries(alloc: Global, entries: Vec<(Path, Inode)>) -> Result<Layer,
     let Some(root) = entries.next() else {
         return Err(LayerFault::Count);
     };
-    let mut draft = start(alloc, stated(root))?;
+    let mut draft = start_draft(alloc, stated(root))?;
     let mut number = 0;
     for entry in entries {
         number += 1;
-        add(alloc, &mut draft, number, stated(entry))?;
+        add_entry(alloc, &mut draft, number, stated(entry))?;
     }
     Ok(draft.finish()?)
 }
 
 /// The draft of the first entry, if one is stated.
-pub(crate) fn start(alloc: Global, entry: Option<(Path, Inode)>) -> Result<Draft, LayerFault>
+pub fn start_draft(alloc: Global, entry: Option<(Path, Inode)>) -> Result<Draft, LayerFault>
     requires { IfSome entry (λ stated. IsTrue (is_statable stated)) }
     ensures { MatchResult result
         (λ draft. (entry_after [] entry ≡ Ok (draft_entries draft)) × IsDraft draft)
@@ -65,7 +65,7 @@ pub(crate) fn start(alloc: Global, entry: Option<(Path, Inode)>) -> Result<Draft
 }
 
 /// Adds the entry of this number to a draft, if one is stated.
-pub(crate) fn add(
+pub fn add_entry(
     alloc: Global,
     draft: &mut Draft,
     number: u32,
@@ -112,7 +112,7 @@ pub(crate) fn add_child(
 {
     if !draft.is_within(directory) {
         let path = directory.child(alloc, &name)?;
-        return add(alloc, draft, number, stated((path, inode)));
+        return add_entry(alloc, draft, number, stated((path, inode)));
     }
     if !is_child_statable(directory, &name, &inode) {
         return Err(LayerFault::Entry(number));
@@ -205,7 +205,7 @@ fn is_child_within_limits(directory: &Path, name: &Name) -> bool
 }
 
 /// Whether the name of some attribute begins with `overlay::ESCAPED_PREFIX`.
-pub(crate) fn has_escaped_name(attrs: &Attrs) -> bool
+pub fn has_escaped_name(attrs: &Attrs) -> bool
     ensures { result ≡ escaped_test attrs.now }
 {
     attrs.pairs().any(|(name, _)| is_escaped_name(name))

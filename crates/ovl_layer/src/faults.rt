@@ -1,7 +1,6 @@
 ghost use Rattle.std.specs.Prelude.{◌≡◌};
-ghost use Rattle.ovl_manifest.specs.declared.faults.LayerFault.TheVariants.{Memory};
+ghost use Rattle.ovl_layer.specs.declared.faults.LayerFault.TheVariants.{Memory};
 
-use ovl_json::Unread;
 use std::alloc::AllocError;
 use thiserror::Error;
 
@@ -45,14 +44,6 @@ impl From<AllocError> for LayerFault {
     ghost from_gives = { λ _ fault. fault ≡ Memory };
 
     fn from(_: AllocError) -> LayerFault {
-        LayerFault::Memory
-    }
-}
-
-impl From<Unread> for LayerFault {
-    ghost from_gives = { λ _ fault. fault ≡ Memory };
-
-    fn from(_: Unread) -> LayerFault {
         LayerFault::Memory
     }
 }

@@ -1,6 +1,6 @@
 ghost use Rattle.std.specs.Prelude.{◌≡◌, ℕ, ◌<◌, ◌^◌, length, drop, slice_get, Some, IfOk, IsTrue};
-ghost use Rattle.ovl_manifest.specs.Sheets.{kid_numbers, are_earlier};
-ghost use Rattle.ovl_manifest.specs.KidLists.{AreCounts, AreEnds};
+ghost use Rattle.ovl_layer.specs.Sheets.{kid_numbers, are_earlier};
+ghost use Rattle.ovl_layer.specs.KidLists.{AreCounts, AreEnds};
 
 use std::alloc::{AllocError, Global};
 use std::marker::Model;
@@ -15,7 +15,7 @@ pub(crate) struct KidLists {
 
 impl Model for KidLists {
     ghost use Rattle.std.specs.Prelude.{ℕ, List, length};
-    ghost use Rattle.ovl_manifest.specs.KidLists.{parts_of, AreStarts};
+    ghost use Rattle.ovl_layer.specs.KidLists.{parts_of, AreStarts};
 
     ghost Value = { List (List ℕ) };
 

@@ -13,7 +13,7 @@ mod trees;
 
 pub use builders::LayerBuilder;
 pub use drafts::Draft;
-pub use entries::{ENTRY_LIMIT, add, from_entries, has_escaped_name, start};
+pub use entries::{ENTRY_LIMIT, add_entry, from_entries, has_escaped_name, start_draft};
 pub use faults::LayerFault;
 pub use sheet_drafts::SheetDraft;
 pub use sheets::{Sheet, SheetPlace, SheetRow};

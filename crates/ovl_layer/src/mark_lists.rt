@@ -1,7 +1,7 @@
 ghost use Rattle.std.specs.Prelude.{◌≡◌, ◌<◌, ◌++◌, [], ◌∷◌, length, slice_get, Some, IfOk, IfSome, OnOk};
 ghost use Rattle.ovl_inode.specs.Marks.{mark_of as the_mark};
-ghost use Rattle.ovl_manifest.specs.Layers.{entry_limit};
-ghost use Rattle.ovl_manifest.specs.MarkLists.{plain_marks};
+ghost use Rattle.ovl_layer.specs.Layers.{entry_limit};
+ghost use Rattle.ovl_layer.specs.MarkLists.{plain_marks};
 
 use ovl_inode::{Inode, Kind, Mark, mark_of};
 use std::alloc::{AllocError, Global};
@@ -18,7 +18,7 @@ pub(crate) struct MarkList {
 impl Model for MarkList {
     ghost use Rattle.std.specs.Prelude.{List};
     ghost use Rattle.ovl_inode.specs.declared.marks.Mark.{Mark};
-    ghost use Rattle.ovl_manifest.specs.MarkLists.{marks_at, AreMarks};
+    ghost use Rattle.ovl_layer.specs.MarkLists.{marks_at, AreMarks};
 
     ghost Value = { List Mark };
 

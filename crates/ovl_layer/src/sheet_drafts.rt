@@ -4,8 +4,8 @@ ghost use Rattle.ovl_names.specs.Paths.{path_cmp, child_path};
 ghost use Rattle.ovl_inode.specs.Attributes.{has_escaped_name};
 ghost use Rattle.ovl_inode.specs.Marks.{is_directory};
 ghost use Rattle.ovl_inode.specs.Sound.{is_sound_inode};
-ghost use Rattle.ovl_manifest.specs.Layers.{is_directory_at};
-ghost use Rattle.ovl_manifest.specs.SheetDrafts.{drafted, last_path, IsSheetDraft, CanEnter};
+ghost use Rattle.ovl_layer.specs.Layers.{is_directory_at};
+ghost use Rattle.ovl_layer.specs.SheetDrafts.{drafted, last_path, IsSheetDraft, CanEnter};
 
 use crate::sheets::{Sheet, SheetRow};
 use ovl_inode::{Inode, is_directory};
@@ -15,14 +15,14 @@ use std::alloc::{AllocError, Global};
 /// A layer while its entries come in path order: the rows of its sheet so far, and the numbers of those on the way to
 /// the last entry, the root's first.
 #[derive(Drop)]
-pub(crate) struct SheetDraft {
+pub struct SheetDraft {
     rows: Vec<SheetRow>,
     way: Vec<u32>,
 }
 
 impl SheetDraft {
     /// The layer of a root alone, with room for so many entries.
-    pub(crate) fn start(alloc: Global, inode: Inode, room: usize) -> Result<SheetDraft, AllocError>
+    pub fn start(alloc: Global, inode: Inode, room: usize) -> Result<SheetDraft, AllocError>
         requires directory { IsTrue (is_directory inode) }
         requires sound { IsTrue (is_sound_inode inode) }
         requires unescaped { has_escaped_name inode.attrs ≡ false }
@@ -51,7 +51,7 @@ impl SheetDraft {
     }
 
     /// Whether the entry `name` of the directory of the first `depth` names of the last path comes after all entries.
-    pub(crate) fn comes_before_child(&self, depth: usize, name: &Name) -> bool
+    pub fn comes_before_child(&self, depth: usize, name: &Name) -> bool
         requires draft { IsSheetDraft self.now }
         requires depth { depth ≤ length (last_path self.now) }
         ensures { result ≡ is_lt (path_cmp (last_path self.now) (child_path (take depth (last_path self.now)) name.now)) }
@@ -67,7 +67,7 @@ impl SheetDraft {
     }
 
     /// Whether the path of the first `depth` names of the last path is a directory's.
-    pub(crate) fn is_directory_above(&self, depth: usize) -> bool
+    pub fn is_directory_above(&self, depth: usize) -> bool
         requires draft { IsSheetDraft self.now }
         requires depth { depth ≤ length (last_path self.now) }
         ensures { result ≡ is_directory_at (drafted self.now) (take depth (last_path self.now)) }
@@ -78,7 +78,7 @@ impl SheetDraft {
 
     /// Puts one more entry, which comes after all others, into the directory of the first `depth` names of the last
     /// path, which is there.
-    pub(crate) fn enter(
+    pub fn enter(
         &mut self,
         alloc: Global,
         depth: usize,
@@ -105,7 +105,7 @@ impl SheetDraft {
     }
 
     /// The finished sheet.
-    pub(crate) fn finish(self, alloc: Global) -> Result<Sheet, AllocError>
+    pub fn finish(self, alloc: Global) -> Result<Sheet, AllocError>
         requires { IsSheetDraft self }
         ensures { IfOk result (λ sheet. sheet ≡ drafted self) }
     {

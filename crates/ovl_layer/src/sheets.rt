@@ -4,10 +4,10 @@ ghost use Rattle.std.specs.List.{All};
 ghost use Rattle.std.specs.Vec.{vec_capacity};
 ghost use Rattle.ovl_names.specs.Paths.{child_path};
 ghost use Rattle.ovl_inode.specs.Marks.{mark_of as the_mark};
-ghost use Rattle.ovl_manifest.specs.Layers.{IsLayer, entry_at, names_below, entry_limit};
-ghost use Rattle.ovl_manifest.specs.LayerTrees.{entries_in, entries_under, entries_of_nodes};
-ghost use Rattle.ovl_manifest.specs.Sheets.{IsRowOf, AreRows, path_at, last_name, entries_of_rows, afters_from};
-ghost use Rattle.ovl_manifest.specs.SheetPasses.{AddsParents, IsRoomFor, rows_from, kid_order, depths_of as the_depths, with_afters};
+ghost use Rattle.ovl_layer.specs.Layers.{IsLayer, entry_at, names_below, entry_limit};
+ghost use Rattle.ovl_layer.specs.LayerTrees.{entries_in, entries_under, entries_of_nodes};
+ghost use Rattle.ovl_layer.specs.Sheets.{IsRowOf, AreRows, path_at, last_name, entries_of_rows, afters_from};
+ghost use Rattle.ovl_layer.specs.SheetPasses.{AddsParents, IsRoomFor, rows_from, kid_order, depths_of as the_depths, with_afters};
 
 use crate::kid_lists::KidLists;
 use crate::mark_lists::MarkList;
@@ -41,8 +41,8 @@ pub struct Sheet {
 }
 
 impl Model for Sheet {
-    ghost use Rattle.ovl_manifest.specs.Layers.{Entries};
-    ghost use Rattle.ovl_manifest.specs.Sheets.{IsSheet, entries_of_rows};
+    ghost use Rattle.ovl_layer.specs.Layers.{Entries};
+    ghost use Rattle.ovl_layer.specs.Sheets.{IsSheet, entries_of_rows};
 
     ghost Value = { Entries };
 
@@ -60,9 +60,9 @@ pub struct SheetPlace<'a> {
 
 impl<'a> Model for SheetPlace<'a> {
     ghost use Rattle.std.specs.Prelude.{◌<◌, length};
-    ghost use Rattle.ovl_manifest.specs.Layers.{Entries};
-    ghost use Rattle.ovl_manifest.specs.LayerTrees.{entries_under};
-    ghost use Rattle.ovl_manifest.specs.Sheets.{path_at};
+    ghost use Rattle.ovl_layer.specs.Layers.{Entries};
+    ghost use Rattle.ovl_layer.specs.LayerTrees.{entries_under};
+    ghost use Rattle.ovl_layer.specs.Sheets.{path_at};
 
     ghost Value = { Entries };
 

@@ -1,9 +1,9 @@
 ghost use Rattle.std.specs.Prelude.{◌≡◌, ◌≢◌, ◌++◌, [], Ok, IfOk, OnOk, MatchOption};
 ghost use Rattle.std.specs.Option.{option_map};
 ghost use Rattle.ovl_names.specs.Paths.{child_path};
-ghost use Rattle.ovl_manifest.specs.Layers.{IsLayer, entry_at, names_below};
-ghost use Rattle.ovl_manifest.specs.Manifest.{layer_of_pairs};
-ghost use Rattle.ovl_manifest.specs.LayerTrees.{entries_from, entries_in, entries_under, entries_of_nodes, HasBelow, placed};
+ghost use Rattle.ovl_layer.specs.Layers.{IsLayer, entry_at, names_below};
+ghost use Rattle.ovl_layer.specs.Entries.{layer_of_pairs};
+ghost use Rattle.ovl_layer.specs.LayerTrees.{entries_from, entries_in, entries_under, entries_of_nodes, HasBelow, placed};
 
 use ovl_inode::Inode;
 use ovl_names::{Name, Path};
@@ -23,8 +23,8 @@ impl Model for Node {
     ghost use Rattle.std.specs.Prelude.{◌≡◌, true, length};
     ghost use Rattle.std.proofs.Common.{arith};
     ghost use Rattle.ovl_names.specs.Order.{ascends};
-    ghost use Rattle.ovl_manifest.specs.LayerTrees.{NodeView, node_cmp, entries_of_nodes};
-    ghost use Rattle.ovl_manifest.specs.TreeFalls.{most_le-length-entries_of_nodes};
+    ghost use Rattle.ovl_layer.specs.LayerTrees.{NodeView, node_cmp, entries_of_nodes};
+    ghost use Rattle.ovl_layer.specs.TreeFalls.{most_le-length-entries_of_nodes};
 
     ghost Value = { NodeView };
 
@@ -47,8 +47,8 @@ pub struct Layer {
 impl Model for Layer {
     ghost use Rattle.std.specs.Prelude.{◌≡◌, true};
     ghost use Rattle.ovl_names.specs.Order.{ascends};
-    ghost use Rattle.ovl_manifest.specs.Layers.{Entries, IsLayer};
-    ghost use Rattle.ovl_manifest.specs.LayerTrees.{node_cmp, entries_from, entries_of_nodes};
+    ghost use Rattle.ovl_layer.specs.Layers.{Entries, IsLayer};
+    ghost use Rattle.ovl_layer.specs.LayerTrees.{node_cmp, entries_from, entries_of_nodes};
 
     ghost Value = { Entries };
 
@@ -67,8 +67,8 @@ pub struct Cursor<'a> {
 impl<'a> Model for Cursor<'a> {
     ghost use Rattle.std.specs.Prelude.{◌≡◌, true};
     ghost use Rattle.ovl_names.specs.Order.{ascends};
-    ghost use Rattle.ovl_manifest.specs.Layers.{Entries};
-    ghost use Rattle.ovl_manifest.specs.LayerTrees.{node_cmp, entries_from, entries_of_nodes};
+    ghost use Rattle.ovl_layer.specs.Layers.{Entries};
+    ghost use Rattle.ovl_layer.specs.LayerTrees.{node_cmp, entries_from, entries_of_nodes};
 
     ghost Value = { Entries };
 

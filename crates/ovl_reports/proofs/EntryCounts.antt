@@ -6,7 +6,7 @@ use Rattle.std.proofs.lemmas.List.{length-map}
 use Rattle.std.proofs.lemmas.List.Sums.{sum_by-append, sum_by-cons}
 use Rattle.ovl_names.specs.Names.{PathName}
 use Rattle.ovl_names.specs.Paths.{PathNames, child_path, depth_limit}
-use Rattle.ovl_manifest.specs.Layers.{IsLayer}
+use Rattle.ovl_layer.specs.Layers.{IsLayer}
 use Rattle.ovl_lookup.specs.Stacks.{StackView}
 use Rattle.ovl_lookup.specs.Merged.{look, is_shown_directory}
 use Rattle.ovl_lookup.specs.Passes.{kids_along}

@@ -8,9 +8,9 @@ use Rattle.ovl_names.specs.Paths.{PathNames, child_path}
 use Rattle.ovl_names.specs.Escapes.{escaped}
 use Rattle.ovl_inode.specs.declared.inodes.Inode.{Inode}
 use Rattle.ovl_inode.specs.Marks.{mark_of}
-use Rattle.ovl_manifest.specs.Layers.{Entry, Entries}
-use Rattle.ovl_manifest.specs.LayerTrees.{NodeView, under, entries_from, entries_of_nodes}
-use Rattle.ovl_manifest.proofs.NodeLemmas.{entries_of_nodes-more}
+use Rattle.ovl_layer.specs.Layers.{Entry, Entries}
+use Rattle.ovl_layer.specs.LayerTrees.{NodeView, under, entries_from, entries_of_nodes}
+use Rattle.ovl_layer.proofs.NodeLemmas.{entries_of_nodes-more}
 use Rattle.ovl_reports.specs.Reports.{shown_names}
 use Rattle.ovl_reports.specs.LayerReports.{marked_line, entry_line}
 use Rattle.ovl_reports.proofs.ListingSteps.{shown-child}

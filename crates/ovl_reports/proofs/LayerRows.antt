@@ -7,7 +7,7 @@ use Rattle.ovl_inode.specs.Attributes.{Attributes, opaque_name, redirect_name, m
 use Rattle.ovl_inode.specs.declared.inodes.Kind.{Kind}
 use Rattle.ovl_inode.specs.declared.inodes.Kind.TheVariants.{Dir, File, Char}
 use Rattle.ovl_inode.proofs.OnLiterals.{inode_on_literals}
-use Rattle.ovl_manifest.specs.Layers.{Entry}
+use Rattle.ovl_layer.specs.Layers.{Entry}
 use Rattle.ovl_reports.specs.LayerReports.{layer_report}
 
 -- an entry of user, group and time 0

@@ -8,7 +8,7 @@ use Rattle.ovl_inode.specs.declared.marks.Mark.{Mark}
 use Rattle.ovl_inode.specs.declared.marks.Mark.TheVariants.{Whiteout, DirOpaque, DirMoved, DirBad, DirPlain, Meta, MetaBad, Leaf}
 use Rattle.ovl_inode.specs.declared.marks.Redirect.{Redirect}
 use Rattle.ovl_inode.specs.declared.marks.Redirect.TheVariants.{To, Beside}
-use Rattle.ovl_manifest.specs.Layers.{Entry, Entries}
+use Rattle.ovl_layer.specs.Layers.{Entry, Entries}
 use Rattle.ovl_reports.specs.Reports.{spaced}
 
 -- the word of a mark; a malformed redirect, which no new layer has, counts as none that closes what is below

@@ -3,15 +3,15 @@ ghost use Rattle.std.specs.List.{flat_map};
 ghost use Rattle.ovl_names.specs.Escapes.{escaped};
 ghost use Rattle.ovl_names.specs.Paths.{PathNames, child_path};
 ghost use Rattle.ovl_inode.specs.Marks.{mark_of as mark_of_inode};
-ghost use Rattle.ovl_manifest.specs.LayerTrees.{entries_from, placed};
+ghost use Rattle.ovl_layer.specs.LayerTrees.{entries_from, placed};
 ghost use Rattle.ovl_reports.specs.LayerReports.{mark_word as the_mark_word, redirect_word, redirect_end, marked_line, entry_line, layer_report};
 ghost use Rattle.ovl_reports.specs.Reports.{shown_names};
-ghost use Rattle.ovl_manifest.specs.Layers.{IsLayer};
+ghost use Rattle.ovl_layer.specs.Layers.{IsLayer};
 
 use crate::listings::{one_more, push_place, text_of};
 use crate::reports::{push_count, push_path, push_word};
 use ovl_inode::{Inode, Mark, Redirect, mark_of};
-use ovl_manifest::{Layer, Node};
+use ovl_layer::{Layer, Node};
 use ovl_names::push_escaped;
 use std::alloc::{AllocError, Global};
 

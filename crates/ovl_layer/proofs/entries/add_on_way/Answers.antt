@@ -2,11 +2,11 @@ use Rattle.std.proofs.Common.{◌≡◌, ◌∙◌, [], Ok, true, sym, ap, take}
 use Rattle.ovl_names.specs.Paths.{PathNames, child_path, parent_path}
 use Rattle.ovl_names.proofs.Ascending.{both}
 use Rattle.ovl_inode.specs.Sound.{is_sound_inode}
-use Rattle.ovl_manifest.specs.Layers.{Entries, is_directory_at, is_within_limits}
-use Rattle.ovl_manifest.specs.Drafts.{draft_entries}
-use Rattle.ovl_manifest.proofs.SheetLemmas.{parent_path-child}
-use Rattle.ovl_manifest.proofs.ReadLemmas.{entry-taken}
-use Rattle.ovl_manifest.proofs.entries.add_on_way.Goals as goal
+use Rattle.ovl_layer.specs.Layers.{Entries, is_directory_at, is_within_limits}
+use Rattle.ovl_layer.specs.Drafts.{draft_entries}
+use Rattle.ovl_layer.proofs.SheetLemmas.{parent_path-child}
+use Rattle.ovl_layer.proofs.EntryLemmas.{entry-taken}
+use Rattle.ovl_layer.proofs.entries.add_on_way.Goals as goal
 
 pub enter_child-requires-clause-entry : goal.enter_child-requires-clause-entry
 enter_child-requires-clause-entry c =

@@ -1,9 +1,9 @@
 use Rattle.std.proofs.Common.{◌≡◌, ◌≤◌, ◌+◌, None, length, map}
 use Rattle.std.specs.Vec.Iter.{into_iter_items, into_iter_len}
-use Rattle.ovl_manifest.specs.Layers.{entry_limit}
-use Rattle.ovl_manifest.specs.Manifest.{stated_pair, entries_after, layer_of_pairs, first_fault}
-use Rattle.ovl_manifest.specs.Drafts.{draft_entries, IsDraft}
-use Rattle.ovl_manifest.proofs.entries.from_entries.Given as goal
+use Rattle.ovl_layer.specs.Layers.{entry_limit}
+use Rattle.ovl_layer.specs.Entries.{stated_pair, entries_after, layer_of_pairs, first_fault}
+use Rattle.ovl_layer.specs.Drafts.{draft_entries, IsDraft}
+use Rattle.ovl_layer.proofs.entries.from_entries.Given as goal
 
 -- what is left, after the entries so far, makes the whole layer, and the first entry had no fault
 abbrev pub invariant-loop-entry : goal.invariant-loop-entry

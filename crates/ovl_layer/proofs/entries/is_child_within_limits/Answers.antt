@@ -4,12 +4,12 @@ use Rattle.std.proofs.lemmas.Bool.Decides.{nat_tests}
 use Rattle.ovl_names.specs.Names.{is_name, slash}
 use Rattle.ovl_names.specs.Paths.{PathNames, child_path, path_text, has_names, depth_limit, text_limit}
 use Rattle.ovl_names.proofs.Ascending.{both}
-use Rattle.ovl_manifest.specs.TextPaths.{slashed}
+use Rattle.ovl_layer.specs.TextPaths.{slashed}
 use Rattle.ovl_names.proofs.NameLemmas.{has_names-child}
-use Rattle.ovl_manifest.proofs.EntryLemmas.{name_length, limits, short-limits}
-use Rattle.ovl_manifest.proofs.SheetLemmas.{length-child}
-use Rattle.ovl_manifest.proofs.WayLemmas.{slashed-child}
-use Rattle.ovl_manifest.proofs.entries.is_child_within_limits.Goals as goal
+use Rattle.ovl_layer.proofs.EntryLemmas.{name_length, limits, short-limits}
+use Rattle.ovl_layer.proofs.SheetLemmas.{length-child}
+use Rattle.ovl_layer.proofs.WayLemmas.{slashed-child}
+use Rattle.ovl_layer.proofs.entries.is_child_within_limits.Goals as goal
 
 pub loop-above-init : goal.loop-above-init
 loop-above-init c =

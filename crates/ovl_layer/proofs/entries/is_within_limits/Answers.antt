@@ -3,9 +3,9 @@ use Rattle.std.specs.Prelude.{nat_le}
 use Rattle.ovl_names.specs.Names.{is_name, slash}
 use Rattle.ovl_names.specs.Paths.{PathNames, has_names, text_limit}
 use Rattle.ovl_names.proofs.Ascending.{both}
-use Rattle.ovl_manifest.specs.TextPaths.{slashed}
-use Rattle.ovl_manifest.proofs.EntryLemmas.{name_length, limits}
-use Rattle.ovl_manifest.proofs.entries.is_within_limits.Goals as goal
+use Rattle.ovl_layer.specs.TextPaths.{slashed}
+use Rattle.ovl_layer.proofs.EntryLemmas.{name_length, limits}
+use Rattle.ovl_layer.proofs.entries.is_within_limits.Goals as goal
 
 pub loop-name-init : goal.loop-name-init
 loop-name-init c =

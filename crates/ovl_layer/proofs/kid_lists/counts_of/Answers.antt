@@ -1,7 +1,7 @@
 use Rattle.std.proofs.Common.{◌∙◌, ◌+◌, ◌<◌, get_or, length, arith}
 use Rattle.std.proofs.lemmas.List.{get_or_read, length-set}
-use Rattle.ovl_manifest.proofs.KidListLemmas.{parent-inside, counts-more, counts-fit}
-use Rattle.ovl_manifest.proofs.kid_lists.counts_of.Goals as goal
+use Rattle.ovl_layer.proofs.KidListLemmas.{parent-inside, counts-more, counts-fit}
+use Rattle.ovl_layer.proofs.kid_lists.counts_of.Goals as goal
 
 pub index_mut-requires : goal.index_mut-requires
 index_mut-requires c =

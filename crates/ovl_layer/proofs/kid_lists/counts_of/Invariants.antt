@@ -1,7 +1,7 @@
 use Rattle.std.proofs.Common.{◌≡◌, ℕ, ◌≤◌, suc, length, drop, take}
 use Rattle.std.specs.Prelude.{slice_index}
-use Rattle.ovl_manifest.specs.Sheets.{kid_numbers}
-use Rattle.ovl_manifest.proofs.kid_lists.counts_of.Given as goal
+use Rattle.ovl_layer.specs.Sheets.{kid_numbers}
+use Rattle.ovl_layer.proofs.kid_lists.counts_of.Given as goal
 
 -- those of the first rows are counted
 abbrev pub invariant-loop-number : goal.invariant-loop-number

@@ -1,8 +1,8 @@
 use Rattle.std.proofs.Common.{◌<◌, ◌+◌, ◌-◌, suc, length, arith}
 use Rattle.std.proofs.lemmas.List.{get_or_read}
-use Rattle.ovl_manifest.specs.KidLists.{AreCounts}
-use Rattle.ovl_manifest.proofs.KidListLemmas.{ends-begin, ends-more, ends-fit, ends-all}
-use Rattle.ovl_manifest.proofs.kid_lists.ends_of.Goals as goal
+use Rattle.ovl_layer.specs.KidLists.{AreCounts}
+use Rattle.ovl_layer.proofs.KidListLemmas.{ends-begin, ends-more, ends-fit, ends-all}
+use Rattle.ovl_layer.proofs.kid_lists.ends_of.Goals as goal
 
 pub loop-number-init : goal.loop-number-init
 loop-number-init c = ends-begin c.args.parents.now c.in_ok-ends.ends.items c.in_ok-ends.ensures

@@ -1,9 +1,9 @@
 use Rattle.std.proofs.Common.{◌∙◌, List, take, ap, subst, arith}
 use Rattle.std.proofs.lemmas.List.{take_all}
-use Rattle.ovl_manifest.specs.LayerTrees.{NodeView, entries_of_nodes}
-use Rattle.ovl_manifest.specs.SheetPasses.{AddsParents}
-use Rattle.ovl_manifest.proofs.SheetPassLemmas.{kids-room, parents-count, parents-none, parents-more}
-use Rattle.ovl_manifest.proofs.sheets.+push_parents.Goals as goal
+use Rattle.ovl_layer.specs.LayerTrees.{NodeView, entries_of_nodes}
+use Rattle.ovl_layer.specs.SheetPasses.{AddsParents}
+use Rattle.ovl_layer.proofs.SheetPassLemmas.{kids-room, parents-count, parents-none, parents-more}
+use Rattle.ovl_layer.proofs.sheets.+push_parents.Goals as goal
 
 pub loop-node-init : goal.loop-node-init
 loop-node-init t c = parents-none c.args.directory c.args.parents.now.items

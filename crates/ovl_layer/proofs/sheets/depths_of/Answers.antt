@@ -1,11 +1,11 @@
 use Rattle.std.proofs.Common.{◌≡◌, ◌∙◌, ◌<◌, ◌≤◌, ℕ, length, get_or, subst, arith}
 use Rattle.std.proofs.lemmas.Grind.{get_or_default_zero}
-use Rattle.ovl_manifest.specs.declared.sheets.SheetRow.{SheetRow}
-use Rattle.ovl_manifest.specs.Layers.{Entries}
-use Rattle.ovl_manifest.specs.Sheets.{path_at, entries_of_rows}
-use Rattle.ovl_manifest.proofs.AfterLemmas.{AreDepthsTo, entries-count, depth-named, depth-root, one-depth, all-depths}
-use Rattle.ovl_manifest.proofs.sheets.depths_of.Goals as goal
-use Rattle.ovl_manifest.proofs.sheets.depths_of.Goals.{in-Some, in-None}
+use Rattle.ovl_layer.specs.declared.sheets.SheetRow.{SheetRow}
+use Rattle.ovl_layer.specs.Layers.{Entries}
+use Rattle.ovl_layer.specs.Sheets.{path_at, entries_of_rows}
+use Rattle.ovl_layer.proofs.AfterLemmas.{AreDepthsTo, entries-count, depth-named, depth-root, one-depth, all-depths}
+use Rattle.ovl_layer.proofs.sheets.depths_of.Goals as goal
+use Rattle.ovl_layer.proofs.sheets.depths_of.Goals.{in-Some, in-None}
 
 pub index-requires : goal.index-requires
 index-requires c =

@@ -1,6 +1,6 @@
-use Rattle.ovl_manifest.specs.Sheets.{entries_of_rows}
-use Rattle.ovl_manifest.proofs.AfterLemmas.{AreDepthsTo}
-use Rattle.ovl_manifest.proofs.sheets.depths_of.Given as goal
+use Rattle.ovl_layer.specs.Sheets.{entries_of_rows}
+use Rattle.ovl_layer.proofs.AfterLemmas.{AreDepthsTo}
+use Rattle.ovl_layer.proofs.sheets.depths_of.Given as goal
 
 -- those so far
 abbrev pub invariant-loop-row : goal.invariant-loop-row

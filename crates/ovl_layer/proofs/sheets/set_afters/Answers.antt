@@ -1,11 +1,11 @@
 use Rattle.std.proofs.Common.{◌≡◌, ◌∙◌, ◌<◌, ◌+◌, ◌-◌, List, ℕ, length, get_or, set, sym, ap, subst, arith}
 use Rattle.std.proofs.lemmas.List.{length-map}
-use Rattle.ovl_manifest.specs.declared.sheets.SheetRow.{SheetRow}
-use Rattle.ovl_manifest.specs.Layers.{Entry, Entries}
-use Rattle.ovl_manifest.specs.Sheets.{entries_of_rows}
-use Rattle.ovl_manifest.proofs.AfterLemmas.{AreSetFrom, IsUnderTo, after_of, under-begins, under-more, under-ends, under-stops, depth-at, entries-count, one-set, all-set}
-use Rattle.ovl_manifest.proofs.sheets.set_afters.Goals as goal
-use Rattle.ovl_manifest.proofs.sheets.set_afters.Goals.{then-loop-after-test+else-depths-after, else-loop-after-test}
+use Rattle.ovl_layer.specs.declared.sheets.SheetRow.{SheetRow}
+use Rattle.ovl_layer.specs.Layers.{Entry, Entries}
+use Rattle.ovl_layer.specs.Sheets.{entries_of_rows}
+use Rattle.ovl_layer.proofs.AfterLemmas.{AreSetFrom, IsUnderTo, after_of, under-begins, under-more, under-ends, under-stops, depth-at, entries-count, one-set, all-set}
+use Rattle.ovl_layer.proofs.sheets.set_afters.Goals as goal
+use Rattle.ovl_layer.proofs.sheets.set_afters.Goals.{then-loop-after-test+else-depths-after, else-loop-after-test}
 
 pub loop-after-init : goal.loop-after-init
 loop-after-init c =

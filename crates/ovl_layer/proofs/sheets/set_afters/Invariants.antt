@@ -1,7 +1,7 @@
 use Rattle.std.proofs.Common.{◌≤◌, ◌-◌, length}
-use Rattle.ovl_manifest.specs.Sheets.{entries_of_rows}
-use Rattle.ovl_manifest.proofs.AfterLemmas.{AreSetFrom, IsUnderTo}
-use Rattle.ovl_manifest.proofs.sheets.set_afters.Given as goal
+use Rattle.ovl_layer.specs.Sheets.{entries_of_rows}
+use Rattle.ovl_layer.proofs.AfterLemmas.{AreSetFrom, IsUnderTo}
+use Rattle.ovl_layer.proofs.sheets.set_afters.Given as goal
 
 -- those from that number on are set
 abbrev pub invariant-loop-number : goal.invariant-loop-number

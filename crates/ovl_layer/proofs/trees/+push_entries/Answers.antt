@@ -1,11 +1,11 @@
 use Rattle.std.proofs.Common.{◌≡◌, ◌++◌, ◌∷◌, [], append_assoc, List, take, sym, ◌∙◌, ap}
 use Rattle.std.proofs.lemmas.List.{take_all, append-nil}
 use Rattle.ovl_inode.specs.declared.inodes.Inode.{Inode}
-use Rattle.ovl_manifest.specs.Layers.{Entries}
-use Rattle.ovl_manifest.specs.LayerTrees.{NodeView, entries_of_nodes, under, entries_from, placed}
+use Rattle.ovl_layer.specs.Layers.{Entries}
+use Rattle.ovl_layer.specs.LayerTrees.{NodeView, entries_of_nodes, under, entries_from, placed}
 use Rattle.ovl_names.specs.Paths.{PathNames, child_path}
-use Rattle.ovl_manifest.proofs.NodeLemmas.{entries_of_nodes-more, placed-under, placed-append}
-use Rattle.ovl_manifest.proofs.trees.+push_entries.Goals as goal
+use Rattle.ovl_layer.proofs.NodeLemmas.{entries_of_nodes-more, placed-under, placed-append}
+use Rattle.ovl_layer.proofs.trees.+push_entries.Goals as goal
 
 pub loop-child-preserved : goal.loop-child-preserved
 loop-child-preserved n c =

@@ -1,5 +1,5 @@
 use Rattle.std.proofs.Common.{◌≡◌, ◌+◌, length, take}
-use Rattle.ovl_manifest.specs.LayerTrees.{entries_of_nodes}
+use Rattle.ovl_layer.specs.LayerTrees.{entries_of_nodes}
 use Rattle.ovl_reports.proofs.layer_reports.+count_under.Given as goal
 
 abbrev pub decreases-count_under : goal.decreases-count_under

@@ -1,7 +1,7 @@
 use Rattle.std.proofs.Common.{◌≡◌, ◌++◌, length, take, string_bytes}
 use Rattle.std.specs.List.{flat_map}
 use Rattle.ovl_names.specs.Paths.{PathNames, child_path}
-use Rattle.ovl_manifest.specs.LayerTrees.{entries_of_nodes, placed}
+use Rattle.ovl_layer.specs.LayerTrees.{entries_of_nodes, placed}
 use Rattle.ovl_reports.specs.Reports.{shown_names}
 use Rattle.ovl_reports.specs.LayerReports.{entry_line}
 use Rattle.ovl_reports.proofs.layer_reports.+push_under.Given as goal

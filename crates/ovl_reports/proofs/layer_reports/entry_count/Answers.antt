@@ -1,6 +1,6 @@
 use Rattle.std.proofs.Common.{◌≡◌, ◌∙◌, List, length, take, sym, ap, arith}
 use Rattle.std.proofs.lemmas.List.{take_all}
-use Rattle.ovl_manifest.specs.LayerTrees.{NodeView, entries_of_nodes, entries_from}
+use Rattle.ovl_layer.specs.LayerTrees.{NodeView, entries_of_nodes, entries_from}
 use Rattle.ovl_inode.specs.declared.inodes.Inode.{Inode}
 use Rattle.ovl_reports.proofs.LayerReportSteps.{one_more_counted}
 use Rattle.ovl_reports.proofs.layer_reports.entry_count.Goals as goal

@@ -4,9 +4,9 @@ use Rattle.std.specs.List.{flat_map}
 use Rattle.std.proofs.lemmas.List.{take_all}
 use Rattle.std.proofs.lemmas.List.Concat.{flat_map-append}
 use Rattle.ovl_inode.specs.declared.inodes.Inode.{Inode}
-use Rattle.ovl_manifest.specs.Layers.{Entries}
-use Rattle.ovl_manifest.specs.LayerTrees.{NodeView, entries_of_nodes, under, entries_from, placed}
-use Rattle.ovl_manifest.proofs.NodeLemmas.{entries_of_nodes-more, placed_at-under}
+use Rattle.ovl_layer.specs.Layers.{Entries}
+use Rattle.ovl_layer.specs.LayerTrees.{NodeView, entries_of_nodes, under, entries_from, placed}
+use Rattle.ovl_layer.proofs.NodeLemmas.{entries_of_nodes-more, placed_at-under}
 use Rattle.ovl_reports.specs.LayerReports.{entry_line}
 use Rattle.ovl_reports.proofs.layer_reports.layer_report_of.Goals as goal
 

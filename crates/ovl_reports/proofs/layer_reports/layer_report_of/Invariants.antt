@@ -1,6 +1,6 @@
 use Rattle.std.proofs.Common.{◌≡◌, take, string_bytes}
 use Rattle.std.specs.List.{flat_map}
-use Rattle.ovl_manifest.specs.LayerTrees.{entries_of_nodes}
+use Rattle.ovl_layer.specs.LayerTrees.{entries_of_nodes}
 use Rattle.ovl_reports.specs.LayerReports.{entry_line}
 use Rattle.ovl_reports.proofs.layer_reports.layer_report_of.Given as goal
 

@@ -1,14 +1,14 @@
 use Rattle.std.proofs.Common.{◌<◌, ◌∙◌, Result, Err, sym, ap, subst, arith, length}
 use Rattle.std.proofs.lemmas.Result.{err_from_is_err_and}
 use Rattle.ovl_names.specs.Paths.{child_path}
-use Rattle.ovl_manifest.specs.Layers.{Entry, Entries, entry_limit}
-use Rattle.ovl_manifest.specs.Manifest.{stated_pair, IsFaultOf}
-use Rattle.ovl_manifest.specs.Builders.{pair_after}
-use Rattle.ovl_manifest.specs.Drafts.{draft_entries}
-use Rattle.ovl_manifest.specs.declared.faults.LayerFault.{LayerFault}
-use Rattle.ovl_manifest.proofs.ReadLemmas.{one_more}
-use Rattle.ovl_manifest.proofs.BuilderLemmas.{pair-room}
-use Rattle.ovl_manifest.proofs.builders.LayerBuilder.add_child.Goals as goal
+use Rattle.ovl_layer.specs.Layers.{Entry, Entries, entry_limit}
+use Rattle.ovl_layer.specs.Entries.{stated_pair, IsFaultOf}
+use Rattle.ovl_layer.specs.Builders.{pair_after}
+use Rattle.ovl_layer.specs.Drafts.{draft_entries}
+use Rattle.ovl_layer.specs.declared.faults.LayerFault.{LayerFault}
+use Rattle.ovl_layer.proofs.EntryLemmas.{one_more}
+use Rattle.ovl_layer.proofs.BuilderLemmas.{pair-room}
+use Rattle.ovl_layer.proofs.builders.LayerBuilder.add_child.Goals as goal
 
 pub returns-in_err-add_child : goal.returns-in_err-add_child
 returns-in_err-add_child c =

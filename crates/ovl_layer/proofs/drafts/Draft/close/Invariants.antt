@@ -1,6 +1,6 @@
 use Rattle.std.proofs.Common.{◌≡◌, ◌≤◌, map, take, vec_len}
-use Rattle.ovl_manifest.specs.Drafts.{draft_entries}
-use Rattle.ovl_manifest.proofs.drafts.Draft.close.Given as goal
+use Rattle.ovl_layer.specs.Drafts.{draft_entries}
+use Rattle.ovl_layer.proofs.drafts.Draft.close.Given as goal
 
 abbrev pub invariant-loop-self : goal.invariant-loop-self
 invariant-loop-self l = record {

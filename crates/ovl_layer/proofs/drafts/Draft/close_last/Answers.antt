@@ -1,9 +1,9 @@
 use Rattle.std.proofs.Common.{◌≡◌, ◌∙◌, ◌-◌, ◌++◌, ◌∷◌, [], List, sym, ap, arith, map, set, take, vec_len}
 use Rattle.std.specs.Prelude.{option_to_list}
-use Rattle.ovl_manifest.specs.LayerTrees.{NodeView, entries_from, entries_of_nodes, grown}
-use Rattle.ovl_manifest.specs.Drafts.{entries_of_open}
-use Rattle.ovl_manifest.proofs.OpenLemmas.{nothing, last_apart, last_changed, last_named, names_left, closed_first, closed_next, order_next}
-use Rattle.ovl_manifest.proofs.drafts.Draft.close_last.Goals as goal
+use Rattle.ovl_layer.specs.LayerTrees.{NodeView, entries_from, entries_of_nodes, grown}
+use Rattle.ovl_layer.specs.Drafts.{entries_of_open}
+use Rattle.ovl_layer.proofs.OpenLemmas.{nothing, last_apart, last_changed, last_named, names_left, closed_first, closed_next, order_next}
+use Rattle.ovl_layer.proofs.drafts.Draft.close_last.Goals as goal
 
 pub returns-then-depth-eq0-clause-entries : goal.returns-then-depth-eq0-clause-entries
 returns-then-depth-eq0-clause-entries c =

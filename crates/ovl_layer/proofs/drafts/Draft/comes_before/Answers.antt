@@ -1,9 +1,9 @@
 use Rattle.std.proofs.Common.{◌≡◌, ◌∙◌, true, sym, ap, subst}
 use Rattle.ovl_names.specs.Order.{ascends}
-use Rattle.ovl_manifest.specs.Layers.{Entries, entry_cmp}
-use Rattle.ovl_manifest.specs.Manifest.{comes_after}
-use Rattle.ovl_manifest.proofs.LayerLemmas.{comes_after-last}
-use Rattle.ovl_manifest.proofs.drafts.Draft.comes_before.Goals as goal
+use Rattle.ovl_layer.specs.Layers.{Entries, entry_cmp}
+use Rattle.ovl_layer.specs.Entries.{comes_after}
+use Rattle.ovl_layer.proofs.LayerLemmas.{comes_after-last}
+use Rattle.ovl_layer.proofs.drafts.Draft.comes_before.Goals as goal
 
 pub returns-clause-value : goal.returns-clause-value
 returns-clause-value c =

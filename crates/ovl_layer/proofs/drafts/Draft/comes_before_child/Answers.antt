@@ -2,10 +2,10 @@ use Rattle.std.proofs.Common.{◌≡◌, ◌<◌, ◌∙◌, sym, ap, length, ta
 use Rattle.std.specs.Ordering.{is_lt}
 use Rattle.ovl_names.specs.Names.{name_cmp}
 use Rattle.ovl_names.specs.Paths.{PathNames, path_cmp, child_path}
-use Rattle.ovl_manifest.specs.LayerTrees.{NodeView}
-use Rattle.ovl_manifest.proofs.DraftLemmas.{spine_length, after-is_last, name-on_way}
-use Rattle.ovl_manifest.proofs.SheetDraftLemmas.{child_after, child_after-end}
-use Rattle.ovl_manifest.proofs.drafts.Draft.comes_before_child.Goals as goal
+use Rattle.ovl_layer.specs.LayerTrees.{NodeView}
+use Rattle.ovl_layer.proofs.DraftLemmas.{spine_length, after-is_last, name-on_way}
+use Rattle.ovl_layer.proofs.SheetDraftLemmas.{child_after, child_after-end}
+use Rattle.ovl_layer.proofs.drafts.Draft.comes_before_child.Goals as goal
 
 pub returns-then-depth-len : goal.returns-then-depth-len
 returns-then-depth-len c =

@@ -5,11 +5,11 @@ use Rattle.ovl_names.specs.Paths.{PathNames, child_path, parent_path, has_names}
 use Rattle.ovl_names.proofs.Ascending.{both, list_all-front}
 use Rattle.ovl_names.proofs.PathTexts.{parent_path-child}
 use Rattle.ovl_inode.specs.declared.inodes.Inode.{Inode}
-use Rattle.ovl_manifest.specs.declared.drafts.Draft.{Draft}
-use Rattle.ovl_manifest.specs.Drafts.{draft_entries, IsDraft, CanTake}
-use Rattle.ovl_manifest.proofs.LayerLemmas.{after-some}
-use Rattle.ovl_manifest.proofs.DraftLemmas.{after_last, parent, spine_length}
-use Rattle.ovl_manifest.proofs.drafts.Draft.enter.Goals as goal
+use Rattle.ovl_layer.specs.declared.drafts.Draft.{Draft}
+use Rattle.ovl_layer.specs.Drafts.{draft_entries, IsDraft, CanTake}
+use Rattle.ovl_layer.proofs.LayerLemmas.{after-some}
+use Rattle.ovl_layer.proofs.DraftLemmas.{after_last, parent, spine_length}
+use Rattle.ovl_layer.proofs.drafts.Draft.enter.Goals as goal
 
 -- the path of the entry is that of its directory and one name more
 apart : (c : goal.After-name-1) → c.args.path.now ≡ c.unwrap-above.result.1 ++ c.unwrap-above.result.0.now ∷ []

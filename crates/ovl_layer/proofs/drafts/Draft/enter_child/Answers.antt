@@ -3,12 +3,12 @@ use Rattle.std.proofs.lemmas.List.{map-append}
 use Rattle.ovl_names.specs.Names.{is_name}
 use Rattle.ovl_names.specs.Paths.{PathNames, child_path}
 use Rattle.ovl_names.proofs.NameLemmas.{has_names-child, has_names-take}
-use Rattle.ovl_manifest.specs.Layers.{Entries, IsLayer}
-use Rattle.ovl_manifest.specs.LayerTrees.{NodeView, entries_of_nodes}
-use Rattle.ovl_manifest.specs.Drafts.{draft_entries}
-use Rattle.ovl_manifest.proofs.LayerLemmas.{IsLayer-more}
-use Rattle.ovl_manifest.proofs.DraftLemmas.{spine_length, last_named, opened_draft, names_of}
-use Rattle.ovl_manifest.proofs.drafts.Draft.enter_child.Goals as goal
+use Rattle.ovl_layer.specs.Layers.{Entries, IsLayer}
+use Rattle.ovl_layer.specs.LayerTrees.{NodeView, entries_of_nodes}
+use Rattle.ovl_layer.specs.Drafts.{draft_entries}
+use Rattle.ovl_layer.proofs.LayerLemmas.{IsLayer-more}
+use Rattle.ovl_layer.proofs.DraftLemmas.{spine_length, last_named, opened_draft, names_of}
+use Rattle.ovl_layer.proofs.drafts.Draft.enter_child.Goals as goal
 
 pub close-requires-clause-depth : goal.close-requires-clause-depth
 close-requires-clause-depth c = omega (arith, c.requires.depth, spine_length c.args.self.now c.requires.draft)

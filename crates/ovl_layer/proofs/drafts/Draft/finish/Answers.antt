@@ -1,11 +1,11 @@
 use Rattle.std.proofs.Common.{◌≡◌, ◌∙◌, ◌++◌, [], List, sym, ap, subst}
 use Rattle.std.proofs.lemmas.List.{append-nil}
-use Rattle.ovl_manifest.specs.Layers.{Entries, IsLayer}
-use Rattle.ovl_manifest.specs.LayerTrees.{NodeView, entries_from, entries_of_nodes}
-use Rattle.ovl_manifest.specs.Drafts.{entries_of_open}
-use Rattle.ovl_manifest.proofs.OpenLemmas.{nodes_ascend, ascends-below}
-use Rattle.ovl_manifest.proofs.DraftLemmas.{no_names}
-use Rattle.ovl_manifest.proofs.drafts.Draft.finish.Goals as goal
+use Rattle.ovl_layer.specs.Layers.{Entries, IsLayer}
+use Rattle.ovl_layer.specs.LayerTrees.{NodeView, entries_from, entries_of_nodes}
+use Rattle.ovl_layer.specs.Drafts.{entries_of_open}
+use Rattle.ovl_layer.proofs.OpenLemmas.{nodes_ascend, ascends-below}
+use Rattle.ovl_layer.proofs.DraftLemmas.{no_names}
+use Rattle.ovl_layer.proofs.drafts.Draft.finish.Goals as goal
 
 pub invariant_of-result : goal.invariant_of-result
 invariant_of-result c =

@@ -1,13 +1,13 @@
 use Rattle.std.proofs.Common.{◌≡◌, ◌∙◌, ◌-◌, ◌++◌, ◌∷◌, [], List, ℕ, true, sym, ap, arith, length, length-append, take}
 use Rattle.std.specs.Cmp.Lexicographic.{bytes_decides, pointwise_decides}
-use Rattle.ovl_manifest.specs.Drafts.{draft_entries}
+use Rattle.ovl_layer.specs.Drafts.{draft_entries}
 use Rattle.ovl_names.specs.Paths.{PathNames, path_eq, parent_path}
 use Rattle.ovl_names.proofs.PathTexts.{parent_path-child}
-use Rattle.ovl_manifest.specs.Layers.{is_directory_at}
-use Rattle.ovl_manifest.proofs.LayerLemmas.{after-some}
-use Rattle.ovl_manifest.proofs.DraftLemmas.{spine_length, deep, other}
-use Rattle.ovl_manifest.proofs.drafts.Draft.has_parent.Goals as goal
-use Rattle.ovl_manifest.proofs.drafts.Draft.has_parent.Goals.{then-depth-len-via-then-depth-len, then-depth-len-via-else-depth-len+then-not-starts_with}
+use Rattle.ovl_layer.specs.Layers.{is_directory_at}
+use Rattle.ovl_layer.proofs.LayerLemmas.{after-some}
+use Rattle.ovl_layer.proofs.DraftLemmas.{spine_length, deep, other}
+use Rattle.ovl_layer.proofs.drafts.Draft.has_parent.Goals as goal
+use Rattle.ovl_layer.proofs.drafts.Draft.has_parent.Goals.{then-depth-len-via-then-depth-len, then-depth-len-via-else-depth-len+then-not-starts_with}
 
 pub returns-in_default : goal.returns-in_default
 returns-in_default c =

@@ -1,8 +1,8 @@
 use Rattle.std.proofs.Common.{◌≡◌, ◌∙◌, ◌<◌, ◌-◌, suc, sym, ap, arith, length}
-use Rattle.ovl_manifest.specs.LayerTrees.{NodeView}
-use Rattle.ovl_manifest.specs.Drafts.{inode_on_way}
-use Rattle.ovl_manifest.proofs.OpenLemmas.{inode_on_way-open}
-use Rattle.ovl_manifest.proofs.drafts.Draft.inode_on_way.Goals as goal
+use Rattle.ovl_layer.specs.LayerTrees.{NodeView}
+use Rattle.ovl_layer.specs.Drafts.{inode_on_way}
+use Rattle.ovl_layer.proofs.OpenLemmas.{inode_on_way-open}
+use Rattle.ovl_layer.proofs.drafts.Draft.inode_on_way.Goals as goal
 
 pub returns-else-depth-eq0 : goal.returns-else-depth-eq0
 returns-else-depth-eq0 c =

@@ -1,10 +1,10 @@
 use Rattle.std.proofs.Common.{◌≡◌, ◌∙◌, ◌++◌, ◌∷◌, [], sym, ap, map, subst}
 use Rattle.ovl_inode.specs.declared.inodes.Inode.{Inode}
-use Rattle.ovl_manifest.specs.Layers.{IsLayer}
-use Rattle.ovl_manifest.specs.LayerTrees.{NodeView, entries_from, entries_of_nodes}
-use Rattle.ovl_manifest.specs.Drafts.{entries_of_open}
-use Rattle.ovl_manifest.proofs.LayerLemmas.{IsLayer-root}
-use Rattle.ovl_manifest.proofs.drafts.Draft.start.Goals as goal
+use Rattle.ovl_layer.specs.Layers.{IsLayer}
+use Rattle.ovl_layer.specs.LayerTrees.{NodeView, entries_from, entries_of_nodes}
+use Rattle.ovl_layer.specs.Drafts.{entries_of_open}
+use Rattle.ovl_layer.proofs.LayerLemmas.{IsLayer-root}
+use Rattle.ovl_layer.proofs.drafts.Draft.start.Goals as goal
 
 pub returns-clause-draft : goal.returns-clause-draft
 returns-clause-draft c =

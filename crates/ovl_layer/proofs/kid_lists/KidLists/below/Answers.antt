@@ -1,8 +1,8 @@
 use Rattle.std.proofs.Common.{◌≡◌, ◌<◌, ◌∙◌, ◌+◌, ◌-◌, ℕ, suc, Some, List, length, take, drop, sym, ap, arith, add-one}
 use Rattle.std.specs.Prelude.{slice_get, slice_index}
 use Rattle.std.proofs.lemmas.List.{get_or_read}
-use Rattle.ovl_manifest.proofs.KidListLemmas.{part-within, part-get}
-use Rattle.ovl_manifest.proofs.kid_lists.KidLists.below.Goals as goal
+use Rattle.ovl_layer.proofs.KidListLemmas.{part-within, part-get}
+use Rattle.ovl_layer.proofs.kid_lists.KidLists.below.Goals as goal
 
 pub index-requires : goal.index-requires
 index-requires c =

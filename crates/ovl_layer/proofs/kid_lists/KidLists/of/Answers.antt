@@ -1,7 +1,7 @@
 use Rattle.std.proofs.Common.{◌≡◌, ◌-◌, get_or, ap, subst, arith}
 use Rattle.std.proofs.lemmas.List.{get_or_read}
-use Rattle.ovl_manifest.proofs.KidListLemmas.{ArePlaced, place-step, all-starts, all-kids}
-use Rattle.ovl_manifest.proofs.kid_lists.KidLists.of.Goals as goal
+use Rattle.ovl_layer.proofs.KidListLemmas.{ArePlaced, place-step, all-starts, all-kids}
+use Rattle.ovl_layer.proofs.kid_lists.KidLists.of.Goals as goal
 
 pub index-requires-in-loop-number : goal.index-requires-in-loop-number
 index-requires-in-loop-number c =

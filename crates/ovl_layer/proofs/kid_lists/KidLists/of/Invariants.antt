@@ -1,6 +1,6 @@
 use Rattle.std.proofs.Common.{◌≤◌, length}
-use Rattle.ovl_manifest.proofs.KidListLemmas.{ArePlaced}
-use Rattle.ovl_manifest.proofs.kid_lists.KidLists.of.Given as goal
+use Rattle.ovl_layer.proofs.KidListLemmas.{ArePlaced}
+use Rattle.ovl_layer.proofs.kid_lists.KidLists.of.Given as goal
 
 abbrev pub invariant-loop-number : goal.invariant-loop-number
 invariant-loop-number l = record {

@@ -4,9 +4,9 @@ use Rattle.std.proofs.Math.ListN.{get_or-append}
 use Rattle.std.proofs.lemmas.List.{map-append, get_or_push}
 use Rattle.ovl_inode.specs.declared.marks.Mark.{Mark}
 use Rattle.ovl_inode.specs.declared.marks.Mark.TheVariants.{Leaf}
-use Rattle.ovl_manifest.specs.MarkLists.{marks_at, AreMarks}
-use Rattle.ovl_manifest.proofs.SheetLemmas.{map-each}
-use Rattle.ovl_manifest.proofs.mark_lists.MarkList.push.Goals as goal
+use Rattle.ovl_layer.specs.MarkLists.{marks_at, AreMarks}
+use Rattle.ovl_layer.proofs.SheetLemmas.{map-each}
+use Rattle.ovl_layer.proofs.mark_lists.MarkList.push.Goals as goal
 
 -- a mark of its own behind the others moves none of them
 one-more : (different : List Mark) (numbers : List ℕ) (number : ℕ) (mark : Mark) → AreMarks different numbers → number ≡ length different → marks_at (different ++ mark ∷ []) (numbers ++ number ∷ []) ≡ marks_at different numbers ++ mark ∷ []

@@ -5,10 +5,10 @@ use Rattle.std.proofs.lemmas.Bool.Decides.{nat_tests}
 use Rattle.std.proofs.lemmas.Option.{slice_get_read}
 use Rattle.ovl_names.specs.Names.{name_cmp}
 use Rattle.ovl_names.specs.Paths.{PathNames, path_cmp, child_path}
-use Rattle.ovl_manifest.specs.SheetDrafts.{last_path}
-use Rattle.ovl_manifest.proofs.SheetLemmas.{some-same}
-use Rattle.ovl_manifest.proofs.SheetDraftLemmas.{on_way, named-on_way, child_after, child_after-end}
-use Rattle.ovl_manifest.proofs.sheet_drafts.SheetDraft.comes_before_child.Goals as goal
+use Rattle.ovl_layer.specs.SheetDrafts.{last_path}
+use Rattle.ovl_layer.proofs.SheetLemmas.{some-same}
+use Rattle.ovl_layer.proofs.SheetDraftLemmas.{on_way, named-on_way, child_after, child_after-end}
+use Rattle.ovl_layer.proofs.sheet_drafts.SheetDraft.comes_before_child.Goals as goal
 
 pub returns-then-depth-last_depth : goal.returns-then-depth-last_depth
 returns-then-depth-last_depth c =

@@ -2,11 +2,11 @@ use Rattle.std.proofs.Common.{◌≡◌, ◌∙◌, ◌++◌, ◌∷◌, ◌+◌
 use Rattle.std.specs.Prelude.{slice_get}
 use Rattle.std.proofs.lemmas.Option.{slice_get_read}
 use Rattle.ovl_names.specs.Paths.{PathNames, child_path}
-use Rattle.ovl_manifest.specs.declared.sheets.SheetRow.{SheetRow}
-use Rattle.ovl_manifest.specs.Sheets.{entries_of_rows}
-use Rattle.ovl_manifest.specs.SheetDrafts.{drafted, last_path, AreDrafted}
-use Rattle.ovl_manifest.proofs.SheetDraftLemmas.{path-end, rows-count, entered, entered-draft}
-use Rattle.ovl_manifest.proofs.sheet_drafts.SheetDraft.enter.Goals as goal
+use Rattle.ovl_layer.specs.declared.sheets.SheetRow.{SheetRow}
+use Rattle.ovl_layer.specs.Sheets.{entries_of_rows}
+use Rattle.ovl_layer.specs.SheetDrafts.{drafted, last_path, AreDrafted}
+use Rattle.ovl_layer.proofs.SheetDraftLemmas.{path-end, rows-count, entered, entered-draft}
+use Rattle.ovl_layer.proofs.sheet_drafts.SheetDraft.enter.Goals as goal
 
 pub overflow_cast-number : goal.overflow_cast-number
 overflow_cast-number c = omega (arith, c.len-number.ensures, c.args.self.now.rows.ok.0, rows-count _ _ _ c.requires.draft, c.requires.entry.room)

@@ -1,9 +1,9 @@
 use Rattle.std.proofs.Common.{◌≡◌, ◌∙◌, ℕ, List, Some, refl, arith, length}
 use Rattle.std.specs.Prelude.{slice_get}
 use Rattle.std.proofs.lemmas.Option.{slice_get_read}
-use Rattle.ovl_manifest.specs.declared.sheets.SheetRow.{SheetRow}
-use Rattle.ovl_manifest.proofs.SheetDraftLemmas.{on_way, directory-on_way}
-use Rattle.ovl_manifest.proofs.sheet_drafts.SheetDraft.is_directory_above.Goals as goal
+use Rattle.ovl_layer.specs.declared.sheets.SheetRow.{SheetRow}
+use Rattle.ovl_layer.proofs.SheetDraftLemmas.{on_way, directory-on_way}
+use Rattle.ovl_layer.proofs.sheet_drafts.SheetDraft.is_directory_above.Goals as goal
 
 pub returns : goal.returns
 returns c =

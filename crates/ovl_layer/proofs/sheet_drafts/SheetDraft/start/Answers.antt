@@ -1,10 +1,10 @@
 use Rattle.std.proofs.Common.{◌≡◌, ◌∙◌, ◌++◌, ◌∷◌, [], ℕ, List, None, sym, ap, subst}
 use Rattle.ovl_names.specs.Paths.{PathNames}
-use Rattle.ovl_manifest.specs.declared.sheets.SheetRow.{SheetRow}
-use Rattle.ovl_manifest.specs.Sheets.{entries_of_rows}
-use Rattle.ovl_manifest.specs.SheetDrafts.{AreDrafted}
-use Rattle.ovl_manifest.proofs.SheetDraftLemmas.{path-end, root-draft}
-use Rattle.ovl_manifest.proofs.sheet_drafts.SheetDraft.start.Goals as goal
+use Rattle.ovl_layer.specs.declared.sheets.SheetRow.{SheetRow}
+use Rattle.ovl_layer.specs.Sheets.{entries_of_rows}
+use Rattle.ovl_layer.specs.SheetDrafts.{AreDrafted}
+use Rattle.ovl_layer.proofs.SheetDraftLemmas.{path-end, root-draft}
+use Rattle.ovl_layer.proofs.sheet_drafts.SheetDraft.start.Goals as goal
 
 -- the root's row alone
 rows : (c : goal.In_ok-push-2) → c.push.new.self.items ≡ (record { name = None; inode = c.args.inode; parent = 0; after = 1 }) ∷ []

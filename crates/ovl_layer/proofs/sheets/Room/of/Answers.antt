@@ -3,12 +3,12 @@ use Rattle.std.specs.Prelude.{slice_get}
 use Rattle.ovl_inode.specs.declared.inodes.Inode.{Inode}
 use Rattle.ovl_inode.specs.declared.marks.Mark.{Mark}
 use Rattle.ovl_inode.specs.Marks.{mark_of}
-use Rattle.ovl_manifest.specs.Layers.{Entries}
-use Rattle.ovl_manifest.specs.LayerTrees.{NodeView, entries_of_nodes}
-use Rattle.ovl_manifest.specs.Sheets.{afters_from, are_earlier, kid_numbers}
-use Rattle.ovl_manifest.specs.SheetPasses.{AddsParents, IsRoomFor}
-use Rattle.ovl_manifest.proofs.SheetPassLemmas.{marks_of, parents-count, root-place, root-afters}
-use Rattle.ovl_manifest.proofs.sheets.Room.of.Goals as goal
+use Rattle.ovl_layer.specs.Layers.{Entries}
+use Rattle.ovl_layer.specs.LayerTrees.{NodeView, entries_of_nodes}
+use Rattle.ovl_layer.specs.Sheets.{afters_from, are_earlier, kid_numbers}
+use Rattle.ovl_layer.specs.SheetPasses.{AddsParents, IsRoomFor}
+use Rattle.ovl_layer.proofs.SheetPassLemmas.{marks_of, parents-count, root-place, root-afters}
+use Rattle.ovl_layer.proofs.sheets.Room.of.Goals as goal
 
 pub returns : goal.returns
 returns c =

@@ -1,7 +1,7 @@
 use Rattle.std.proofs.Common.{[], sym, ◌∙◌, ap}
-use Rattle.ovl_manifest.specs.Layers.{Entries, entry_at}
-use Rattle.ovl_manifest.proofs.NodeLemmas.{entry_at-under}
-use Rattle.ovl_manifest.proofs.sheets.Sheet.at.Goals as goal
+use Rattle.ovl_layer.specs.Layers.{Entries, entry_at}
+use Rattle.ovl_layer.proofs.NodeLemmas.{entry_at-under}
+use Rattle.ovl_layer.proofs.sheets.Sheet.at.Goals as goal
 
 pub returns-in-Some : goal.returns-in-Some
 returns-in-Some c =

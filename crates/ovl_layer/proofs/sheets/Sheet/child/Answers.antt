@@ -3,13 +3,13 @@ use Rattle.std.specs.List.Sorted.{IsBinarySearchResult}
 use Rattle.std.proofs.lemmas.Fn.{always_returns_same}
 use Rattle.ovl_names.specs.Names.{PathName}
 use Rattle.ovl_names.specs.Paths.{child_path}
-use Rattle.ovl_manifest.specs.declared.sheets.SheetRow.{SheetRow}
-use Rattle.ovl_manifest.specs.Layers.{Entries}
-use Rattle.ovl_manifest.specs.LayerTrees.{entries_under}
-use Rattle.ovl_manifest.specs.Sheets.{path_at, kid_numbers, parents_of}
-use Rattle.ovl_manifest.specs.SheetPasses.{kid_order}
-use Rattle.ovl_manifest.proofs.SheetLemmas.{has-numbers, own-numbers, child-found, child-missing}
-use Rattle.ovl_manifest.proofs.sheets.Sheet.child.Goals as goal
+use Rattle.ovl_layer.specs.declared.sheets.SheetRow.{SheetRow}
+use Rattle.ovl_layer.specs.Layers.{Entries}
+use Rattle.ovl_layer.specs.LayerTrees.{entries_under}
+use Rattle.ovl_layer.specs.Sheets.{path_at, kid_numbers, parents_of}
+use Rattle.ovl_layer.specs.SheetPasses.{kid_order}
+use Rattle.ovl_layer.proofs.SheetLemmas.{has-numbers, own-numbers, child-found, child-missing}
+use Rattle.ovl_layer.proofs.sheets.Sheet.child.Goals as goal
 
 pub below-kids-requires : goal.below-kids-requires
 below-kids-requires c = has-numbers _ _ _ c.self.invariant c.args.directory (omega (arith, c.requires, ap length c.self.view_is))

@@ -2,13 +2,13 @@ use Rattle.std.proofs.Common.{◌≡◌, ◌<◌, ◌∙◌, ◌++◌, ◌∷◌
 use Rattle.std.specs.Prelude.{slice_index}
 use Rattle.std.proofs.lemmas.Option.{get_or_from_slice_get, slice_get_read}
 use Rattle.ovl_inode.specs.declared.inodes.Inode.{Inode}
-use Rattle.ovl_manifest.specs.declared.sheets.SheetRow.{SheetRow}
-use Rattle.ovl_manifest.specs.Layers.{Entries}
-use Rattle.ovl_manifest.specs.LayerTrees.{NodeView, entries_from, entries_of_nodes}
-use Rattle.ovl_manifest.specs.Sheets.{IsSheet, entries_of_rows, afters_from}
-use Rattle.ovl_manifest.specs.SheetPasses.{placed_by, rows_from}
-use Rattle.ovl_manifest.proofs.SheetPassLemmas.{marks_of, afters-length, filled-entries, filled-sheet}
-use Rattle.ovl_manifest.proofs.sheets.Sheet.filled.Goals as goal
+use Rattle.ovl_layer.specs.declared.sheets.SheetRow.{SheetRow}
+use Rattle.ovl_layer.specs.Layers.{Entries}
+use Rattle.ovl_layer.specs.LayerTrees.{NodeView, entries_from, entries_of_nodes}
+use Rattle.ovl_layer.specs.Sheets.{IsSheet, entries_of_rows, afters_from}
+use Rattle.ovl_layer.specs.SheetPasses.{placed_by, rows_from}
+use Rattle.ovl_layer.proofs.SheetPassLemmas.{marks_of, afters-length, filled-entries, filled-sheet}
+use Rattle.ovl_layer.proofs.sheets.Sheet.filled.Goals as goal
 
 pub move_nodes-requires-clause-afters : goal.move_nodes-requires-clause-afters
 move_nodes-requires-clause-afters c =

@@ -1,9 +1,9 @@
 use Rattle.std.proofs.Common.{◌≡◌, ◌<◌, ap, subst, refl, Some, length, arith}
 use Rattle.std.proofs.lemmas.Option.{slice_get_read}
-use Rattle.ovl_manifest.specs.Layers.{Entries, entry_at}
-use Rattle.ovl_manifest.specs.Sheets.{path_at}
-use Rattle.ovl_manifest.proofs.SheetLemmas.{count, entry_at-row}
-use Rattle.ovl_manifest.proofs.sheets.Sheet.inode.Goals as goal
+use Rattle.ovl_layer.specs.Layers.{Entries, entry_at}
+use Rattle.ovl_layer.specs.Sheets.{path_at}
+use Rattle.ovl_layer.proofs.SheetLemmas.{count, entry_at-row}
+use Rattle.ovl_layer.proofs.sheets.Sheet.inode.Goals as goal
 
 pub index-requires : goal.index-requires
 index-requires c = omega (arith, c.requires, ap length c.self.view_is, count _ _ _ c.self.invariant, c.self.inside.rows.ok.0)

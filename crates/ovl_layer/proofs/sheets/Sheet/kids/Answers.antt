@@ -1,10 +1,10 @@
 use Rattle.std.proofs.Common.{◌≡◌, ◌<◌, ◌∙◌, ℕ, List, length, map, sym, ap, subst, arith}
 use Rattle.std.specs.List.{All}
 use Rattle.ovl_names.specs.Paths.{child_path}
-use Rattle.ovl_manifest.specs.Layers.{Entries, names_below}
-use Rattle.ovl_manifest.specs.Sheets.{path_at, kid_numbers, parents_of}
-use Rattle.ovl_manifest.proofs.SheetLemmas.{has-numbers, own-numbers, kids-inside, kids-paths}
-use Rattle.ovl_manifest.proofs.sheets.Sheet.kids.Goals as goal
+use Rattle.ovl_layer.specs.Layers.{Entries, names_below}
+use Rattle.ovl_layer.specs.Sheets.{path_at, kid_numbers, parents_of}
+use Rattle.ovl_layer.proofs.SheetLemmas.{has-numbers, own-numbers, kids-inside, kids-paths}
+use Rattle.ovl_layer.proofs.sheets.Sheet.kids.Goals as goal
 
 pub below-requires : goal.below-requires
 below-requires c = has-numbers _ _ _ c.self.invariant c.args.directory (omega (arith, c.requires, ap length c.self.view_is))

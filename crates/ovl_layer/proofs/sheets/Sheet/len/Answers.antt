@@ -1,9 +1,9 @@
 use Rattle.std.proofs.Common.{◌≤◌, length, ap, arith}
 use Rattle.std.proofs.lemmas.Bool.{leb-true}
-use Rattle.ovl_manifest.specs.Layers.{entry_limit}
-use Rattle.ovl_manifest.specs.Sheets.{entries_of_rows}
-use Rattle.ovl_manifest.proofs.SheetLemmas.{count}
-use Rattle.ovl_manifest.proofs.sheets.Sheet.len.Goals as goal
+use Rattle.ovl_layer.specs.Layers.{entry_limit}
+use Rattle.ovl_layer.specs.Sheets.{entries_of_rows}
+use Rattle.ovl_layer.proofs.SheetLemmas.{count}
+use Rattle.ovl_layer.proofs.sheets.Sheet.len.Goals as goal
 
 pub overflow_cast-result : goal.overflow_cast-result
 overflow_cast-result c =

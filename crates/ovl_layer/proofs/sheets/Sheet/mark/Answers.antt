@@ -3,11 +3,11 @@ use Rattle.std.specs.Option.{option_map}
 use Rattle.std.proofs.lemmas.List.{length-map}
 use Rattle.ovl_inode.specs.declared.marks.Mark.{Mark}
 use Rattle.ovl_inode.specs.Marks.{mark_of}
-use Rattle.ovl_manifest.specs.declared.sheets.SheetRow.{SheetRow}
-use Rattle.ovl_manifest.specs.Layers.{Entries, entry_at}
-use Rattle.ovl_manifest.specs.Sheets.{path_at, IsSheet, entries_of_rows}
-use Rattle.ovl_manifest.proofs.SheetLemmas.{count, mark-at}
-use Rattle.ovl_manifest.proofs.sheets.Sheet.mark.Goals as goal
+use Rattle.ovl_layer.specs.declared.sheets.SheetRow.{SheetRow}
+use Rattle.ovl_layer.specs.Layers.{Entries, entry_at}
+use Rattle.ovl_layer.specs.Sheets.{path_at, IsSheet, entries_of_rows}
+use Rattle.ovl_layer.proofs.SheetLemmas.{count, mark-at}
+use Rattle.ovl_layer.proofs.sheets.Sheet.mark.Goals as goal
 
 -- there is a mark for each row
 within : (rows : List SheetRow) (below : List (List ℕ)) (marked : List Mark) (layer : Entries) (number : ℕ) → IsSheet rows below marked → entries_of_rows rows ≡ layer → number < length layer → number < length marked

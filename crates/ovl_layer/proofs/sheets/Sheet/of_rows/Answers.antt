@@ -1,10 +1,10 @@
 use Rattle.std.proofs.Common.{◌≡◌, ◌<◌, take, length-take-le, ◌∙◌, ℕ, Some, List, length, map, drop, sym, ap, subst, arith}
 use Rattle.std.proofs.lemmas.List.{length-map, take_all, drop-map}
 use Rattle.ovl_inode.specs.Marks.{mark_of}
-use Rattle.ovl_manifest.specs.declared.sheets.SheetRow.{SheetRow}
-use Rattle.ovl_manifest.specs.Sheets.{IsSheet, entries_of_rows, afters_from, kid_numbers, parents_of}
-use Rattle.ovl_manifest.proofs.AfterLemmas.{few-rows, set-entries, set-sheet}
-use Rattle.ovl_manifest.proofs.sheets.Sheet.of_rows.Goals as goal
+use Rattle.ovl_layer.specs.declared.sheets.SheetRow.{SheetRow}
+use Rattle.ovl_layer.specs.Sheets.{IsSheet, entries_of_rows, afters_from, kid_numbers, parents_of}
+use Rattle.ovl_layer.proofs.AfterLemmas.{few-rows, set-entries, set-sheet}
+use Rattle.ovl_layer.proofs.sheets.Sheet.of_rows.Goals as goal
 
 pub push_of-requires : goal.push_of-requires
 push_of-requires c =

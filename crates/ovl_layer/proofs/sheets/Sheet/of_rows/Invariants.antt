@@ -1,6 +1,6 @@
 use Rattle.std.proofs.Common.{◌≡◌, map, take}
 use Rattle.ovl_inode.specs.Marks.{mark_of}
-use Rattle.ovl_manifest.proofs.sheets.Sheet.of_rows.Given as goal
+use Rattle.ovl_layer.proofs.sheets.Sheet.of_rows.Given as goal
 
 -- those of the rows so far
 abbrev pub invariant-loop-row : goal.invariant-loop-row

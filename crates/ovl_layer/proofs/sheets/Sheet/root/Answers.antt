@@ -1,10 +1,10 @@
 use Rattle.std.proofs.Common.{◌∙◌, sym, ap}
 use Rattle.ovl_names.specs.Paths.{PathNames}
-use Rattle.ovl_manifest.specs.Layers.{Entries}
-use Rattle.ovl_manifest.specs.LayerTrees.{entries_under}
-use Rattle.ovl_manifest.specs.Sheets.{path_at}
-use Rattle.ovl_manifest.proofs.SheetLemmas.{root-path}
-use Rattle.ovl_manifest.proofs.sheets.Sheet.root.Goals as goal
+use Rattle.ovl_layer.specs.Layers.{Entries}
+use Rattle.ovl_layer.specs.LayerTrees.{entries_under}
+use Rattle.ovl_layer.specs.Sheets.{path_at}
+use Rattle.ovl_layer.proofs.SheetLemmas.{root-path}
+use Rattle.ovl_layer.proofs.sheets.Sheet.root.Goals as goal
 
 pub returns-clause-value : goal.returns-clause-value
 returns-clause-value c =

@@ -1,8 +1,8 @@
 use Rattle.std.proofs.Common.{◌≡◌, ◌<◌, [], length, subst}
-use Rattle.ovl_manifest.specs.Layers.{Entries, IsLayer}
-use Rattle.ovl_manifest.specs.Sheets.{path_at}
-use Rattle.ovl_manifest.proofs.SheetLemmas.{root-inside, root-path}
-use Rattle.ovl_manifest.proofs.sheets.Sheet.root_number.Goals as goal
+use Rattle.ovl_layer.specs.Layers.{Entries, IsLayer}
+use Rattle.ovl_layer.specs.Sheets.{path_at}
+use Rattle.ovl_layer.proofs.SheetLemmas.{root-inside, root-path}
+use Rattle.ovl_layer.proofs.sheets.Sheet.root_number.Goals as goal
 
 pub returns-clause-inside : goal.returns-clause-inside
 returns-clause-inside c = subst (λ (layer : Entries). 0 < length layer) c.self.view_is (root-inside _ _ _ c.self.invariant)

@@ -1,12 +1,12 @@
 use Rattle.std.proofs.Common.{◌≡◌, ◌∙◌, ◌≤◌, ℕ, Bor, Option, Some, None, List, length, sym, ap, subst, arith}
 use Rattle.std.specs.Prelude.{slice_get, MatchOption}
 use Rattle.std.specs.Option.{option_map}
-use Rattle.ovl_manifest.specs.declared.sheets.SheetRow.{SheetRow}
-use Rattle.ovl_manifest.specs.Layers.{Entries}
-use Rattle.ovl_manifest.specs.Sheets.{IsRowOf, IsSheet, entries_of_rows}
+use Rattle.ovl_layer.specs.declared.sheets.SheetRow.{SheetRow}
+use Rattle.ovl_layer.specs.Layers.{Entries}
+use Rattle.ovl_layer.specs.Sheets.{IsRowOf, IsSheet, entries_of_rows}
 use Rattle.ovl_inode.specs.declared.marks.Mark.{Mark}
-use Rattle.ovl_manifest.proofs.SheetLemmas.{looked-up, none-past, count, row-of}
-use Rattle.ovl_manifest.proofs.sheets.Sheet.row.Goals as goal
+use Rattle.ovl_layer.proofs.SheetLemmas.{looked-up, none-past, count, row-of}
+use Rattle.ovl_layer.proofs.sheets.Sheet.row.Goals as goal
 
 by : (rows : List SheetRow) (below : List (List ℕ)) (marked : List Mark) (layer : Entries) (number : ℕ) → IsSheet rows below marked → entries_of_rows rows ≡ layer
     → (found : Option (Bor SheetRow)) → option_map (λ row. row.now) found ≡ slice_get rows number → MatchOption found (length layer ≤ number) (λ row. IsRowOf layer number row.now)

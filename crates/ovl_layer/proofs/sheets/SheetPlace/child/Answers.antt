@@ -1,10 +1,10 @@
 use Rattle.std.proofs.Common.{◌≢◌, ◌∙◌, [], length, sym, ap, subst, arith}
 use Rattle.ovl_names.specs.Paths.{PathNames}
-use Rattle.ovl_manifest.specs.Layers.{Entries}
-use Rattle.ovl_manifest.specs.LayerTrees.{entries_in, entries_under}
-use Rattle.ovl_manifest.specs.Sheets.{path_at}
-use Rattle.ovl_manifest.proofs.SheetLemmas.{entries_under-child, under-some}
-use Rattle.ovl_manifest.proofs.sheets.SheetPlace.child.Goals as goal
+use Rattle.ovl_layer.specs.Layers.{Entries}
+use Rattle.ovl_layer.specs.LayerTrees.{entries_in, entries_under}
+use Rattle.ovl_layer.specs.Sheets.{path_at}
+use Rattle.ovl_layer.proofs.SheetLemmas.{entries_under-child, under-some}
+use Rattle.ovl_layer.proofs.sheets.SheetPlace.child.Goals as goal
 
 pub returns-in-Some : goal.returns-in-Some
 returns-in-Some c =

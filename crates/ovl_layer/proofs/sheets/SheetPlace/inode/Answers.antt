@@ -1,10 +1,10 @@
 use Rattle.std.proofs.Common.{◌<◌, ◌∙◌, [], length, refl, sym, ap, arith}
 use Rattle.std.proofs.lemmas.Option.{slice_get_read}
-use Rattle.ovl_manifest.specs.Layers.{Entries, entry_at}
-use Rattle.ovl_manifest.specs.LayerTrees.{entries_under}
-use Rattle.ovl_manifest.specs.Sheets.{path_at}
-use Rattle.ovl_manifest.proofs.SheetLemmas.{count, inode-at}
-use Rattle.ovl_manifest.proofs.sheets.SheetPlace.inode.Goals as goal
+use Rattle.ovl_layer.specs.Layers.{Entries, entry_at}
+use Rattle.ovl_layer.specs.LayerTrees.{entries_under}
+use Rattle.ovl_layer.specs.Sheets.{path_at}
+use Rattle.ovl_layer.proofs.SheetLemmas.{count, inode-at}
+use Rattle.ovl_layer.proofs.sheets.SheetPlace.inode.Goals as goal
 
 pub index-requires : goal.index-requires
 index-requires c = omega (arith, c.self.invariant, ap length c.sheet.view_is, count _ _ _ c.sheet.invariant, c.sheet.inside.rows.ok.0)

@@ -1,10 +1,10 @@
 use Rattle.std.proofs.Common.{◌∙◌, [], sym, ap}
 use Rattle.std.specs.Option.{option_map}
 use Rattle.ovl_inode.specs.Marks.{mark_of}
-use Rattle.ovl_manifest.specs.Layers.{Entries, entry_at}
-use Rattle.ovl_manifest.specs.Sheets.{path_at}
-use Rattle.ovl_manifest.proofs.NodeLemmas.{entry_at-under}
-use Rattle.ovl_manifest.proofs.sheets.SheetPlace.mark.Goals as goal
+use Rattle.ovl_layer.specs.Layers.{Entries, entry_at}
+use Rattle.ovl_layer.specs.Sheets.{path_at}
+use Rattle.ovl_layer.proofs.NodeLemmas.{entry_at-under}
+use Rattle.ovl_layer.proofs.sheets.SheetPlace.mark.Goals as goal
 
 pub returns : goal.returns
 returns c =

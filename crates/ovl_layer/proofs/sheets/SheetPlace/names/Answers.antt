@@ -2,14 +2,14 @@ use Rattle.std.proofs.Common.{◌≡◌, ◌<◌, ◌∙◌, ◌++◌, ◌∷◌
 use Rattle.std.specs.Prelude.{slice_get, unwrap_or}
 use Rattle.std.proofs.lemmas.List.{take_all}
 use Rattle.std.proofs.lemmas.Option.{slice_get_read, slice_get_within}
-use Rattle.ovl_manifest.specs.declared.sheets.SheetRow.{SheetRow}
-use Rattle.ovl_manifest.specs.Layers.{Entries, names_below}
-use Rattle.ovl_manifest.specs.Sheets.{path_at, kid_numbers, parents_of}
-use Rattle.ovl_manifest.specs.SheetPasses.{name_of_row}
-use Rattle.ovl_manifest.proofs.NodeLemmas.{names_below-under}
-use Rattle.ovl_manifest.proofs.SheetLemmas.{has-numbers, own-numbers, own_name, kid-row, names-of, kid-names-more, some-same}
-use Rattle.ovl_manifest.proofs.sheets.SheetPlace.names.Goals as goal
-use Rattle.ovl_manifest.proofs.sheets.SheetPlace.names.Goals.{in-Some+in_ok-copy+in_ok-push, in_default}
+use Rattle.ovl_layer.specs.declared.sheets.SheetRow.{SheetRow}
+use Rattle.ovl_layer.specs.Layers.{Entries, names_below}
+use Rattle.ovl_layer.specs.Sheets.{path_at, kid_numbers, parents_of}
+use Rattle.ovl_layer.specs.SheetPasses.{name_of_row}
+use Rattle.ovl_layer.proofs.NodeLemmas.{names_below-under}
+use Rattle.ovl_layer.proofs.SheetLemmas.{has-numbers, own-numbers, own_name, kid-row, names-of, kid-names-more, some-same}
+use Rattle.ovl_layer.proofs.sheets.SheetPlace.names.Goals as goal
+use Rattle.ovl_layer.proofs.sheets.SheetPlace.names.Goals.{in-Some+in_ok-copy+in_ok-push, in_default}
 
 pub below-kids-requires : goal.below-kids-requires
 below-kids-requires c = has-numbers _ _ _ c.sheet.invariant c.self.inside.number (omega (arith, c.self.invariant, ap length c.sheet.view_is))

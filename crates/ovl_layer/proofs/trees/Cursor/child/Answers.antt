@@ -1,10 +1,10 @@
 use Rattle.std.proofs.Common.{◌≡◌, ◌∙◌, sym, rules, tests, ap, [], subst}
 use Rattle.std.proofs.lemmas.Fn.{always_returns_same}
 use Rattle.ovl_names.specs.Names.{name_cmp}
-use Rattle.ovl_manifest.specs.Layers.{Entries}
-use Rattle.ovl_manifest.specs.LayerTrees.{NodeView, entries_in, entries_from}
-use Rattle.ovl_manifest.proofs.NodeLemmas.{missing, found}
-use Rattle.ovl_manifest.proofs.trees.Cursor.child.Goals as goal
+use Rattle.ovl_layer.specs.Layers.{Entries}
+use Rattle.ovl_layer.specs.LayerTrees.{NodeView, entries_in, entries_from}
+use Rattle.ovl_layer.proofs.NodeLemmas.{missing, found}
+use Rattle.ovl_layer.proofs.trees.Cursor.child.Goals as goal
 
 pub returns-in-Ok : goal.returns-in-Ok
 returns-in-Ok c =

@@ -1,7 +1,7 @@
 use Rattle.std.proofs.Common.{[], sym, ◌∙◌, ap}
-use Rattle.ovl_manifest.specs.Layers.{Entries, names_below}
-use Rattle.ovl_manifest.proofs.NodeLemmas.{names_below-under}
-use Rattle.ovl_manifest.proofs.trees.Layer.children.Goals as goal
+use Rattle.ovl_layer.specs.Layers.{Entries, names_below}
+use Rattle.ovl_layer.proofs.NodeLemmas.{names_below-under}
+use Rattle.ovl_layer.proofs.trees.Layer.children.Goals as goal
 
 pub returns-in-Some : goal.returns-in-Some
 returns-in-Some c =

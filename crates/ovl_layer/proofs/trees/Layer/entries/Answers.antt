@@ -1,12 +1,12 @@
 use Rattle.std.proofs.Common.{◌++◌, append_assoc, List, take, sym, ◌∙◌, ap, rules, arith}
-use Rattle.ovl_manifest.specs.Layers.{Entries}
-use Rattle.ovl_manifest.specs.LayerTrees.{NodeView, entries_of_nodes, under, entries_from, placed}
+use Rattle.ovl_layer.specs.Layers.{Entries}
+use Rattle.ovl_layer.specs.LayerTrees.{NodeView, entries_of_nodes, under, entries_from, placed}
 use Rattle.ovl_names.specs.Paths.{PathNames, child_path}
 use Rattle.std.proofs.lemmas.Grind.{common_steps}
-use Rattle.ovl_manifest.specs.Manifest.{layer_of_pairs}
-use Rattle.ovl_manifest.proofs.BackLemmas.{pairs-back}
-use Rattle.ovl_manifest.proofs.NodeLemmas.{entries_of_nodes-more, placed_at-under}
-use Rattle.ovl_manifest.proofs.trees.Layer.entries.Goals as goal
+use Rattle.ovl_layer.specs.Entries.{layer_of_pairs}
+use Rattle.ovl_layer.proofs.BackLemmas.{pairs-back}
+use Rattle.ovl_layer.proofs.NodeLemmas.{entries_of_nodes-more, placed_at-under}
+use Rattle.ovl_layer.proofs.trees.Layer.entries.Goals as goal
 
 pub loop-child-preserved : goal.loop-child-preserved
 loop-child-preserved c =

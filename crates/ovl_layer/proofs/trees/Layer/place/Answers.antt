@@ -1,8 +1,8 @@
 use Rattle.std.proofs.Common.{sym, ◌∙◌, ap}
 use Rattle.ovl_names.specs.Paths.{PathNames}
-use Rattle.ovl_manifest.specs.LayerTrees.{entries_under}
-use Rattle.ovl_manifest.proofs.NodeLemmas.{entries_under-nothing}
-use Rattle.ovl_manifest.proofs.trees.Layer.place.Goals as goal
+use Rattle.ovl_layer.specs.LayerTrees.{entries_under}
+use Rattle.ovl_layer.proofs.NodeLemmas.{entries_under-nothing}
+use Rattle.ovl_layer.proofs.trees.Layer.place.Goals as goal
 
 pub returns-in_default : goal.returns-in_default
 returns-in_default c =

@@ -1,6 +1,6 @@
 use Rattle.std.proofs.Common.{◌≡◌, ◌≢◌, []}
-use Rattle.ovl_manifest.specs.LayerTrees.{entries_under}
-use Rattle.ovl_manifest.proofs.trees.Layer.place.Given as goal
+use Rattle.ovl_layer.specs.LayerTrees.{entries_under}
+use Rattle.ovl_layer.proofs.trees.Layer.place.Given as goal
 
 -- what stands at and under the names that are left, seen from the place so far
 abbrev pub invariant-loop-name : goal.invariant-loop-name

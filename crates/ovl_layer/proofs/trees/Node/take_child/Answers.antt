@@ -1,10 +1,10 @@
 use Rattle.std.proofs.Common.{◌≡◌, ◌∙◌, ◌++◌, true, sym, ap, subst}
 use Rattle.ovl_names.specs.Order.{ascends}
-use Rattle.ovl_manifest.specs.Layers.{Entries, entry_cmp}
-use Rattle.ovl_manifest.specs.LayerTrees.{NodeView, entries_from, entries_of_nodes, under, grown}
-use Rattle.ovl_manifest.proofs.OpenLemmas.{nodes_ascend}
-use Rattle.ovl_manifest.proofs.NodeLemmas.{entries_of_nodes-push}
-use Rattle.ovl_manifest.proofs.trees.Node.take_child.Goals as goal
+use Rattle.ovl_layer.specs.Layers.{Entries, entry_cmp}
+use Rattle.ovl_layer.specs.LayerTrees.{NodeView, entries_from, entries_of_nodes, under, grown}
+use Rattle.ovl_layer.proofs.OpenLemmas.{nodes_ascend}
+use Rattle.ovl_layer.proofs.NodeLemmas.{entries_of_nodes-push}
+use Rattle.ovl_layer.proofs.trees.Node.take_child.Goals as goal
 
 pub invariant_of-self-2 : goal.invariant_of-self-2
 invariant_of-self-2 c =
