@@ -16,7 +16,7 @@ use crate::versions::Version;
 use json::{Reader, Scratch};
 use ovl_inode::Inode;
 use ovl_json::{Beginning, MAX_DEPTH, Unread, begin, pass_items, pass_members, read_object};
-use ovl_layer::{ENTRY_LIMIT, Draft, Layer, LayerFault, add_entry, start_draft};
+use ovl_layer::{Draft, ENTRY_LIMIT, Layer, LayerFault, add_entry, start_draft};
 use ovl_names::Path;
 use std::alloc::Global;
 
