@@ -40,11 +40,8 @@ pub fn side_by_side<R: Threads, F: FnOnce() -> A + Send, G: FnOnce() -> B, A: Se
     }
 }
 
-/// The texts of all shares one after another, or the first fault. Fails too when out of memory. Fails too when out of memory.
-pub fn joined(
-    alloc: Global,
-    parts: Vec<Result<String, AllocError>>,
-) -> Result<String, AllocError>
+/// The texts of all shares one after another, or the first fault. Fails too when out of memory.
+pub fn joined(alloc: Global, parts: Vec<Result<String, AllocError>>) -> Result<String, AllocError>
     ensures { IfOk result (λ whole. AreJoined string_bytes parts.items (string_bytes whole)) }
 {
     let mut texts = texts_of(alloc, parts)?;

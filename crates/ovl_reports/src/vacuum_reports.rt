@@ -7,11 +7,7 @@ use std::alloc::{AllocError, Global};
 
 /// The report of `vacuum`: a line for each path that is removed, in their order, how many these are, and how many
 /// entries are kept. Fails only when out of memory.
-pub fn vacuum_report_of(
-    alloc: Global,
-    removed: &[Path],
-    kept: u64,
-) -> Result<Vec<u8>, AllocError>
+pub fn vacuum_report_of(alloc: Global, removed: &[Path], kept: u64) -> Result<Vec<u8>, AllocError>
     ensures { IfOk result (λ report. report.items ≡ vacuum_report removed.now kept) }
 {
     let mut report = String::new(alloc);
