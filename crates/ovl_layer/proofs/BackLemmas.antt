@@ -1,13 +1,13 @@
 -- The entries of a layer, one after another, are that layer.
 use Rattle.std.proofs.Common.{◌≡◌, ◌-◌, ◌<◌, ◌≤◌, ◌∙◌, [], ◌∷◌, ◌++◌, Bool, true, false, Some, None, Ok, refl, sym, ap, subst, append_assoc, append-nil, length, map, get_or, arith, leb-true}
-use Rattle.std.specs.Prelude.{◌&&◌, ◌||◌, not, if◌then◌else◌, nat_le}
+use Rattle.std.specs.Prelude.{◌&&◌, ◌||◌, not, if◌then◌else◌}
 use Rattle.std.specs.List.{list_all}
 use Rattle.std.specs.Ordering.{is_lt}
 use Rattle.std.specs.Cmp.Lexicographic.{bytes_decides, pointwise_decides}
 use Rattle.std.proofs.lemmas.List.{length-map}
 use Rattle.ovl_names.specs.Names.{PathName}
 use Rattle.ovl_names.specs.Order.{ascends}
-use Rattle.ovl_names.specs.Paths.{PathNames, path_cmp, path_eq, path_text, parent_path, child_path, is_root, depth_limit, text_limit}
+use Rattle.ovl_names.specs.Paths.{PathNames, path_cmp, path_eq, parent_path, child_path, is_root}
 use Rattle.ovl_names.proofs.Ascending.{both, not_true, is_lt-Less, list_all-front, ascends-across, ascends-back}
 use Rattle.ovl_inode.specs.declared.inodes.Inode.{Inode}
 use Rattle.ovl_inode.specs.Attributes.{has_escaped_name}
@@ -15,17 +15,10 @@ use Rattle.ovl_inode.specs.Marks.{is_directory}
 use Rattle.ovl_layer.specs.Layers.{Entry, Entries, entry_cmp, entry_at, is_directory_at, has_parent, is_within_limits, entry_limit, IsLayer}
 use Rattle.ovl_inode.specs.Sound.{is_sound_inode}
 use Rattle.ovl_layer.specs.Entries.{comes_after, root_fault, entry_fault, entry_after, entries_after, layer_of_entries, stated_pair, layer_of_pairs}
-use Rattle.ovl_manifest.specs.Manifest.{layer_of_value}
 use Rattle.ovl_layer.specs.declared.faults.LayerFault.TheVariants.{Root, Escaped}
-use Rattle.ovl_manifest.specs.Text.{layer_value}
-use Rattle.ovl_manifest.specs.Versions.{is_stated_by, written}
-use Rattle.ovl_manifest.specs.declared.versions.Version.{Version}
-use Rattle.ovl_manifest.specs.declared.versions.Version.TheVariants.{One, Two}
 use Rattle.ovl_layer.proofs.OpenLemmas.{path_cmp-under}
 use Rattle.ovl_layer.proofs.LayerLemmas.{path_order, path_cmp-same, in_parent, after-some}
-use Rattle.ovl_layer.proofs.EntryLemmas.{entry-taken, counted}
-use Rattle.ovl_layer.proofs.EntryLemmas.{one_taken}
-use Rattle.ovl_manifest.proofs.StatedLemmas.{entries-stated}
+use Rattle.ovl_layer.proofs.EntryLemmas.{entry-taken, counted, one_taken}
 
 -- ---- the directory of an entry stands before it
 

@@ -1,12 +1,12 @@
 -- The value that is written of an entry states that entry.
-use Rattle.std.proofs.Common.{◌≡◌, ℕ, ◌-◌, ◌^◌, ◌∙◌, List, [], ◌∷◌, Bool, true, false, Option, Some, None, refl, ap, map}
+use Rattle.std.proofs.Common.{◌≡◌, ℕ, ◌-◌, ◌^◌, ◌∙◌, List, [], ◌∷◌, Bool, true, false, Option, Some, None, Ok, refl, ap, map}
 use Rattle.std.specs.Prelude.{◌&&◌, if◌then◌else◌, not, nat_le, nat_lt, length, codes, option_and_then}
 use Rattle.std.specs.Option.{option_map}
 use Rattle.std.specs.List.{list_all}
 use Rattle.serde_json.specs.Data.{Data, number, string, object}
 use Rattle.serde_json.specs.Find.{get, as_number, as_i64, as_u64, as_str, of_integer}
 use Rattle.hex.specs.Hex.{encode_lower}
-use Rattle.ovl_names.specs.Paths.{PathNames, path_text, has_names}
+use Rattle.ovl_names.specs.Paths.{PathNames, path_text, has_names, depth_limit, text_limit}
 use Rattle.ovl_names.proofs.Ascending.{both}
 use Rattle.ovl_inode.specs.declared.digests.Digest.{Digest}
 use Rattle.ovl_inode.specs.declared.inodes.Inode.{Inode}
@@ -17,13 +17,15 @@ use Rattle.ovl_inode.specs.Hexadecimal.{digest_of_text}
 use Rattle.ovl_inode.specs.Marks.{has_metacopy}
 use Rattle.ovl_inode.specs.Sound.{is_sound_inode, is_sound_kind, has_sound_blob, is_word, mode_limit, size_limit}
 use Rattle.ovl_inode.proofs.SoundLaws.{HasSoundValues, sound_values}
-use Rattle.ovl_layer.specs.Layers.{Entry, Entries, is_within_limits}
+use Rattle.ovl_layer.specs.Layers.{Entry, Entries, IsLayer, is_within_limits}
+use Rattle.ovl_layer.specs.Entries.{layer_of_entries}
+use Rattle.ovl_layer.proofs.BackLemmas.{layer-counted}
 use Rattle.ovl_manifest.specs.Fields.{has_exactly, up_to, path_of_text, natural_field, attributes_of, attributes_field, kind_field, kind_members, inode_with, inode_field, path_field, entry_with, entry_of}
-use Rattle.ovl_manifest.specs.Versions.{depth_of, states_nsec, is_stated_by}
+use Rattle.ovl_manifest.specs.Versions.{depth_of, states_nsec, is_stated_by, written}
 use Rattle.ovl_manifest.specs.declared.versions.Version.{Version}
 use Rattle.ovl_manifest.specs.declared.versions.Version.TheVariants.{One, Two}
-use Rattle.ovl_manifest.specs.Manifest.{stated_entries}
-use Rattle.ovl_manifest.specs.Text.{whole, attribute_members, entry_value, entry_items}
+use Rattle.ovl_manifest.specs.Manifest.{stated_entries, layer_of_value}
+use Rattle.ovl_manifest.specs.Text.{whole, attribute_members, entry_value, entry_items, layer_value}
 use Rattle.ovl_manifest.proofs.ValueLemmas.{up_to-within, word-within, seconds-back, nsec_member, nsec-back, digest-back, path-back, attributes-back}
 
 -- what is read of the members that a kind has

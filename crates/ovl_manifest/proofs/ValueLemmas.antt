@@ -20,6 +20,7 @@ use Rattle.ovl_names.specs.declared.paths.PathFault.TheVariants.{NotAbsolute, Em
 use Rattle.ovl_names.proofs.Ascending.{both, reversed, ascends-across}
 use Rattle.ovl_names.proofs.NameLemmas.{text_parts-rest}
 use Rattle.ovl_inode.specs.Bytes.{are_bytes, is_digest}
+use Rattle.ovl_inode.proofs.AttributeLemmas.{put-last}
 use Rattle.ovl_inode.specs.Attributes.{Attributes, attribute_cmp, is_attribute, is_attribute_name, are_attributes, with_attribute}
 use Rattle.ovl_inode.specs.Hexadecimal.{is_lower_digit, bytes_of_digits, digest_of_text}
 use Rattle.ovl_inode.specs.Sound.{is_word, is_seconds, nsec_limit}
