@@ -43,10 +43,12 @@ pub(crate) fn read_entries(alloc: Global, version: Version, text: &str) -> Resul
         (λ layer. layer_of_entries (stated_entries version items) ≡ Ok layer)
         (λ fault. IsFaultOf (layer_of_entries (stated_entries version items)) fault)) }
 {
-    match read_draft(alloc, version, text) {
-        Ok(Ok(draft)) => Ok(draft.finish()?),
-        Ok(Err(fault)) => Err(fault),
-        Err(Unread) => Err(LayerFault::Memory),
+    let Ok(told) = read_draft(alloc, version, text) else {
+        return Err(LayerFault::Memory);
+    };
+    match told {
+        Ok(draft) => Ok(draft.finish()?),
+        Err(fault) => Err(fault),
     }
 }
 

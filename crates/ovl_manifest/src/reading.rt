@@ -13,7 +13,7 @@ use crate::fields::is_made_of;
 use crate::lists::read_entries;
 use crate::versions::Version;
 use json::{Reader, Scratch};
-use ovl_json::{MAX_DEPTH, Object, Unread, is_json, read_object};
+use ovl_json::{MAX_DEPTH, Object, is_json, read_object};
 use ovl_layer::{Layer, LayerFault, Sheet};
 use serde_json::Number;
 use simdutf8::compat::from_utf8;
@@ -75,10 +75,12 @@ fn read_version(alloc: Global, text: &str) -> Result<Version, LayerFault>
 {
     let mut scratch = Scratch::new(alloc);
     let mut reader = Reader::new(text, &mut scratch)?;
-    match read_object(alloc, &mut reader, MAX_DEPTH) {
-        Ok(Some(value)) => outline_of(&value),
-        Ok(None) => Err(LayerFault::Shape),
-        Err(Unread) => Err(LayerFault::Memory),
+    let Ok(told) = read_object(alloc, &mut reader, MAX_DEPTH) else {
+        return Err(LayerFault::Memory);
+    };
+    match told {
+        Some(value) => outline_of(&value),
+        None => Err(LayerFault::Shape),
     }
 }
 
