@@ -14,9 +14,9 @@ use Rattle.ovl_inode.specs.Marks.{mark_of}
 use Rattle.ovl_manifest.specs.declared.sheets.SheetRow.{SheetRow}
 use Rattle.ovl_manifest.specs.Layers.{Entry, Entries, IsLayer}
 use Rattle.ovl_manifest.specs.Sheets.{path_of, path_at, row_path, entries_with, entries_of_rows, count_deeper, afters_from, kid_numbers, parents_of, are_earlier, AreRows, IsSheet}
-use Rattle.ovl_manifest.specs.SheetPasses.{depths_of, with_afters}
+use Rattle.ovl_manifest.specs.SheetSweeps.{depths_of, with_afters}
 use Rattle.ovl_manifest.proofs.SheetLemmas.{afters-get, with-length, length-child, row-known, entry-of}
-use Rattle.ovl_manifest.proofs.SheetPassLemmas.{afters-length}
+use Rattle.ovl_manifest.proofs.SheetSweepLemmas.{afters-length}
 
 -- ---- entries that have more names than one before them
 

@@ -1,4 +1,4 @@
--- Where the kids of each row lie in the flat list, and what the passes keep that put them there.
+-- Where the kids of each row lie in the flat list, and what the sweeps keep that put them there.
 use Rattle.std.proofs.Common.{◌≡◌, ◌≢◌, ℕ, zero, suc, ◌+◌, ◌-◌, ◌<◌, ◌≤◌, length, get_or, set, take, drop, cond, Bool, true, false, Some, List, [], ◌∷◌, ◌++◌, refl, sym, ap, ◌∙◌, subst, arith, length-append, length-drop, length-take-le, drop-cons, inl, inr}
 use Rattle.std.specs.Prelude.{◌&&◌, ◌==◌, nat_lt, slice_get, slice_index}
 use Rattle.std.proofs.lemmas.Bool.{ltb-true, ltb-false, cases_lt}
@@ -6,7 +6,7 @@ use Rattle.std.proofs.lemmas.Bool.Decides.{nat_tests}
 use Rattle.std.proofs.lemmas.List.{take-append-drop, take_more, ext_get_or, get_or-take, get_or-drop, get_or-set_same, get_or-set_other, length-set}
 use Rattle.ovl_names.proofs.Ascending.{both}
 use Rattle.ovl_manifest.specs.Sheets.{kid_numbers, are_earlier}
-use Rattle.ovl_manifest.specs.KidLists.{parts_of, AreStarts, count_below, AreCounts, AreEnds}
+use Rattle.ovl_manifest.specs.KidLists.{parts_of, AreKidStarts, count_below, AreCounts, AreKidEnds}
 
 -- ---- a part of a list by its number
 
@@ -230,7 +230,7 @@ ends-more parents old row value some inside are is = (
 pub ends-fit : (parents : List ℕ) (number : ℕ) → count_below (drop 1 parents) number ≤ length parents
 ends-fit parents number = omega (arith, count-few (drop 1 parents) number, length-drop 1 parents)
 
-pub ends-all : (parents ends : List ℕ) (row : ℕ) → length ends ≤ row → AreEndsTo parents row ends → AreEnds parents ends
+pub ends-all : (parents ends : List ℕ) (row : ℕ) → length ends ≤ row → AreEndsTo parents row ends → AreKidEnds parents ends
 ends-all parents ends row all are = record {
   count = are.count;
   each = λ number inside. are.ends number (omega (arith, inside, all, are.count)) inside;
@@ -372,7 +372,7 @@ module _ (parents starts kids : List ℕ) (are : ArePlaced parents 1 starts kids
   start-of : (directory : ℕ) → directory ≤ length parents → slice_index starts directory ≡ count_below (drop 1 parents) directory
   start-of directory few = omega (arith, are.left directory few, count-next 1 (drop 1 parents) directory)
 
-  pub all-starts : AreStarts starts (length kids)
+  pub all-starts : AreKidStarts starts (length kids)
   all-starts = record {
     rise = λ number inside.
         omega (arith, start-of number (omega (arith, inside, are.count)), start-of (suc number) (omega (arith, inside, are.count)), count-rises (drop 1 parents) number (suc number) (omega arith));

@@ -19,7 +19,7 @@ pub mod BackLemmas
 pub mod BuilderLemmas
 pub mod CompactLemmas
 pub mod SheetLemmas
-pub mod SheetPassLemmas
+pub mod SheetSweepLemmas
 pub mod KidListLemmas
 pub mod AfterLemmas
 pub mod SheetDraftLemmas

@@ -25,7 +25,7 @@ use Rattle.ovl_manifest.specs.declared.sheets.SheetRow.{SheetRow}
 use Rattle.ovl_manifest.specs.Layers.{Entry, Entries, entry_cmp, entry_at, name_below, names_below}
 use Rattle.ovl_manifest.specs.LayerTrees.{entries_in, entries_under}
 use Rattle.ovl_manifest.specs.Sheets.{last_name, path_of, path_at, row_path, entries_with, entries_of_rows, count_deeper, afters_from, IsRowOf, kid_numbers, parents_of, are_earlier, AreRows, IsSheet}
-use Rattle.ovl_manifest.specs.SheetPasses.{name_order, name_of_row, row_name, kid_order}
+use Rattle.ovl_manifest.specs.SheetSweeps.{name_order, name_of_row, row_name, kid_order}
 use Rattle.ovl_manifest.proofs.NodeLemmas.{name_eq-same, name_eq-cmp, entry_at-under}
 use Rattle.ovl_manifest.proofs.OpenLemmas.{path_cmp-under}
 use Rattle.ovl_manifest.proofs.LayerLemmas.{path_cmp-same}

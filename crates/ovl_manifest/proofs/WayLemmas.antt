@@ -8,7 +8,7 @@ use Rattle.std.proofs.lemmas.Grind.{flat_map-append}
 use Rattle.ovl_names.specs.Names.{PathName, slash}
 use Rattle.ovl_names.specs.Paths.{PathNames, child_path, path_text, depth_limit, text_limit}
 use Rattle.ovl_manifest.specs.Layers.{is_within_limits}
-use Rattle.ovl_manifest.specs.TextPaths.{slashed, AreEnds}
+use Rattle.ovl_manifest.specs.TextPaths.{slashed, AreTextEnds}
 use Rattle.ovl_manifest.proofs.SheetLemmas.{slice_get-front, slice_get-seam, length-child}
 use Rattle.ovl_manifest.proofs.SheetDraftLemmas.{take-child, slice_get-take}
 
@@ -29,14 +29,14 @@ slashed-front path depth =
     ap (take (length (slashed front))) parts ∙ take-append_seam (slashed front) (slashed (drop depth path))
 
 -- where they end in the text of an entry of a directory on the way to the last path
-module _ (path : PathNames) (ends : List ℕ) (are : AreEnds path ends) (depth len : ℕ) (within : depth ≤ length path) (name : PathName) (long : len ≡ length (slashed (child_path (take depth path) name))) where
+module _ (path : PathNames) (ends : List ℕ) (are : AreTextEnds path ends) (depth len : ℕ) (within : depth ≤ length path) (name : PathName) (long : len ≡ length (slashed (child_path (take depth path) name))) where
   ends-count : length (take (depth + 1) ends) ≡ suc depth
   ends-count = length-take-le (depth + 1) ends (omega (arith, within, are.count)) ∙ omega arith
 
   child-count : length (child_path (take depth path) name) ≡ suc depth
   child-count = length-child (take depth path) name ∙ ap suc (length-take-le depth path within)
 
-  pub ends-on : AreEnds (child_path (take depth path) name) (take (depth + 1) ends ++ len ∷ [])
+  pub ends-on : AreTextEnds (child_path (take depth path) name) (take (depth + 1) ends ++ len ∷ [])
   ends-on = record {
     count = omega (arith, length-append (take (depth + 1) ends) (len ∷ []), ends-count, child-count);
     places = λ d inside. by d inside (cases_lt d (suc depth));

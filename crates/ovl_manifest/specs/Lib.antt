@@ -12,7 +12,7 @@ pub mod Builders
 pub mod Sheets
 pub mod KidLists
 pub mod MarkLists
-pub mod SheetPasses
+pub mod SheetSweeps
 pub mod SheetDrafts
 pub mod Compact
 pub mod PlainRuns

@@ -45,19 +45,23 @@ entry_fault before entry =
 -- the entries with one more, or its fault
 abbrev pub entry_after : Entries → Option Entry → Result Entries LayerFault
 entry_after before None = Err (WrongEntry (length before))
-entry_after before (Some entry) = elim (entry_fault before entry) [ Some fault ↦ Err fault | None ↦ Ok (before ++ entry ∷ []) ]
+entry_after before (Some entry) =
+    elim (entry_fault before entry) [ Some fault ↦ Err fault | None ↦ Ok (before ++ entry ∷ []) ]
 
 -- the entries with all of these, or the first fault
 abbrev pub entries_after : Entries → List (Option Entry) → Result Entries LayerFault
 entries_after before [] = Ok before
-entries_after before (stated ∷ more) = elim (entry_after before stated) [ Ok entries ↦ entries_after entries more | Err fault ↦ Err fault ]
+entries_after before (stated ∷ more) =
+    elim (entry_after before stated)
+    [ Ok entries ↦ entries_after entries more | Err fault ↦ Err fault ]
 
 -- a layer has 1 to 1,048,576 entries
 abbrev pub is_miscounted : ℕ → Bool
 is_miscounted count = count == 0 || nat_lt entry_limit count
 
 abbrev pub layer_of_entries : List (Option Entry) → Result Entries LayerFault
-layer_of_entries stated = if is_miscounted (length stated) then Err Count else entries_after [] stated
+layer_of_entries stated =
+    if is_miscounted (length stated) then Err Count else entries_after [] stated
 
 -- the entries that values state, one after another
 abbrev pub stated_entries : Version → Items → List (Option Entry)
@@ -79,7 +83,8 @@ layer_of_pairs pairs = layer_of_entries (map stated_pair pairs)
 abbrev pub first_fault : Entries → Option LayerFault
 first_fault [] = None
 first_fault (pair ∷ pairs) =
-    if is_miscounted (length (pair ∷ pairs)) then None else result_err (entry_after [] (stated_pair pair))
+    if is_miscounted (length (pair ∷ pairs)) then None
+    else result_err (entry_after [] (stated_pair pair))
 
 -- the faults that only a first entry has
 abbrev pub is_of_first : LayerFault → Bool
@@ -100,18 +105,22 @@ layer_of_version n values = elim (option_and_then version_of (as_u64 n)) [
 
 -- a manifest is an object of a whole number and a list
 abbrev pub layer_of_fields : Option Num → Option Items → Result Entries LayerFault
-layer_of_fields (Some version) (Some values) = if is_whole version then layer_of_version version values else Err Shape
+layer_of_fields (Some version) (Some values) =
+    if is_whole version then layer_of_version version values else Err Shape
 layer_of_fields _ _ = Err Shape
 
 abbrev pub layer_of_value : Data → Result Entries LayerFault
 layer_of_value value =
     if has_exactly (codes "entries" ∷ codes "overlay-layer" ∷ []) value
-    then layer_of_fields (option_and_then as_number (get (codes "overlay-layer") value)) (option_and_then as_array (get (codes "entries") value))
+    then layer_of_fields (option_and_then as_number (get (codes "overlay-layer") value))
+    (option_and_then as_array (get (codes "entries") value))
     else Err Shape
 
 -- the layer that bytes state
 abbrev pub read_layer : List ℕ → Result Entries LayerFault
-read_layer bytes = elim (if is_utf8 bytes then read bytes else None) [ None ↦ Err NotJson | Some value ↦ layer_of_value value ]
+read_layer bytes =
+    elim (if is_utf8 bytes then read bytes else None)
+    [ None ↦ Err NotJson | Some value ↦ layer_of_value value ]
 
 -- the fault that was told is the one that is stated; out of memory may come at any time
 abbrev pub IsFaultOf : Result Entries LayerFault → LayerFault → Type 0

@@ -5,8 +5,8 @@ use ovl_json::Unread;
 use std::alloc::AllocError;
 use thiserror::Error;
 
-/// Why bytes are no manifest, or entries no layer; the first fault in the order of tests is given, which
-/// `docs/FORMATS.md` tells. An entry is named by its number, counted from 0.
+/// Why bytes are no manifest, or entries no layer; the first fault in the order of tests is given,
+/// which `docs/FORMATS.md` tells. An entry is named by its number, counted from 0.
 #[derive(Clone, Copy, Debug, PartialEq, Eq, Error)]
 pub enum LayerFault {
     /// The bytes are no JSON text in UTF-8.

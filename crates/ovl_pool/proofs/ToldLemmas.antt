@@ -22,7 +22,7 @@ use Rattle.ovl_pool.specs.declared.runs.RunFault.{RunFault}
 use Rattle.ovl_pool.specs.declared.runs.RunFault.TheVariants.{Gate}
 use Rattle.ovl_pool.specs.Flows.{all_pushed, all_taken, each_one, indicator, refused_weight, accounted, below, AreCounted, AreSettled, AreTied, AreWithin, HaveRoot, HaveGone, CountsParcels}
 use Rattle.ovl_pool.specs.Hauls.{IsOwnHaul}
-use Rattle.ovl_pool.specs.Runs.{MayBeRefused, IsFaultOf}
+use Rattle.ovl_pool.specs.Runs.{MayBeRefused, IsRunFault}
 use Rattle.ovl_pool.proofs.FlowLemmas.{length_delivered, delivered_pieces, below_kids}
 
 -- what the workers did from the start on
@@ -43,7 +43,7 @@ numbers root ended parcels known noted count gone counted knew delivered_so took
     )
 
 -- a run whose fault is the gate's was refused a piece
-pub was_refused : {T : Type 0} (r : Result T RunFault) (refused : Option Piece) → IfErr r (IsFaultOf refused) → r ≡ Err Gate → is_some refused ≡ true
+pub was_refused : {T : Type 0} (r : Result T RunFault) (refused : Option Piece) → IfErr r (IsRunFault refused) → r ≡ Err Gate → is_some refused ≡ true
 was_refused (Ok x) refused want e = absurd (cc)
 was_refused (Err f) refused (inl gate) e = gate.1
 was_refused (Err f) refused (inr (inl memory)) e = absurd (cc)

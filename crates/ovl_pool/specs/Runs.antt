@@ -30,8 +30,8 @@ abbrev pub IsOutOfMemory : RunFault → Type 0
 IsOutOfMemory fault = (fault ≡ Memory) ⊎ (fault ≡ Board BoardMemory)
 
 -- a run that gave no walk was refused this piece, or it was out of memory
-abbrev pub IsFaultOf : Option Piece → RunFault → Type 0
-IsFaultOf refused fault = ((fault ≡ Gate) × (is_some refused ≡ true)) ⊎ IsOutOfMemory fault
+abbrev pub IsRunFault : Option Piece → RunFault → Type 0
+IsRunFault refused fault = ((fault ≡ Gate) × (is_some refused ≡ true)) ⊎ IsOutOfMemory fault
 
 -- so many pieces were known, delivered and taken, and none is left
 abbrev pub CountsAll : ℕ → RunCount → Type 0

@@ -1,8 +1,8 @@
 use Rattle.std.proofs.Common.{◌∙◌, ◌++◌, ◌∷◌, [], Some, List, length, sym, ap, append_assoc, length-append, arith}
 use Rattle.std.specs.Prelude.{slice_index}
 use Rattle.ovl_manifest.specs.LayerTrees.{NodeView, entries_of_nodes}
-use Rattle.ovl_manifest.specs.SheetPasses.{rows_from}
-use Rattle.ovl_manifest.proofs.SheetPassLemmas.{yielded-room, rows-count, rows-more}
+use Rattle.ovl_manifest.specs.SheetSweeps.{rows_from}
+use Rattle.ovl_manifest.proofs.SheetSweepLemmas.{yielded-room, rows-count, rows-more}
 use Rattle.ovl_manifest.proofs.sheets.+move_nodes.Goals as goal
 
 pub offset_bounds-parents-number : goal.offset_bounds-parents-number

@@ -1,7 +1,7 @@
 use Rattle.std.proofs.Common.{◌≡◌, ◌≤◌, ◌++◌, length}
 use Rattle.std.specs.Vec.{vec_capacity}
 use Rattle.ovl_manifest.specs.LayerTrees.{entries_of_nodes}
-use Rattle.ovl_manifest.specs.SheetPasses.{rows_from}
+use Rattle.ovl_manifest.specs.SheetSweeps.{rows_from}
 use Rattle.ovl_manifest.proofs.sheets.+move_nodes.Given as goal
 
 abbrev pub decreases-move_nodes : goal.decreases-move_nodes

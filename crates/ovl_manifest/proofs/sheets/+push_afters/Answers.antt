@@ -2,7 +2,7 @@ use Rattle.std.proofs.Common.{◌∙◌, ◌++◌, List, set, take, sym, ap, ari
 use Rattle.std.proofs.lemmas.List.{take_all}
 use Rattle.ovl_manifest.specs.LayerTrees.{NodeView, entries_of_nodes}
 use Rattle.ovl_manifest.specs.Sheets.{afters_from}
-use Rattle.ovl_manifest.proofs.SheetPassLemmas.{kids-room, afters-count, afters-more}
+use Rattle.ovl_manifest.proofs.SheetSweepLemmas.{kids-room, afters-count, afters-more}
 use Rattle.ovl_manifest.proofs.sheets.+push_afters.Goals as goal
 
 pub push_afters-requires : goal.push_afters-requires

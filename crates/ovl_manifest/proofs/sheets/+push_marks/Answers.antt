@@ -2,7 +2,7 @@ use Rattle.std.proofs.Common.{◌∙◌, ◌++◌, ◌∷◌, [], List, length, 
 use Rattle.std.proofs.lemmas.List.{take_all}
 use Rattle.ovl_inode.specs.Marks.{mark_of}
 use Rattle.ovl_manifest.specs.LayerTrees.{NodeView, entries_of_nodes}
-use Rattle.ovl_manifest.proofs.SheetPassLemmas.{marks_of, kids-room, marks-count, marks-more}
+use Rattle.ovl_manifest.proofs.SheetSweepLemmas.{marks_of, kids-room, marks-count, marks-more}
 use Rattle.ovl_manifest.proofs.sheets.+push_marks.Goals as goal
 
 pub push_of-requires : goal.push_of-requires

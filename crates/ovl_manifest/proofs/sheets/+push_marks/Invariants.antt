@@ -1,6 +1,6 @@
 use Rattle.std.proofs.Common.{◌≡◌, ◌++◌, length, take}
 use Rattle.ovl_manifest.specs.LayerTrees.{entries_of_nodes}
-use Rattle.ovl_manifest.proofs.SheetPassLemmas.{marks_of}
+use Rattle.ovl_manifest.proofs.SheetSweepLemmas.{marks_of}
 use Rattle.ovl_manifest.proofs.sheets.+push_marks.Given as goal
 
 abbrev pub invariant-loop-node : goal.invariant-loop-node

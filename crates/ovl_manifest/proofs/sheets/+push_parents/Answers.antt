@@ -1,8 +1,8 @@
 use Rattle.std.proofs.Common.{◌∙◌, List, take, ap, subst, arith}
 use Rattle.std.proofs.lemmas.List.{take_all}
 use Rattle.ovl_manifest.specs.LayerTrees.{NodeView, entries_of_nodes}
-use Rattle.ovl_manifest.specs.SheetPasses.{AddsParents}
-use Rattle.ovl_manifest.proofs.SheetPassLemmas.{kids-room, parents-count, parents-none, parents-more}
+use Rattle.ovl_manifest.specs.SheetSweeps.{AddsParents}
+use Rattle.ovl_manifest.proofs.SheetSweepLemmas.{kids-room, parents-count, parents-none, parents-more}
 use Rattle.ovl_manifest.proofs.sheets.+push_parents.Goals as goal
 
 pub loop-node-init : goal.loop-node-init

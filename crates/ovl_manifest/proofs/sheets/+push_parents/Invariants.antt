@@ -1,6 +1,6 @@
 use Rattle.std.proofs.Common.{length, take}
 use Rattle.ovl_manifest.specs.LayerTrees.{entries_of_nodes}
-use Rattle.ovl_manifest.specs.SheetPasses.{AddsParents}
+use Rattle.ovl_manifest.specs.SheetSweeps.{AddsParents}
 use Rattle.ovl_manifest.proofs.sheets.+push_parents.Given as goal
 
 abbrev pub invariant-loop-node : goal.invariant-loop-node

@@ -1,6 +1,6 @@
 use Rattle.std.proofs.Common.{◌≡◌, ◌∙◌, ◌+◌, ℕ, List, [], sym, ap, ap₂, append-nil, length, string_bytes}
 use Rattle.std.specs.Prelude.{insert}
-use Rattle.ovl_inode.specs.declared.tables.Place.{Place}
+use Rattle.ovl_inode.specs.declared.tables.AttributePlace.{AttributePlace}
 use Rattle.ovl_inode.specs.Attributes.{Attributes}
 use Rattle.ovl_inode.specs.Tables.{attribute_of, attributes_of}
 use Rattle.ovl_inode.proofs.TableLemmas.{on_err, places-grown, attributes_of-grown, bytes_of-behind, text_part-behind, part-behind, places-insert, map-insert}
@@ -41,7 +41,7 @@ invariant_of-self-2 c =
     let values : List ℕ = c.self.inside.values.items in
     let more_names : List ℕ = string_bytes c.push_str.new.self in
     let more_values : List ℕ = c.extend_from_slice.new.self.items in
-    let own : Place = record { name = c.in_ok-behind.field-0; value = c.in_ok-behind-2.field-0 } in
+    let own : AttributePlace = record { name = c.in_ok-behind.field-0; value = c.in_ok-behind-2.field-0 } in
     let texts : c.len.result ≡ length names = c.len.ensures ∙ c.self.inside.names.bytes.ok.0 in
     let bytes : c.len-2.result ≡ length values = c.len-2.ensures ∙ c.self.inside.values.ok.0 in
     let name = text_part-behind names c.args.name.now own.name c.utf8.name (c.in_ok-behind.ensures.0 ∙ texts) (c.in_ok-behind.ensures.1 ∙ ap (λ n. n + length c.args.name.now) texts) in
@@ -57,7 +57,7 @@ returns-clause-done c =
     let values : List ℕ = c.self.inside.values.items in
     let more_names : List ℕ = string_bytes c.push_str.new.self in
     let more_values : List ℕ = c.extend_from_slice.new.self.items in
-    let own : Place = record { name = c.in_ok-behind.field-0; value = c.in_ok-behind-2.field-0 } in
+    let own : AttributePlace = record { name = c.in_ok-behind.field-0; value = c.in_ok-behind-2.field-0 } in
     let texts : c.len.result ≡ length names = c.len.ensures ∙ c.self.inside.names.bytes.ok.0 in
     let bytes : c.len-2.result ≡ length values = c.len-2.ensures ∙ c.self.inside.values.ok.0 in
     let name = bytes_of-behind names c.args.name.now own.name (c.in_ok-behind.ensures.0 ∙ texts) (c.in_ok-behind.ensures.1 ∙ ap (λ n. n + length c.args.name.now) texts) in

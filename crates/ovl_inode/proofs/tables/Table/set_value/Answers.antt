@@ -3,7 +3,7 @@ use Rattle.std.specs.Prelude.{slice_get}
 use Rattle.std.specs.Option.{option_map}
 use Rattle.std.proofs.lemmas.List.{length-map}
 use Rattle.std.proofs.lemmas.Option.{slice_get_read}
-use Rattle.ovl_inode.specs.declared.tables.Place.{Place}
+use Rattle.ovl_inode.specs.declared.tables.AttributePlace.{AttributePlace}
 use Rattle.ovl_inode.specs.Attributes.{Attributes}
 use Rattle.ovl_inode.specs.Tables.{bytes_of, attribute_of, attributes_of}
 use Rattle.ovl_inode.proofs.TableLemmas.{attributes_of-grown, attributes_of-set, bytes_of-behind}
@@ -14,8 +14,8 @@ returns-clause-done c =
     let names : List ℕ = string_bytes c.self.inside.names in
     let values : List ℕ = c.self.inside.values.items in
     let more_values : List ℕ = c.extend_from_slice.new.self.items in
-    let places : List Place = c.self.inside.places.items in
-    let own : Place = record { name = c.index.result.now.name; value = c.in_ok-behind.field-0 } in
+    let places : List AttributePlace = c.self.inside.places.items in
+    let own : AttributePlace = record { name = c.index.result.now.name; value = c.in_ok-behind.field-0 } in
     let inside : c.args.place < length places = omega (arith, c.requires, ap length c.self.view_is, length-map places (attribute_of names values)) in
     let at = slice_get_read places (length places) c.args.place c.index.result.now refl inside c.index.ensures in
     let grown = attributes_of-grown names values [] c.args.value.now places names more_values (sym (append-nil names)) c.in_ok-extend_from_slice.ensures.items c.self.invariant in

@@ -6,8 +6,8 @@ use Rattle.ovl_inode.specs.Marks.{mark_of}
 use Rattle.ovl_manifest.specs.Layers.{Entries}
 use Rattle.ovl_manifest.specs.LayerTrees.{NodeView, entries_of_nodes}
 use Rattle.ovl_manifest.specs.Sheets.{afters_from, are_earlier, kid_numbers}
-use Rattle.ovl_manifest.specs.SheetPasses.{AddsParents, IsRoomFor}
-use Rattle.ovl_manifest.proofs.SheetPassLemmas.{marks_of, parents-count, root-place, root-afters}
+use Rattle.ovl_manifest.specs.SheetSweeps.{AddsParents, IsRoomFor}
+use Rattle.ovl_manifest.proofs.SheetSweepLemmas.{marks_of, parents-count, root-place, root-afters}
 use Rattle.ovl_manifest.proofs.sheets.Room.of.Goals as goal
 
 pub returns : goal.returns

@@ -7,7 +7,7 @@ use Rattle.ovl_manifest.specs.declared.sheets.SheetRow.{SheetRow}
 use Rattle.ovl_manifest.specs.Layers.{Entries}
 use Rattle.ovl_manifest.specs.LayerTrees.{entries_under}
 use Rattle.ovl_manifest.specs.Sheets.{path_at, kid_numbers, parents_of}
-use Rattle.ovl_manifest.specs.SheetPasses.{kid_order}
+use Rattle.ovl_manifest.specs.SheetSweeps.{kid_order}
 use Rattle.ovl_manifest.proofs.SheetLemmas.{has-numbers, own-numbers, child-found, child-missing}
 use Rattle.ovl_manifest.proofs.sheets.Sheet.child.Goals as goal
 

@@ -6,8 +6,8 @@ use Rattle.ovl_manifest.specs.declared.sheets.SheetRow.{SheetRow}
 use Rattle.ovl_manifest.specs.Layers.{Entries}
 use Rattle.ovl_manifest.specs.LayerTrees.{NodeView, entries_from, entries_of_nodes}
 use Rattle.ovl_manifest.specs.Sheets.{IsSheet, entries_of_rows, afters_from}
-use Rattle.ovl_manifest.specs.SheetPasses.{placed_by, rows_from}
-use Rattle.ovl_manifest.proofs.SheetPassLemmas.{marks_of, afters-length, filled-entries, filled-sheet}
+use Rattle.ovl_manifest.specs.SheetSweeps.{placed_by, rows_from}
+use Rattle.ovl_manifest.proofs.SheetSweepLemmas.{marks_of, afters-length, filled-entries, filled-sheet}
 use Rattle.ovl_manifest.proofs.sheets.Sheet.filled.Goals as goal
 
 pub move_nodes-requires-clause-afters : goal.move_nodes-requires-clause-afters

@@ -5,7 +5,7 @@ use Rattle.std.proofs.lemmas.Option.{slice_get_read, slice_get_within}
 use Rattle.ovl_manifest.specs.declared.sheets.SheetRow.{SheetRow}
 use Rattle.ovl_manifest.specs.Layers.{Entries, names_below}
 use Rattle.ovl_manifest.specs.Sheets.{path_at, kid_numbers, parents_of}
-use Rattle.ovl_manifest.specs.SheetPasses.{name_of_row}
+use Rattle.ovl_manifest.specs.SheetSweeps.{name_of_row}
 use Rattle.ovl_manifest.proofs.NodeLemmas.{names_below-under}
 use Rattle.ovl_manifest.proofs.SheetLemmas.{has-numbers, own-numbers, own_name, kid-row, names-of, kid-names-more, some-same}
 use Rattle.ovl_manifest.proofs.sheets.SheetPlace.names.Goals as goal

@@ -4,7 +4,7 @@ use Rattle.ovl_board.specs.declared.assembly.BoardFault.{BoardFault}
 use Rattle.ovl_pool.specs.declared.runs.RunFault.TheVariants.{Board}
 use Rattle.ovl_pool.proofs.FlowLemmas.{same_length, same_balance}
 use Rattle.ovl_pool.proofs.ToldLemmas.{balanced, only_memory}
-use Rattle.ovl_pool.proofs.runs.told.Goals as goal
+use Rattle.ovl_pool.proofs.runs.walk_of.Goals as goal
 
 pub returns-in_err-walk-clause-fault : goal.returns-in_err-walk-clause-fault
 returns-in_err-walk-clause-fault g c =
