@@ -4,7 +4,7 @@
 ghost use Rattle.std.specs.Prelude.{[]};
 ghost use Rattle.ovl_engine.specs.Outcomes.{IsOutcome};
 ghost use Rattle.ovl_engine.specs.Requests.{request_of};
-ghost use Rattle.ovl_engine.specs.declared.requests.Command.TheVariants.{Show};
+ghost use Rattle.ovl_commands.specs.declared.requests.Command.TheVariants.{Show};
 
 use ovl_engine::{Answer, Command, EngineFault, command, emit};
 use ovl_pool::OpenGate;

@@ -5,21 +5,19 @@ ghost use Rattle.std.specs.Str.{IsUtf8};
 ghost use Rattle.serde_json.specs.Written.{compact_text, items_text};
 ghost use Rattle.ovl_names.specs.Paths.{path_text};
 ghost use Rattle.ovl_inode.specs.Sound.{is_sound_inode};
-ghost use Rattle.ovl_manifest.specs.Layers.{IsLayer, entry_limit};
+ghost use Rattle.ovl_layer.specs.Layers.{IsLayer, entry_limit};
 ghost use Rattle.ovl_manifest.specs.Manifest.{read_layer as layer_stated};
 ghost use Rattle.ovl_manifest.specs.Text.{entry_items, layer_value};
 ghost use Rattle.ovl_manifest.specs.Versions.{depth_of, is_stated_by};
-ghost use Rattle.ovl_manifest.specs.TextPaths.{slashed, AreTextEnds};
-ghost use Rattle.ovl_manifest.specs.SheetDrafts.{drafted, last_path, IsSheetDraft};
+ghost use Rattle.ovl_layer.specs.TextPaths.{slashed, AreEnds};
+ghost use Rattle.ovl_layer.specs.SheetDrafts.{drafted, last_path, IsSheetDraft};
 
 use crate::compact_entries::read_entry;
 use crate::compact_texts::Rest;
-use crate::entries::{ENTRY_LIMIT, has_escaped_name};
-use crate::sheet_drafts::SheetDraft;
-use crate::sheets::Sheet;
 use crate::text_paths::{go_on, place_beside};
 use crate::versions::Version;
 use ovl_inode::{Inode, is_directory};
+use ovl_layer::{ENTRY_LIMIT, Sheet, SheetDraft, has_escaped_name};
 use ovl_names::{Name, TEXT_LIMIT};
 use simdutf8::compat::from_utf8;
 use std::alloc::Global;
@@ -152,12 +150,12 @@ fn add_beside(
     requires draft { IsSheetDraft draft.old }
     requires room { length (drafted draft.old) < entry_limit }
     requires last { slashed (last_path draft.old) ≡ last.now }
-    requires ends { AreTextEnds (last_path draft.old) ends.old.items }
+    requires ends { AreEnds (last_path draft.old) ends.old.items }
     requires sound { is_sound_inode inode ≡ true }
     ensures draft { IfSome result (λ _. IsSheetDraft draft.new) }
     ensures depth { IfSome result (λ _. length (last_path draft.new) ≤ depth_of version) }
     ensures last { IfSome result (λ _. slashed (last_path draft.new) ≡ text.now) }
-    ensures ends { IfSome result (λ _. AreTextEnds (last_path draft.new) ends.new.items) }
+    ensures ends { IfSome result (λ _. AreEnds (last_path draft.new) ends.new.items) }
     ensures path { IfSome result (λ _. path_text (last_path draft.new) ≡ text.now) }
     ensures entries { IfSome result
         (λ _. drafted draft.new ≡ drafted draft.old ++ (last_path draft.new, inode) ∷ []) }

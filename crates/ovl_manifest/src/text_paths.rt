@@ -2,7 +2,7 @@
 ghost use Rattle.std.specs.Prelude.{◌≡◌, ◌+◌, ◌<◌, ◌≤◌, ◌^◌, IfSome, OnOk, length, take};
 ghost use Rattle.ovl_names.specs.Names.{PathName};
 ghost use Rattle.ovl_names.specs.Paths.{PathNames, child_path};
-ghost use Rattle.ovl_manifest.specs.TextPaths.{slashed, AreTextEnds};
+ghost use Rattle.ovl_layer.specs.TextPaths.{slashed, AreEnds};
 
 use std::alloc::AllocError;
 
@@ -15,7 +15,7 @@ pub(crate) fn place_beside<'a>(
     ends: &[usize],
     text: &'a str,
 ) -> Option<(usize, &'a str)>
-    ensures { (path : PathNames) → slashed path ≡ last.now → AreTextEnds path ends.now
+    ensures { (path : PathNames) → slashed path ≡ last.now → AreEnds path ends.now
         → IfSome result (λ place. (place.0 ≤ length path)
         × (text.now ≡ slashed (child_path (take place.0 path) place.1.now))) }
 {
@@ -33,10 +33,10 @@ pub(crate) fn place_beside<'a>(
 /// so long.
 pub(crate) fn go_on(ends: &mut Vec<usize>, depth: usize, len: usize) -> Result<(), AllocError>
     requires { depth < 2 ^ 32 }
-    ensures { (path : PathNames) → (name : PathName) → AreTextEnds path ends.old.items
+    ensures { (path : PathNames) → (name : PathName) → AreEnds path ends.old.items
         → depth ≤ length path
         → len ≡ length (slashed (child_path (take depth path) name))
-        → OnOk result (AreTextEnds (child_path (take depth path) name) ends.new.items) }
+        → OnOk result (AreEnds (child_path (take depth path) name) ends.new.items) }
 {
     ends.truncate(depth + 1);
     ends.push(len)?;
