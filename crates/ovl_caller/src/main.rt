@@ -16,15 +16,15 @@ use std::thread::Threads;
 
 // The upper layer hides `/old` by a whiteout.
 const UPPER: &str = r#"{"entries":[
-{"path":"/","kind":"dir","mode":493,"uid":0,"gid":0,"mtime":0,"mtime-nsec":0,"xattrs":{}},
-{"path":"/old","kind":"char","mode":0,"uid":0,"gid":0,"mtime":0,"mtime-nsec":0,"xattrs":{},
-"major":0,"minor":0}],"overlay-layer":2}"#;
+{"path":"/","kind":"dir","mode":493,"uid":0,"gid":0,"mtime":0,"xattrs":{}},
+{"path":"/old","kind":"char","mode":0,"uid":0,"gid":0,"mtime":0,"xattrs":{},
+"major":0,"minor":0}],"overlay-layer":1}"#;
 // The lower layer has it, and a directory.
 const LOWER: &str = r#"{"entries":[
-{"path":"/","kind":"dir","mode":493,"uid":0,"gid":0,"mtime":0,"mtime-nsec":0,"xattrs":{}},
-{"path":"/etc","kind":"dir","mode":493,"uid":0,"gid":0,"mtime":0,"mtime-nsec":0,"xattrs":{}},
-{"path":"/old","kind":"fifo","mode":420,"uid":0,"gid":0,"mtime":0,"mtime-nsec":0,"xattrs":{}}
-],"overlay-layer":2}"#;
+{"path":"/","kind":"dir","mode":493,"uid":0,"gid":0,"mtime":0,"xattrs":{}},
+{"path":"/etc","kind":"dir","mode":493,"uid":0,"gid":0,"mtime":0,"xattrs":{}},
+{"path":"/old","kind":"fifo","mode":420,"uid":0,"gid":0,"mtime":0,"xattrs":{}}
+],"overlay-layer":1}"#;
 
 // Both manifests, the topmost layer's first.
 fn manifests(alloc: Global) -> Result<Vec<Vec<u8>>, AllocError> {
