@@ -8,7 +8,7 @@ ghost use Rattle.ovl_board.specs.Assembly.{IsInOrder, bare};
 ghost use Rattle.ovl_pool.specs.Flows.{AreSettled, CountsParcels, all_pushed, all_taken, each_one};
 ghost use Rattle.ovl_pool.specs.Hauls.{IsClean};
 ghost use Rattle.ovl_pool.specs.Passes.{AreSeated};
-ghost use Rattle.ovl_pool.specs.Runs.{MayBeRefused, IsBoardMemory, IsOutOfMemory, IsFaultOf, CountsAll, no_lanes};
+ghost use Rattle.ovl_pool.specs.Runs.{MayBeRefused, IsBoardMemory, IsEndFault, IsFaultOf, CountsAll, no_lanes};
 
 use crate::crews::crew;
 use crate::gates::Gate;
@@ -190,8 +190,8 @@ fn counted<K: Ledger, D: Ledger>(
     }
 }
 
-// What came of a run: a fault where the gate refused a piece or a worker was out of memory, and else what is told of the
-// parcels.
+// What came of a run: `Gate` where it refused a piece, else `Memory` where a worker was out of memory, and else what is told
+// of the parcels.
 fn outcome<T: Drop>(
     alloc: Global,
     root: &Piece,
@@ -205,7 +205,7 @@ fn outcome<T: Drop>(
     ensures order { IfOk result (λ done. IsInOrder root.now haul.parcels.items done.0.items) }
     ensures balance { IfOk result (λ done. IsBalanced root.now (bare done.0.items) []) }
     ensures counted { IfOk result (λ done. CountsAll (vec_len done.0) done.1) }
-    ensures fault { IfErr result (IsFaultOf haul.refused) }
+    ensures fault { IfErr result (IsFaultOf haul.refused haul.starved count) }
 {
     let Haul {
         parcels,
@@ -235,7 +235,7 @@ fn told<T: Drop>(
     ensures order { IfOk result (λ done. IsInOrder root.now parcels.items done.0.items) }
     ensures balance { IfOk result (λ done. IsBalanced root.now (bare done.0.items) []) }
     ensures counted { IfOk result (λ done. CountsAll (vec_len done.0) done.1) }
-    ensures fault { IfErr result IsOutOfMemory }
+    ensures fault { IfErr result (IsEndFault count) }
 {
     if count.known != count.delivered {
         return Err(RunFault::Memory);
