@@ -1,4 +1,4 @@
-ghost use Rattle.std.specs.Prelude.{◌≡◌, ◌↔◌, IfOk, IsTrue, AllPairs};
+ghost use Rattle.std.specs.Prelude.{◌≡◌, ◌↔◌, ◌<◌, ◌^◌, IfOk, IsOk, IsTrue, AllPairs};
 ghost use Rattle.std.specs.declared.cmp.Ordering.TheVariants.{Less};
 ghost use Rattle.ovl_names.specs.Paths.{path_cmp};
 ghost use Rattle.ovl_board.specs.declared.trees.TreeFault.TheVariants.{Shape};
@@ -18,7 +18,7 @@ pub enum TreeFault {
     /// among them.
     #[error("the paths do not begin with `/`, do not ascend, or lack a parent")]
     Shape,
-    /// Out of memory, or a path has 2^32 names or more.
+    /// A path has 2^32 names or more.
     #[error("out of memory")]
     Memory,
 }
@@ -48,11 +48,12 @@ impl Model for Tree {
 
 impl Tree {
     /// The tree of these paths, of which the first is `/`; they ascend strictly, and the parent of
-    /// each is listed. A path of 2^32 names or more is refused as out of memory, since its tree has
-    /// as many paths.
+    /// each is listed. `Memory` is told of a path of 2^32 names or more alone, whose tree has as
+    /// many paths.
     pub fn of(paths: Vec<Path>) -> Result<Tree, TreeFault>
         ensures tree { IfOk result (λ tree. (tree ≡ paths.items) × HasTreeShape paths.items) }
         ensures refused { (result ≡ Err Shape) ↔ (HasTreeShape paths.items → ⊥) }
+        ensures taken { IsOk result ↔ (HasTreeShape paths.items × (deepest_path paths.items < 2 ^ 32)) }
     {
         if !has_tree_shape(&paths) {
             return Err(TreeFault::Shape);

@@ -8,7 +8,7 @@ ghost use Rattle.ovl_board.specs.Assembly.{IsInOrder, bare};
 ghost use Rattle.ovl_pool.specs.Flows.{AreSettled, CountsParcels, all_pushed, all_taken, each_one};
 ghost use Rattle.ovl_pool.specs.Hauls.{IsClean};
 ghost use Rattle.ovl_pool.specs.Passes.{AreSeated};
-ghost use Rattle.ovl_pool.specs.Runs.{MayBeRefused, IsBoardMemory, IsOutOfMemory, IsRunFault, CountsAll, no_lanes};
+ghost use Rattle.ovl_pool.specs.Runs.{MayBeRefused, IsBoardMemory, IsEndFault, IsRunFault, CountsAll, no_lanes};
 
 use crate::crews::crew;
 use crate::gates::Gate;
@@ -196,8 +196,8 @@ fn run_count<K: Ledger, D: Ledger>(
     }
 }
 
-// What came of a run: a fault where the gate refused a piece or a worker was out of memory, and
-// else what is told of the parcels.
+// What came of a run: `Gate` where it refused a piece, else `Memory` where a worker was out of
+// memory, and else what is told of the parcels.
 fn outcome<T: Drop>(
     alloc: Global,
     root: &Piece,
@@ -212,7 +212,7 @@ fn outcome<T: Drop>(
     ensures order { IfOk result (λ done. IsInOrder root.now haul.parcels.items done.0.items) }
     ensures balance { IfOk result (λ done. IsBalanced root.now (bare done.0.items) []) }
     ensures counted { IfOk result (λ done. CountsAll (vec_len done.0) done.1) }
-    ensures fault { IfErr result (IsRunFault haul.refused) }
+    ensures fault { IfErr result (IsRunFault haul.refused haul.starved count) }
 {
     let Haul {
         parcels,
@@ -244,7 +244,7 @@ fn walk_of<T: Drop>(
     ensures order { IfOk result (λ done. IsInOrder root.now parcels.items done.0.items) }
     ensures balance { IfOk result (λ done. IsBalanced root.now (bare done.0.items) []) }
     ensures counted { IfOk result (λ done. CountsAll (vec_len done.0) done.1) }
-    ensures fault { IfErr result IsOutOfMemory }
+    ensures fault { IfErr result (IsEndFault count) }
 {
     if count.known != count.delivered {
         return Err(RunFault::Memory);

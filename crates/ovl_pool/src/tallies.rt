@@ -1,4 +1,4 @@
-ghost use Rattle.std.specs.Prelude.{◌≡◌, ◌↔◌, ◌≤◌, ◌<◌, ◌+◌, ◌^◌, ◌⊎◌, IsTrue, true, false};
+ghost use Rattle.std.specs.Prelude.{◌≡◌, ◌↔◌, ◌≤◌, ◌<◌, ◌+◌, ◌^◌, ◌⊎◌, IsTrue, IsSome, true, false};
 ghost use Rattle.std.specs.Bool.{OnTrue, OnFalse};
 
 use std::sync::ledger::{Book, Ledger, Share};
@@ -19,6 +19,12 @@ pub struct Tally<K: Ledger, D: Ledger> {
     ghost covered: { delivered ≤ known },
     ghost known_noted: { known ≡ kids.total + 1 },
     ghost delivered_noted: { delivered ≡ parcels.total },
+}
+
+/// That there is nothing more to do. Only a tally tells it, and only by it a worker ends.
+#[derive(Drop)]
+pub(crate) struct Over {
+    told: (),
 }
 
 impl<K: Ledger, D: Ledger> Tally<K, D> {
@@ -103,22 +109,25 @@ impl<K: Ledger, D: Ledger> Tally<K, D> {
         true
     }
 
-    /// Notes that a worker met a fault.
-    pub(crate) fn fail(&mut self)
+    /// Notes that a worker met a fault, after which there is nothing more to do.
+    pub(crate) fn fail(&mut self) -> Over
         ensures failed { self.new.failed ≡ true }
         ensures same { (self.new.known ≡ self.old.known)
             × (self.new.delivered ≡ self.old.delivered) }
     {
         self.failed = true;
+        Over { told: () }
     }
 
-    /// Whether there is nothing more to do: all that is known was delivered, or a worker met a
-    /// fault.
-    pub(crate) fn is_over(&self) -> bool
-        ensures { IsTrue result
-            ↔ ((self.now.failed ≡ true) ⊎ (self.now.delivered ≡ self.now.known)) }
+    /// Tells exactly where there is nothing more to do: all that is known was delivered, or a worker
+    /// met a fault.
+    pub(crate) fn over(&self) -> Option<Over>
+        ensures { IsSome result ↔ ((self.now.failed ≡ true) ⊎ (self.now.delivered ≡ self.now.known)) }
     {
-        self.failed || self.delivered == self.known
+        if self.failed || self.delivered == self.known {
+            return Some(Over { told: () });
+        }
+        None
     }
 
     /// Shows by all shares in one, after the workers were joined, that the root and the kids that

@@ -2,6 +2,7 @@ ghost use Rattle.std.specs.Prelude.{◌≡◌, ◌<◌, ◌≤◌, ◌+◌, ℕ,
 ghost use Rattle.ovl_board.specs.declared.pieces.Piece.{Piece};
 ghost use Rattle.ovl_board.specs.Parcels.{AreOwn, parcel_views};
 ghost use Rattle.ovl_pool.specs.declared.notes.Prospect.TheVariants.{End};
+ghost use Rattle.ovl_pool.specs.declared.tallies.Over.{Over};
 ghost use Rattle.ovl_pool.specs.Crews.{IsWorkerStart, IsWorkerEnd};
 ghost use Rattle.ovl_pool.specs.Hauls.{IsOwnHaul, IsClean, AreInPieceOrder};
 ghost use Rattle.ovl_pool.specs.Flows.{IsPushed, IsPushedOf, PushesKids, IsAdded, KeepsPace, StaysWithin, lane_pushed, pushed, delivered, accounted, below, each_one};
@@ -131,11 +132,11 @@ fn serve_all<W: Work, G: Gate, R: Wait, K: Ledger, D: Ledger>(
         ) {
             Ok(Prospect::Work) => idle.reset(),
             Ok(Prospect::Wait) => idle.snooze(),
-            Ok(Prospect::End) => return (worker, haul, notes.into_shares()),
+            Ok(Prospect::End(over)) => return (worker, haul, notes.into_shares(over)),
             Err(AllocError) => {
                 haul.starved = true;
-                notes.fail();
-                return (worker, haul, notes.into_shares());
+                let over = notes.fail();
+                return (worker, haul, notes.into_shares(over));
             }
         }
     }
@@ -172,7 +173,7 @@ fn turn<W: Work, G: Gate, R: Wait, K: Ledger, D: Ledger>(
     ensures noted { OnOk result (IsClean haul.new
         → notes.new.shares.delivered.amount + notes.new.unnoted + vec_len haul.old.parcels
         ≡ notes.old.shares.delivered.amount + notes.old.unnoted + vec_len haul.new.parcels) }
-    ensures settled { IfOk result (λ next. IsClean haul.new → next ≡ End → notes.new.unnoted ≡ 0) }
+    ensures settled { IfOk result (λ next. IsClean haul.new → (over : Over) → next ≡ End over → notes.new.unnoted ≡ 0) }
     ensures parts { (notes.new.shares.known.parts ≡ notes.old.shares.known.parts)
         × (notes.new.shares.delivered.parts ≡ notes.old.shares.delivered.parts) }
 {
@@ -215,14 +216,13 @@ fn attend<W: Work, G: Gate, R: Wait, K: Ledger, D: Ledger>(
     ensures delivered { OnOk result
         (IsClean haul.new → notes.new.shares.delivered.amount + notes.new.unnoted
         ≡ notes.old.shares.delivered.amount + notes.old.unnoted + 1) }
-    ensures settled { IfOk result (λ next. IsClean haul.new → next ≡ End → notes.new.unnoted ≡ 0) }
+    ensures settled { IfOk result (λ next. IsClean haul.new → (over : Over) → next ≡ End over → notes.new.unnoted ≡ 0) }
     ensures parts { (notes.new.shares.known.parts ≡ notes.old.shares.known.parts)
         × (notes.new.shares.delivered.parts ≡ notes.old.shares.delivered.parts) }
 {
     if !gate.pass(&piece) {
         haul.refused = Some(piece);
-        notes.fail();
-        return Ok(Prospect::End);
+        return Ok(Prospect::End(notes.fail()));
     }
     serve(alloc, work, notes, lane, piece, &mut haul.parcels)
 }
@@ -255,7 +255,7 @@ fn serve<W: Work, R: Wait, K: Ledger, D: Ledger>(
         ≡ notes.old.shares.known.amount + below each_one parcels.new.items) }
     ensures delivered { OnOk result (notes.new.shares.delivered.amount + notes.new.unnoted
         ≡ notes.old.shares.delivered.amount + notes.old.unnoted + 1) }
-    ensures settled { IfOk result (λ next. next ≡ End → notes.new.unnoted ≡ 0) }
+    ensures settled { IfOk result (λ next. (over : Over) → next ≡ End over → notes.new.unnoted ≡ 0) }
     ensures parts { (notes.new.shares.known.parts ≡ notes.old.shares.known.parts)
         × (notes.new.shares.delivered.parts ≡ notes.old.shares.delivered.parts) }
 {

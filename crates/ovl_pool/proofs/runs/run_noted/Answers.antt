@@ -3,7 +3,7 @@ use Rattle.std.proofs.lemmas.Result.{IfOk-weaker}
 use Rattle.ovl_board.proofs.LawsOfWalks.{own_lawful-bare, order_plain}
 use Rattle.ovl_pool.specs.Flows.{HaveRoot}
 use Rattle.ovl_pool.proofs.FlowLemmas.{gathered_balance}
-use Rattle.ovl_pool.proofs.ToldLemmas.{gone_from, numbers, was_refused, refused_reached}
+use Rattle.ovl_pool.proofs.ToldLemmas.{gone_from, numbers, was_refused, board_memory, refused_reached}
 use Rattle.ovl_pool.proofs.runs.run_noted.Goals as goal
 
 pub outcome-requires-clause-lawful : goal.outcome-requires-clause-lawful
@@ -42,4 +42,7 @@ returns-clause-gate g c = λ refused.
     let begun = subst (λ p. HaveRoot p c.in_ok-crowd.crowd.items) c.in_ok-first.ensures c.in_ok-crowd.ensures.root in
     let lawful = own_lawful-bare g.W.Work.seen (g.W.Work.kids_of w) (g.W.Work.out_of w) (g.W.Work.deepest_of w) c.deepest-deepest.ensures.lawful haul.parcels.items crew.haul.0 in
     refused_reached g.W.Work.seen (g.W.Work.kids_of w) (g.W.Work.out_of w) (g.G.Gate.may_refuse c.args.gate.now) c.args.root c.in_ok-crowd.crowd.items c.in_ok-ended.ended.items haul left.0 crew.haul lawful begun crew.within left.1.1
-    (was_refused c.outcome.result haul.refused c.outcome.ensures.fault refused)
+    (was_refused c.outcome.result haul.refused haul.starved c.counted-count.result c.outcome.ensures.fault refused)
+
+pub returns-clause-board : goal.returns-clause-board
+returns-clause-board g c = board_memory c.outcome.result c.in_ok-ended.haul.refused c.in_ok-ended.haul.starved c.counted-count.result c.outcome.ensures.fault
