@@ -1,8 +1,9 @@
 //! Stacks as lines of text, the manifests that these state, and blobs.
 
 use ovl_engine::{Blob, named_blobs};
+use ovl_layer::Layer;
 use ovl_lookup::Stack;
-use ovl_manifest::{Layer, read_layer};
+use ovl_manifest::read_layer;
 use std::alloc::{AllocError, Global};
 use std::test::Fail;
 
