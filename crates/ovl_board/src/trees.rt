@@ -53,7 +53,8 @@ impl Tree {
     pub fn of(paths: Vec<Path>) -> Result<Tree, TreeFault>
         ensures tree { IfOk result (λ tree. (tree ≡ paths.items) × HasTreeShape paths.items) }
         ensures refused { (result ≡ Err Shape) ↔ (HasTreeShape paths.items → ⊥) }
-        ensures taken { IsOk result ↔ (HasTreeShape paths.items × (deepest_path paths.items < 2 ^ 32)) }
+        ensures taken { IsOk result
+            ↔ (HasTreeShape paths.items × (deepest_path paths.items < 2 ^ 32)) }
     {
         if !has_tree_shape(&paths) {
             return Err(TreeFault::Shape);

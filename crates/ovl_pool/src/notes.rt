@@ -62,7 +62,8 @@ impl<'a, R: Wait, K: Ledger, D: Ledger> Notes<'a, R, K, D> {
             (λ _. self.new.shares.known.amount ≡ self.old.shares.known.amount) }
         ensures delivered { OnOk result (self.new.shares.delivered.amount + self.new.unnoted
             ≡ self.old.shares.delivered.amount + self.old.unnoted + 1) }
-        ensures settled { IfOk result (λ next. (over : Over) → next ≡ End over → self.new.unnoted ≡ 0) }
+        ensures settled { IfOk result (λ next.
+            (over : Over) → next ≡ End over → self.new.unnoted ≡ 0) }
         ensures parts { (self.new.shares.known.parts ≡ self.old.shares.known.parts)
             × (self.new.shares.delivered.parts ≡ self.old.shares.delivered.parts) }
     {

@@ -119,10 +119,11 @@ impl<K: Ledger, D: Ledger> Tally<K, D> {
         Over { told: () }
     }
 
-    /// Tells exactly where there is nothing more to do: all that is known was delivered, or a worker
-    /// met a fault.
+    /// Tells exactly where there is nothing more to do: all that is known was delivered, or a
+    /// worker met a fault.
     pub(crate) fn over(&self) -> Option<Over>
-        ensures { IsSome result ↔ ((self.now.failed ≡ true) ⊎ (self.now.delivered ≡ self.now.known)) }
+        ensures { IsSome result
+            ↔ ((self.now.failed ≡ true) ⊎ (self.now.delivered ≡ self.now.known)) }
     {
         if self.failed || self.delivered == self.known {
             return Some(Over { told: () });

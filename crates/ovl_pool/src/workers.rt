@@ -173,7 +173,8 @@ fn turn<W: Work, G: Gate, R: Wait, K: Ledger, D: Ledger>(
     ensures noted { OnOk result (IsClean haul.new
         → notes.new.shares.delivered.amount + notes.new.unnoted + vec_len haul.old.parcels
         ≡ notes.old.shares.delivered.amount + notes.old.unnoted + vec_len haul.new.parcels) }
-    ensures settled { IfOk result (λ next. IsClean haul.new → (over : Over) → next ≡ End over → notes.new.unnoted ≡ 0) }
+    ensures settled { IfOk result (λ next.
+        IsClean haul.new → (over : Over) → next ≡ End over → notes.new.unnoted ≡ 0) }
     ensures parts { (notes.new.shares.known.parts ≡ notes.old.shares.known.parts)
         × (notes.new.shares.delivered.parts ≡ notes.old.shares.delivered.parts) }
 {
@@ -216,7 +217,8 @@ fn attend<W: Work, G: Gate, R: Wait, K: Ledger, D: Ledger>(
     ensures delivered { OnOk result
         (IsClean haul.new → notes.new.shares.delivered.amount + notes.new.unnoted
         ≡ notes.old.shares.delivered.amount + notes.old.unnoted + 1) }
-    ensures settled { IfOk result (λ next. IsClean haul.new → (over : Over) → next ≡ End over → notes.new.unnoted ≡ 0) }
+    ensures settled { IfOk result (λ next.
+        IsClean haul.new → (over : Over) → next ≡ End over → notes.new.unnoted ≡ 0) }
     ensures parts { (notes.new.shares.known.parts ≡ notes.old.shares.known.parts)
         × (notes.new.shares.delivered.parts ≡ notes.old.shares.delivered.parts) }
 {
@@ -255,7 +257,8 @@ fn serve<W: Work, R: Wait, K: Ledger, D: Ledger>(
         ≡ notes.old.shares.known.amount + below each_one parcels.new.items) }
     ensures delivered { OnOk result (notes.new.shares.delivered.amount + notes.new.unnoted
         ≡ notes.old.shares.delivered.amount + notes.old.unnoted + 1) }
-    ensures settled { IfOk result (λ next. (over : Over) → next ≡ End over → notes.new.unnoted ≡ 0) }
+    ensures settled { IfOk result (λ next.
+        (over : Over) → next ≡ End over → notes.new.unnoted ≡ 0) }
     ensures parts { (notes.new.shares.known.parts ≡ notes.old.shares.known.parts)
         × (notes.new.shares.delivered.parts ≡ notes.old.shares.delivered.parts) }
 {
