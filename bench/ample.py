@@ -202,11 +202,11 @@ def of_some_version(rng, layer):
     return layer if any(it[NSEC] for it in layer) or rng.choice((1, 2)) == 2 else First(layer)
 
 
-def stack_of(rng):
+def stack_of(rng, counts=(2, 3, 3, 4, 5)):
     tree, layers = {}, []
     # The lowest layers may be of a time in which manifests had whole seconds alone.
     times = rng.choice(((0,), NANOSECONDS))
-    for _ in range(rng.choice((2, 3, 3, 4, 5))):
+    for _ in range(rng.choice(counts)):
         lower, tree = tree, work(rng, tree, times)
         layers.insert(0, entries(rng, tree, lower))
         times = rng.choice((times, NANOSECONDS))

@@ -4,6 +4,7 @@ pub mod FsckReports
 pub mod Kept
 pub mod LayerReports
 pub mod Listings
+pub mod MergesDown
 pub mod NamedBlobs
 pub mod Outcomes
 pub mod Questions

@@ -66,7 +66,7 @@ fn is_kept<R: Threads + Wait + Sync>(
 }
 
 // What a command answers.
-type Answered = Result<Answer, EngineFault>;
+pub(crate) type Answered = Result<Answer, EngineFault>;
 
 fn by_one<R: Threads + Wait + Sync>(
     rt: &R,
@@ -104,13 +104,18 @@ fn told_of<R: Threads + Wait + Sync>(
     stack: &str,
     answered: Answered,
 ) -> Result<String, Fail> {
-    match answered {
-        Ok(answer) => {
-            if !is_kept(rt, alloc, what, stack, &answer.layers)? {
-                return Err(Fail::new("the stack with the new layers shows something else"));
-            }
-            text_of(answer)
+    if let Ok(answer) = &answered {
+        if !is_kept(rt, alloc, what, stack, &answer.layers)? {
+            return Err(Fail::new("the stack with the new layers shows something else"));
         }
+    }
+    text_of_answered(alloc, answered)
+}
+
+// An answer's report and its new layers' manifests, or behind `!` the fault.
+pub(crate) fn text_of_answered(alloc: Global, answered: Answered) -> Result<String, Fail> {
+    match answered {
+        Ok(answer) => text_of(answer),
         Err(EngineFault::Faulty(report)) => {
             let report = String::from_utf8(report)?;
             Ok(format!(in alloc; "! {report}")?)

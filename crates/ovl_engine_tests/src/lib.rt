@@ -9,6 +9,8 @@ mod checks;
 #[cfg(test)]
 mod commands;
 #[cfg(test)]
+mod downs;
+#[cfg(test)]
 mod emits;
 #[cfg(test)]
 mod gates;
