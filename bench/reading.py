@@ -22,7 +22,7 @@ from refusals import build
 ENTRIES, MOST = 10_000, 0.8
 
 
-def shown(program, library, manifest, room):
+def shown(program: str, library: str, manifest: str, room: Path) -> tuple[bytes, int]:
     """The report of a manifest, and how many requests for memory were met."""
     told = room / "told"
     told.unlink(missing_ok=True)
@@ -32,7 +32,7 @@ def shown(program, library, manifest, room):
     return ran.stdout, int(told.read_text().split()[0])
 
 
-def read(program, library, room, version):
+def read(program: str, library: str, room: Path, version: int) -> tuple[float, float]:
     """The requests an entry of a manifest as it is written, and with a space in front; both must show the same."""
     written, other = (room / f"{name}{version}.json" for name in ("written", "other"))
     with open(written, "wb") as out:
@@ -44,7 +44,7 @@ def read(program, library, room, version):
     return count / ENTRIES, more / ENTRIES
 
 
-def main():
+def main() -> None:
     words = argparse.ArgumentParser(description="Counts the requests for memory of a manifest as it is written.")
     words.add_argument("--program", required=True, help="path of the program")
     given = words.parse_args()

@@ -24,10 +24,11 @@ import shutil
 import subprocess
 import sys
 import tempfile
+from collections.abc import Iterator
 from dataclasses import dataclass
 from pathlib import Path
 
-from growth import REDIRECT, First, entry, write
+from growth import REDIRECT, Entry, First, Layer, entry, write
 
 SOURCE = Path(__file__).resolve().parent / "refuse.c"
 COMMANDS = ("show", "fsck", "vacuum", "deref", "merge", "flatten", "fsck --any-size", "merge --any-size", "merge --down-to 1")
@@ -50,24 +51,24 @@ OLD = b"what was there before\n"
 
 # ---- the stacks
 
-def digest(contents):
+def digest(contents: bytes) -> str:
     return hashlib.sha256(contents).hexdigest()
 
 
-def file(path, contents, stated=None):
+def file(path: str, contents: bytes, stated: int | None = None) -> Entry:
     """A file of these contents; of another size than theirs where that is stated."""
     return entry(path, "file", size=len(contents) if stated is None else stated, blob=digest(contents))
 
 
-def whiteout(path):
+def whiteout(path: str) -> Entry:
     return entry(path, "char", major=0, minor=0)
 
 
-def moved(path, target):
+def moved(path: str, target: str) -> Entry:
     return entry(path, attrs={REDIRECT: target})
 
 
-def opaque(path):
+def opaque(path: str) -> Entry:
     return entry(path, attrs={"trusted.overlay.opaque": "y"})
 
 
@@ -77,11 +78,11 @@ class Stack:
     these are refused; and for how many things at least `show`, and each other command, starts a thread for each worker but
     one."""
 
-    layers: tuple
-    blobs: dict
-    workers: tuple = (1, 2)
-    refused: tuple = tuple(WAYS)
-    least: tuple = (0, 0)
+    layers: tuple[Layer, ...]
+    blobs: dict[str, bytes]
+    workers: tuple[int, ...] = (1, 2)
+    refused: tuple[str, ...] = tuple(WAYS)
+    least: tuple[int, int] = (0, 0)
 
 
 A = {digest(b"a"): b"a"}
@@ -114,13 +115,13 @@ class Ending:
     status: int
     printed: bytes
     told: bytes
-    layers: dict
+    layers: dict[str, bytes]
 
 
 REFUSED = Ending(5, b"", b"ovl_layers: out of memory\n", {"layer-0.json": OLD})
 
 
-def run(words, room, env):
+def run(words: list[str], room: Path, env: dict[str, str]) -> tuple[Ending, bool]:
     """A run's ending, and whether something was refused. One that is killed counts as refused."""
     new, told = room / "new", room / "told"
     shutil.rmtree(new, ignore_errors=True)
@@ -142,19 +143,19 @@ class Sweep:
     workers: int
     refused: str
 
-    def goes_on(self):
+    def goes_on(self) -> bool:
         """Whether it merges again and again, and so checks the layers that are left and makes new ones each time."""
         return "--down-to" in self.command
 
-    def most_threads(self):
+    def most_threads(self) -> int:
         layers = len(STACKS[self.stack].layers)
         more = sum(left + 1 for left in range(2, layers)) if self.goes_on() else 0
         return (THINGS + layers + more) * (self.workers - 1)
 
-    def least_threads(self):
+    def least_threads(self) -> int:
         return STACKS[self.stack].least[self.command != "show"] * (self.workers - 1)
 
-    def words(self, program, room):
+    def words(self, program: str, room: Path) -> list[str]:
         stack, blobs, folder = STACKS[self.stack], room / "blobs", room / "layers"
         for it in (blobs, folder):
             it.mkdir()
@@ -167,7 +168,7 @@ class Sweep:
         return words + write(str(folder), stack.layers)
 
 
-def swept(program, library, sweep):
+def swept(program: str, library: str, sweep: Sweep) -> tuple[int, list[str]]:
     """How many runs there were, and what is told of those that ended wrongly."""
     with tempfile.TemporaryDirectory(prefix="ovl-refusals-") as folder:
         room = Path(folder)
@@ -201,7 +202,7 @@ class Trial:
     command = TESTS
 
 
-def tried(program, library, trial):
+def tried(program: str, library: str, trial: Trial) -> tuple[int, list[str]]:
     """How many runs of a test there were, and what is told of those that didn't pass."""
     wrong = []
     with tempfile.TemporaryDirectory(prefix="ovl-refusals-") as folder:
@@ -217,14 +218,14 @@ def tried(program, library, trial):
     return runs, [*wrong, f"{trial.test}: no run without a refusal"]
 
 
-def trials(program):
+def trials(program: str) -> Iterator[Trial]:
     listed = subprocess.run([program, "--list"], stdin=subprocess.DEVNULL, capture_output=True, text=True, check=True).stdout
     for test in listed.split(": test\n")[:-1]:
         yield Trial(test, 1, THREAD)
         yield from (Trial(test, first, "a request") for first in range(1, SHARES + 1))
 
 
-def build(library):
+def build(library: str) -> None:
     """Builds the library by the compiler that rt brings along."""
     page = subprocess.run(["rt", "doc"], stdin=subprocess.DEVNULL, capture_output=True, text=True, check=True).stdout
     tools = Path(page.strip()).parent / "toolchain/bin"
@@ -234,7 +235,7 @@ def build(library):
         subprocess.run([tools / "ld.lld", "-shared", "-o", library, made], check=True)
 
 
-def sweeps():
+def sweeps() -> Iterator[Sweep]:
     """All, those of the longest runs first."""
     for name, stack in reversed(STACKS.items()):
         for refused in stack.refused:
@@ -242,7 +243,7 @@ def sweeps():
             yield from (it for it in found if not it.goes_on() or len(stack.layers) <= FEW)
 
 
-def main():
+def main() -> None:
     words = argparse.ArgumentParser(description="Refuses programs memory, one request after the other.")
     what = words.add_mutually_exclusive_group(required=True)
     what.add_argument("--program", help="path of the program")
@@ -250,19 +251,20 @@ def main():
     words.add_argument("--tests", metavar="PROGRAM", help="path of a program of tests, which is refused memory too")
     given = words.parse_args()
     if given.library:
-        sys.exit(build(given.library))
-    program, runs, wrong = os.path.abspath(given.program), collections.Counter(), collections.defaultdict(list)
-    todo = [(swept, program, it) for it in sweeps()]
-    if given.tests:
-        tests = os.path.abspath(given.tests)
-        todo += [(tried, tests, it) for it in trials(tests)]
+        build(given.library)
+        sys.exit(0)
+    program, tests = os.path.abspath(given.program), os.path.abspath(given.tests) if given.tests else None
+    runs: collections.Counter[str] = collections.Counter()
+    wrong: dict[str, list[str]] = collections.defaultdict(list)
     with tempfile.TemporaryDirectory(prefix="ovl-refuse-") as folder, concurrent.futures.ProcessPoolExecutor() as pool:
         library = os.path.join(folder, "refuse.so")
         build(library)
-        for it, done in [(it, pool.submit(how, path, library, it)) for how, path, it in todo]:
+        todo = [(it.command, pool.submit(swept, program, library, it)) for it in sweeps()]
+        todo += [(it.command, pool.submit(tried, tests, library, it)) for it in trials(tests)] if tests else []
+        for command, done in todo:
             count, told = done.result()
-            runs[it.command] += count
-            wrong[it.command] += told
+            runs[command] += count
+            wrong[command] += told
     for command in (*COMMANDS, *([TESTS] if given.tests else [])):
         print(*wrong[command][:TOLD], sep="\n", end="\n" if wrong[command] else "")
         print(f"{command}: {runs[command]:,} runs, {len(wrong[command])} ended wrongly", flush=True)

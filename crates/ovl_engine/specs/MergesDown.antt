@@ -1,7 +1,7 @@
 -- Merges one after the other, until so many layers are left.
 use Rattle.std.specs.Prelude.{◌≡◌, ◌⊎◌, ◌+◌, ◌-◌, ◌<◌, ◌≤◌, ℕ, zero, suc, true, Option, Result, Ok, Err, List, [], ◌∷◌, ◌++◌, drop, length, map, IfOk}
 use Rattle.ovl_names.specs.Paths.{PathNames}
-use Rattle.ovl_manifest.specs.Layers.{Entries, IsLayer}
+use Rattle.ovl_layer.specs.Layers.{Entries, IsLayer}
 use Rattle.ovl_manifest.specs.Manifest.{read_layer}
 use Rattle.ovl_lookup.specs.Stacks.{StackView, from_layer}
 use Rattle.ovl_lookup.specs.Merged.{look}
@@ -12,8 +12,8 @@ use Rattle.ovl_check.specs.Findings.{findings}
 use Rattle.ovl_merge.specs.Places.{merge_of}
 use Rattle.ovl_merge.specs.MergeDown.{IsMergedDown}
 use Rattle.ovl_merge.specs.Limits.{PassesLimit}
-use Rattle.ovl_engine.specs.declared.requests.Command.TheVariants.{Merge}
-use Rattle.ovl_engine.specs.declared.requests.Answer.{Answer}
+use Rattle.ovl_commands.specs.declared.requests.Command.TheVariants.{Merge}
+use Rattle.ovl_commands.specs.declared.requests.Answer.{Answer}
 use Rattle.ovl_engine.specs.declared.faults.EngineFault.{EngineFault}
 use Rattle.ovl_engine.specs.declared.faults.EngineFault.TheVariants.{NoLower}
 use Rattle.ovl_engine.specs.FsckReports.{is_clean}

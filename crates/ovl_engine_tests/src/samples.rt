@@ -1,7 +1,8 @@
 //! Stacks as lines of text, and the manifests that these state.
 
+use ovl_layer::Layer;
 use ovl_lookup::Stack;
-use ovl_manifest::{Layer, read_layer};
+use ovl_manifest::read_layer;
 use std::alloc::{AllocError, Global};
 use std::test::Fail;
 

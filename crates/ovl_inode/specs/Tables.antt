@@ -1,6 +1,6 @@
 -- Attributes as places in the bytes of all their names and values.
-use Rattle.std.specs.Prelude.{ℕ, ◌≤◌, ◌-◌, List, length, take, drop, map}
-use Rattle.std.specs.List.{All}
+use Rattle.std.specs.Prelude.{◌≡◌, ℕ, ◌≤◌, ◌-◌, List, length, take, drop, map}
+use Rattle.std.specs.List.{All, sum_by}
 use Rattle.std.specs.Str.{IsCharBoundary}
 use Rattle.ovl_inode.specs.declared.tables.Part.{Part}
 use Rattle.ovl_inode.specs.declared.tables.Place.{Place}
@@ -33,3 +33,16 @@ pub record IsPlace (names values : List ℕ) (place : Place) : Type 0 where
 
 abbrev pub ArePlaces : List ℕ → List ℕ → List Place → Type 0
 ArePlaces names values places = All (IsPlace names values) places
+
+-- how many bytes the names of attributes come to, and their values
+abbrev pub name_bytes : Attributes → ℕ
+name_bytes attrs = sum_by (λ (attr : List ℕ × List ℕ). length attr.0) attrs
+
+abbrev pub value_bytes : Attributes → ℕ
+value_bytes attrs = sum_by (λ (attr : List ℕ × List ℕ). length attr.1) attrs
+
+-- the places are of attributes that come to as many bytes as there are
+pub record IsFull (names values : List ℕ) (places : List Place) : Type 0 where
+  pub are : ArePlaces names values places
+  pub named : name_bytes (attributes_of names values places) ≡ length names
+  pub valued : value_bytes (attributes_of names values places) ≡ length values

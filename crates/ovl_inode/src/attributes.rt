@@ -91,7 +91,7 @@ impl Attrs {
     {
         check_name(name)?;
         match &mut self.table {
-            Some(table) => put_in(table, name, value)?,
+            Some(table) => put_in(self.alloc, table, name, value)?,
             None => {
                 let mut table = Table::new(self.alloc);
                 table.insert(0, name, value)?;
@@ -175,13 +175,13 @@ impl Eq for Attrs {
 }
 
 // Puts an attribute into a table of attributes.
-fn put_in(table: &mut Table, name: &str, value: &[u8]) -> Result<(), AllocError>
+fn put_in(alloc: Global, table: &mut Table, name: &str, value: &[u8]) -> Result<(), AllocError>
     requires { IsTrue (are_attributes table.old) }
     ensures done { OnOk result (table.new ≡ with_attribute table.old name.now value.now) }
     ensures kept { OnErr result (table.new ≡ table.old) }
 {
     match table.search(name) {
-        Ok(place) => table.set_value(place, value),
+        Ok(place) => table.set_value(alloc, place, value),
         Err(place) => table.insert(place, name, value),
     }
 }

@@ -55,7 +55,8 @@ pub(crate) struct Place {
     value: Part,
 }
 
-/// Attributes as places in the bytes of all their names and of all their values, in any order there.
+/// Attributes as places in the bytes of all their names and of all their values, in any order there. No other byte is
+/// kept.
 #[derive(Debug, Drop)]
 pub(crate) struct Table {
     names: String,
@@ -66,13 +67,13 @@ pub(crate) struct Table {
 impl Model for Table {
     ghost use Rattle.std.specs.Prelude.{string_bytes};
     ghost use Rattle.ovl_inode.specs.Attributes.{Attributes};
-    ghost use Rattle.ovl_inode.specs.Tables.{ArePlaces, attributes_of};
+    ghost use Rattle.ovl_inode.specs.Tables.{IsFull, attributes_of};
 
     ghost Value = { Attributes };
 
     ghost view = { λ a. attributes_of (string_bytes a.names) a.values.items a.places.items };
 
-    ghost invariant = { λ a. ArePlaces (string_bytes a.names) a.values.items a.places.items };
+    ghost invariant = { λ a. IsFull (string_bytes a.names) a.values.items a.places.items };
 }
 
 /// Attributes in their order, each its name and its value, from the front or from the back.
@@ -146,25 +147,37 @@ impl Table {
             name: Part::behind(self.names.len(), name.len())?,
             value: Part::behind(self.values.len(), value.len())?,
         };
+        self.names.reserve(name.len())?;
+        self.values.reserve(value.len())?;
+        self.places.insert(place, own)?;
         self.names.push_str(name)?;
         self.values.extend_from_slice(value)?;
-        self.places.insert(place, own)?;
         Ok(())
     }
 
-    /// Sets the value of the attribute at a place; where a growth is refused, all stays as it was.
-    pub(crate) fn set_value(&mut self, place: usize, value: &[u8]) -> Result<(), AllocError>
+    /// Sets the value of the attribute at a place; where a growth is refused, all stays as it was. The attributes are put
+    /// anew, so that nothing is kept of the value that was there.
+    pub(crate) fn set_value(
+        &mut self,
+        alloc: Global,
+        place: usize,
+        value: &[u8],
+    ) -> Result<(), AllocError>
         requires { place < length self.old }
         ensures done { OnOk result
             (option_map (λ own. set self.old place (own.0, value.now)) (slice_get self.old place) ≡ Some self.new) }
         ensures kept { OnErr result (self.new ≡ self.old) }
     {
-        let own = Place {
-            name: self.places[place].name,
-            value: Part::behind(self.values.len(), value.len())?,
-        };
-        self.values.extend_from_slice(value)?;
-        self.places[place] = own;
+        let mut table = Table::new(alloc);
+        for (name, own) in self.pairs() {
+            let number = table.len();
+            if number == place {
+                table.insert(number, name, value)?;
+            } else {
+                table.insert(number, name, own)?;
+            }
+        }
+        *self = table;
         Ok(())
     }
 

@@ -9,7 +9,7 @@ use Rattle.ovl_inode.specs.declared.inodes.Kind.{Kind}
 use Rattle.ovl_inode.specs.declared.inodes.Kind.TheVariants.{File, Symlink, Char, Block}
 use Rattle.ovl_inode.specs.Attributes.{Attributes}
 use Rattle.ovl_inode.specs.Kinds.{kind_word}
-use Rattle.ovl_manifest.specs.Layers.{Entries}
+use Rattle.ovl_layer.specs.Layers.{Entries}
 use Rattle.ovl_manifest.specs.Text.{entry_value}
 use Rattle.ovl_manifest.specs.declared.versions.Version.{Version}
 use Rattle.ovl_manifest.specs.declared.versions.Version.TheVariants.{One, Two}

@@ -14,7 +14,7 @@ use Rattle.ovl_inode.specs.Hexadecimal.{bytes_of_digits, digest_of_text}
 use Rattle.ovl_inode.specs.Sound.{is_sound_inode, mode_limit, nsec_limit, size_limit}
 use Rattle.ovl_manifest.specs.declared.versions.Version.{Version}
 use Rattle.ovl_manifest.specs.declared.versions.Version.TheVariants.{One, Two}
-use Rattle.ovl_manifest.specs.Layers.{Entry}
+use Rattle.ovl_layer.specs.Layers.{Entry}
 use Rattle.ovl_manifest.specs.Versions.{depth_of, common_members}
 
 abbrev pub member_count : Members → ℕ

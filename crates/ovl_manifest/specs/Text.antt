@@ -10,7 +10,7 @@ use Rattle.ovl_inode.specs.declared.inodes.Kind.{Kind}
 use Rattle.ovl_inode.specs.declared.inodes.Kind.TheVariants.{Dir, File, Symlink, Char, Block, Fifo, Socket}
 use Rattle.ovl_inode.specs.Attributes.{Attributes}
 use Rattle.ovl_inode.specs.Kinds.{kind_word}
-use Rattle.ovl_manifest.specs.Layers.{Entry, Entries}
+use Rattle.ovl_layer.specs.Layers.{Entry, Entries}
 use Rattle.ovl_manifest.specs.Versions.{version_number, written}
 use Rattle.ovl_manifest.specs.declared.versions.Version.{Version}
 use Rattle.ovl_manifest.specs.declared.versions.Version.TheVariants.{One, Two}

@@ -4,21 +4,19 @@ ghost use Rattle.serde_json.specs.Data.{object, no_members};
 ghost use Rattle.serde_json.specs.Find.{as_array};
 ghost use Rattle.serde_json.specs.Read.{read};
 ghost use Rattle.ovl_json.specs.Reading.{read_value, read_items as items_read, read_members as members_read};
-ghost use Rattle.ovl_manifest.specs.Layers.{entry_limit};
+ghost use Rattle.ovl_layer.specs.Layers.{entry_limit};
 ghost use Rattle.ovl_manifest.specs.Fields.{entry_of};
-ghost use Rattle.ovl_manifest.specs.Manifest.{is_statable, entry_after, layer_of_entries, stated_entries, IsFaultOf};
-ghost use Rattle.ovl_manifest.specs.Drafts.{draft_entries, IsDraft};
+ghost use Rattle.ovl_layer.specs.Entries.{is_statable, entry_after, layer_of_entries, IsFaultOf};
+ghost use Rattle.ovl_manifest.specs.Manifest.{stated_entries};
+ghost use Rattle.ovl_layer.specs.Drafts.{draft_entries, IsDraft};
 ghost use Rattle.ovl_manifest.specs.Lists.{listed, entry_on, made, IsProgress, IsProgressOf, Tells, TellsLast, member_depth, item_depth};
 
-use crate::drafts::Draft;
-use crate::entries::{ENTRY_LIMIT, add, start};
-use crate::faults::LayerFault;
 use crate::fields::read_entry;
-use crate::trees::Layer;
 use crate::versions::Version;
 use json::{Reader, Scratch};
 use ovl_inode::Inode;
 use ovl_json::{Beginning, MAX_DEPTH, Unread, begin, pass_items, pass_members, read_object};
+use ovl_layer::{Draft, ENTRY_LIMIT, Layer, LayerFault, add_entry, start_draft};
 use ovl_names::Path;
 use std::alloc::Global;
 
@@ -45,7 +43,9 @@ pub(crate) fn read_entries(alloc: Global, version: Version, text: &str) -> Resul
         (λ layer. layer_of_entries (stated_entries version items) ≡ Ok layer)
         (λ fault. IsFaultOf (layer_of_entries (stated_entries version items)) fault)) }
 {
-    let told = read_draft(alloc, version, text)?;
+    let Ok(told) = read_draft(alloc, version, text) else {
+        return Err(LayerFault::Memory);
+    };
     match told {
         Ok(draft) => Ok(draft.finish()?),
         Err(fault) => Err(fault),
@@ -161,7 +161,7 @@ fn with_item(
     match progress {
         Progress::Nothing => {
             let entry = read_item(alloc, version, reader)?;
-            progress_of(start(alloc, entry))
+            progress_of(start_draft(alloc, entry))
         }
         Progress::Made(draft) => {
             let entry = read_item(alloc, version, reader)?;
@@ -190,7 +190,7 @@ fn with_entry(
         (λ fault. IsFaultOf (entry_after (draft_entries draft) entry) fault) }
 {
     let mut draft = draft;
-    add(alloc, &mut draft, number, entry)?;
+    add_entry(alloc, &mut draft, number, entry)?;
     Ok(draft)
 }
 

@@ -4,18 +4,17 @@ ghost use Rattle.serde_json.specs.Read.{read};
 ghost use Rattle.serde_json.specs.View.{number_view};
 ghost use Rattle.ovl_json.specs.Views.{object_view};
 ghost use Rattle.ovl_manifest.specs.Versions.{version_of};
-ghost use Rattle.ovl_manifest.specs.Manifest.{layer_of_value, read_layer as layer_stated, IsFaultOf};
+ghost use Rattle.ovl_manifest.specs.Manifest.{layer_of_value, read_layer as layer_stated};
+ghost use Rattle.ovl_layer.specs.Entries.{IsFaultOf};
 ghost use Rattle.ovl_manifest.specs.Lists.{outline};
 
 use crate::compact_layers::read_compact;
-use crate::faults::LayerFault;
 use crate::fields::is_made_of;
 use crate::lists::read_entries;
-use crate::sheets::Sheet;
-use crate::trees::Layer;
 use crate::versions::Version;
 use json::{Reader, Scratch};
 use ovl_json::{MAX_DEPTH, Object, is_json, read_object};
+use ovl_layer::{Layer, LayerFault, Sheet};
 use serde_json::Number;
 use simdutf8::compat::from_utf8;
 use std::alloc::Global;
@@ -76,7 +75,10 @@ fn read_version(alloc: Global, text: &str) -> Result<Version, LayerFault>
 {
     let mut scratch = Scratch::new(alloc);
     let mut reader = Reader::new(text, &mut scratch)?;
-    match read_object(alloc, &mut reader, MAX_DEPTH)? {
+    let Ok(told) = read_object(alloc, &mut reader, MAX_DEPTH) else {
+        return Err(LayerFault::Memory);
+    };
+    match told {
         Some(value) => outline_of(&value),
         None => Err(LayerFault::Shape),
     }

@@ -2,7 +2,7 @@
 ghost use Rattle.std.specs.Prelude.{◌≡◌, ◌+◌, ◌<◌, ◌≤◌, ◌^◌, IfSome, OnOk, length, take};
 ghost use Rattle.ovl_names.specs.Names.{PathName};
 ghost use Rattle.ovl_names.specs.Paths.{PathNames, child_path};
-ghost use Rattle.ovl_manifest.specs.TextPaths.{slashed, AreEnds};
+ghost use Rattle.ovl_layer.specs.TextPaths.{slashed, AreEnds};
 
 use std::alloc::AllocError;
 

@@ -2,16 +2,16 @@ ghost use Rattle.std.specs.Prelude.{◌≡◌, true, false, ◌++◌, Ok, IfOk, 
 ghost use Rattle.serde_json.specs.Written.{compact_text};
 ghost use Rattle.ovl_names.specs.Paths.{PathNames, child_path};
 ghost use Rattle.ovl_manifest.specs.Compact.{entries_text};
-ghost use Rattle.ovl_manifest.specs.LayerTrees.{entries_from, placed};
+ghost use Rattle.ovl_layer.specs.LayerTrees.{entries_from, placed};
 ghost use Rattle.ovl_manifest.specs.Manifest.{read_layer};
 ghost use Rattle.ovl_manifest.specs.Text.{manifest_text, layer_value};
 ghost use Rattle.ovl_manifest.specs.Versions.{written};
-ghost use Rattle.ovl_manifest.specs.TextPaths.{slashed};
+ghost use Rattle.ovl_layer.specs.TextPaths.{slashed};
 
-use crate::trees::{Layer, Node};
 use crate::versions::Version;
 use crate::written_entries::{push_entry, push_number};
 use ovl_inode::Kind;
+use ovl_layer::{Layer, Node};
 use std::alloc::{AllocError, Global};
 
 /// The manifest of a layer: compact JSON whose objects have their members in the byte order of their names, and a

@@ -1,7 +1,7 @@
 -- The limits of a manifest.
 use Rattle.std.specs.Prelude.{Bool, ◌&&◌, length, nat_le}
 use Rattle.std.specs.List.{list_all}
-use Rattle.ovl_manifest.specs.Layers.{Entries, entry_limit, is_within_limits}
+use Rattle.ovl_layer.specs.Layers.{Entries, entry_limit, is_within_limits}
 
 -- no more entries than a manifest may have, and no path with more names or a longer text
 abbrev pub keeps_limits : Entries → Bool

@@ -1,17 +1,17 @@
 ghost use Rattle.std.specs.Prelude.{◌≡◌, [], Some, IfOk, IfErr, length};
-ghost use Rattle.ovl_engine.specs.declared.requests.Command.TheVariants.{Merge};
+ghost use Rattle.ovl_commands.specs.declared.requests.Command.TheVariants.{Merge};
 ghost use Rattle.ovl_engine.specs.Requests.{request_of};
 ghost use Rattle.ovl_program.specs.Faults.{IsUnread};
 ghost use Rattle.ovl_program.specs.Reported.{IsComingDownOver, IsComingOver};
 ghost use Rattle.ovl_program.specs.Programs.{IsOfBlobs, IsPerformed, folder_in_parts, left_of as the_left_of};
 
-use crate::command_line::options::Line;
 use crate::faults::ProgramFault;
 use crate::files::folder_in_parts::tell_blobs;
 use crate::files::manifests::SharedFiles;
 use crate::output::report::write_report;
 use crate::output::status::Ending;
 use crate::runs::command::left_of;
+use ovl_command_line::Line;
 use ovl_engine::{
     Answer, EngineFault, answer_told, merge_down_told, question_down, question_of,
 };

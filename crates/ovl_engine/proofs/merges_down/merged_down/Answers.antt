@@ -2,7 +2,7 @@ use Rattle.std.proofs.Common.{◌≡◌, ◌∙◌, ◌+◌, ◌<◌, List, Err,
 use Rattle.std.proofs.lemmas.Result.{IfOk-weaker, err_from_is_err_and}
 use Rattle.ovl_check.specs.declared.findings.Finding.{Finding}
 use Rattle.ovl_check.specs.Findings.{findings}
-use Rattle.ovl_engine.specs.declared.requests.Command.TheVariants.{Merge}
+use Rattle.ovl_commands.specs.declared.requests.Command.TheVariants.{Merge}
 use Rattle.ovl_engine.specs.Outcomes.{IsRun, MayRefuseOwn}
 use Rattle.ovl_engine.specs.Told.{MayRefuseTold}
 use Rattle.ovl_engine.proofs.MergeSteps.{if-ok, kept-down, led-count, run-down, unchecked}

@@ -1,6 +1,6 @@
 use Rattle.std.proofs.Common.{[], inl, inr}
 use Rattle.std.proofs.lemmas.Result.{err_from_is_err_and}
-use Rattle.ovl_engine.specs.declared.requests.Command.TheVariants.{Merge}
+use Rattle.ovl_commands.specs.declared.requests.Command.TheVariants.{Merge}
 use Rattle.ovl_engine.specs.Requests.{Request, request_of}
 use Rattle.ovl_engine.proofs.MergeSteps.{accepted-down, refused-down}
 use Rattle.ovl_engine.proofs.merges_down.question_down.Goals as goal

@@ -6,7 +6,7 @@ use Rattle.serde_json.specs.Data.{item}
 use Rattle.serde_json.specs.Read.{of_items}
 use Rattle.ovl_json.specs.Reading.{read_items}
 use Rattle.ovl_json.proofs.Turns.{item_turn, item_end, passed}
-use Rattle.ovl_manifest.specs.Layers.{entry_limit}
+use Rattle.ovl_layer.specs.Layers.{entry_limit}
 use Rattle.ovl_manifest.specs.Fields.{entry_of}
 use Rattle.ovl_manifest.specs.Lists.{made, entry_on, IsProgress, item_depth}
 use Rattle.ovl_manifest.proofs.ListLemmas.{told, told-one, told-end, some-list, nothing_at_end, made_at_end, refused_at_end, too_many_items}

@@ -1,7 +1,7 @@
 use Rattle.std.proofs.Common.{[], refl}
 use Rattle.std.proofs.lemmas.Result.{err_from_is_err_and}
 use Rattle.ovl_engine.proofs.LawsOfTold.{asked_ascend, outcome_down_told}
-use Rattle.ovl_engine.specs.declared.requests.Command.TheVariants.{Merge}
+use Rattle.ovl_commands.specs.declared.requests.Command.TheVariants.{Merge}
 use Rattle.ovl_engine.specs.Requests.{Request, request_of}
 use Rattle.ovl_program.specs.BlobFolders.{IsInFolder, anything}
 use Rattle.ovl_program.specs.Programs.{IsOfBlobs}
