@@ -3,13 +3,9 @@
 #![tactic(auto)]
 
 #[cfg(test)]
-mod answers;
-#[cfg(test)]
 mod checks;
 #[cfg(test)]
 mod commands;
-#[cfg(test)]
-mod downs;
 #[cfg(test)]
 mod emits;
 #[cfg(test)]
@@ -22,8 +18,6 @@ mod lookups;
 mod manifests;
 #[cfg(test)]
 mod names;
-#[cfg(test)]
-mod rows;
 #[cfg(test)]
 mod samples;
 #[cfg(test)]

@@ -1,7 +1,6 @@
 //! The works of commands, walked by one thread.
-use crate::answers::blobs_of;
 use crate::gates::root_piece;
-use crate::samples::{manifest_of, stack_of};
+use crate::samples::{blobs_of, manifest_of, stack_of};
 use crate::tables::{parts_of, same};
 use ovl_board::{Core, CoreFault, Event, Parcel, Piece, plain_walk};
 use ovl_check::{BLOB_SPACE, Blob, BlobWork, blobs_in_order, finish_blobs};

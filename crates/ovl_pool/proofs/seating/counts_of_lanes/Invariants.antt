@@ -4,7 +4,7 @@ use Rattle.ovl_board.specs.Balance.{times}
 use Rattle.ovl_lanes.specs.Lanes.{IsWhole}
 use Rattle.ovl_pool.specs.Flows.{all_pushed, all_taken, each_one, indicator}
 use Rattle.ovl_pool.specs.Passes.{HasNone}
-use Rattle.ovl_pool.proofs.seating.gathered.Given as goal
+use Rattle.ovl_pool.proofs.seating.counts_of_lanes.Given as goal
 
 abbrev pub invariant-loop-lane : goal.invariant-loop-lane
 invariant-loop-lane l = record {

@@ -1,7 +1,7 @@
 use Rattle.std.proofs.Common.{◌≡◌, ◌-◌, length, Some, refl, ap, ◌∙◌, arith}
 use Rattle.json.specs.Json.{read_key, value}
 use Rattle.json.proofs.Grammar.{left, members_end, skip_member, read_key-shorter}
-use Rattle.ovl_json.proofs.passing.pass_members.Goals as goal
+use Rattle.ovl_json.proofs.skipping.skip_members.Goals as goal
 
 pub loop-reader-init : goal.loop-reader-init
 loop-reader-init c = (length c.args.reader.now, omega arith, refl, omega arith)

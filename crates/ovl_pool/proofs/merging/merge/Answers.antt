@@ -1,7 +1,7 @@
 use Rattle.std.proofs.Common.{rules, ◌≡◌, [], ◌∷◌, ◌++◌, ap, ◌∙◌, subst, append-nil}
-use Rattle.ovl_pool.specs.Hauls.{AreInOrder}
+use Rattle.ovl_pool.specs.Hauls.{AreInPieceOrder}
 use Rattle.ovl_pool.proofs.MergeLemmas.{taken, merged_next}
-use Rattle.ovl_pool.proofs.merging.merged.Goals as goal
+use Rattle.ovl_pool.proofs.merging.merge.Goals as goal
 
 pub loop-parcel-preserved : goal.loop-parcel-preserved
 loop-parcel-preserved g c =
@@ -22,4 +22,4 @@ pub returns-clause-order : goal.returns-clause-order
 returns-clause-order g c = λ a b.
     let both = c.loop-parcel.both.items in
     let none : c.loop-parcel.first.items ≡ [] = search rules in
-    subst AreInOrder (ap (λ l. both ++ l) none ∙ append-nil both) (c.loop-parcel.invariant.order a b).0
+    subst AreInPieceOrder (ap (λ l. both ++ l) none ∙ append-nil both) (c.loop-parcel.invariant.order a b).0

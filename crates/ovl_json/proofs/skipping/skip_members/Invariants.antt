@@ -2,7 +2,7 @@ use Rattle.std.proofs.Common.{◌≡◌, ℕ, ◌≤◌, length}
 use Rattle.json.specs.Json.{members, value}
 use Rattle.json.specs.Reads.{skip_members}
 use Rattle.json.proofs.Grammar.{left}
-use Rattle.ovl_json.proofs.passing.pass_members.Given as goal
+use Rattle.ovl_json.proofs.skipping.skip_members.Given as goal
 
 -- what is left leads where all members lead
 abbrev pub invariant-loop-reader : goal.invariant-loop-reader

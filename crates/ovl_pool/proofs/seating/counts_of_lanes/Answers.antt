@@ -7,7 +7,7 @@ use Rattle.ovl_pool.specs.declared.workers.Worker.{Worker}
 use Rattle.ovl_pool.specs.Flows.{all_pushed, all_taken, indicator}
 use Rattle.ovl_pool.specs.Passes.{HasNone}
 use Rattle.ovl_pool.proofs.FlowLemmas.{settled_more, closed_numbers}
-use Rattle.ovl_pool.proofs.seating.gathered.Goals as goal
+use Rattle.ovl_pool.proofs.seating.counts_of_lanes.Goals as goal
 
 pub loop-lane-init : goal.loop-lane-init
 loop-lane-init c = record {

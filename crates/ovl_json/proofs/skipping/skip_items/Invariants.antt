@@ -2,7 +2,7 @@ use Rattle.std.proofs.Common.{◌≡◌, ℕ, ◌≤◌, length}
 use Rattle.json.specs.Json.{items, value}
 use Rattle.json.specs.Reads.{skip_items}
 use Rattle.json.proofs.Grammar.{left}
-use Rattle.ovl_json.proofs.passing.pass_items.Given as goal
+use Rattle.ovl_json.proofs.skipping.skip_items.Given as goal
 
 -- what is left leads where all items lead
 abbrev pub invariant-loop-reader : goal.invariant-loop-reader

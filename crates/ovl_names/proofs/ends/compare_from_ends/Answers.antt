@@ -4,7 +4,7 @@ use Rattle.ovl_names.specs.Names.{name_cmp}
 use Rattle.ovl_names.specs.Paths.{PathNames, text_names, has_names}
 use Rattle.ovl_names.specs.Ends.{OrdersEnds, LosesEnd, IsCommonNames}
 use Rattle.ovl_names.proofs.EndLemmas.{front-range, tied, names-cut, named-left, loses-more, apart-orders}
-use Rattle.ovl_names.proofs.ends.compared.Goals as goal
+use Rattle.ovl_names.proofs.ends.compare_from_ends.Goals as goal
 
 pub cut_last-requires-text-text : goal.cut_last-requires-text-text
 cut_last-requires-text-text c κs = c.loop-above.invariant.utf8

@@ -1,7 +1,7 @@
 use Rattle.std.proofs.Common.{◌≡◌, ◌-◌, ◌<◌, length, None, refl, ap, ◌∙◌, arith}
 use Rattle.json.specs.Json.{after_end_array, value}
 use Rattle.json.proofs.Grammar.{left, items_end, skip_item}
-use Rattle.ovl_json.proofs.passing.pass_items.Goals as goal
+use Rattle.ovl_json.proofs.skipping.skip_items.Goals as goal
 
 pub loop-reader-init : goal.loop-reader-init
 loop-reader-init c = (length c.args.reader.now, omega arith, refl, omega arith)

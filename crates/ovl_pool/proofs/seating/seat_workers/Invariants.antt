@@ -1,7 +1,7 @@
 use Rattle.std.proofs.Common.{◌≡◌, vec_len}
 use Rattle.ovl_pool.specs.Passes.{AreSeated}
 use Rattle.ovl_pool.specs.Flows.{HaveNothing}
-use Rattle.ovl_pool.proofs.seating.seated.Given as goal
+use Rattle.ovl_pool.proofs.seating.seat_workers.Given as goal
 
 abbrev pub invariant-loop-number : goal.invariant-loop-number
 invariant-loop-number l = record {

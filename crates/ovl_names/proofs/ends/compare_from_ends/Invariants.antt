@@ -2,7 +2,7 @@ use Rattle.std.proofs.Common.{◌≡◌, true, length}
 use Rattle.std.specs.Str.{IsUtf8}
 use Rattle.ovl_names.specs.Paths.{text_names, has_names}
 use Rattle.ovl_names.specs.Ends.{LosesEnd}
-use Rattle.ovl_names.proofs.ends.compared.Given as goal
+use Rattle.ovl_names.proofs.ends.compare_from_ends.Given as goal
 
 -- the names of both texts, but for the same ones at their ends
 abbrev pub invariant-loop-above : goal.invariant-loop-above

@@ -2,7 +2,7 @@ use Rattle.std.proofs.Common.{◌≡◌, vec_len}
 use Rattle.std.specs.List.{AllWithin}
 use Rattle.ovl_pool.specs.Flows.{AreUntouched}
 use Rattle.ovl_pool.specs.Passes.{AreSeated, HasNone}
-use Rattle.ovl_pool.proofs.seating.closed.Given as goal
+use Rattle.ovl_pool.proofs.seating.close_lanes.Given as goal
 
 abbrev pub invariant-loop-number : goal.invariant-loop-number
 invariant-loop-number l = record {
