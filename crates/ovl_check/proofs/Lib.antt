@@ -4,7 +4,6 @@ mod Moves
 mod BlobLemmas
 mod BlobRanges
 mod NamedLemmas
-mod DataLemmas
 mod FindLemmas
 mod LayerFacts
 mod OutLemmas

@@ -7,8 +7,8 @@ ghost use Rattle.ovl_check.specs.Checks.{layers_below};
 ghost use Rattle.ovl_check.specs.Facts.{IsBelow, asks as asks_test, data_size, next_of};
 
 use crate::directories::{Child, Directory};
-use crate::places::first_below;
-use ovl_inode::{Mark, file_size};
+use crate::places::{first_below, size_in};
+use ovl_inode::Mark;
 use ovl_lookup::{DirView, Stack, Trail};
 use ovl_names::{Name, Path};
 use std::alloc::{AllocError, Global};
@@ -83,8 +83,5 @@ pub(crate) fn data_size_in(
     let Some(view) = &directory.below else {
         return Ok(None);
     };
-    match view.data(alloc, stack, name)? {
-        Some(inode) => Ok(Some(file_size(&inode))),
-        None => Ok(None),
-    }
+    Ok(size_in(view.data(alloc, stack, name)?))
 }

@@ -15,7 +15,7 @@ use crate::candidates::Candidate;
 use crate::directories::Directory;
 use crate::passages::{Passage, Place};
 use ovl_inode::{Attrs, Inode, Kind, is_directory, overlay, visible};
-use ovl_lookup::{DirView, Found, Look, Stack, is_well_formed_metacopy};
+use ovl_lookup::{DirView, Found, Look, Stack, Trail, is_well_formed_metacopy};
 use ovl_names::{Name, Path};
 use std::alloc::{AllocError, Global};
 
@@ -144,8 +144,8 @@ fn merged_directory(
     if let Some(place) = passage.reach(alloc, stack, above, name, found)? {
         return redirected(alloc, stack, above, name, shown, place);
     }
-    let hidden = above.base.look(alloc, stack, &above.path, name)?;
-    if hidden.is_shown_directory() {
+    let hidden = above.base.sight(stack, &above.path, name);
+    if hidden.is_directory() {
         return with_value(shown, overlay::OPAQUE, b"y");
     }
     Ok(shown)
@@ -211,7 +211,8 @@ fn has_data_alone(alloc: Global, stack: &Stack, place: &Path) -> Result<bool, Al
     if stack.full_file(place).is_none() {
         return Ok(false);
     }
-    Ok(stack.look(alloc, 2, place)?.is_nothing())
+    let trail = Trail::of(alloc, &place.names())?;
+    Ok(stack.sight(alloc, 2, trail)?.is_nothing())
 }
 
 // An entry `name` of a directory that goes on at a place: with no redirect where the reach of the directory has it by
@@ -234,14 +235,25 @@ fn redirected(
     let _layers = stack.ordinary();
     match place {
         Place::Beside(own) => renamed(inode, name, own.as_str()),
-        Place::At(path) => match name_in(&above.base, path) {
-            Some(own) => renamed(inode, name, own),
-            None => {
-                let text = path_text(alloc, path)?;
-                with_value(inode, overlay::REDIRECT, text.as_bytes())
-            }
-        },
+        Place::At(trail) => redirected_at(alloc, &above.base, name, inode, &trail.path(alloc)?),
     }
+}
+
+// The same at a path of the rest.
+fn redirected_at(
+    alloc: Global,
+    base: &Base,
+    name: &Name,
+    inode: Inode,
+    path: &Path,
+) -> Result<Inode, AllocError>
+    ensures { IfOk result (λ new. new ≡ redirected_from (reached_in base.now) name.now inode path.now) }
+{
+    if let Some(own) = name_in(base, path) {
+        return renamed(inode, name, own);
+    }
+    let text = path_text(alloc, path)?;
+    with_value(inode, overlay::REDIRECT, text.as_bytes())
 }
 
 // The name by which a path lies directly in the directory of the rest in which one goes on, if it does.
