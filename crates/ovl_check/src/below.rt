@@ -15,15 +15,15 @@ use std::alloc::{AllocError, Global};
 
 // The view of the layers below layer `i` where the walk of a directory of this path with these entries goes on, made only
 // where that is open and an entry asks.
-pub(crate) fn below_children(
+pub(crate) fn below_children<'p, 'a: 'p>(
     alloc: Global,
-    stack: &Stack,
+    stack: &'a Stack,
     i: usize,
-    path: &Path,
-    turned: &Option<Trail<'_>>,
+    path: &'p Path,
+    turned: &Option<Trail<'a>>,
     closed: bool,
     children: &[Child<'_>],
-) -> Result<Option<DirView>, AllocError>
+) -> Result<Option<DirView<'p>>, AllocError>
     requires { i < length (all_layers stack.now) }
     ensures { IfOk result (λ below. closed ≡ false → list_any (λ child. asks_test child.mark.now) children.now ≡ true
         → IsBelow stack.now i (unwrap_or turned.now path.now) below) }
@@ -36,7 +36,7 @@ pub(crate) fn below_children(
     }
     let from = first_below(stack, i);
     match turned {
-        Some(next) => DirView::of(alloc, stack, from, &next.path(alloc)?),
+        Some(next) => DirView::at(alloc, stack, from, next.copy(alloc)?),
         None => DirView::of(alloc, stack, from, path),
     }
 }

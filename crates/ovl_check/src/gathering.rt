@@ -107,11 +107,21 @@ fn old_place(
     if directory.closed {
         return Ok(OldPlace::Hidden);
     }
-    let place = match &directory.turned {
-        Some(next) => next.copy(alloc)?,
-        None => Trail::of(alloc, &directory.path.names())?,
-    };
+    let place = next_trail(alloc, directory)?;
     open_place(alloc, stack, i, place)
+}
+
+// Where the walk of a directory goes on.
+fn next_trail<'d>(
+    alloc: Global,
+    directory: &'d Directory<'_, '_>,
+) -> Result<Trail<'d>, AllocError>
+    ensures { IfOk result (λ trail. trail ≡ next_of directory.now) }
+{
+    match &directory.turned {
+        Some(next) => next.copy(alloc),
+        None => Trail::of(alloc, &directory.path.names()),
+    }
 }
 
 // The same at a path where the layers below aren't hidden.

@@ -71,8 +71,8 @@ impl<'a> Found<'a> {
 }
 
 impl<'a> TrailStep<'a> {
-    // The same, in an inode and a path of its own.
-    pub(crate) fn copied(self, alloc: Global) -> Result<Step, AllocError>
+    /// The same, in an inode and a path of its own. Fails only when out of memory.
+    pub fn copied(self, alloc: Global) -> Result<Step, AllocError>
         ensures { IfOk result (λ step. step ≡ step_of self.entry) }
     {
         let TrailStep {

@@ -20,7 +20,7 @@ use ovl_inode::{Inode, is_data, is_whiteout, visible};
 use ovl_names::{Name, Path};
 use std::alloc::{AllocError, Global};
 
-impl DirView {
+impl<'a> DirView<'a> {
     /// What is shown at a name in this directory. The name is sought in the directory of each layer; a layer is walked
     /// from its root only below an absolute redirect. Fails only when out of memory.
     pub fn look(&self, alloc: Global, stack: &Stack, name: &Name) -> Result<Look, AllocError>
@@ -35,9 +35,9 @@ impl DirView {
     /// asked for and kept for the others. Fails only when out of memory.
     pub fn look_kept(
         alloc: Global,
-        stack: &Stack,
-        view: &mut Option<DirView>,
-        dir: &Path,
+        stack: &'a Stack,
+        view: &mut Option<DirView<'a>>,
+        dir: &'a Path,
         name: &Name,
     ) -> Result<Look, AllocError>
         requires { IfSome view.old (IsViewOf stack.now 0 dir.now) }
@@ -77,12 +77,12 @@ impl DirView {
     /// The data that there is at a name in this directory below a metacopy file that doesn't say itself where data-only
     /// layers have it. Fails only when out of memory.
     /// overlayfs.rst: "Metadata only copy up".
-    pub fn data<'a>(
+    pub fn data<'s>(
         &self,
         alloc: Global,
-        stack: &'a Stack,
-        name: &'a Name,
-    ) -> Result<Option<&'a Inode>, AllocError>
+        stack: &'s Stack,
+        name: &'s Name,
+    ) -> Result<Option<&'s Inode>, AllocError>
         requires { IsViewOver stack.now self.now }
         ensures { IfOk result (λ found. option_map (λ inode. inode.now) found
             ≡ data_below stack.now.data_only None (things_found (drop self.now.from stack.now.layers) (child_path self.now.path name.now))) }

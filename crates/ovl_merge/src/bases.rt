@@ -13,21 +13,21 @@ use std::alloc::{AllocError, Global};
 
 // Where the names in a directory lie in the rest, which is what lies below the two layers.
 #[derive(Drop)]
-pub(crate) enum Base {
+pub(crate) enum Base<'a> {
     // In the directory of the rest in which it goes on.
-    Reached(DirView),
+    Reached(DirView<'a>),
     // Where the rest shows no directory.
     Apart,
 }
 
-impl Base {
+impl<'a> Base<'a> {
     // That of a directory that the two layers show, by where its walk in the lower one stands.
     pub(crate) fn of(
         alloc: Global,
-        stack: &Stack,
+        stack: &'a Stack,
         _dir: &Path,
-        lower: &Option<Stand>,
-    ) -> Result<Base, AllocError>
+        lower: &Option<Stand<'a>>,
+    ) -> Result<Base<'a>, AllocError>
         requires several { 1 < length stack.now.layers }
         requires shown { shows_own_directory (merge_of stack.now) _dir.now ≡ true }
         requires reach { reach (merge_of stack.now) _dir.now ≡ reach_from (merge_of stack.now).rest (onward_at lower.now) }
@@ -38,7 +38,7 @@ impl Base {
         let Some(next) = onward_of(lower) else {
             return Ok(Base::Apart);
         };
-        match DirView::of(alloc, stack, 2, next)? {
+        match DirView::at(alloc, stack, 2, next.copy(alloc)?)? {
             Some(view) => Ok(Base::Reached(view)),
             None => Ok(Base::Apart),
         }

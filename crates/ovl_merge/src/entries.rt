@@ -20,11 +20,11 @@ use ovl_names::{Name, Path};
 use std::alloc::{AllocError, Global};
 
 // What the new lower layer has at a name in a directory.
-pub(crate) fn inode_in(
+pub(crate) fn inode_in<'d>(
     alloc: Global,
-    stack: &Stack,
-    whole: &mut Option<DirView>,
-    above: &Directory,
+    stack: &'d Stack,
+    whole: &mut Option<DirView<'d>>,
+    above: &'d Directory<'_>,
     candidate: &Candidate<'_>,
 ) -> Result<Option<Inode>, AllocError>
     requires several { 1 < length stack.now.layers }
@@ -49,7 +49,7 @@ pub(crate) fn inode_in(
 fn unfound(
     alloc: Global,
     stack: &Stack,
-    above: &Directory,
+    above: &Directory<'_>,
     name: &Name,
     passage: &Passage<'_>,
 ) -> Option<Inode>
@@ -84,11 +84,11 @@ fn new_whiteout(alloc: Global) -> Inode
 }
 
 // The new inode of what the two layers show first at a name in the directory.
-fn merged_inode(
+fn merged_inode<'d>(
     alloc: Global,
-    stack: &Stack,
-    whole: &mut Option<DirView>,
-    above: &Directory,
+    stack: &'d Stack,
+    whole: &mut Option<DirView<'d>>,
+    above: &'d Directory<'_>,
     name: &Name,
     passage: &Passage<'_>,
     found: &Found<'_>,
@@ -126,7 +126,7 @@ fn shown_inode(alloc: Global, inode: &Inode) -> Result<Inode, AllocError>
 fn merged_directory(
     alloc: Global,
     stack: &Stack,
-    above: &Directory,
+    above: &Directory<'_>,
     name: &Name,
     passage: &Passage<'_>,
     found: &Found<'_>,
@@ -153,11 +153,11 @@ fn merged_directory(
 
 // The new inode of a metacopy file: it stays one where it goes on at its reach, and has its contents else.
 // overlayfs.rst: "Metadata only copy up".
-fn merged_metacopy(
+fn merged_metacopy<'d>(
     alloc: Global,
-    stack: &Stack,
-    whole: &mut Option<DirView>,
-    above: &Directory,
+    stack: &'d Stack,
+    whole: &mut Option<DirView<'d>>,
+    above: &'d Directory<'_>,
     name: &Name,
     passage: &Passage<'_>,
     found: &Found<'_>,
@@ -220,7 +220,7 @@ fn has_data_alone(alloc: Global, stack: &Stack, place: &Path) -> Result<bool, Al
 fn redirected(
     alloc: Global,
     stack: &Stack,
-    above: &Directory,
+    above: &Directory<'_>,
     name: &Name,
     inode: Inode,
     place: &Place<'_>,
@@ -242,14 +242,14 @@ fn redirected(
 // The same at a path of the rest.
 fn redirected_at(
     alloc: Global,
-    base: &Base,
+    base: &Base<'_>,
     name: &Name,
     inode: Inode,
     path: &Path,
 ) -> Result<Inode, AllocError>
     ensures { IfOk result (λ new. new ≡ redirected_from (reached_in base.now) name.now inode path.now) }
 {
-    if let Some(own) = name_in(base, path) {
+    if let Some(own) = name_in(alloc, base, path)? {
         return renamed(inode, name, own);
     }
     let text = path_text(alloc, path)?;
@@ -257,19 +257,23 @@ fn redirected_at(
 }
 
 // The name by which a path lies directly in the directory of the rest in which one goes on, if it does.
-fn name_in<'a>(base: &Base, path: &'a Path) -> Option<&'a str>
-    ensures { option_map (λ name. name.now) result ≡ name_directly_in (reached_in base.now) path.now }
+fn name_in<'p>(
+    alloc: Global,
+    base: &Base<'_>,
+    path: &'p Path,
+) -> Result<Option<&'p str>, AllocError>
+    ensures { IfOk result (λ name. option_map (λ name. name.now) name ≡ name_directly_in (reached_in base.now) path.now) }
 {
     let Base::Reached(view) = base else {
-        return None;
+        return Ok(None);
     };
-    match path.names().split_last() {
-        Some((last, above)) => if above == view.path().names() {
-            Some(last)
-        } else {
-            None
-        },
-        None => None,
+    let Some((last, above)) = path.names().split_last() else {
+        return Ok(None);
+    };
+    if Trail::of(alloc, &above)? == *view.path() {
+        Ok(Some(last))
+    } else {
+        Ok(None)
     }
 }
 

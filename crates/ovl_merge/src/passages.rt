@@ -51,7 +51,7 @@ impl<'a> Passage<'a> {
     pub(crate) fn of(
         alloc: Global,
         stack: &'a Stack,
-        above: &Directory,
+        above: &Directory<'_>,
         candidate: &Candidate<'a>,
     ) -> Result<Passage<'a>, AllocError>
         requires several { 1 < length stack.now.layers }
@@ -85,7 +85,7 @@ impl<'a> Passage<'a> {
         &self,
         alloc: Global,
         stack: &Stack,
-        above: &Directory,
+        above: &Directory<'_>,
         _name: &Name,
         found: &Found<'_>,
     ) -> Result<Option<&Place<'a>>, AllocError>
@@ -113,7 +113,7 @@ impl<'a> Passed<'a> {
     fn of(
         alloc: Global,
         stack: &'a Stack,
-        above: &Directory,
+        above: &Directory<'_>,
         candidate: &Candidate<'a>,
         onward: Onward<'a>,
     ) -> Result<Passed<'a>, AllocError>
@@ -133,7 +133,7 @@ impl<'a> Passed<'a> {
     fn beside(
         alloc: Global,
         stack: &'a Stack,
-        above: &Directory,
+        above: &Directory<'_>,
         candidate: &Candidate<'a>,
         name: &'a Name,
     ) -> Result<Passed<'a>, AllocError>
@@ -178,7 +178,7 @@ impl<'a> Passed<'a> {
 
 // How the walk of a name in the directory in the lower layer ends: the row of the candidate's own name is known.
 fn passing_by<'a>(
-    lower: &Stand,
+    lower: &Stand<'_>,
     sheet: &'a Sheet,
     candidate: &Candidate<'a>,
     name: &'a Name,
@@ -209,7 +209,7 @@ fn rest_at<'a>(next: Trail<'a>, closed: bool) -> Option<Place<'a>>
 // The place at which the walk of a name goes on, where that of its directory stands so, if it does.
 fn place_of<'a>(
     alloc: Global,
-    stand: &Stand,
+    stand: &Stand<'_>,
     onward: Onward<'a>,
 ) -> Result<Option<Place<'a>>, AllocError>
     ensures rest { IfOk result (λ place. rest_from stand.now.next place ≡ onward_to stand.now.next onward.entry) }
@@ -227,7 +227,7 @@ fn place_of<'a>(
 
 impl<'a> Place<'a> {
     // Of what kind it is that the rest shows there.
-    fn sight(&self, alloc: Global, stack: &Stack, above: &Directory) -> Result<Sight, AllocError>
+    fn sight(&self, alloc: Global, stack: &Stack, above: &Directory<'_>) -> Result<Sight, AllocError>
         requires several { 1 < length stack.now.layers }
         requires above { IsVisited stack.now above.now.path above.now }
         ensures { IfOk result (λ sight. (path : PathNames) → place_from (onward_at above.now.lower) self.now ≡ Some path
@@ -246,7 +246,7 @@ impl<'a> Place<'a> {
 fn goes_on(
     alloc: Global,
     stack: &Stack,
-    above: &Directory,
+    above: &Directory<'_>,
     found: &Found<'_>,
     passed: &Option<Found<'_>>,
     place: &Place<'_>,
