@@ -12,6 +12,7 @@ mod MarkLemmas
 mod HeldLemmas
 mod BelowLemmas
 mod GatherLemmas
+mod SeenLemmas
 mod FactLemmas
 mod DoubleLemmas
 mod MemberLemmas

@@ -19,7 +19,7 @@ use crate::below::{data_size_in, show_in};
 use crate::directories::{Child, Directory};
 use crate::facts::{Facts, KindFacts, NamedBlob, OldPlace, ThingShown};
 use crate::marks::is_plain;
-use crate::places::{data_size_below, sight_below};
+use crate::places::{data_size_below, sight_below, step_of};
 use crate::subjects::CheckWork;
 use ovl_inode::{Inode, Mark, Redirect};
 use ovl_lookup::{Sight, Stack, Trail, TrailStep};
@@ -163,7 +163,7 @@ fn is_seen<'a>(
         found,
         next,
         closed,
-    } = stack.own_walk(alloc, i, place.copy(alloc)?)?;
+    } = step_of(alloc, stack, i, place.copy(alloc)?)?;
     if closed {
         return Ok(false);
     }

@@ -4,17 +4,32 @@ ghost use Rattle.ovl_lookup.specs.Stacks.{all_layers};
 ghost use Rattle.ovl_inode.specs.declared.marks.Mark.TheVariants.{DirPlain};
 ghost use Rattle.ovl_manifest.specs.Sheets.{path_at};
 ghost use Rattle.ovl_inode.specs.Kinds.{size_of};
-ghost use Rattle.ovl_lookup.specs.Walk.{mark_at as the_mark};
+ghost use Rattle.ovl_lookup.specs.Walk.{walk, mark_at as the_mark};
+ghost use Rattle.ovl_lookup.specs.Passes.{IsMarked, step_of as the_step};
 ghost use Rattle.ovl_lookup.specs.Merged.{look as the_look};
 ghost use Rattle.ovl_lookup.specs.Sights.{sight_of};
-ghost use Rattle.ovl_check.specs.Checks.{first_below as the_first_below, layers_below};
+ghost use Rattle.ovl_check.specs.Checks.{layer_at, first_below as the_first_below, layers_below};
 ghost use Rattle.ovl_check.specs.Facts.{data_size};
 
 use ovl_inode::{Inode, Mark, file_size};
-use ovl_lookup::{Sight, Stack, Trail};
+use ovl_lookup::{Sight, Stack, Trail, TrailStep};
 use ovl_manifest::Sheet;
 use ovl_names::Path;
 use std::alloc::{AllocError, Global};
+
+// The walk of a trail in layer `i`.
+pub(crate) fn step_of<'a>(
+    alloc: Global,
+    stack: &'a Stack,
+    i: usize,
+    trail: Trail<'a>,
+) -> Result<TrailStep<'a>, AllocError>
+    requires { i < length (all_layers stack.now) }
+    ensures value { IfOk result (λ step. the_step step ≡ walk (layer_at stack.now i) trail.entry) }
+    ensures marked { IfOk result IsMarked }
+{
+    stack.own_walk(alloc, i, trail)
+}
 
 // The first of the layers below layer `i`; below a data-only one there is none.
 pub(crate) fn first_below(stack: &Stack, i: usize) -> usize
@@ -49,15 +64,15 @@ pub(crate) fn data_size_below(
     ensures { IfOk result (λ size. size ≡ data_size (layers_below stack.now i) (Some path.now) path.now) }
 {
     let trail = Trail::of(alloc, &path.names())?;
-    let data = stack.data(alloc, first_below(stack, i), trail, Some(path))?;
-    Ok(size_in(data))
+    let found = stack.data(alloc, first_below(stack, i), trail, Some(path))?;
+    Ok(size_in(found))
 }
 
 // The size of this file, if there is one.
-pub(crate) fn size_in(data: Option<&Inode>) -> Option<u64>
-    ensures { result ≡ option_map size_of (option_map (λ inode. inode.now) data.entry) }
+pub(crate) fn size_in(found: Option<&Inode>) -> Option<u64>
+    ensures { result ≡ option_map size_of (option_map (λ inode. inode.now) found.entry) }
 {
-    match data {
+    match found {
         Some(inode) => Some(file_size(inode)),
         None => None,
     }

@@ -138,21 +138,21 @@ impl Stack {
         for i in from..self.ordinary() {
             let TrailStep {
                 found,
-                next: lower,
+                next: onward,
                 closed,
             } = self.followed(alloc, i, next)?;
             if let Some(found) = found {
                 return Ok(Some(Hit {
                     found,
                     below: i + 1,
-                    next: lower,
+                    next: onward,
                     closed,
                 }));
             }
             if closed {
                 return Ok(None);
             }
-            next = lower;
+            next = onward;
         }
         Ok(None)
     }
@@ -349,7 +349,7 @@ pub(crate) fn metacopy_shown(
     inode: &Inode,
     contents: Option<&Inode>,
 ) -> Result<Look, AllocError>
-    ensures { IfOk result (λ look. look ≡ shown_with inode.now (option_map (λ data. data.now) contents.entry)) }
+    ensures { IfOk result (λ look. look ≡ shown_with inode.now (option_map (λ found. found.now) contents.entry)) }
 {
     let shown = visible(alloc, inode)?;
     Ok(match contents {
