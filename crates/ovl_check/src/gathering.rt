@@ -112,10 +112,7 @@ fn old_place(
 }
 
 // Where the walk of a directory goes on.
-fn next_trail<'d>(
-    alloc: Global,
-    directory: &'d Directory<'_, '_>,
-) -> Result<Trail<'d>, AllocError>
+fn next_trail<'d>(alloc: Global, directory: &'d Directory<'_, '_>) -> Result<Trail<'d>, AllocError>
     ensures { IfOk result (λ trail. trail ≡ next_of directory.now) }
 {
     match &directory.turned {

@@ -227,7 +227,12 @@ fn place_of<'a>(
 
 impl<'a> Place<'a> {
     // Of what kind it is that the rest shows there.
-    fn sight(&self, alloc: Global, stack: &Stack, above: &Directory<'_>) -> Result<Sight, AllocError>
+    fn sight(
+        &self,
+        alloc: Global,
+        stack: &Stack,
+        above: &Directory<'_>,
+    ) -> Result<Sight, AllocError>
         requires several { 1 < length stack.now.layers }
         requires above { IsVisited stack.now above.now.path above.now }
         ensures { IfOk result (λ sight. (path : PathNames) → place_from (onward_at above.now.lower) self.now ≡ Some path

@@ -56,7 +56,7 @@ returns-in-At c =
     let from_root : PathNames → List Reached = λ path. let own : DirPlace = place_read places c.loop-place.place-index in places_in stack c.push.new.self.items ++ reached (drop (own.layer + 1) stack.layers) (own.layer + 1) path in
     on_ok_weaker c.push_reached.result
     (λ adds. record {
-      places = adds.places ∙ ap from_root (c.in_ok-trail.ensures ∙ c.names.ensures.value) ∙ step rest more pushes (on-path name _ _ c.in-Some.entry.mark.now origin (sym c.in-At.ensures.at)) c.loop-place.invariant.places;
+      places = adds.places ∙ ap from_root (c.in_ok-trail-in-At.ensures ∙ c.names.ensures.value) ∙ step rest more pushes (on-path name _ _ c.in-Some.entry.mark.now origin (sym c.in-At.ensures.at)) c.loop-place.invariant.places;
       over = λ all. adds.over (over all);
     }) c.push_reached.ensures
 
