@@ -278,7 +278,9 @@ class Preview(Making):
         self.assertEqual(self.run_launcher("--unproved"), (0, "unproved\n", _UNPROVED))
         self.assertEqual(self.times(), {"try": 1})
         self.assertEqual(os.listdir(self.out("ovl_layers")), ["unproved"])
-        self.assertEqual(os.listdir(self.out("ovl_layers") / "unproved"), ["ovl_layers"])
+        kept = self.out("ovl_layers") / "unproved"
+        self.assertEqual(os.listdir(kept), ["ovl_layers"])
+        self.assertEqual((kept / "ovl_layers").stat().st_mode & 0o777, 0o755)
         self.assertEqual(os.listdir(self.path("tmp")), [])
 
     def test_beside_the_proved_program(self) -> None:
