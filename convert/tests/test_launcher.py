@@ -1,5 +1,6 @@
 """What the launcher prints where nothing is built; how it proves, builds and previews, with a stand-in for `rt`."""
 
+import fcntl
 import os
 import shutil
 import signal
@@ -253,6 +254,22 @@ class Build(Making):
         self.assertEqual((status, printed), (0, "proved show second\n"), told)
         self.assertIn("waiting for another ./ovl_layers or rt", told)
         self.assertEqual(set(self.times().values()), {1})
+
+    def test_rt_beside_it(self) -> None:
+        folder = os.open(self.path("crates", "low"), os.O_RDONLY)
+        self.addCleanup(os.close, folder)
+        fcntl.flock(folder, fcntl.LOCK_EX)
+        self.put("hold-left")
+        launcher = self.start("show")
+        time.sleep(0.5)
+        self.assertEqual(self.times(), {})
+        fcntl.flock(folder, fcntl.LOCK_UN)
+        self.wait_for("left")
+        self.assertRaises(BlockingIOError, fcntl.flock, folder, fcntl.LOCK_EX | fcntl.LOCK_NB)
+        os.unlink(self.notes / "hold-left")
+        status, _, told = self.ended(launcher)
+        self.assertEqual(status, 0, told)
+        self.assertIn(f"which is at work in {os.path.realpath(self.path('crates', 'low'))}", told)
 
     def test_edit_meanwhile(self) -> None:
         self.put("hold-left")
