@@ -272,9 +272,10 @@ def deep_below(path, count):
 
 def moved_many(count):
     """Directories with a file each, of which each was moved, by its path or by its name."""
-    lower = [it for n in range(count) for it in (entry(f"/o{n}"), full_file(f"/o{n}/{odd_name(n)}", contents_of(n), mtime=-n))]
-    upper = [entry(f"/{odd_name(n)}", attrs={REDIRECT: f"/o{n}" if n % 2 else f"o{n}"}) for n in range(count)]
-    return [upper + [whiteout_at(f"/o{n}") for n in range(count)], lower]
+    old = [f"o{n}" + "o" * (n % 200) for n in range(count)]
+    lower = [it for n in range(count) for it in (entry(f"/{old[n]}"), full_file(f"/{old[n]}/{odd_name(n)}", contents_of(n), mtime=-n))]
+    upper = [entry(f"/{odd_name(n)}", attrs={REDIRECT: f"/{old[n]}" if n % 2 else old[n]}) for n in range(count)]
+    return [upper + [whiteout_at(f"/{it}") for it in old], lower]
 
 
 def whiteout_at(path):
@@ -312,7 +313,7 @@ def large():
     first, _, rest = one.rpartition(',{"gid"')
     piece = ',{"gid"' + rest.removesuffix('],"overlay-layer":2}')
     many = first + "".join(piece % n for n in range(600_000)) + '],"overlay-layer":2}\n'
-    yield "1,200,000 directories", [many, many], [], few
+    yield "1,200,000 directories", [many, many.replace('"/d', '"/e')], [], few
 
 
 def file_at(path):
