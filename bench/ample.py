@@ -408,7 +408,9 @@ def large_case(program, what, layers, contents, commands):
         try:
             files = write(folder, layers)
             shown = ran(program, "show", *files)
-            same("the status of fsck", ran(program, "fsck", "--blobs", blobs, *files)[0], 0)
+            found = ran(program, "fsck", "--blobs", blobs, *files)
+            same("the status of fsck", found[0], 0)
+            same("fsck --any-size", ran(program, "fsck", "--any-size", "--blobs", blobs, *files), found)
             for command in commands[1:]:
                 new, _ = rewritten(program, blobs, files, command, folder)
                 same(f"show after {command}", new and ran(program, "show", *new), shown)
