@@ -28,9 +28,10 @@ import random
 import subprocess
 import sys
 import tempfile
+from collections.abc import Callable, Iterator, Sequence
 from dataclasses import dataclass, replace
 
-from growth import METACOPY, NSEC, REDIRECT, First, entry, manifest_of, write
+from growth import METACOPY, NSEC, REDIRECT, Entry, First, Layer, Sources, entry, manifest_of, write
 
 OPAQUE, WHITEOUT = "trusted.overlay.opaque", "trusted.overlay.whiteout"
 CONTENTS = ("", "a", "b", "abc")
@@ -43,7 +44,10 @@ CLEAN = b"faults 0 notes 0\n"
 TOLD, LONGEST = 10, 60
 
 
-# ---- the tree that a stack shows: what is at each path but the root, a tuple of names
+# ---- the tree that a stack shows: what is at each path but the root
+
+Path = tuple[str, ...]
+
 
 @dataclass(frozen=True)
 class Thing:
@@ -52,36 +56,39 @@ class Thing:
     contents: str | None
     mode: int
     nanoseconds: int
-    origin: tuple | None = None
+    origin: Path | None = None
     changed: bool = False
 
-    def is_directory(self):
+    def is_directory(self) -> bool:
         return self.contents is None
 
 
-def below(tree, path):
+Tree = dict[Path, Thing]
+
+
+def below(tree: Tree, path: Path) -> list[Path]:
     return [it for it in tree if it[:len(path)] == path]
 
 
-def some_place(rng, tree):
+def some_place(rng: random.Random, tree: Tree) -> Path:
     """A path in a directory of the tree, at which mostly there is nothing."""
     directories = [()] + [path for path, thing in tree.items() if thing.is_directory() and len(path) < DEEPEST]
     places = [rng.choice(directories) + (rng.choice(NAMES),) for _ in range(4)]
     return next((it for it in places if it not in tree), places[0])
 
 
-def remove(_, tree, path, *__):
+def remove(_: object, tree: Tree, path: Path, *__: object) -> None:
     for it in below(tree, path):
         del tree[it]
 
 
-def make(rng, tree, _, times):
+def make(rng: random.Random, tree: Tree, _: object, times: Sequence[int]) -> None:
     place = some_place(rng, tree)
     remove(rng, tree, place)
     tree[place] = Thing(rng.choice((None, None, None, *CONTENTS)), rng.choice((0o644, 0o755)), rng.choice(times))
 
 
-def move(rng, tree, path, _):
+def move(rng: random.Random, tree: Tree, path: Path, _: object) -> None:
     place = some_place(rng, tree)
     within = below(tree, path)
     longest = max(map(len, within)) - len(path) + len(place)
@@ -90,54 +97,57 @@ def move(rng, tree, path, _):
         tree |= {place + it[len(path):]: tree.pop(it) for it in within}
 
 
-def change(rng, tree, path, times):
+def change(rng: random.Random, tree: Tree, path: Path, times: Sequence[int]) -> None:
     if rng.random() < 0.5:
         tree[path] = replace(tree[path], nanoseconds=rng.choice(times), changed=True)
     else:
         tree[path] = replace(tree[path], mode=rng.choice((0o600, 0o700)), changed=True)
 
 
-WORK = (make, make, make, move, move, move, move, change, change, remove)
+Work = Callable[[random.Random, Tree, Path, Sequence[int]], None]
+WORK: tuple[Work, ...] = (make, make, make, move, move, move, move, change, change, remove)
 
 
-def work(rng, tree, times):
+def work(rng: random.Random, tree: Tree, times: Sequence[int]) -> Tree:
     """The tree after some work in it, which gives things these nanoseconds."""
     tree = {path: replace(it, origin=path, changed=False) for path, it in tree.items()}
     for _ in range(rng.randint(8, 16)):
         what = rng.choice(WORK) if tree else make
-        what(rng, tree, rng.choice(sorted(tree)) if tree else None, times)
+        what(rng, tree, rng.choice(sorted(tree)) if tree else (), times)
     return tree
 
 
 # ---- the layer that makes a tree of another
 
-def text(path):
+def text(path: Path) -> str:
     return "/" + "/".join(path)
 
 
-def whiteout(rng, path):
+def whiteout(rng: random.Random, path: Path) -> Entry:
     if rng.random() < 0.5:
         return entry(text(path), "char", major=0, minor=0)
     return entry(text(path), "file", {WHITEOUT: ""}, size=0)
 
 
-def redirect(rng, origin, place):
+def redirect(rng: random.Random, origin: Path, place: Path | None) -> dict[str, str]:
     """The redirect to an origin from where the directory's own lower place is this one, if any."""
     beside = place is not None and origin[:-1] == place and rng.random() < 0.6
     return {REDIRECT: origin[-1] if beside else text(origin)}
 
 
-def file(rng, path, thing, place):
-    attrs, within = {}, {"size": len(thing.contents)}
+def file(rng: random.Random, path: Path, thing: Thing, place: Path | None) -> Entry:
+    contents = thing.contents or ""
+    attrs: dict[str, str] = {}
+    more: dict[str, object] = {"size": len(contents)}
     if thing.origin is not None and rng.random() < 0.7:
         natural = place is not None and thing.origin == place + path[-1:]
         attrs = {METACOPY: ""} | ({} if natural and rng.random() < 0.5 else redirect(rng, thing.origin, place))
-    elif thing.contents:
-        within["blob"] = hashlib.sha256(thing.contents.encode()).hexdigest()
-    return entry(text(path), "file", attrs, **within) | {"mode": thing.mode, NSEC: thing.nanoseconds}
+    elif contents:
+        more["blob"] = hashlib.sha256(contents.encode()).hexdigest()
+    return entry(text(path), "file", attrs, **more) | {"mode": thing.mode, NSEC: thing.nanoseconds}
 
 
-def directory(rng, path, thing, place, lower):
+def directory(rng: random.Random, path: Path, thing: Thing, place: Path | None, lower: Tree) -> tuple[Entry, Path | None]:
     """The directory's entry, and its own lower place."""
     natural = None if place is None else place + path[-1:]
     hides = natural in lower and lower[natural].is_directory()
@@ -150,7 +160,7 @@ def directory(rng, path, thing, place, lower):
     return entry(text(path), attrs=attrs) | {"mode": thing.mode, NSEC: thing.nanoseconds}, own
 
 
-def entries(rng, tree, lower, path=(), place=()):
+def entries(rng: random.Random, tree: Tree, lower: Tree, path: Path = (), place: Path | None = ()) -> Layer:
     """The entries in a directory of the layer by which `lower` becomes the tree."""
     shown = {it[-1] for it in tree if it[:-1] == path} | {it[-1] for it in lower if it[:-1] == place}
     made = []
@@ -169,7 +179,7 @@ def entries(rng, tree, lower, path=(), place=()):
     return made
 
 
-def spoil(rng, layers):
+def spoil(rng: random.Random, layers: list[Layer]) -> None:
     """Changes one entry of a layer, or drops it with all below."""
     layer = rng.choice([it for it in layers if it] or [[]])
     if not layer:
@@ -193,36 +203,37 @@ def spoil(rng, layers):
 class Stack:
     """Layers, the topmost first, and what they show, where that is known."""
 
-    layers: list
-    tree: dict | None
+    layers: list[Layer]
+    tree: Tree | None
 
 
-def of_some_version(rng, layer):
+def of_some_version(rng: random.Random, layer: Layer) -> Layer:
     """The layer in a version that can state it."""
     return layer if any(it[NSEC] for it in layer) or rng.choice((1, 2)) == 2 else First(layer)
 
 
-def stack_of(rng):
-    tree, layers = {}, []
+def stack_of(rng: random.Random) -> Stack:
+    tree: Tree = {}
+    layers: list[Layer] = []
     # The lowest layers may be of a time in which manifests had whole seconds alone.
     times = rng.choice(((0,), NANOSECONDS))
     for _ in range(rng.choice((2, 3, 3, 4, 5))):
         lower, tree = tree, work(rng, tree, times)
         layers.insert(0, entries(rng, tree, lower))
         times = rng.choice((times, NANOSECONDS))
-    if rng.random() < 1 / 3:
-        for _ in range(rng.randint(1, 3)):
-            spoil(rng, layers)
-        tree = None
-    return Stack([of_some_version(rng, layer) for layer in layers], tree)
+    spoils = rng.randint(1, 3) if rng.random() < 1 / 3 else 0
+    for _ in range(spoils):
+        spoil(rng, layers)
+    return Stack([of_some_version(rng, layer) for layer in layers], None if spoils else tree)
 
 
-def report(tree):
+def report(tree: Tree) -> bytes:
     """What `show` prints of a tree."""
     lines = ["dir 0755 0 0 0 - - /"]
     for path, thing in sorted(tree.items()):
-        name = hashlib.sha256(thing.contents.encode()).hexdigest() if thing.contents else "-"
-        kind, what = ("dir", "- -") if thing.is_directory() else ("file", f"{len(thing.contents)} {name}")
+        contents = thing.contents or ""
+        name = hashlib.sha256(contents.encode()).hexdigest() if contents else "-"
+        kind, what = ("dir", "- -") if thing.is_directory() else ("file", f"{len(contents)} {name}")
         time = f"0+{thing.nanoseconds:09}" if thing.nanoseconds else "0"
         lines.append(f"{kind} {thing.mode:04o} 0 0 {time} {what} {text(path)}")
     return "\n".join([*lines, f"entries {len(lines)}", ""]).encode()
@@ -230,18 +241,18 @@ def report(tree):
 
 # ---- stacks at the limits of new layers
 
-def chain(path, names):
+def chain(path: str, names: list[str]) -> Layer:
     """A directory, with the names in it in each other."""
     return [entry("/".join([path, *names[:count]])) for count in range(len(names) + 1)]
 
 
-def moved_to(place):
+def moved_to(place: str) -> Layer:
     """A layer that moves `/x` to a place, in a directory of the layer where that isn't the root."""
     above = [entry(place.rpartition("/")[0])] if place.count("/") > 1 else []
     return [*above, entry(place, attrs={REDIRECT: "/x"}), entry("/x", "char", major=0, minor=0)]
 
 
-def at_the_limits():
+def at_the_limits() -> Iterator[tuple[str, list[Layer], bool]]:
     """What is said of a stack, its layers, and whether what lies in the moved directory keeps the limits there."""
     long, deep = chain("/x", 15 * ["n" * 255]), chain("/x", 127 * ["d"])
     yield "paths of 4,095 bytes", [moved_to("/" + "m" * 254), long], True
@@ -254,23 +265,23 @@ def at_the_limits():
 # ---- stacks that are large in one way
 
 # A name of 100 to 250 bytes, of which some are escaped in a manifest or in a report.
-def odd_name(number):
+def odd_name(number: int) -> str:
     return f"{number:03d}" + '\\"\t\x01é' + "n" * (90 + number % 150)
 
 
-def contents_of(number):
+def contents_of(number: int) -> bytes:
     return f"contents {number}".encode()
 
 
-def full_file(path, contents, **more):
+def full_file(path: str, contents: bytes, **more: object) -> Entry:
     return entry(path, "file", size=len(contents), blob=hashlib.sha256(contents).hexdigest()) | more
 
 
-def deep_below(path, count):
+def deep_below(path: str, count: int) -> Layer:
     return [entry(path + "/a" * it) for it in range(1, count + 1)]
 
 
-def moved_many(count):
+def moved_many(count: int) -> list[Layer]:
     """Directories with a file each, of which each was moved, by its path or by its name."""
     old = [f"o{n}" + "o" * (n % 200) for n in range(count)]
     lower = [it for n in range(count) for it in (entry(f"/{old[n]}"), full_file(f"/{old[n]}/{odd_name(n)}", contents_of(n), mtime=-n))]
@@ -278,11 +289,11 @@ def moved_many(count):
     return [upper + [whiteout_at(f"/{it}") for it in old], lower]
 
 
-def whiteout_at(path):
+def whiteout_at(path: str) -> Entry:
     return entry(path, "char", major=0, minor=0)
 
 
-def beyond_the_limits():
+def beyond_the_limits() -> list[Layer]:
     """Three layers, each of which goes on below the deepest directory of the one under it: 360 names, of 12,000 bytes."""
     names = [("n" * 33 + "/") * 119 + "n" * 33] * 3
     chains = [chain("/" + it.split("/", 1)[0], it.split("/")[1:]) for it in names]
@@ -293,7 +304,7 @@ def beyond_the_limits():
             [entry(it["path"].replace("/x", "/y", 1)) for it in below]]
 
 
-def large():
+def large() -> Iterator[tuple[str, Sources, list[bytes], tuple[str, ...]]]:
     """What is said of a stack, its layers, the contents of its blobs, and the commands that are to answer."""
     few, all_of = ("fsck",), ("fsck", *REWRITES)
     contents = [contents_of(n) for n in range(300)]
@@ -316,7 +327,7 @@ def large():
     yield "1,200,000 directories", [many, many.replace('"/d', '"/e')], [], few
 
 
-def file_at(path):
+def file_at(path: str) -> Entry:
     return entry(path, "file", size=0)
 
 
@@ -326,7 +337,7 @@ class Differs(Exception):
     """What isn't as it should be."""
 
 
-def ran(program, *words):
+def ran(program: str, *words: str) -> tuple[int, bytes]:
     """Status and standard output of a run, which must tell no fault on standard error."""
     done = subprocess.run([program, *words], stdin=subprocess.DEVNULL, capture_output=True, check=False, timeout=LONGEST)
     if done.returncode not in (0, 1) or done.stderr:
@@ -334,23 +345,23 @@ def ran(program, *words):
     return done.returncode, done.stdout
 
 
-def same(what, one, other):
+def same(what: str, one: object, other: object) -> None:
     if one != other:
         raise Differs(f"{what}: {one} and not {other}")
 
 
-def rewritten(program, blobs, layers, command, folder):
-    """The layers with the new ones of a command, or that of `flatten` alone, and what it printed."""
+def rewritten(program: str, blobs: str, layers: list[str], command: str, folder: str) -> tuple[list[str], tuple[int, bytes]]:
+    """The layers with the new ones of a command, or that of `flatten` alone, and its status and what it printed."""
     out = os.path.join(folder, command)
     os.makedirs(out, exist_ok=True)
     status, printed = ran(program, command, "--blobs", blobs, "--out", out, "--workers", "3", *layers)
     if status != 0:
-        return None, (status, printed)
+        return [], (status, printed)
     new = [os.path.join(out, it) for it in sorted(os.listdir(out))]
     return new if command == "flatten" else new + layers[len(new):], (status, printed)
 
 
-def judge(program, blobs, stack, folder):
+def judge(program: str, blobs: str, stack: Stack, folder: str) -> bool:
     """Whether the stack is sound."""
     layers = write(folder, stack.layers)
     shown, found = ran(program, "show", *layers), ran(program, "fsck", "--blobs", blobs, *layers)
@@ -374,7 +385,7 @@ def judge(program, blobs, stack, folder):
     return found[0] == 0
 
 
-def judge_at_limit(program, blobs, layers, within, folder):
+def judge_at_limit(program: str, blobs: str, layers: list[Layer], within: bool, folder: str) -> None:
     """Whether all but `vacuum` give what keeps the limits and refuse what doesn't, as what it is."""
     files = write(folder, layers)
     shown = ran(program, "show", *files)
@@ -388,16 +399,17 @@ def judge_at_limit(program, blobs, layers, within, folder):
             same(command, (done.returncode, done.stdout, done.stderr), (5, b"", b"ovl_layers: result over the limits\n"))
 
 
-def limit_case(program, blobs, what, layers, within):
+def limit_case(program: str, blobs: str, what: str, layers: list[Layer], within: bool) -> str | None:
     """What isn't as it should be of a stack at the limits."""
     with tempfile.TemporaryDirectory(prefix="ovl-ample-") as folder:
         try:
-            return judge_at_limit(program, blobs, layers, within, folder)
+            judge_at_limit(program, blobs, layers, within, folder)
         except Differs as fault:
             return f"{what}: {fault}"
+    return None
 
 
-def large_case(program, what, layers, contents, commands):
+def large_case(program: str, what: str, layers: Sources, contents: list[bytes], commands: Sequence[str]) -> str | None:
     """What isn't as it should be of a large stack, which is sound."""
     with tempfile.TemporaryDirectory(prefix="ovl-ample-") as folder:
         blobs = os.path.join(folder, "blobs")
@@ -414,12 +426,12 @@ def large_case(program, what, layers, contents, commands):
             for command in commands[1:]:
                 new, _ = rewritten(program, blobs, files, command, folder)
                 same(f"show after {command}", new and ran(program, "show", *new), shown)
-            return True
         except Differs as fault:
             return f"{what}: {fault}"
+    return None
 
 
-def case(program, blobs, seed, number):
+def case(program: str, blobs: str, seed: str, number: int) -> bool | str:
     """Whether the stack of this number is sound, or what isn't as it should be."""
     with tempfile.TemporaryDirectory(prefix="ovl-ample-") as folder:
         try:
@@ -428,7 +440,7 @@ def case(program, blobs, seed, number):
             return f"stack {number}: {fault}"
 
 
-def main():
+def main() -> None:
     words = argparse.ArgumentParser(description="Makes many small stacks, and runs every command on them.")
     words.add_argument("--program", required=True, help="path of the program")
     words.add_argument("--count", type=int, default=2_000, help="how many stacks (default 2,000)")

@@ -24,11 +24,12 @@ import shlex
 import subprocess
 import sys
 import tempfile
+from collections.abc import Iterator, Sequence
 from dataclasses import dataclass, replace
 
 import ample
 from generate import MOST_NAMES
-from growth import METACOPY, NSEC, REDIRECT, First, chain, entry, write
+from growth import METACOPY, NSEC, REDIRECT, Entry, First, Layer, chain, entry, write
 
 COMMANDS = ("show", "fsck", "vacuum", "deref", "merge", "flatten")
 WORKERS = (1, 2, 3, 4, 7, 64)
@@ -46,19 +47,19 @@ SECONDS = (0, 0, 0, 1, -1, 1_700_000_000, -2**63, 2**63 - 1)
 
 # ---- random layers
 
-def attributes(rng):
+def attributes(rng: random.Random) -> dict[str, str]:
     names = {"user.k": "v", ample.OPAQUE: rng.choice("yyx"), "trusted.overlay.origin": "x", "security.s": ""}
     return {name: names[name] for name in names if rng.random() < 0.15}
 
 
-def directory(rng, path):
+def directory(rng: random.Random, path: str) -> Entry:
     attrs = attributes(rng)
     if rng.random() < 0.3:
         attrs[REDIRECT] = rng.choice(REDIRECTS)
     return entry(path, attrs=attrs)
 
 
-def file(rng, path):
+def file(rng: random.Random, path: str) -> Entry:
     attrs, contents = attributes(rng), rng.choice(CONTENTS)
     if rng.random() < 0.1:
         attrs[ample.WHITEOUT] = ""
@@ -74,7 +75,7 @@ def file(rng, path):
     return made
 
 
-def other(rng, path):
+def other(rng: random.Random, path: str) -> Entry:
     chance = rng.random()
     if chance < 0.6:
         return entry(path, "char", major=0, minor=0)
@@ -83,11 +84,11 @@ def other(rng, path):
     return entry(path, rng.choice(("fifo", "socket")), attributes(rng))
 
 
-def timed(rng, made):
+def timed(rng: random.Random, made: Entry) -> Entry:
     return made | {"mtime": rng.choice(SECONDS), NSEC: rng.choice(ample.NANOSECONDS), "mode": rng.choice((0o644, 0o755, 0o4711))}
 
 
-def anything(rng):
+def anything(rng: random.Random) -> Layer:
     """A layer below its root, of up to so many entries."""
     found, below = {}, [""]
     for _ in range(rng.randint(0, MOST)):
@@ -98,15 +99,16 @@ def anything(rng):
     return list(found.values())
 
 
-def chains(rng, versions):
+def chains(rng: random.Random, versions: list[int]) -> list[Layer]:
     """A chain of directories, the deepest moved there from another chain in the layer below it, and empty layers."""
     upper, lower = (MOST_NAMES[it] - rng.choice((0, 1, 2, 30, 60)) for it in versions[:2])
     moved = chain("d", upper, {REDIRECT: "/x"})
     layers = [[*moved, entry("/x", "char", major=0, minor=0)], chain("x", min(lower, MOST_NAMES[2] - upper + rng.randint(0, 2)))]
-    return [[timed(rng, it) if it["kind"] == "dir" else it for it in layer] for layer in (*layers, *[[]] * len(versions[2:]))]
+    layers += [Layer()] * len(versions[2:])
+    return [[timed(rng, it) if it["kind"] == "dir" else it for it in layer] for layer in layers]
 
 
-def composed(rng, layers):
+def composed(rng: random.Random, layers: list[Layer]) -> list[Layer]:
     """The layers, with contents of some files in one more layer, which is data-only."""
     data, found = [entry("/z")], []
     for layer in layers:
@@ -125,31 +127,31 @@ class Case:
     """Layers, the topmost first, how many are data-only, and what lies in the folder of contents."""
 
     number: int
-    layers: list
+    layers: list[Layer]
     data_only: int
-    blobs: dict
+    blobs: dict[str, bytes]
 
-    def versions(self):
+    def versions(self) -> list[int]:
         """The versions of their manifests, each once."""
         return sorted({1 if isinstance(layer, First) else 2 for layer in self.layers})
 
 
-def in_version(layer, version):
+def in_version(layer: Layer, version: int) -> Layer:
     """The layer as a manifest of the version can state it."""
     return First(it | {NSEC: 0} for it in layer) if version == 1 else layer
 
 
-def contents_of(rng):
+def contents_of(rng: random.Random) -> dict[str, bytes]:
     """What lies in the folder of contents, by name; where it is spoilt, strangers lie there too."""
     held = {hashlib.sha256(it).hexdigest(): it for it in CONTENTS[1:]}
-    if rng.random() < SPOILT:
-        spoil = (lambda it: it, lambda it: None, lambda it: it[:-1], lambda it: it + it, lambda it: b"x" * len(it))
-        held = {name: rng.choice(spoil)(it) for name, it in held.items()}
-        held |= {hashlib.sha256(ABSENT).hexdigest()[::-1]: ABSENT, "notes": b""}
-    return {name: it for name, it in held.items() if it is not None}
+    if rng.random() >= SPOILT:
+        return held
+    spoilt = {name: rng.choice((it, None, it[:-1], it + it, b"x" * len(it))) for name, it in held.items()}
+    strangers = {hashlib.sha256(ABSENT).hexdigest()[::-1]: ABSENT, "notes": b""}
+    return {name: it for name, it in spoilt.items() if it is not None} | strangers
 
 
-def case_of(seed, number):
+def case_of(seed: str, number: int) -> Case:
     rng = random.Random(f"{seed} {number}")
     chance = rng.random()
     if chance < MADE:
@@ -171,14 +173,17 @@ class Answer:
     status: int | None
     printed: bytes
     told: bytes
-    layers: dict
+    layers: dict[str, bytes]
 
 
+# A command, what is wanted of it, and what it says.
+Difference = tuple[str, Answer, Answer]
 # What `fsck` answers where it finds nothing.
 CLEAN = Answer(0, b"faults 0 notes 0\n", b"", {})
 
 
-def answer(words, what, case, blobs, files, workers, more=()):
+def answer(words: list[str], what: str, case: Case, blobs: str, files: list[str], workers: int,
+           more: Sequence[str] = ()) -> Answer:
     """What a command says of the files, with some more words, and the new layers that it makes."""
     with tempfile.TemporaryDirectory(prefix="ovl-beside-") as out:
         words = [*words, what, *more, "--workers", str(workers), "--data-layers", str(case.data_only)]
@@ -195,7 +200,7 @@ def answer(words, what, case, blobs, files, workers, more=()):
         return Answer(ran.returncode, ran.stdout, ran.stderr, layers)
 
 
-def after_flatten(program, case, blobs, said, workers):
+def after_flatten(program: list[str], case: Case, blobs: str, said: dict[str, Answer], workers: int) -> Iterator[Difference]:
     """What is wanted of the flattened layer, and what is said of it: `show` as of the stack, and nothing is wrong."""
     with tempfile.NamedTemporaryFile(prefix="ovl-beside-") as layer:
         layer.write(said["flatten"].layers["layer-0.json"])
@@ -205,7 +210,7 @@ def after_flatten(program, case, blobs, said, workers):
             yield f"{what} after flatten", wanted, answer(program, what, alone, blobs, [layer.name], workers)
 
 
-def compared(program, oracle, case):
+def compared(program: list[str], oracle: list[str], case: Case) -> tuple[Case, list[str], list[Difference]]:
     """The case, a sort of answer for each command, and those of which the program says something else."""
     with tempfile.TemporaryDirectory(prefix="ovl-beside-") as folder, tempfile.TemporaryDirectory(prefix="ovl-beside-") as blobs:
         for name, contents in case.blobs.items():
@@ -226,7 +231,7 @@ def compared(program, oracle, case):
         return case, sorts, differ
 
 
-def tell(case, differ, keep):
+def tell(case: Case, differ: list[Difference], keep: str | None) -> None:
     """Prints a case whose answers differ, and keeps its manifests where it is asked for."""
     for what, *answers in differ:
         print(f"case {case.number}, {what}, layers: {len(case.layers)}, data-only: {case.data_only}")
@@ -239,7 +244,7 @@ def tell(case, differ, keep):
         write(folder, case.layers)
 
 
-def main():
+def main() -> None:
     words = argparse.ArgumentParser(description="Compares what all commands do with small stacks with an independent reading.")
     words.add_argument("--program", required=True, help="path of the program")
     words.add_argument("--oracle", required=True, metavar="COMMAND", help="the other reading: a command and its words, after "
@@ -253,7 +258,9 @@ def main():
     program, oracle = [os.path.abspath(given.program)], shlex.split(given.oracle)
     oracle = [os.path.abspath(it) if os.path.exists(it) else it for it in oracle]
 
-    sorts, versions, bad = collections.Counter(), collections.Counter(), 0
+    sorts: collections.Counter[str] = collections.Counter()
+    versions: collections.Counter[str] = collections.Counter()
+    bad = 0
     with concurrent.futures.ThreadPoolExecutor(given.jobs) as pool:
         cases = (case_of(given.seed, number) for number in given.case or range(given.count))
         for case, found, differ in pool.map(lambda case: compared(program, oracle, case), cases):

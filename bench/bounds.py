@@ -17,27 +17,27 @@ import sys
 import tempfile
 from dataclasses import dataclass
 
-from growth import NSEC, REDIRECT, entry, write
+from growth import NSEC, REDIRECT, Layer, entry, write
 from instructions import instructions
 
 CONTENTS = b"x" * 65_536
 NAME = hashlib.sha256(CONTENTS).hexdigest()
 
 
-def plain(count, nanoseconds=0):
+def plain(count: int, nanoseconds: int = 0) -> Layer:
     """Empty files in one directory."""
     return [entry("/d")] + [entry(f"/d/f{n:05d}", "file", size=0) | {NSEC: nanoseconds} for n in range(count)]
 
 
-def named_alike(count):
+def named_alike(count: int) -> Layer:
     return [entry(f"/f{n:03d}", "file", size=len(CONTENTS), blob=NAME) for n in range(count)]
 
 
-def directories(count):
+def directories(count: int) -> Layer:
     return [entry(f"/d{n:05d}") for n in range(count)]
 
 
-def moved(count):
+def moved(count: int) -> Layer:
     return [entry(f"/m{n:04d}", attrs={REDIRECT: f"/d{n:05d}"}) for n in range(count)] + [
         entry(f"/d{n:05d}", "char", major=0, minor=0) for n in range(count)]
 
@@ -47,7 +47,7 @@ class Bound:
     """A command on layers, the topmost first, whether it reads the blob, and the most millions of instructions."""
 
     command: str
-    layers: tuple
+    layers: tuple[Layer, ...]
     millions: float
     has_blob: bool = False
 
@@ -61,7 +61,7 @@ BOUNDS = {
 }
 
 
-def counted(program, bound, folder):
+def counted(program: str, bound: Bound, folder: str) -> float:
     """The instructions of a run, in millions."""
     blobs, new = os.path.join(folder, "blobs"), os.path.join(folder, "new")
     for it in (blobs, new):
@@ -75,7 +75,7 @@ def counted(program, bound, folder):
     return instructions(words + write(folder, bound.layers), (0,)) / 1e6
 
 
-def main():
+def main() -> None:
     words = argparse.ArgumentParser(description="Counts what five small stacks cost, and refuses more.")
     words.add_argument("--program", required=True, help="path of the program")
     given = words.parse_args()

@@ -19,6 +19,7 @@ import random
 import subprocess
 import sys
 import tempfile
+from collections.abc import Iterator, Sequence
 
 import run
 from generate import LAST
@@ -30,7 +31,7 @@ LAYERS = 3
 REWRITING = ("vacuum", "deref", "merge", "flatten")
 
 
-def measure(command, statuses, repeats):
+def measure(command: list[str], statuses: Sequence[int], repeats: int) -> tuple[float, int]:
     """(least seconds, largest peak) over the runs; a status that isn't expected ends the script."""
     runs = []
     for _ in range(repeats):
@@ -41,7 +42,7 @@ def measure(command, statuses, repeats):
     return min(s for s, _ in runs), max(p for _, p in runs)
 
 
-def make_layers(folder, entries, version, empty=False):
+def make_layers(folder: str, entries: int, version: int, empty: bool = False) -> list[str]:
     """Layers of other names; where it is asked for, with files that are all empty."""
     files = []
     for n in range(1, LAYERS + 1):
@@ -51,7 +52,7 @@ def make_layers(folder, entries, version, empty=False):
     return files
 
 
-def rewriting(program, folder, none, entries, version):
+def rewriting(program: str, folder: str, none: str, entries: int, version: int) -> Iterator[tuple[str, list[str]]]:
     """A name and a command for each command that makes new layers, over layers of other names and of the same."""
     layers, new = make_layers(folder, entries, version, empty=True), os.path.join(folder, "new")
     os.mkdir(new)
@@ -61,7 +62,7 @@ def rewriting(program, folder, none, entries, version):
         yield what + ", the same names", command + layers[:1] * LAYERS
 
 
-def on_layers(program, folder, entries, version=LAST):
+def on_layers(program: str, folder: str, entries: int, version: int = LAST) -> Iterator[tuple[str, list[str], Sequence[int]]]:
     """A name, a command and the statuses that it may end with, for each command over three layers."""
     layers, none = make_layers(folder, entries, version), os.path.join(folder, "none")
     os.mkdir(none)
@@ -72,11 +73,11 @@ def on_layers(program, folder, entries, version=LAST):
         yield name, command, (0,)
 
 
-def with_workers(command, workers):
+def with_workers(command: list[str], workers: int) -> list[str]:
     return command[:2] + ["--workers", str(workers)] + command[2:]
 
 
-def make_blobs(folder, count, size):
+def make_blobs(folder: str, count: int, size: int) -> tuple[str, str]:
     """A folder of blobs, and a layer with a file for each of them."""
     blobs = os.path.join(folder, "blobs")
     os.mkdir(blobs)
@@ -95,7 +96,7 @@ def make_blobs(folder, count, size):
     return blobs, layer
 
 
-def table(head, rows):
+def table(head: list[str], rows: list[list[str]]) -> None:
     print(run.row(head))
     print(run.row(["---"] + ["---:"] * (len(head) - 1)))
     for cells in rows:
@@ -103,7 +104,7 @@ def table(head, rows):
     print()
 
 
-def by_workers(name, command, statuses, repeats):
+def by_workers(name: str, command: list[str], statuses: Sequence[int], repeats: int) -> list[list[str]]:
     """Rows of one command, each with how many times as fast as one worker it is."""
     rows, alone = [], None
     for workers in WORKERS:
@@ -114,7 +115,7 @@ def by_workers(name, command, statuses, repeats):
     return rows
 
 
-def main():
+def main() -> None:
     words = argparse.ArgumentParser(description="Measures the commands by several numbers of workers.")
     words.add_argument("--program", required=True, help="path of the program")
     words.add_argument("--entries", type=int, default=100000, help="entries of each of three layers (default 100000)")

@@ -17,7 +17,9 @@ import subprocess
 import sys
 import tempfile
 import time
+from collections.abc import Callable
 from dataclasses import dataclass
+from typing import BinaryIO
 
 import run
 from growth import entry, write
@@ -27,6 +29,8 @@ KIB, MIB, GIB = 1 << 10, 1 << 20, 1 << 30
 MOST, MOST_A_FILE = 64 * MIB, 100
 # How many files a directory of a layer has, and how many are named of the many.
 IN_DIRECTORY, FEW = 1_000, 10
+# Fills the open file of this number and size.
+Fill = Callable[[BinaryIO, int, int], None]
 
 
 @dataclass(frozen=True)
@@ -35,10 +39,10 @@ class Contents:
 
     blobs: str
     layer: str
-    named: list
+    named: list[tuple[int, str]]
 
 
-def layer_of(folder, name, named):
+def layer_of(folder: str, name: str, named: list[tuple[int, str]]) -> str:
     """The manifest of a layer that has a file for each of these sizes and digests."""
     paths = [(f"/d{n // IN_DIRECTORY:06d}", f"/f{n:07d}") for n in range(len(named))]
     entries = [entry(it) for it in sorted({directory for directory, _ in paths})]
@@ -47,12 +51,12 @@ def layer_of(folder, name, named):
     return write(os.path.join(folder, name), [entries])[0]
 
 
-def digest_of(path):
+def digest_of(path: str) -> str:
     with open(path, "rb") as file:
         return hashlib.file_digest(file, "sha256").hexdigest()
 
 
-def made(folder, name, sizes, fill):
+def made(folder: str, name: str, sizes: list[int], fill: Fill) -> Contents:
     """Contents of these sizes, each made by `fill` of the open file, its number and size."""
     blobs, named = os.path.join(folder, name + "-blobs"), []
     os.makedirs(blobs)
@@ -65,20 +69,20 @@ def made(folder, name, sizes, fill):
     return Contents(blobs, layer_of(folder, name, named), named)
 
 
-def sparse(file, number, size):
+def sparse(file: BinaryIO, number: int, size: int) -> None:
     mark = b"%08d" % number
     file.truncate(size)
     file.seek(size - len(mark))
     file.write(mark)
 
 
-def dense(file, number, size):
+def dense(file: BinaryIO, number: int, size: int) -> None:
     file.write(random.Random(number).randbytes(size))
 
 
 # ---- runs
 
-def measured(words, repeats):
+def measured(words: list[str], repeats: int) -> tuple[float, int]:
     """(least seconds, largest peak) of runs that must end with 0."""
     runs = [run.one_run(words, os.devnull, os.devnull) for _ in range(repeats)]
     if any(status != 0 for *_, status in runs):
@@ -86,16 +90,16 @@ def measured(words, repeats):
     return min(seconds for seconds, *_ in runs), max(peak for _, peak, _ in runs)
 
 
-def command(program, what, contents, workers, out):
+def command(program: str, what: str, contents: Contents, workers: int, out: str) -> list[str]:
     words = [program, what, "--any-size", "--blobs", contents.blobs, "--workers", str(workers)]
     return words + (["--out", out, contents.layer, contents.layer] if what == "merge" else [contents.layer])
 
 
-def show(program, what, contents, workers):
+def show(program: str, what: str, contents: Contents, workers: int) -> list[str]:
     return [program, "show", "--workers", str(workers), contents.layer] + [contents.layer] * (what == "merge")
 
 
-def by_sha256sum(contents):
+def by_sha256sum(contents: Contents) -> float:
     """Seconds that `sha256sum` takes for the named files, in one process after another where there are many."""
     paths = "\0".join(os.path.join(contents.blobs, digest) for _, digest in contents.named).encode()
     begin = time.perf_counter()
@@ -103,7 +107,7 @@ def by_sha256sum(contents):
     return time.perf_counter() - begin
 
 
-def print_memory(given, folder, out):
+def print_memory(given: argparse.Namespace, folder: str, out: str) -> bool:
     """Whether all peaks are within what a run may take."""
     contents, within = made(folder, "long", [GIB // 32] * 96 + [4 * GIB + 100 * MIB], sparse), True
     print(f"\n96 sparse files of 32 MiB and one of 4,196 MiB, {sum(size for size, _ in contents.named):,} bytes:\n")
@@ -118,7 +122,7 @@ def print_memory(given, folder, out):
     return within
 
 
-def print_times(given, contents, what):
+def print_times(given: argparse.Namespace, contents: Contents, what: str) -> None:
     """A row for these contents: `sha256sum`, and `fsck` by each number of workers."""
     beside = min(by_sha256sum(contents) for _ in range(given.repeats))
     times = [measured(command(given.program, "fsck", contents, workers, ""), given.repeats) for workers in given.workers]
@@ -126,7 +130,7 @@ def print_times(given, contents, what):
     print(run.row([what, f"{beside:.2f}", *cells, f"{max(peak for _, peak in times):,}"]), flush=True)
 
 
-def main():
+def main() -> None:
     words = argparse.ArgumentParser(description="Measures the commands on contents of any size.")
     words.add_argument("--program", required=True, help="path of the program")
     words.add_argument("--workers", default="1,4,64", help="numbers of workers, with commas (default 1,4,64)")

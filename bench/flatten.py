@@ -19,7 +19,7 @@ import tempfile
 from twice import manifests_of, printed, read, with_contents
 
 
-def new_layers(program, command, layers, blobs, folder):
+def new_layers(program: str, command: str, layers: list[str], blobs: str, folder: str) -> list[str]:
     """The new layers of a command, in a new folder, which are the same by 1 and by 7 workers."""
     made = {}
     for workers in ("1", "7"):
@@ -33,7 +33,7 @@ def new_layers(program, command, layers, blobs, folder):
     return files
 
 
-def merged(program, layers, blobs, folder):
+def merged(program: str, layers: list[str], blobs: str, folder: str) -> tuple[str, int, int]:
     """Merges layers until one is left. Gives this, how many merges showed the same, and how many there were."""
     before, same, merges = printed(program, "show", *layers), 0, 0
     while len(layers) > 1:
@@ -44,7 +44,7 @@ def merged(program, layers, blobs, folder):
     return layers[0], same, merges
 
 
-def main():
+def main() -> None:
     words = argparse.ArgumentParser(description="Merges stacks of layers down to one.")
     words.add_argument("--program", required=True, help="path of the program")
     words.add_argument("stacks", nargs="+", metavar="STACK", help="a folder of layers")

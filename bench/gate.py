@@ -41,12 +41,12 @@ class Run:
 class Gate:
     """What is known of a gate's runs, by process number and start."""
 
-    runs: dict = field(default_factory=dict)
+    runs: dict[tuple[int, int], Run] = field(default_factory=dict)
 
-    def look(self, top):
+    def look(self, top: int) -> None:
         """Notes what the processes below `top` have taken."""
         processes = all_processes()
-        kids = {}
+        kids: dict[int, list[int]] = {}
         for number, process in processes.items():
             kids.setdefault(process.parent, []).append(number)
         left = list(kids.get(top, ()))
@@ -62,13 +62,13 @@ class Gate:
             took = sum(processes[it].seconds for it in with_all_below(number, kids))
             self.runs[key].seconds = max(self.runs[key].seconds, took)
 
-    def of(self, crate, part):
+    def of(self, crate: str, part: str) -> list[float]:
         """The seconds of each run of a crate's part, in the order in which they started."""
         found = [it for it in self.runs.values() if (it.crate, it.part) == (crate, part)]
         return [it.seconds for it in sorted(found, key=lambda it: it.start)]
 
 
-def all_processes():
+def all_processes() -> dict[int, Process]:
     found = {}
     for name in os.listdir("/proc"):
         if name.isdigit():
@@ -83,14 +83,14 @@ def all_processes():
     return found
 
 
-def with_all_below(number, kids):
+def with_all_below(number: int, kids: dict[int, list[int]]) -> list[int]:
     found = [number]
     for it in found:
         found += kids.get(it, ())
     return found
 
 
-def told_by(number):
+def told_by(number: int) -> tuple[str, str] | None:
     """The crate and the part that a process works for, or None."""
     try:
         with open(f"/proc/{number}/cmdline", encoding="utf-8", errors="replace") as file:
@@ -105,18 +105,18 @@ def told_by(number):
     return next(((it[1], "tests") for it in runs if it), None)
 
 
-def crates():
+def crates() -> list[str]:
     """The crates of the repository, in the order of crates.txt."""
     with open("crates.txt", encoding="utf-8") as file:
         return [line.partition(":")[0].split()[0] for line in file if line.strip() and line[0] != "#"]
 
 
-def edits_of(crate):
+def edits_of(crate: str) -> list[str]:
     folder = f"crates/{crate}/must-fail"
     return sorted(it for it in os.listdir(folder) if it.endswith(".edit")) if os.path.isdir(folder) else []
 
 
-def tests_of(crate):
+def tests_of(crate: str) -> int:
     """How many functions of a crate are tests."""
     count = 0
     for folder, _, names in os.walk(f"crates/{crate}/src"):
@@ -126,15 +126,15 @@ def tests_of(crate):
     return count
 
 
-def minutes(seconds):
+def minutes(seconds: float) -> str:
     return f"{seconds / 60:.1f}"
 
 
-def row(*cells):
+def row(*cells: object) -> str:
     return "| " + " | ".join(str(it) for it in cells) + " |"
 
 
-def table(gate, total, wall):
+def table(gate: Gate, total: float, wall: float) -> list[str]:
     """The table as lines, with what the gate took in all."""
     head = ("Crate", "Proof", "Tests", "Edits", "In all", "Number of tests", "Seconds a test", "Number of edits", "Seconds an edit")
     lines = [row(*head), "| --- " + "| ---: " * (len(head) - 1) + "|"]
@@ -151,12 +151,12 @@ def table(gate, total, wall):
     return [*lines, "", f"It ran for {minutes(wall)} minutes on {machine()}."]
 
 
-def line_of(name, took, tests, edits):
+def line_of(name: str, took: dict[str, float], tests: int, edits: int) -> str:
     each = [f"{took[part] / number:.0f}" if number else "" for part, number in (("tests", tests), ("edits", edits))]
     return row(name, *map(minutes, took.values()), minutes(sum(took.values())), tests, each[0], edits, each[1])
 
 
-def dearest(gate, count):
+def dearest(gate: Gate, count: int) -> list[str]:
     """The edits that took the most, where each can be told from the order in which they were tried."""
     found = []
     for crate in crates():
@@ -172,7 +172,7 @@ def dearest(gate, count):
     return lines + [row(f"`{crate}/{name}`", f"{seconds:.0f}") for seconds, crate, name in found[:count]]
 
 
-def machine():
+def machine() -> str:
     with open("/proc/cpuinfo", encoding="utf-8") as file:
         model = re.search(r"model name\s*:\s*(.*)", file.read())
     with open("/proc/loadavg", encoding="ascii") as file:
@@ -182,7 +182,7 @@ def machine():
     return f"{cores} processors ({name}), at a load of {load} at its end"
 
 
-def parts_of(path):
+def parts_of(path: str) -> tuple[str, str]:
     """The text of a file up to and with the first mark, and that from the second mark on."""
     with open(path, encoding="utf-8") as file:
         head, begin, rest = file.read().partition(BEGIN)
@@ -192,14 +192,14 @@ def parts_of(path):
     return head + begin, end + tail
 
 
-def write_into(path, lines):
+def write_into(path: str, lines: list[str]) -> None:
     """Puts the lines between the two marks of a file."""
     head, tail = parts_of(path)
     with open(path, "w", encoding="utf-8") as file:
         file.write("\n\n".join([head, "\n".join(lines), tail]))
 
 
-def measured(words, interval):
+def measured(words: list[str], interval: float) -> tuple[int, Gate, float, float]:
     """Runs the gate. Gives its status, what was seen, and its processor and wall time in seconds."""
     gate, began = Gate(), time.monotonic()
     # What the gate says goes to standard error.
@@ -211,7 +211,7 @@ def measured(words, interval):
     return ran.returncode, gate, used.ru_utime + used.ru_stime, time.monotonic() - began
 
 
-def main():
+def main() -> None:
     about = argparse.ArgumentParser(description="Runs the merge gate and tells what it took, crate by crate.")
     about.add_argument("--into", metavar="FILE", help="put the table between the marks of this file too")
     about.add_argument("--interval", type=float, default=0.5, help="seconds between two looks (default 0.5)")

@@ -15,6 +15,8 @@ import hashlib
 import json
 import random
 import sys
+from collections.abc import Iterator
+from typing import BinaryIO
 
 MOST_ENTRIES = 1_048_576
 MOST_NAMES = {1: 64, 2: 128}
@@ -31,7 +33,7 @@ LABELS = ("system_u:object_r:etc_t:s0\0", "system_u:object_r:bin_t:s0\0",
           "system_u:object_r:lib_t:s0\0", "unconfined_u:object_r:user_home_t:s0\0")
 
 
-def pieces(rng):
+def pieces(rng: random.Random) -> list[str]:
     """Short words of 2 to 6 letters."""
     soft, hard = "aeiou", "bcdfghklmnprstvz"
     out = []
@@ -43,8 +45,8 @@ def pieces(rng):
 
 
 class Generator:
-    def __init__(self, entries, fan_out=24, depth=16, attributes=0.05, seed=1,
-                 whiteouts=0.0, opaque=0.0, empty=False, version=LAST):
+    def __init__(self, entries: int, fan_out: int = 24, depth: int = 16, attributes: float = 0.05, seed: int = 1,
+                 whiteouts: float = 0.0, opaque: float = 0.0, empty: bool = False, version: int = LAST) -> None:
         if not 1 <= entries <= MOST_ENTRIES:
             raise ValueError("entries must be 1 to %d" % MOST_ENTRIES)
         if not 1 <= fan_out <= MOST_ENTRIES:
@@ -70,20 +72,20 @@ class Generator:
         self.count = 0
         self.bytes = 0
 
-    def lot(self, share):
+    def lot(self, share: int) -> bool:
         return share > 0 and self.rng.getrandbits(24) < share
 
-    def time(self, seconds, whole=False):
+    def time(self, seconds: int, whole: bool = False) -> str:
         """The text of a time, behind the name of its first member."""
         if self.version == 1:
             return str(seconds)
         below = 0 if whole or self.nanoseconds.getrandbits(1) else self.nanoseconds.randrange(10 ** 9)
         return '%d,"mtime-nsec":%d' % (seconds, below)
 
-    def names(self, count):
+    def names(self, count: int) -> list[str]:
         """count different names of 4 to 20 bytes, in byte order."""
         bits, table = self.rng.getrandbits, self.pieces
-        out = set()
+        out: set[str] = set()
         while len(out) < count:
             r = bits(32)
             name = table[r & 4095] + table[(r >> 12) & 4095] + ENDS[(r >> 24) % 12]
@@ -95,7 +97,7 @@ class Generator:
             out.add(name)
         return sorted(out)
 
-    def xattrs(self, mark=""):
+    def xattrs(self, mark: str = "") -> str:
         """The text of the attributes' object; its members are sorted."""
         parts = []
         if self.lot(self.attributes):
@@ -110,13 +112,13 @@ class Generator:
             parts.append(mark)
         return "{" + ",".join(parts) + "}"
 
-    def directory(self, path, mark=""):
+    def directory(self, path: str, mark: str = "") -> str:
         r = self.rng.getrandbits(32)
         owner = OWNERS[r >> 3 & 7]
         return ('{"gid":%s,"kind":"dir","mode":%d,"mtime":%s,"path":"%s","uid":%s,"xattrs":%s}'
                 % (owner, DIR_MODES[r & 7], self.time(1_500_000_000 + (r >> 6)), path, owner, self.xattrs(mark)))
 
-    def other(self, path):
+    def other(self, path: str) -> str:
         """An entry that isn't a directory: mostly a file."""
         if self.lot(self.whiteouts):
             return ('{"gid":0,"kind":"char","major":0,"minor":0,"mode":0,"mtime":%s,"path":"%s",'
@@ -148,7 +150,7 @@ class Generator:
         return ('{"gid":%s,"kind":"%s","mode":384,"mtime":%s,"path":"%s","uid":%s,"xattrs":%s}'
                 % (owner, ("fifo", "socket")[what & 1], mtime, path, owner, xattrs))
 
-    def below(self, path, left, room):
+    def below(self, path: str, left: int, room: int) -> Iterator[str]:
         """The entries under a directory: room of them, at most left names deeper."""
         if room == 0:
             return
@@ -180,7 +182,7 @@ class Generator:
             shares.append(upto - before)
             before = upto
         # Which of the names are directories.
-        places = set()
+        places: set[int] = set()
         while len(places) < dirs:
             places.add(rng.getrandbits(24) % width)
         for k, name in enumerate(self.names(width)):
@@ -191,17 +193,17 @@ class Generator:
             else:
                 yield self.other(at)
 
-    def opaque_mark(self):
+    def opaque_mark(self) -> str:
         return '"trusted.overlay.opaque":"79"' if self.lot(self.opaque) else ""
 
-    def all_entries(self):
+    def all_entries(self) -> Iterator[str]:
         yield ('{"gid":0,"kind":"dir","mode":493,"mtime":%s,"path":"/","uid":0,"xattrs":{}}'
                % self.time(1_500_000_000, whole=True))
         yield from self.below("", self.depth, self.entries - 1)
 
-    def write(self, out):
+    def write(self, out: BinaryIO) -> None:
         """Writes the manifest to a binary stream."""
-        def put(text):
+        def put(text: str) -> None:
             data = text.encode()
             out.write(data)
             self.bytes += len(data)
@@ -222,15 +224,15 @@ class Generator:
 # ------------------------------------------------------------------ self-test
 
 COMMON = {"gid", "kind", "mode", "mtime", "path", "uid", "xattrs"}
-MORE = {"dir": set(), "file": {"size"}, "symlink": {"target"}, "char": {"major", "minor"},
-        "block": {"major", "minor"}, "fifo": set(), "socket": set()}
+MORE: dict[str, set[str]] = {"dir": set(), "file": {"size"}, "symlink": {"target"}, "char": {"major", "minor"},
+                             "block": {"major", "minor"}, "fifo": set(), "socket": set()}
 
 
-def names_of(path):
+def names_of(path: str) -> tuple[bytes, ...]:
     return () if path == "/" else tuple(name.encode() for name in path[1:].split("/"))
 
 
-def wrong(data, entries, depth, version):
+def wrong(data: bytes, entries: int, depth: int, version: int) -> str | None:
     """What is wrong with a manifest, or None. It reads the whole text into memory."""
     value = json.loads(data)
     again = json.dumps(value, sort_keys=True, separators=(",", ":"), ensure_ascii=False) + "\n"
@@ -240,7 +242,7 @@ def wrong(data, entries, depth, version):
         return "wrong shape"
     if len(value["entries"]) != entries:
         return "%d entries in place of %d" % (len(value["entries"]), entries)
-    directories, before = set(), None
+    directories, before = set(), names_of("/")
     for n, e in enumerate(value["entries"]):
         at = names_of(e["path"])
         want = COMMON | MORE[e["kind"]] | ({"mtime-nsec"} if version == 2 else set())
@@ -273,7 +275,7 @@ def wrong(data, entries, depth, version):
     return None
 
 
-def self_test():
+def self_test() -> None:
     import io
     tried = 0
     for entries in (1, 2, 3, 10, 100, 1000, 5000):
@@ -296,7 +298,7 @@ def self_test():
     print("self-test: %d manifests, nothing wrong" % tried)
 
 
-def main():
+def main() -> None:
     words = argparse.ArgumentParser(description="Writes a large layer manifest.")
     words.add_argument("--entries", type=int, default=100_000, help="entries, the root counted (default 100000)")
     words.add_argument("--fan-out", type=int, default=24, help="a directory with directories below it holds half to one and a half times as many entries (default 24); more where --depth leaves no other place")

@@ -12,6 +12,7 @@ the peak is more bytes for a byte than the case allows.
     python3 bench/growth.py --program ./ovl_layers
 """
 import argparse
+import functools
 import hashlib
 import json
 import math
@@ -19,8 +20,9 @@ import os
 import shutil
 import sys
 import tempfile
+from collections.abc import Callable, Mapping, Sequence
 from dataclasses import dataclass
-from typing import Callable
+from typing import Any
 
 import instructions
 import run
@@ -41,37 +43,49 @@ MOST, REFUSED = 12.0, 3
 
 # ---- layers: lists of entries, which are put into path order where they are written
 
-def entry(path, kind="dir", attrs=None, **more):
+Entry = dict[str, Any]
+Layer = list[Entry]
+# What a manifest is written of: a layer, a function that makes it, or a text as it stands.
+Source = Layer | Callable[[], Layer] | str
+Sources = Sequence[Source]
+
+
+def entry(path: str, kind: str = "dir", attrs: Mapping[str, str] | None = None, **more: object) -> Entry:
     return {"path": path, "kind": kind, "mode": 0o755 if kind == "dir" else 0o644, "uid": 0, "gid": 0, "mtime": 0, NSEC: 0,
             "xattrs": {name: value.encode().hex() for name, value in (attrs or {}).items()}, **more}
 
 
-def file(path):
+def file(path: str) -> Entry:
     return entry(path, "file", size=0)
 
 
-def files(directory, count, first=0):
+def files(directory: str, count: int, first: int = 0) -> Layer:
     return [file(f"{directory}/f{n:07d}") for n in range(first, first + count)]
 
 
-def chain(name, depth, attrs=None):
+def chain(name: str, depth: int, attrs: Mapping[str, str] | None = None) -> Layer:
     """Directories in each other, of which the deepest has these attributes."""
     paths = [("/" + name) * n for n in range(1, depth + 1)]
     return [entry(path) for path in paths[:-1]] + [entry(paths[-1], attrs=attrs)] if paths else []
 
 
-class First(list):
+class First(Layer):
     """A layer whose manifest is of version 1, in which no nanoseconds stand; others are of the last version."""
 
 
-def manifest_of(layer, entries):
+def names_of(it: Entry) -> list[bytes]:
+    path: str = it["path"]
+    return path.encode().split(b"/")
+
+
+def manifest_of(layer: Source, entries: Layer) -> dict[str, object]:
     """The value of a layer's manifest with these entries."""
     if not isinstance(layer, First):
         return {"overlay-layer": LAST, "entries": entries}
     return {"overlay-layer": 1, "entries": [{name: value for name, value in it.items() if name != NSEC} for it in entries]}
 
 
-def write(folder, layers, unsorted=False):
+def write(folder: str, layers: Sources, unsorted: bool = False) -> list[str]:
     """Writes the layers, the topmost first, and gives the files' names. A layer may be a function that makes it, and a
     text that is written as it stands.
 
@@ -84,7 +98,7 @@ def write(folder, layers, unsorted=False):
                 out.write(layer)
             continue
         entries = [entry("/")] + (layer() if callable(layer) else layer)
-        entries.sort(key=lambda it: it["path"].encode().split(b"/"))
+        entries.sort(key=names_of)
         with open(names[-1], "w", encoding="utf-8") as out:
             json.dump(manifest_of(layer, entries), out, separators=(",", ":"), sort_keys=not unsorted)
     return names
@@ -92,67 +106,67 @@ def write(folder, layers, unsorted=False):
 
 # ---- the cases: what is made of a size
 
-def long_redirect(size):
+def long_redirect(size: int) -> Sources:
     return [[entry("/m", attrs={REDIRECT: "/a" * size})] + files("/m", size), []]
 
 
-def lone_redirect(size):
+def lone_redirect(size: int) -> Sources:
     return [[entry("/m", attrs={REDIRECT: "/a" * size})]]
 
 
-def redirected_directories(size):
+def redirected_directories(size: int) -> Sources:
     return [[entry("/m", attrs={REDIRECT: "/a" * size})] + [entry(f"/m/d{n:07d}") for n in range(size)], []]
 
 
-def many_attributes(size):
+def many_attributes(size: int) -> Sources:
     return [[entry("/m", attrs={f"user.a{n}": "v" for n in range(size)})] + files("/m", size)]
 
 
-def short_attributes(size):
+def short_attributes(size: int) -> Sources:
     """A layer of one entry with short attributes, of which one isn't shown."""
     return [[entry("/m", attrs={OPAQUE: "y", **{f"{n:x}": "" for n in range(size)}})], []]
 
 
-def chained_redirects(size):
+def chained_redirects(size: int) -> Sources:
     below = [lambda: chain("x", 64, {REDIRECT: "/x"})] * (size - 1)
     return [*below, lambda: chain("x", 64) + files("/x", 1)]
 
 
-def other_names(size):
-    return [lambda n=n: files("", 20_000, 20_000 * n) for n in range(size)]
+def other_names(size: int) -> Sources:
+    return [functools.partial(files, "", 20_000, 20_000 * n) for n in range(size)]
 
 
-def empty_over_full(size):
-    return [*[[]] * (size - 1), lambda: files("", 20_000)]
+def empty_over_full(size: int) -> Sources:
+    return [*[Layer()] * (size - 1), lambda: files("", 20_000)]
 
 
-def under_a_chain(size):
+def under_a_chain(size: int) -> Sources:
     return [chain("d", size) + files("/d" * size, 20_000)]
 
 
-def bare_files(redirected=False):
+def bare_files(redirected: bool = False) -> Layer:
     """Metacopy files, which may have an absolute redirect to their own path, the only way into a data-only layer."""
     paths = [f"/f{n:07d}" for n in range(3_000)]
     return [entry(path, "file", {METACOPY: "", **({REDIRECT: path} if redirected else {})}, size=len(CONTENTS)) for path in paths]
 
 
-def full_files():
+def full_files() -> Layer:
     return [entry(f"/f{n:07d}", "file", size=len(CONTENTS), blob=BLOB) for n in range(3_000)]
 
 
-def metacopy_files(size):
+def metacopy_files(size: int) -> Sources:
     return [*[bare_files] * (size - 1), full_files]
 
 
-def data_only_layers(size):
+def data_only_layers(size: int) -> Sources:
     return [lambda: bare_files(True), *[bare_files] * (size - 1), full_files]
 
 
-def chains_into_data(size):
+def chains_into_data(size: int) -> Sources:
     return [*[lambda: bare_files(True)] * size, full_files]
 
 
-def full_layer(size):
+def full_layer(size: int) -> Sources:
     """Directories of at most 1,000 files."""
     left, layer = size - 1, []
     while left > 0:
@@ -162,34 +176,34 @@ def full_layer(size):
     return [layer]
 
 
-def one_directory(size):
+def one_directory(size: int) -> Sources:
     return [files("", size)]
 
 
-def whiteout(path):
+def whiteout(path: str) -> Entry:
     return entry(path, "char", major=0, minor=0)
 
 
-def directories(directory, count, attrs=None):
+def directories(directory: str, count: int, attrs: Mapping[str, str] | None = None) -> Layer:
     return [entry(f"{directory}/d{n:07d}", attrs=attrs) for n in range(count)]
 
 
-def at_the_end_of_chains(size):
+def at_the_end_of_chains(size: int) -> Sources:
     below = [lambda: chain("x", 62)] * (size - 1)
     return [*below, lambda: chain("x", 62) + directories("/x" * 62, 2_000)]
 
 
-def directories_under_a_chain(size):
+def directories_under_a_chain(size: int) -> Sources:
     return [chain("x", 63) + directories("/x" * 63, size), chain("x", 63)]
 
 
-def equal_chains(size):
+def equal_chains(size: int) -> Sources:
     moved = [entry("/m", attrs={REDIRECT: "/z"}), whiteout("/z")]
     equal = [entry(f"/c{n:05d}" + "/a" * names) for n in range(size) for names in range(63)]
     return [moved + equal, [entry("/z")]]
 
 
-def alike_redirects(size):
+def alike_redirects(size: int) -> Sources:
     layer = []
     for n in range(size):
         top = f"/m{n:05d}"
@@ -197,53 +211,53 @@ def alike_redirects(size):
     return [layer, []]
 
 
-def moved_in_redirected(size):
+def moved_in_redirected(size: int) -> Sources:
     return [[entry("/m", attrs={REDIRECT: "/a" * (20 * size)})]
             + [entry(f"/m/d{n:07d}", attrs={REDIRECT: f"x{n:07d}"}) for n in range(size)], []]
 
 
-def whiteouts_in_redirected(size):
+def whiteouts_in_redirected(size: int) -> Sources:
     inside = directories("/m", size)
     return [[entry("/m", attrs={REDIRECT: "/a" * (20 * size)})] + inside + [whiteout(it["path"] + "/w") for it in inside], []]
 
 
-def empty_over_directories(size):
-    return [*[[]] * (size - 1), lambda: directories("", 5_000)]
+def empty_over_directories(size: int) -> Sources:
+    return [*[Layer()] * (size - 1), lambda: directories("", 5_000)]
 
 
-def redirected_to_themselves(size):
+def redirected_to_themselves(size: int) -> Sources:
     own = [entry("/d", attrs={REDIRECT: "/d"})]
     return [*[own] * (size - 1), lambda: [entry("/d")] + files("/d", 1_000)]
 
 
-def attributes_and_whiteouts(size):
+def attributes_and_whiteouts(size: int) -> Sources:
     return [[entry("/d", attrs={f"user.a{n}": "v" for n in range(size)})] + [whiteout(f"/d/w{n:07d}") for n in range(size)],
             [entry("/d")] + files("/d", 1)]
 
 
 # ---- manifests that state no layer, and are to be refused without a value of all that they hold
 
-def manifest(entries):
+def manifest(entries: str) -> Sources:
     return [f'{{"entries":[{entries}],"overlay-layer":1}}']
 
 
-def no_entries(size):
+def no_entries(size: int) -> Sources:
     return manifest(",".join(['{"":0}'] * size))
 
 
-def numbers_alone(size):
+def numbers_alone(size: int) -> Sources:
     return [f"[{','.join('0' * size)}]"]
 
 
-def many_members(size):
+def many_members(size: int) -> Sources:
     return manifest("{" + ",".join(f'"{n:x}":0' for n in range(size)) + "}")
 
 
-def wrong_attributes(size):
+def wrong_attributes(size: int) -> Sources:
     return manifest('{"xattrs":{' + ",".join(f'"{n:x}":0' for n in range(size)) + "}}")
 
 
-def many_lists(size):
+def many_lists(size: int) -> Sources:
     return ["{" + ",".join(['"entries":[0,0]'] * size) + ',"overlay-layer":1}']
 
 
@@ -254,12 +268,12 @@ class Case:
 
     name: str
     command: str
-    make: Callable
-    sizes: tuple
+    make: Callable[[int], Sources]
+    sizes: tuple[int, ...]
     allowed: float = ALLOWED
     status: int = 0
     # How many layers are data-only, at a size.
-    data_only: Callable = lambda size: 0
+    data_only: Callable[[int], int] = lambda size: 0
     # Whether members stand out of the order of their names.
     unsorted: bool = False
     # The most bytes of memory for a byte.
@@ -323,7 +337,7 @@ class Cost:
     instructions: int | None
 
 
-def cost(program, case, size, longest, unsorted=False):
+def cost(program: str, case: Case, size: int, longest: float, unsorted: bool = False) -> Cost:
     with tempfile.TemporaryDirectory(prefix="ovl-growth-") as folder:
         blobs = os.path.join(folder, "blobs")
         os.mkdir(blobs)
@@ -343,21 +357,21 @@ def cost(program, case, size, longest, unsorted=False):
         return Cost(size, sum(map(os.path.getsize, [*layers, report])), seconds, peak, counted)
 
 
-def grown(before, after, allowed):
+def grown(before: Cost | None, after: Cost, allowed: float) -> bool:
     """Whether the instructions for a byte grew by more than is allowed at each doubling."""
-    if before is None or None in (before.instructions, after.instructions):
+    if before is None or before.instructions is None or after.instructions is None:
         return False
     doublings = max(1.0, math.log2(max(1, after.size) / max(1, before.size)))
-    return after.instructions / after.bytes > allowed ** doublings * before.instructions / before.bytes
+    return after.instructions / after.bytes > math.pow(allowed, doublings) * before.instructions / before.bytes
 
 
-def line(it, mark, full):
+def line(it: Cost, mark: str, full: str) -> str:
     counted = ("", "") if it.instructions is None else (f"{it.instructions:,}", f"{it.instructions / it.bytes:.0f}{mark}")
     return run.row([f"{it.size:,}", f"{it.bytes:,}", f"{it.seconds:.2f}", f"{it.peak:,}", counted[0],
                     f"{1e9 * it.seconds / it.bytes:.0f}", f"{it.peak / it.bytes:.1f}{full}", counted[1]])
 
 
-def measure(program, case, sizes, longest, unsorted):
+def measure(program: str, case: Case, sizes: Sequence[int], longest: float, unsorted: bool) -> bool:
     """Prints the case's table. Gives whether nothing grew too fast."""
     print(f"`{case.command}`: {case.name}:\n")
     head = ["N", "Input and report, bytes", "Seconds", "Peak, bytes", "Instructions", "Nanoseconds a byte", "Peak a byte", "Instructions a byte"]
@@ -373,7 +387,7 @@ def measure(program, case, sizes, longest, unsorted):
     return good
 
 
-def main():
+def main() -> None:
     words = argparse.ArgumentParser(description="Measures how the program's cost grows with its input.")
     words.add_argument("--program", required=True, help="path of the program")
     words.add_argument("--case", type=int, action="append", choices=range(1, len(CASES) + 1), help="only this case, counted from 1")

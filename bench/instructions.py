@@ -16,6 +16,7 @@ import re
 import subprocess
 import sys
 import tempfile
+from collections.abc import Sequence
 
 import commands
 import run
@@ -25,7 +26,7 @@ from generate import LAST, MOST_NAMES
 UNREAD = (3,)
 
 
-def instructions(command, statuses, out=os.devnull):
+def instructions(command: list[str], statuses: Sequence[int], out: str = os.devnull) -> int:
     """How many instructions a run takes; callgrind's counts go to a file."""
     words = ["valgrind", "--tool=callgrind", f"--callgrind-out-file={out}", *command]
     ran = subprocess.run(words, stdin=subprocess.DEVNULL, stdout=subprocess.DEVNULL, stderr=subprocess.PIPE, check=False)
@@ -35,14 +36,14 @@ def instructions(command, statuses, out=os.devnull):
     return int(counted[1])
 
 
-def dearest(out, count):
+def dearest(out: str, count: int) -> list[str]:
     """The functions that took the most with all that they call."""
     words = ["callgrind_annotate", "--inclusive=yes", "--threshold=100", out]
     said = subprocess.run(words, stdout=subprocess.PIPE, check=True, text=True).stdout
     return re.findall(r"^ *[\d,]+ \(.*$", said, re.MULTILINE)[:count]
 
 
-def main():
+def main() -> None:
     words = argparse.ArgumentParser(description="Counts the instructions of each command for each entry.")
     words.add_argument("--program", required=True, help="path of the program")
     words.add_argument("--entries", type=int, default=10000, help="entries of each of three layers (default 10000)")

@@ -20,11 +20,12 @@ import os
 import subprocess
 import sys
 import tempfile
+from collections.abc import Callable, Iterator
 from dataclasses import dataclass
 from pathlib import Path
 
 from generate import MOST_NAMES, Generator
-from growth import REDIRECT, entry, manifest_of
+from growth import REDIRECT, Entry, Layer, entry, manifest_of
 from refusals import build
 
 ENTRIES, MOST = 10_000, 0.8
@@ -43,15 +44,15 @@ class Count:
     least: float
     most: float
 
-    def is_good(self):
+    def is_good(self) -> bool:
         return self.least <= self.number <= self.most
 
-    def __str__(self):
+    def __str__(self) -> str:
         bounds = f"at most {self.most:g}" if self.most < float("inf") else f"at least {self.least:g}"
         return f"{self.what}: {self.number:.3g}, {bounds}"
 
 
-def at_most(what, number, most):
+def at_most(what: str, number: float, most: float) -> Count:
     return Count(what, number, 0, most)
 
 
@@ -65,7 +66,7 @@ class Bench:
     library: str
     room: Path
 
-    def met(self, sort, words, statuses=(0,), **more):
+    def met(self, sort: str, words: list[str], statuses: tuple[int, ...] = (0,), **more: object) -> tuple[bytes, int]:
         """What a run prints, and how many calls of this sort it met."""
         told = self.room / "told"
         told.unlink(missing_ok=True)
@@ -76,7 +77,7 @@ class Bench:
             sys.exit(f"reading.py: {words[0]} ended with status {ran.returncode}: {ran.stderr.decode(errors='replace')[:200]}")
         return ran.stdout, int(told.read_text().split()[0])
 
-    def peak(self, words):
+    def peak(self, words: list[str]) -> int:
         """The peak of memory of a run, in kilobytes."""
         process = subprocess.Popen([self.program, *words], stdin=subprocess.DEVNULL, stdout=subprocess.DEVNULL)
         _, status, used = os.wait4(process.pid, 0)
@@ -84,12 +85,12 @@ class Bench:
             sys.exit(f"reading.py: {words[0]} ended with status {status}")
         return used.ru_maxrss
 
-    def folder(self, name):
+    def folder(self, name: str) -> Path:
         made = self.room / name
         made.mkdir(exist_ok=True)
         return made
 
-    def write(self, name, entries):
+    def write(self, name: str, entries: Layer) -> str:
         """A manifest as it is written, of the root and these."""
         entries = sorted([entry("/"), *entries], key=lambda it: it["path"].encode().split(b"/"))
         value = json.dumps(manifest_of(entries, entries), ensure_ascii=False, separators=(",", ":"), sort_keys=True)
@@ -100,15 +101,15 @@ class Bench:
 
 # ---- manifests
 
-def files(directory, count):
+def files(directory: str, count: int) -> Layer:
     return [entry(directory)] + [entry(f"{directory}/f{n:05d}", "file", size=0) for n in range(count)]
 
 
-def named(path, **more):
+def named(path: str, **more: object) -> Entry:
     return entry(path, "file", size=0) | more
 
 
-def one_of_each():
+def one_of_each() -> Iterator[tuple[str, Layer]]:
     """What is said of a manifest, and its entries below the root."""
     some = files("/d", 2_000)
     blob = hashlib.sha256(b"large").hexdigest()
@@ -126,7 +127,7 @@ def one_of_each():
     yield "a path of 4,000 bytes", [*some, *(entry(("/" + "n" * 199) * n) for n in range(1, 21))]
 
 
-def of_manifests(bench):
+def of_manifests(bench: Bench) -> Iterator[Count]:
     unread = bench.room / "unread.json"
     unread.write_bytes(b"")
     for what, entries in one_of_each():
@@ -135,7 +136,7 @@ def of_manifests(bench):
         yield at_most(f"requests for memory an entry, {what}", count / len(entries), 0.5)
 
 
-def of_versions(bench):
+def of_versions(bench: Bench) -> Iterator[Count]:
     for version in MOST_NAMES:
         written, other = (bench.room / f"{name}{version}.json" for name in ("written", "other"))
         with open(written, "wb") as out:
@@ -150,13 +151,13 @@ def of_versions(bench):
 
 # ---- commands
 
-def two_layers(bench, count):
+def two_layers(bench: Bench, count: int) -> list[str]:
     """Layers of other names in directories that both have."""
     return [bench.write(side, [it for n in range(0, count, 200) for it in files(f"/{n:06d}", 200)]
                         + [entry(f"/{n:06d}/{side}", "file", size=0) for n in range(0, count, 200)]) for side in ("upper", "lower")]
 
 
-def of_commands(bench):
+def of_commands(bench: Bench) -> Iterator[Count]:
     layers, blobs, out = two_layers(bench, 4_000), bench.folder("none"), bench.folder("out")
     for command, most in (("vacuum", 0.7), ("deref", 0.2), ("merge", 0.2), ("flatten", 0.2)):
         words = [command, "--workers", "1", "--blobs", str(blobs), "--out", str(out), *layers]
@@ -166,7 +167,7 @@ def of_commands(bench):
     yield at_most("requests for memory a finding", count / 4_000, 11.5)
 
 
-def of_peaks(bench):
+def of_peaks(bench: Bench) -> Iterator[Count]:
     """A process that this one starts is never told as smaller than it, so other processes make the layers, and this is first."""
     layers, blobs, out = [], bench.folder("none"), bench.folder("out")
     for seed in ("1", "2"):
@@ -181,7 +182,7 @@ def of_peaks(bench):
 
 # ---- files
 
-def of_reads(bench):
+def of_reads(bench: Bench) -> Iterator[Count]:
     size = 400_000
     blobs, contents = bench.folder("blobs"), b"x" * size
     name = hashlib.sha256(contents).hexdigest()
@@ -196,7 +197,7 @@ def of_reads(bench):
         yield at_most(f"reads of 400 KB of {what}", bench.met("read", words, path=path)[1], size // part + 3)
 
 
-def of_opens(bench):
+def of_opens(bench: Bench) -> Iterator[Count]:
     """Of many blobs whose names end alike the first that is opened can't be."""
     blobs = bench.folder("many")
     names = [f"{n:02x}" + "0" * 60 + "ff" for n in range(64)]
@@ -204,23 +205,24 @@ def of_opens(bench):
         with open(blobs / name, "wb") as out:
             out.truncate(4_000_000)
     layer = bench.write("many", [named(f"/f{n:02d}", size=4_000_000, blob=name) for n, name in enumerate(names)])
-    for words, workers, most in (([], 1, 1), (["--any-size"], 1, 1), (["--any-size"], 4, 32)):
-        words = ["fsck", *words, "--workers", str(workers), "--blobs", str(blobs), layer]
+    for how, most in (("--workers=1", 1), ("--any-size --workers=1", 1), ("--any-size --workers=4", 32)):
+        words = ["fsck", *how.split(), "--blobs", str(blobs), layer]
         _, count = bench.met("open", words, (3,), path="ff", at=1, error=5)
-        yield at_most(f"opens of 64 blobs of which the first fails, {' '.join(words[1:4])}", count, most)
+        yield at_most(f"opens of 64 blobs of which the first fails, {how}", count, most)
 
 
-def of_yields(bench):
+def of_yields(bench: Bench) -> Iterator[Count]:
     """Where directories stand in each other, one worker has work, and the others wait for it."""
     layer = bench.write("chain", [it for n in range(1, 121) for it in files("/d" * n, 200)])
     _, count = bench.met("yield", ["show", "--workers", "4", layer])
     yield Count("times that three idle workers yield their processor", count, 1, float("inf"))
 
 
-PARTS = (of_peaks, of_versions, of_manifests, of_commands, of_reads, of_opens, of_yields)
+PARTS: tuple[Callable[[Bench], Iterator[Count]], ...] = (
+    of_peaks, of_versions, of_manifests, of_commands, of_reads, of_opens, of_yields)
 
 
-def main():
+def main() -> None:
     words = argparse.ArgumentParser(description="Counts what the program asks of the system, and refuses more.")
     words.add_argument("--program", required=True, help="path of the program")
     given = words.parse_args()

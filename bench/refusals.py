@@ -8,9 +8,9 @@ refusal; and so is each start of a thread, of which there is none by 1 worker, a
 thing that a command does, at most. A run must end with its full answer, or with status 5 and `out of memory`, nothing on
 standard output, no new layer, and the one that was there as it was.
 
-Where no contract says how many threads share a thing, the starts are counted: of forty layers with forty contents, of a layer
-whose report and manifest have many lines, and of the six commands by up to 64 workers. So a command that has one thread read
-all manifests or contents or write all lines is told, one that starts a thread for each of them, and one of too few workers.
+Where no contract says how many threads share a thing, the starts are counted: of forty layers with forty contents and of a
+layer whose report has many lines, by 2, 4 and 12 workers. So a command is told in which one thread reads all manifests or
+contents or writes all lines, one that starts a thread for each of them, and one of too few workers.
 
 Each test of the other program runs in a process of its own, again and again, with one request for memory or one start of a
 thread refused: it must pass each time, as it makes a call that ran out of memory again.
@@ -28,10 +28,11 @@ import shutil
 import subprocess
 import sys
 import tempfile
+from collections.abc import Iterator
 from dataclasses import dataclass
 from pathlib import Path
 
-from growth import REDIRECT, First, entry, write
+from growth import REDIRECT, Entry, First, Layer, entry, write
 
 SOURCE = Path(__file__).resolve().parent / "refuse.c"
 COMMANDS = ("show", "fsck", "vacuum", "deref", "merge", "flatten", "fsck --any-size", "merge --any-size")
@@ -52,24 +53,24 @@ OLD = b"what was there before\n"
 
 # ---- the stacks
 
-def digest(contents):
+def digest(contents: bytes) -> str:
     return hashlib.sha256(contents).hexdigest()
 
 
-def file(path, contents, stated=None):
+def file(path: str, contents: bytes, stated: int | None = None) -> Entry:
     """A file of these contents; of another size than theirs where that is stated."""
     return entry(path, "file", size=len(contents) if stated is None else stated, blob=digest(contents))
 
 
-def whiteout(path):
+def whiteout(path: str) -> Entry:
     return entry(path, "char", major=0, minor=0)
 
 
-def moved(path, target):
+def moved(path: str, target: str) -> Entry:
     return entry(path, attrs={REDIRECT: target})
 
 
-def opaque(path):
+def opaque(path: str) -> Entry:
     return entry(path, attrs={"trusted.overlay.opaque": "y"})
 
 
@@ -78,10 +79,10 @@ class Stack:
     """Layers, the topmost first, each below its root; the contents of the blobs by their names; how many workers; and what
     these are refused."""
 
-    layers: tuple
-    blobs: dict
-    workers: tuple = (1, 2)
-    refused: tuple = tuple(WAYS)
+    layers: tuple[Layer, ...]
+    blobs: dict[str, bytes]
+    workers: tuple[int, ...] = (1, 2)
+    refused: tuple[str, ...] = tuple(WAYS)
 
 
 A = {digest(b"a"): b"a"}
@@ -114,13 +115,13 @@ class Ending:
     status: int
     printed: bytes
     told: bytes
-    layers: dict
+    layers: dict[str, bytes]
 
 
 REFUSED = Ending(5, b"", b"ovl_layers: out of memory\n", {"layer-0.json": OLD})
 
 
-def run(words, room, env):
+def run(words: list[str], room: Path, env: dict[str, str]) -> tuple[Ending, int, bool]:
     """A run's ending, how often what is counted was met, and whether it was refused. One that is killed counts as refused."""
     new, told = room / "new", room / "told"
     shutil.rmtree(new, ignore_errors=True)
@@ -142,10 +143,10 @@ class Sweep:
     workers: int
     refused: str
 
-    def most_threads(self):
+    def most_threads(self) -> int:
         return (THINGS + len(STACKS[self.stack].layers)) * (self.workers - 1)
 
-    def words(self, program, room):
+    def words(self, program: str, room: Path) -> list[str]:
         stack, blobs, folder = STACKS[self.stack], room / "blobs", room / "layers"
         for it in (blobs, folder):
             it.mkdir()
@@ -158,7 +159,7 @@ class Sweep:
         return words + write(str(folder), stack.layers)
 
 
-def swept(program, library, sweep):
+def swept(program: str, library: str, sweep: Sweep) -> tuple[int, list[str]]:
     """How many runs there were, and what is told of those that ended wrongly."""
     with tempfile.TemporaryDirectory(prefix="ovl-refusals-") as folder:
         room = Path(folder)
@@ -199,14 +200,14 @@ class Crew:
     stack: str
     workers: int
 
-    def threads(self):
+    def threads(self) -> int:
         layers, commands = STARTS[self.stack]
         lists, walks, beside = commands[self.command]
         share = -(-layers // self.workers)
         return lists * (-(-layers // share) - 1) + walks * (self.workers - 1) + beside
 
 
-def counted(program, library, crew):
+def counted(program: str, library: str, crew: Crew) -> tuple[int, list[str]]:
     """One run, and what is told where it starts fewer threads, or many more."""
     with tempfile.TemporaryDirectory(prefix="ovl-refusals-") as folder:
         room = Path(folder)
@@ -218,7 +219,7 @@ def counted(program, library, crew):
     return 1, [f"{crew.command} of {crew.stack} by {crew.workers}: {met} threads were started, and not {wanted}"]
 
 
-def crews():
+def crews() -> Iterator[Crew]:
     for stack, (_, commands) in STARTS.items():
         yield from (Crew(command, stack, workers) for command in commands for workers in (2, 4, 12))
 
@@ -233,7 +234,7 @@ class Trial:
     command = TESTS
 
 
-def tried(program, library, trial):
+def tried(program: str, library: str, trial: Trial) -> tuple[int, list[str]]:
     """How many runs of a test there were, and what is told of those that didn't pass."""
     wrong = []
     with tempfile.TemporaryDirectory(prefix="ovl-refusals-") as folder:
@@ -249,14 +250,14 @@ def tried(program, library, trial):
     return runs, [*wrong, f"{trial.test}: no run without a refusal"]
 
 
-def trials(program):
+def trials(program: str) -> Iterator[Trial]:
     listed = subprocess.run([program, "--list"], stdin=subprocess.DEVNULL, capture_output=True, text=True, check=True).stdout
     for test in listed.split(": test\n")[:-1]:
         yield Trial(test, 1, THREAD)
         yield from (Trial(test, first, "a request") for first in range(1, SHARES + 1))
 
 
-def build(library):
+def build(library: str) -> None:
     """Builds the library by the compiler that rt brings along."""
     page = subprocess.run(["rt", "doc"], stdin=subprocess.DEVNULL, capture_output=True, text=True, check=True).stdout
     tools = Path(page.strip()).parent / "toolchain/bin"
@@ -266,14 +267,14 @@ def build(library):
         subprocess.run([tools / "ld.lld", "-shared", "-o", library, made], check=True)
 
 
-def sweeps():
+def sweeps() -> Iterator[Sweep]:
     """All, those of the longest runs first."""
     for name, stack in reversed(STACKS.items()):
         for refused in stack.refused:
             yield from (Sweep(command, name, workers, refused) for workers in stack.workers for command in COMMANDS)
 
 
-def main():
+def main() -> None:
     words = argparse.ArgumentParser(description="Refuses programs memory, one request after the other.")
     what = words.add_mutually_exclusive_group(required=True)
     what.add_argument("--program", help="path of the program")
@@ -281,19 +282,21 @@ def main():
     words.add_argument("--tests", metavar="PROGRAM", help="path of a program of tests, which is refused memory too")
     given = words.parse_args()
     if given.library:
-        sys.exit(build(given.library))
-    program, runs, wrong = os.path.abspath(given.program), collections.Counter(), collections.defaultdict(list)
-    todo = [(swept, program, it) for it in sweeps()] + [(counted, program, it) for it in crews()]
-    if given.tests:
-        tests = os.path.abspath(given.tests)
-        todo += [(tried, tests, it) for it in trials(tests)]
+        build(given.library)
+        sys.exit(0)
+    program, tests = os.path.abspath(given.program), os.path.abspath(given.tests) if given.tests else None
+    runs: collections.Counter[str] = collections.Counter()
+    wrong: dict[str, list[str]] = collections.defaultdict(list)
     with tempfile.TemporaryDirectory(prefix="ovl-refuse-") as folder, concurrent.futures.ProcessPoolExecutor() as pool:
         library = os.path.join(folder, "refuse.so")
         build(library)
-        for it, done in [(it, pool.submit(how, path, library, it)) for how, path, it in todo]:
+        todo = [(it.command, pool.submit(swept, program, library, it)) for it in sweeps()]
+        todo += [(it.command, pool.submit(counted, program, library, it)) for it in crews()]
+        todo += [(it.command, pool.submit(tried, tests, library, it)) for it in trials(tests)] if tests else []
+        for command, done in todo:
             count, told = done.result()
-            runs[it.command] += count
-            wrong[it.command] += told
+            runs[command] += count
+            wrong[command] += told
     for command in (*COMMANDS, *([TESTS] if given.tests else [])):
         print(*wrong[command][:TOLD], sep="\n", end="\n" if wrong[command] else "")
         print(f"{command}: {runs[command]:,} runs, {len(wrong[command])} ended wrongly", flush=True)

@@ -18,6 +18,7 @@ import subprocess
 import sys
 import tempfile
 import time
+from collections.abc import Sequence
 
 HERE = os.path.dirname(os.path.abspath(__file__))
 GENERATE = os.path.join(HERE, "generate.py")
@@ -26,7 +27,7 @@ READ_ONE = "import json,sys; json.load(sys.stdin)"
 READ_ALL = "import json,sys; [json.load(open(f)) for f in sys.argv[1:]]"
 
 
-def one_run(command, source, sink):
+def one_run(command: list[str], source: str, sink: str) -> tuple[float, int, int]:
     """(seconds, peak bytes, exit status) of one run in a process of its own.
 
     GNU time reports the peak of its child alone. Without it the peak is that of
@@ -52,7 +53,7 @@ def one_run(command, source, sink):
     return seconds, peak * 1024, child.returncode
 
 
-def measure(command, source, repeats):
+def measure(command: list[str], source: str, repeats: int) -> tuple[float, int]:
     """(least seconds, largest peak) over the runs; a failed run ends the script."""
     runs = []
     for _ in range(repeats):
@@ -63,13 +64,13 @@ def measure(command, source, repeats):
     return min(s for s, _ in runs), max(p for _, p in runs)
 
 
-def last_line(path):
+def last_line(path: str) -> list[bytes]:
     with open(path, "rb") as report:
         report.seek(max(0, os.path.getsize(path) - 100))
         return report.read().splitlines()[-1:] or [b""]
 
 
-def machine():
+def machine() -> str:
     name = platform.machine()
     try:
         with open("/proc/cpuinfo") as text:
@@ -89,11 +90,11 @@ def machine():
         platform.python_version())
 
 
-def row(cells):
+def row(cells: Sequence[str]) -> str:
     return "| " + " | ".join(cells) + " |"
 
 
-def main():
+def main() -> None:
     words = argparse.ArgumentParser(description="Measures the program on large layers.")
     words.add_argument("--program", required=True, help="path of the program")
     words.add_argument("--sizes", default="10000,100000,1000000", help="entries of a layer, with commas (default 10000,100000,1000000)")
@@ -131,9 +132,7 @@ def main():
             if status != 0 or not whole:
                 sys.exit("run.py: %d entries: status %d, the report ends with %r" % (entries, status, end))
             os.unlink(report)
-            ours = measure(ours, source, given.repeats)
-            python = measure(python, source, given.repeats)
-            results.append((entries, size, ours, python))
+            results.append((entries, size, measure(ours, source, given.repeats), measure(python, source, given.repeats)))
             print("run.py: %d entries done" % entries, file=sys.stderr)
             for f in files:
                 os.unlink(f)

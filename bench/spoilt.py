@@ -25,7 +25,9 @@ import shlex
 import subprocess
 import sys
 import tempfile
+from collections.abc import Callable, Sequence
 from dataclasses import dataclass
+from typing import Any
 
 WORKERS = (1, 4)
 # Seconds after which a program counts as one that gives no answer, and how many bytes of an answer are printed.
@@ -77,13 +79,18 @@ class Raw:
     text: str
 
 
-class Members(list):
+# A value may be of any type, also where a sound manifest has a text: as the name of a member.
+Value = Any
+Member = tuple[Value, Value]
+
+
+class Members(list[Member]):
     """The members of an object in the order in which they are written, names and values."""
 
-    def get(self, name):
+    def get(self, name: Value) -> Value:
         return next((value for it, value in self if it == name), None)
 
-    def put(self, name, value):
+    def put(self, name: Value, value: Value) -> None:
         """Gives the member this value, and adds it where it is missing."""
         at = next((n for n, (it, _) in enumerate(self) if it == name), len(self))
         self[at:at + 1] = [(name, value)]
@@ -98,25 +105,25 @@ class Style:
     order: str
 
 
-def some_style(rng):
+def some_style(rng: random.Random) -> Style:
     """Half of the manifests are compact, with sorted members and no escapes but those that must be."""
     if rng.random() < 0.5:
         return Style(0.0, 0.0, rng.choice(("sorted", "as they are")))
     return Style(rng.choice((0.0, 0.1, 0.5)), rng.choice((0.0, 0.1, 0.5)), rng.choice(("sorted", "as they are", "shuffled")))
 
 
-def escaped(text):
+def escaped(text: str) -> str:
     """A text with every character as an escape, in two where it takes more than sixteen bits."""
     units = text.encode("utf-16-be", "surrogatepass")
     return "".join(f"\\u{units[n:n + 2].hex()}" for n in range(0, len(units), 2))
 
 
-def plain(text):
+def plain(text: str) -> str:
     """A text with the escapes that must be, without its quotes."""
     return json.dumps(text, ensure_ascii=False)[1:-1]
 
 
-def quoted(text, style, rng):
+def quoted(text: str, style: Style, rng: random.Random) -> str:
     if style.escapes > 0:
         text = "".join(escaped(it) if rng.random() < style.escapes else plain(it) for it in text)
     else:
@@ -124,17 +131,17 @@ def quoted(text, style, rng):
     return f'"{text}"'
 
 
-def gap(style, rng):
+def gap(style: Style, rng: random.Random) -> str:
     return "".join(rng.choices(" \t\n\r", k=rng.randint(1, 3))) if rng.random() < style.gaps else ""
 
 
-def in_order(members, style, rng):
+def in_order(members: Members, style: Style, rng: random.Random) -> list[Member]:
     if style.order == "sorted":
         return sorted(members, key=lambda it: str(it[0]).encode("utf-8", "surrogatepass"))
     return rng.sample(members, len(members)) if style.order == "shuffled" else members
 
 
-def written(value, style, rng):
+def written(value: Value, style: Style, rng: random.Random) -> str:
     """The text of a value."""
     if isinstance(value, Raw):
         return value.text
@@ -146,28 +153,29 @@ def written(value, style, rng):
     if isinstance(value, Members):
         parts = [written(name, style, rng) + space() + ":" + space() + written(it, style, rng)
                  for name, it in in_order(value, style, rng)]
-        begin, end = "{}"
+        begin, end = "{", "}"
     else:
-        parts, (begin, end) = [written(it, style, rng) for it in value], "[]"
+        parts, begin, end = [written(it, style, rng) for it in value], "[", "]"
     return begin + space() + f"{space()},{space()}".join(parts) + space() + end
 
 
 # ---- sound layers
 
-def key(path):
+def key(path: str) -> list[bytes]:
     return path.encode("utf-8", "surrogatepass").split(b"/")
 
 
-def attributes(rng):
+def attributes(rng: random.Random) -> Members:
     chosen = dict(rng.sample(ATTRIBUTES, rng.choice((0, 0, 0, 1, 1, 2, 3))))
-    return Members(sorted(((name, value.hex()) for name, value in chosen.items()), key=lambda it: it[0].encode()))
+    return Members(sorted((name, value.hex()) for name, value in chosen.items()))
 
 
-def entry(rng, path, kind, version):
+def entry(rng: random.Random, path: str, kind: str, version: int) -> Members:
     attrs = attributes(rng)
-    members = {"path": path, "kind": kind, "mode": rng.choice((0, 0o644, 0o755, 0o4755, 4095)), "xattrs": attrs,
-               "uid": rng.choice((0, 1000, 2**32 - 1)), "gid": rng.choice((0, 1000)),
-               "mtime": rng.choice((0, 1_500_000_000, -1, 2**63 - 1, -2**63))}
+    members: dict[str, Value] = {
+        "path": path, "kind": kind, "mode": rng.choice((0, 0o644, 0o755, 0o4755, 4095)), "xattrs": attrs,
+        "uid": rng.choice((0, 1000, 2**32 - 1)), "gid": rng.choice((0, 1000)),
+        "mtime": rng.choice((0, 1_500_000_000, -1, 2**63 - 1, -2**63))}
     if version == 2:
         members[NSEC] = rng.choice((0, 0, 1, 500_000_000, 999_999_999))
     if kind == "file":
@@ -181,7 +189,7 @@ def entry(rng, path, kind, version):
     return Members(sorted(members.items()))
 
 
-def sound(rng, version):
+def sound(rng: random.Random, version: int) -> Members:
     """The value of a manifest of a root and up to 12 entries."""
     kinds, below = {"/": "dir"}, [""]
     for _ in range(rng.randint(0, 12)):
@@ -195,34 +203,34 @@ def sound(rng, version):
 
 # ---- what is spoilt in a value: functions of the chance and the manifest, which they change
 
-def entries_of(manifest):
+def entries_of(manifest: Members) -> list[Value]:
     found = manifest.get("entries")
     return found if type(found) is list else []
 
 
-def version_of(manifest):
+def version_of(manifest: Members) -> int:
     """The version of a manifest, the last one where that is spoilt."""
     found = manifest.get("overlay-layer")
     return found if type(found) is int and found in DEEPEST else max(DEEPEST)
 
 
-def objects_of(manifest):
+def objects_of(manifest: Members) -> list[Members]:
     """The entries that are objects."""
     return [it for it in entries_of(manifest) if isinstance(it, Members)]
 
 
-def attributes_of(members):
+def attributes_of(members: Members) -> Members:
     """The attributes of an entry, none where they aren't an object."""
     found = members.get("xattrs")
     return found if isinstance(found, Members) else Members()
 
 
-def some_entry(rng, manifest):
+def some_entry(rng: random.Random, manifest: Members) -> Members:
     """One of the entries that are objects; where there is none, one that stands nowhere."""
     return rng.choice(objects_of(manifest) or [Members()])
 
 
-def some_object(rng, manifest):
+def some_object(rng: random.Random, manifest: Members) -> Members:
     """The manifest, an entry or an entry's attributes."""
     within, chance = some_entry(rng, manifest), rng.random()
     if chance < 0.2:
@@ -230,13 +238,13 @@ def some_object(rng, manifest):
     return attributes_of(within) if chance < 0.4 else within
 
 
-def some_of(rng, members, wanted):
+def some_of(rng: random.Random, members: Members, wanted: type) -> Value:
     """The name of a member whose value is of this type, or None."""
     names = [name for name, value in members if isinstance(value, wanted) and not isinstance(name, Raw)]
     return rng.choice(names) if names else None
 
 
-def renamed_member(rng, manifest):
+def renamed_member(rng: random.Random, manifest: Members) -> None:
     members = some_object(rng, manifest)
     if members:
         at = rng.randrange(len(members))
@@ -246,7 +254,7 @@ def renamed_member(rng, manifest):
         members[at] = rng.choice(names), value
 
 
-def doubled_member(rng, manifest):
+def doubled_member(rng: random.Random, manifest: Members) -> None:
     """Twice the same name, also with escapes, with the same value or another one's."""
     members = some_object(rng, manifest)
     if members:
@@ -256,28 +264,28 @@ def doubled_member(rng, manifest):
         members.insert(rng.randint(0, len(members)), (name, value))
 
 
-def missing_member(rng, manifest):
+def missing_member(rng: random.Random, manifest: Members) -> None:
     members = some_object(rng, manifest)
     if members:
         del members[rng.randrange(len(members))]
 
 
-def extra_member(rng, manifest):
-    extra = (("size", 1), ("size", 0), ("blob", "0" * 64), ("blob", None), ("target", "x"), ("major", 0), ("minor", 0),
-             ("nlink", 1), (NSEC, 0), ("entries", []), ("overlay-layer", 1), ("", ""), ("xattrs", Members()),
-             ("user.x", "00"))
+def extra_member(rng: random.Random, manifest: Members) -> None:
+    extra: tuple[Member, ...] = (
+        ("size", 1), ("size", 0), ("blob", "0" * 64), ("blob", None), ("target", "x"), ("major", 0), ("minor", 0),
+        ("nlink", 1), (NSEC, 0), ("entries", []), ("overlay-layer", 1), ("", ""), ("xattrs", Members()), ("user.x", "00"))
     members = some_object(rng, manifest)
     members.insert(rng.randint(0, len(members)), rng.choice(extra))
 
 
-def odd_number(rng, manifest):
+def odd_number(rng: random.Random, manifest: Members) -> None:
     members = manifest if rng.random() < 0.1 else some_entry(rng, manifest)
     name = some_of(rng, members, int)
     if name is not None:
         members.put(name, Raw(rng.choice(NUMBERS)))
 
 
-def number_at_an_edge(rng, manifest):
+def number_at_an_edge(rng: random.Random, manifest: Members) -> None:
     members = manifest if rng.random() < 0.1 else some_entry(rng, manifest)
     name = some_of(rng, members, int)
     if name is not None:
@@ -285,20 +293,20 @@ def number_at_an_edge(rng, manifest):
         members.put(name, Raw(f"{sign}{rng.choice(EDGES)}{after}"))
 
 
-def odd_time(rng, manifest):
+def odd_time(rng: random.Random, manifest: Members) -> None:
     whole = rng.choice((-1, -86_400, -2**63, -2**63 - 1, 1_700_000_000))
     after = rng.choice(("", "", ".0", ".5", ".123456789", "e0", "e-1", "E9"))
     some_entry(rng, manifest).put("mtime", Raw(f"{whole}{after}"))
 
 
-def odd_nanoseconds(rng, manifest):
+def odd_nanoseconds(rng: random.Random, manifest: Members) -> None:
     """Nanoseconds at the edges, and where there may be none."""
     values = ("0", "1", "-1", "-0", "000000001", "999999999", "1000000000", "1000000001", "999999999.0", "0.5", "1e3", "1e9",
               "4294967296", "18446744073709551616", '"0"', '""', "null", "true", "[]")
     some_entry(rng, manifest).put(NSEC, Raw(rng.choice(values)))
 
 
-def entry_of_another_version(rng, manifest):
+def entry_of_another_version(rng: random.Random, manifest: Members) -> None:
     """One entry, or each, with nanoseconds where the version has none, or without."""
     wanted = [some_entry(rng, manifest)] if rng.random() < 0.5 else objects_of(manifest)
     for within in wanted:
@@ -309,15 +317,16 @@ def entry_of_another_version(rng, manifest):
             within[:] = [it for it in within if it[0] != NSEC]
 
 
-def other_type(rng, manifest):
+def other_type(rng: random.Random, manifest: Members) -> None:
     members = some_object(rng, manifest)
     if members:
         at = rng.randrange(len(members))
-        values = (None, True, False, "", "1", "x", 0, [], [0], Members(), Members([("a", 0)]), Raw("nul"), Raw("True"), Raw(""))
+        values: tuple[Value, ...] = (None, True, False, "", "1", "x", 0, [], [0], Members(), Members([("a", 0)]), Raw("nul"),
+                                     Raw("True"), Raw(""))
         members[at] = members[at][0], rng.choice(values)
 
 
-def odd_escape(rng, manifest):
+def odd_escape(rng: random.Random, manifest: Members) -> None:
     """A piece of escaped text within a value or a name."""
     members = some_object(rng, manifest)
     name = some_of(rng, members, str)
@@ -330,7 +339,7 @@ def odd_escape(rng, manifest):
         members[:] = [changed if it[0] == name else it for it in members]
 
 
-def odd_digits(rng, manifest):
+def odd_digits(rng: random.Random, manifest: Members) -> None:
     """Digests and attributes' values of other digits or another length."""
     entries = objects_of(manifest)
     holders = [(it, "blob") for it in entries] + [(attributes_of(it), name) for it in entries for name, _ in attributes_of(it)]
@@ -344,18 +353,18 @@ def odd_digits(rng, manifest):
                                       text + "00", "0x" + text, text[:at] + " " + text[at:], "0" * 63, "0" * 65, "A" * 64)))
 
 
-def blob_where_none_may_be(rng, manifest):
+def blob_where_none_may_be(rng: random.Random, manifest: Members) -> None:
     """Sizes, blobs and metacopy that don't fit together, and some that do."""
     within = some_entry(rng, manifest)
     within[:] = [it for it in within if it[0] not in ("kind", "size", "blob", "xattrs")]
     within += rng.choice(([("kind", "file")], [("kind", "file")], [("kind", "dir")]))
     within += [("size", rng.choice((0, 1, 7)))] + [("blob", rng.choice(("0" * 64, "0" * 64, "", None)))] * rng.randint(0, 1)
-    attrs = rng.choice(([], [(METACOPY, "")], [(METACOPY, "00")], [("user.overlay.metacopy", "")]))
-    within.append(("xattrs", Members(attrs)))
+    attrs = (Members(), Members([(METACOPY, "")]), Members([(METACOPY, "00")]), Members([("user.overlay.metacopy", "")]))
+    within.append(("xattrs", rng.choice(attrs)))
     within.sort(key=lambda it: str(it[0]))
 
 
-def odd_attribute(rng, manifest):
+def odd_attribute(rng: random.Random, manifest: Members) -> None:
     names = ("", "\0", "user.\0", "trusted.overlay.overlay.opaque", "trusted.overlay.overlay.", "trusted.overlay.overlay",
              "trusted.overlay.", "Trusted.overlay.overlay.x", "u" * 255, "u" * 256, "\u00e9" * 127, "\u00e9" * 128, "user.a b",
              "=", "\\")
@@ -364,19 +373,19 @@ def odd_attribute(rng, manifest):
     attrs.sort(key=lambda it: str(it[0]).encode("utf-8", "surrogatepass"))
 
 
-def odd_kind(rng, manifest):
+def odd_kind(rng: random.Random, manifest: Members) -> None:
     kinds = ("Dir", "dirs", "", "file ", "hardlink", "door", "regular", *set(KINDS))
     some_entry(rng, manifest).put("kind", rng.choice(sorted(kinds)))
 
 
-def odd_target(rng, manifest):
+def odd_target(rng: random.Random, manifest: Members) -> None:
     found = [it for it in objects_of(manifest) if it.get("kind") == "symlink"] or [some_entry(rng, manifest)]
     length = rng.choice((4_094, 4_095, 4_096, 5_000))
     targets = ("", "\0", "a\0", "/", "x" * length, "\u00e9" * (length // 2), "\u00e9" * (length // 2) + "x")
     rng.choice(found).put("target", rng.choice(targets))
 
 
-def odd_path(rng, manifest):
+def odd_path(rng: random.Random, manifest: Members) -> None:
     within = some_entry(rng, manifest)
     path = within.get("path")
     if isinstance(path, str):
@@ -386,14 +395,14 @@ def odd_path(rng, manifest):
         within.put("path", rng.choice((after, another, changed)))
 
 
-def deep_path(rng, manifest):
+def deep_path(rng: random.Random, manifest: Members) -> None:
     """A chain of about as many directories as a path may have names."""
     version = version_of(manifest)
     below = [entry(rng, "/d" * n, "dir", version) for n in range(1, DEEPEST[version] + rng.randint(-2, 3))]
     manifest.put("entries", entries_of(manifest)[:1] + below)
 
 
-def long_path(rng, manifest):
+def long_path(rng: random.Random, manifest: Members) -> None:
     """Names and paths of about as many bytes as they may have."""
     if rng.random() < 0.5:
         sizes = [rng.randint(253, 257)]
@@ -405,27 +414,27 @@ def long_path(rng, manifest):
     manifest.put("entries", entries_of(manifest)[:1] + below)
 
 
-def entry_elsewhere(rng, manifest):
+def entry_elsewhere(rng: random.Random, manifest: Members) -> None:
     found = entries_of(manifest)
     if found:
         found.insert(rng.randint(0, len(found)), found.pop(rng.randrange(len(found))))
 
 
-def entry_twice(rng, manifest):
+def entry_twice(rng: random.Random, manifest: Members) -> None:
     found = entries_of(manifest)
     if found:
         at = rng.randrange(len(found))
         found.insert(rng.choice((at, at, rng.randint(0, len(found)))), found[at])
 
 
-def entry_dropped(rng, manifest):
+def entry_dropped(rng: random.Random, manifest: Members) -> None:
     found = entries_of(manifest)
     directories = [n for n, it in enumerate(found) if isinstance(it, Members) and it.get("kind") == "dir"]
     if found:
         del found[rng.choice((0, rng.choice(directories or [0]), rng.randrange(len(found))))]
 
 
-def entries_in_another_order(rng, manifest):
+def entries_in_another_order(rng: random.Random, manifest: Members) -> None:
     found = entries_of(manifest)
     kept = found[:1] if rng.random() < 0.7 else []
     rest = found[len(kept):]
@@ -434,32 +443,32 @@ def entries_in_another_order(rng, manifest):
     found[:] = kept + rng.choice((rest[::-1], rng.sample(rest, len(rest)), by_text))
 
 
-def not_an_entry(rng, manifest):
+def not_an_entry(rng: random.Random, manifest: Members) -> None:
     found = entries_of(manifest)
     found.insert(rng.randint(0, len(found)), rng.choice((None, 0, "", "/", [], Members(), Raw(""), [Members()])))
 
 
-def other_root(rng, manifest):
+def other_root(rng: random.Random, manifest: Members) -> None:
     found = entries_of(manifest)
     if found and isinstance(found[0], Members):
         path = rng.choice(("/", "/", "/a", "", "//"))
         found[0] = entry(rng, path, rng.choice(KINDS[3:] if path == "/" else KINDS), version_of(manifest))
 
 
-def other_version(rng, manifest):
+def other_version(rng: random.Random, manifest: Members) -> None:
     versions = ("0", "1", "2", "3", "-1", "1.0", "1e0", "10e-1", "1.5", '"1"', "true", "null", "[1]", "01", str(2**64 - 1),
                 str(2**64), str(-2**63 - 1))
     manifest.put("overlay-layer", Raw(rng.choice(versions)))
 
 
-def other_list(rng, manifest):
+def other_list(rng: random.Random, manifest: Members) -> None:
     """Lists of nothing, of as many as there may be and of one more, and what isn't a list."""
     found, many = entries_of(manifest), MOST_ENTRIES - rng.randint(0, 1)
     manifest.put("entries", rng.choice(([], None, Members(), 0, "", found[:1], [found], Raw("[,]"), Raw("[null,]"),
                                         Raw("[" + "0," * many + "0]"))))
 
 
-def nested(rng, manifest):
+def nested(rng: random.Random, manifest: Members) -> None:
     """A value in many brackets, in place of another or of its own name."""
     depth = rng.choice((1, 2, 100, *range(122, 131), 1_000))
     lists, objects = "[" * depth + "]" * depth, '{"a":' * depth + "1" + "}" * depth
@@ -470,85 +479,88 @@ def nested(rng, manifest):
 
 
 # What stands twice is drawn twice as often.
-VALUES = (renamed_member, doubled_member, doubled_member, missing_member, extra_member, odd_number, odd_number,
-          number_at_an_edge, number_at_an_edge, odd_time, odd_nanoseconds, entry_of_another_version, other_type, odd_escape, odd_escape, odd_digits, blob_where_none_may_be,
-          odd_attribute, odd_attribute, odd_kind, odd_target, odd_path, odd_path, deep_path, long_path, entry_elsewhere,
-          entry_twice, entry_dropped, entries_in_another_order, not_an_entry, other_root, other_version, other_list, nested)
+VALUES: tuple[Callable[[random.Random, Members], None], ...] = (
+    renamed_member, doubled_member, doubled_member, missing_member, extra_member, odd_number, odd_number, number_at_an_edge,
+    number_at_an_edge, odd_time, odd_nanoseconds, entry_of_another_version, other_type, odd_escape, odd_escape, odd_digits,
+    blob_where_none_may_be, odd_attribute, odd_attribute, odd_kind, odd_target, odd_path, odd_path, deep_path, long_path,
+    entry_elsewhere, entry_twice, entry_dropped, entries_in_another_order, not_an_entry, other_root, other_version, other_list,
+    nested)
 
 
 # ---- what is spoilt in the bytes: functions of the chance and the bytes, which give other bytes
 
-def some_place(rng, data):
+def some_place(rng: random.Random, data: bytes) -> int:
     """A place in the bytes, mostly beside a mark of punctuation."""
     marks = [it.start() + rng.randint(0, 1) for it in re.finditer(rb'["{}\[\],:]', data)]
     return rng.choice(marks) if marks and rng.random() < 0.5 else rng.randint(0, len(data))
 
 
-def put_in(rng, data, pieces):
+def put_in(rng: random.Random, data: bytes, pieces: Sequence[bytes]) -> bytes:
     at = some_place(rng, data)
     return data[:at] + rng.choice(pieces) + data[at:]
 
 
-def byte_dropped(rng, data):
+def byte_dropped(rng: random.Random, data: bytes) -> bytes:
     at = some_place(rng, data)
     return data[:at] + data[at + 1:]
 
 
-def byte_doubled(rng, data):
+def byte_doubled(rng: random.Random, data: bytes) -> bytes:
     at = some_place(rng, data)
     return data[:at] + data[at:at + 1] + data[at:]
 
 
-def bytes_swapped(rng, data):
+def bytes_swapped(rng: random.Random, data: bytes) -> bytes:
     at = some_place(rng, data)
     return data[:at] + data[at + 1:at + 2] + data[at:at + 1] + data[at + 2:]
 
 
-def byte_changed(rng, data):
+def byte_changed(rng: random.Random, data: bytes) -> bytes:
     at = some_place(rng, data)
     old = data[at] if at < len(data) else 0
     new = rng.choice((rng.randrange(256), old ^ 1 << rng.randrange(8), *b'"{}[],:0e.- \\'))
     return data[:at] + bytes([new]) + data[at + 1:]
 
 
-def byte_put_in(rng, data):
+def byte_put_in(rng: random.Random, data: bytes) -> bytes:
     return put_in(rng, data, [bytes([it]) for it in (rng.randrange(256), *b'"{}[],:0e.-\\/')])
 
 
-def white_space_put_in(rng, data):
+def white_space_put_in(rng: random.Random, data: bytes) -> bytes:
     return put_in(rng, data, (b" ", b"\t", b"\n", b"\r", b"\x0b", b"\x0c", b"\0", b"\xc2\xa0", b"\xe2\x80\xa8"))
 
 
-def bad_utf8(rng, data):
+def bad_utf8(rng: random.Random, data: bytes) -> bytes:
     return put_in(rng, data, BAD_UTF8)
 
 
-def piece_dropped(rng, data):
+def piece_dropped(rng: random.Random, data: bytes) -> bytes:
     at = some_place(rng, data)
     return data[:at] + data[at + rng.randint(2, 60):]
 
 
-def piece_doubled(rng, data):
+def piece_doubled(rng: random.Random, data: bytes) -> bytes:
     at, count = some_place(rng, data), rng.randint(2, 60)
     return data[:at] + data[at:at + count] + data[at:]
 
 
-def cut(rng, data):
+def cut(rng: random.Random, data: bytes) -> bytes:
     at = rng.choice((rng.randint(0, len(data)), max(0, len(data) - rng.randint(0, 6))))
     return data[:at] if rng.random() < 0.8 else data[at:]
 
 
-def more_before_or_after(rng, data):
+def more_before_or_after(rng: random.Random, data: bytes) -> bytes:
     return data + rng.choice(AFTER) if rng.random() < 0.7 else rng.choice((*AFTER, b"\xef\xbb\xbf")) + data
 
 
-def another_text(rng, data):
+def another_text(rng: random.Random, data: bytes) -> bytes:
     marks = ((b'"', b"'"), (b",", b",,"), (b"}", b",}"), (b"]", b",]"), (b":", b"="))
     return rng.choice((*TEXTS, data.rstrip(), data + data, *(data.replace(old, new, 1) for old, new in marks)))
 
 
-BYTES = (byte_dropped, byte_dropped, byte_doubled, byte_doubled, bytes_swapped, bytes_swapped, byte_changed, byte_changed,
-         byte_put_in, white_space_put_in, bad_utf8, piece_dropped, piece_doubled, cut, more_before_or_after, another_text)
+BYTES: tuple[Callable[[random.Random, bytes], bytes], ...] = (
+    byte_dropped, byte_dropped, byte_doubled, byte_doubled, bytes_swapped, bytes_swapped, byte_changed, byte_changed,
+    byte_put_in, white_space_put_in, bad_utf8, piece_dropped, piece_doubled, cut, more_before_or_after, another_text)
 
 
 # ---- cases
@@ -556,7 +568,7 @@ BYTES = (byte_dropped, byte_dropped, byte_doubled, byte_doubled, bytes_swapped, 
 @dataclass(frozen=True)
 class Case:
     number: int
-    manifests: tuple
+    manifests: tuple[bytes, ...]
     spoilt: str
 
 
@@ -567,27 +579,27 @@ class Answer:
     told: bytes
 
 
-def encoded(value, rng):
+def encoded(value: Value, rng: random.Random) -> bytes:
     return (written(value, some_style(rng), rng) + "\n").encode("utf-8", "surrogatepass")
 
 
-def case_of(version, seed, number):
+def case_of(version: int, seed: str, number: int) -> Case:
     """The case of this number: at most two things spoilt, those in the value before those in the bytes."""
     rng = random.Random(f"{version} {seed} {number}")
     chance, manifest = rng.random(), sound(rng, version)
-    chosen = rng.choices(VALUES + BYTES, k=2 if chance < TWO else 0 if chance < TWO + NONE else 1)
-    for spoil in chosen:
-        if spoil in VALUES:
-            spoil(rng, manifest)
+    chosen = rng.choices(range(len(VALUES) + len(BYTES)), k=2 if chance < TWO else 0 if chance < TWO + NONE else 1)
+    in_value = [VALUES[it] for it in chosen if it < len(VALUES)]
+    in_bytes = [BYTES[it - len(VALUES)] for it in chosen if it >= len(VALUES)]
+    for spoil in in_value:
+        spoil(rng, manifest)
     data = encoded(manifest, rng)
-    for spoil in chosen:
-        if spoil in BYTES:
-            data = spoil(rng, data)
+    for turn in in_bytes:
+        data = turn(rng, data)
     above = (encoded(sound(rng, rng.choice(list(DEEPEST))), rng),) if rng.random() < STACKED else ()
-    return Case(number, (*above, data), ", ".join(it.__name__.replace("_", " ") for it in chosen) or "nothing")
+    return Case(number, (*above, data), ", ".join(it.__name__.replace("_", " ") for it in (*in_value, *in_bytes)) or "nothing")
 
 
-def answer(command, folder, workers, files):
+def answer(command: list[str], folder: str, workers: int, files: list[str]) -> Answer:
     """What a command says of the files of a folder."""
     words = [*command, "show", "--workers", str(workers), *files]
     try:
@@ -597,7 +609,7 @@ def answer(command, folder, workers, files):
     return Answer(ran.returncode, ran.stdout, ran.stderr)
 
 
-def compared(program, oracle, case):
+def compared(program: list[str], oracle: list[str], case: Case) -> tuple[Case, Answer, list[tuple[int, Answer]]]:
     """The case, the other reading's answer, and the numbers of workers and answers of the program that differ from it."""
     with tempfile.TemporaryDirectory(prefix="ovl-spoilt-") as folder:
         files = [f"l{n}.json" for n in range(len(case.manifests))]
@@ -609,7 +621,7 @@ def compared(program, oracle, case):
         return case, wanted, [it for it in answers if it[1] != wanted]
 
 
-def tell(case, wanted, others, keep):
+def tell(case: Case, wanted: Answer, others: list[tuple[int, Answer]], keep: str | None) -> None:
     """Prints a case whose answers differ, and keeps its manifests where it is asked for."""
     print(f"case {case.number} ({case.spoilt}), layers: {len(case.manifests)}")
     for name, it in [("wanted", wanted), *((f"{workers} workers", it) for workers, it in others)]:
@@ -622,14 +634,14 @@ def tell(case, wanted, others, keep):
                 file.write(data)
 
 
-def sort_of(wanted):
+def sort_of(wanted: Answer) -> str:
     """A sort of answer: shown, or the line of the fault with N in place of the entry's number."""
     if wanted.status == 0:
         return "shown"
     return re.sub(r"entry \d+", "entry N", wanted.told.decode(errors="replace").strip().removeprefix("ovl_layers: "))[:80]
 
 
-def main():
+def main() -> None:
     words = argparse.ArgumentParser(description="Compares what is said of spoilt manifests with an independent reading.")
     words.add_argument("--program", required=True, help="path of the program")
     words.add_argument("--oracle", required=True, metavar="COMMAND", help="the other reading: a command and its words, after "
@@ -646,7 +658,8 @@ def main():
     # (a file that is named in the command is found from any folder)
     oracle = [os.path.abspath(it) if os.path.exists(it) else it for it in oracle]
 
-    sorts, bad = collections.Counter(), 0
+    sorts: collections.Counter[str] = collections.Counter()
+    bad = 0
     with concurrent.futures.ThreadPoolExecutor(given.jobs) as pool:
         cases = (case_of(given.version, given.seed, number) for number in given.case or range(given.count))
         for case, wanted, others in pool.map(lambda case: compared(program, oracle, case), cases):

@@ -15,13 +15,14 @@ import shutil
 import sys
 import tempfile
 import time
+from collections.abc import Sequence
 from pathlib import Path
 
 LAYERS = [sys.executable, "-B", str(Path(__file__).resolve().parent.parent / "layers.py")]
 COMPRESSION = "gzip"
 
 
-def measured(words, out):
+def measured(words: list[str], out: Sequence[str]) -> tuple[float, float, int]:
     """Processor seconds, wall seconds and peak in kilobytes of one run. Takes away what it made before."""
     for path in out:
         shutil.rmtree(path) if os.path.isdir(path) else Path(path).unlink(missing_ok=True)
@@ -35,14 +36,14 @@ def measured(words, out):
     return used.ru_utime + used.ru_stime, time.monotonic() - began, used.ru_maxrss
 
 
-def row(name, runs, words, *out):
+def row(name: str, runs: int, words: list[str], *out: str) -> None:
     """A line of the table."""
     found = [measured(words, out) for _ in range(runs)]
     processor, wall, peak = min(f[0] for f in found), min(f[1] for f in found), max(f[2] for f in found)
     print(f"| {name} | {processor:.1f} s | {wall:.1f} s | {peak / 1000:.0f} MB |", flush=True)
 
 
-def main():
+def main() -> None:
     parser = argparse.ArgumentParser(description=__doc__, formatter_class=argparse.RawDescriptionHelpFormatter)
     parser.add_argument("squashfs", help="file to measure with")
     parser.add_argument("--runs", type=int, default=3, help="runs of each command [default: 3]")

@@ -14,6 +14,7 @@ import os
 import subprocess
 import sys
 import tempfile
+from collections.abc import Iterator, Sequence
 from dataclasses import dataclass
 
 import commands
@@ -38,38 +39,38 @@ class Target:
     quotient: float
     most: float
 
-    def met(self):
+    def met(self) -> bool:
         return self.quotient <= self.most
 
-    def cells(self):
+    def cells(self) -> list[str]:
         return [self.name, self.program, self.beside, f"{self.quotient:.2f}", f"{self.most:g}", "yes" if self.met() else "no"]
 
 
-def seconds_of(*least):
+def seconds_of(*least: float) -> str:
     return ", then ".join(f"{it:.2f} s" for it in least)
 
 
-def bytes_of(count):
+def bytes_of(count: int) -> str:
     return f"{count:,} bytes"
 
 
-def people(workers):
+def people(workers: int) -> str:
     return "1 worker" if workers == 1 else f"{workers} workers"
 
 
-def read_by_python(layers):
+def read_by_python(layers: list[str]) -> float:
     """The seconds that Python's reader takes for these manifests, one after the other."""
     return sum(run.measure([sys.executable, "-c", run.READ_ONE], layer, 1)[0] for layer in layers)
 
 
-def in_turn(command, statuses, layers, repeats):
+def in_turn(command: list[str], statuses: Sequence[int], layers: list[str], repeats: int) -> tuple[float, float, int]:
     """The least seconds of the reader and of a command on these layers, and the command's largest peak."""
     runs = [(read_by_python(layers), *commands.measure(command, statuses, 1)) for _ in range(repeats)]
     readers, times, peaks = zip(*runs)
     return min(readers), min(times), max(peaks)
 
 
-def on_three_layers(program, folder, entries, repeats):
+def on_three_layers(program: str, folder: str, entries: int, repeats: int) -> Iterator[Target]:
     """Time and memory of each command."""
     for name, command, statuses in commands.on_layers(program, folder, entries):
         layers = command[-commands.LAYERS:]
@@ -81,7 +82,7 @@ def on_three_layers(program, folder, entries, repeats):
             yield Target(f"{which}: peak", bytes_of(peak), bytes_of(size), peak / size, MEMORY)
 
 
-def of_one_layer(program, folder, entries, repeats):
+def of_one_layer(program: str, folder: str, entries: int, repeats: int) -> Iterator[Target]:
     """How many times as long ten times the entries take."""
     files = []
     for count in (entries, TENFOLD * entries):
@@ -94,7 +95,7 @@ def of_one_layer(program, folder, entries, repeats):
         yield Target(name, seconds_of(*times), seconds_of(*readers), times[1] / times[0], GROWTH)
 
 
-def of_chains(program):
+def of_chains(program: str) -> Iterator[Target]:
     """The memory that chains of directories take, through many layers that are each redirected to the next."""
     for layers in CHAINS:
         it = growth.cost(program, growth.CHAINS, layers, 0.0)
@@ -102,14 +103,14 @@ def of_chains(program):
         yield Target(name, bytes_of(it.peak), bytes_of(it.bytes), it.peak / it.bytes, CHAINED)
 
 
-def measured(program, entries, repeats):
+def measured(program: str, entries: int, repeats: int) -> Iterator[Target]:
     with tempfile.TemporaryDirectory(prefix="ovl-targets-") as folder:
         yield from on_three_layers(program, folder, entries, repeats)
         yield from of_one_layer(program, folder, entries, repeats)
     yield from of_chains(program)
 
 
-def main():
+def main() -> None:
     words = argparse.ArgumentParser(description="Measures whether the program meets its targets of time and memory.")
     words.add_argument("--program", required=True, help="path of the program")
     words.add_argument("--entries", type=int, default=100000, help="entries of each of three layers, and of one beside one "

@@ -21,19 +21,20 @@ import re
 import subprocess
 import sys
 import tempfile
+from collections.abc import Iterator
 
 
-def manifests_of(stack):
+def manifests_of(stack: str) -> list[str]:
     """The manifests of a stack, the topmost first."""
     if os.path.isfile(stack):
         return [stack]
-    files = []
+    files: list[str] = []
     while os.path.isfile(os.path.join(stack, f"l{len(files)}.json")):
         files.append(os.path.join(stack, f"l{len(files)}.json"))
     return files
 
 
-def with_contents(layers, folder):
+def with_contents(layers: list[str], folder: str) -> tuple[list[str], str]:
     """The layers with contents for each digest, in files of the folder, and the folder of the blobs."""
     blobs, files = os.path.join(folder, "blobs"), []
     os.mkdir(blobs)
@@ -54,7 +55,7 @@ def with_contents(layers, folder):
     return files, blobs
 
 
-def printed(program, *words):
+def printed(program: str, *words: str) -> bytes:
     """What the program prints; another status than 0 ends the script."""
     ran = subprocess.run([program, *words], stdin=subprocess.DEVNULL, stdout=subprocess.PIPE, check=False)
     if ran.returncode != 0:
@@ -63,21 +64,21 @@ def printed(program, *words):
     return ran.stdout
 
 
-def made(program, command, layers, blobs, out):
+def made(program: str, command: str, layers: list[str], blobs: str, out: str) -> tuple[str, bytes]:
     """The one new layer of a command, in a new folder, and its report."""
     os.mkdir(out)
     report = printed(program, command, "--blobs", blobs, "--out", out, *layers)
     return os.path.join(out, "layer-0.json"), report
 
 
-def vacuumed(program, layers, blobs, out):
+def vacuumed(program: str, layers: list[str], blobs: str, out: str) -> tuple[str, int, int]:
     """The new topmost layer of a stack, how many entries were removed, and how many are left."""
     new, report = made(program, "vacuum", layers, blobs, out)
-    counts = re.search(rb"(?:^|\n)removed (\d+) kept (\d+)\n\Z", report)
-    return new, int(counts[1]), int(counts[2])
+    [(removed, kept)] = re.findall(rb"(?:^|\n)removed (\d+) kept (\d+)\n\Z", report)
+    return new, int(removed), int(kept)
 
 
-def vacuumed_twice(program, layers, blobs, folder, before):
+def vacuumed_twice(program: str, layers: list[str], blobs: str, folder: str, before: bytes) -> tuple[str, bool]:
     """What comes of vacuuming the topmost of these layers twice, as words, and whether it is as it should be."""
     once, removed, kept = vacuumed(program, layers, blobs, os.path.join(folder, "once"))
     again, more, _ = vacuumed(program, [once, *layers[1:]], blobs, os.path.join(folder, "again"))
@@ -85,7 +86,7 @@ def vacuumed_twice(program, layers, blobs, folder, before):
     return f"removed {removed} kept {kept}, then removed {more}, shows {told(same)}", same and more == 0
 
 
-def flattened_twice(program, layers, blobs, folder, before):
+def flattened_twice(program: str, layers: list[str], blobs: str, folder: str, before: bytes) -> tuple[str, bool]:
     """What comes of flattening these layers twice, as words, and whether it is as it should be."""
     once, report = made(program, "flatten", layers, blobs, os.path.join(folder, "flat"))
     again, other = made(program, "flatten", [once], blobs, os.path.join(folder, "flat again"))
@@ -94,29 +95,29 @@ def flattened_twice(program, layers, blobs, folder, before):
     return f"flattened again to {told(alike)}, shows {told(same)}", same and alike
 
 
-def read(path):
+def read(path: str) -> bytes:
     with open(path, "rb") as file:
         return file.read()
 
 
-def told(same):
+def told(same: bool) -> str:
     return "the same" if same else "something else"
 
 
-def twice(program, layers, blobs, folder):
+def twice(program: str, layers: list[str], blobs: str, folder: str) -> tuple[str, bool]:
     """What comes of both, as words, and whether it is as it should be."""
     before = printed(program, "show", *layers)
     both = [it(program, layers, blobs, folder, before) for it in (vacuumed_twice, flattened_twice)]
     return "; ".join(said for said, _ in both), all(fine for _, fine in both)
 
 
-def trials(layers):
+def trials(layers: list[str]) -> Iterator[tuple[str, list[str]]]:
     """Each layer over those below it, and the lowest over itself, with a word for it."""
     yield from ((f"layer {n}", layers[n:]) for n in range(len(layers)))
     yield "the lowest over itself", [layers[-1], layers[-1]]
 
 
-def main():
+def main() -> None:
     words = argparse.ArgumentParser(description="Vacuums and flattens stacks of layers twice.")
     words.add_argument("--program", required=True, help="path of the program")
     words.add_argument("stacks", nargs="+", metavar="STACK", help="a folder of layers, or a manifest")

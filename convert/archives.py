@@ -69,7 +69,7 @@ class Layer(Protocol):
         """The bytes of its archive, unpacked. Tells what is wrong with them as a fault of its path."""
 
 
-@dataclass(frozen=True)
+@dataclass(frozen=True, kw_only=True)
 class Taking:
     """What is taken of the archives of layers, and where it goes.
 
@@ -78,11 +78,11 @@ class Taking:
     """
 
     out: str
-    skip_unsupported: bool
-    overlay_marks: bool
     writer: Writer
     held: Held
     below: Below
+    skip_unsupported: bool = False
+    overlay_marks: bool = False
     is_folder: bool = False
     userxattr: bool = False
     most_contents: int | None = None  # bytes of all its files, where they are bounded

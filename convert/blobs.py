@@ -8,13 +8,12 @@ import tempfile
 from collections.abc import Callable, Iterable, Iterator
 from types import TracebackType
 
-from .contents import PIECE, Copier, digest_and_size, read_small, write_all
+from .contents import PIECE, PRIVATE_MODE, Copier, digest_and_size, read_small, write_all
 from .faults import cannot_read, is_of_writing, writing
 from .places import CREATE, READ
 from .progress import note
 from .stages import Stage, tidy, told
 
-_MODE = 0o600  # blobs hold what the files hold, secret ones too
 _FOLDER_MODE = 0o700
 _SCRATCH = "scratch"
 
@@ -112,7 +111,7 @@ class BlobWriter:
         """An empty open file, for contents that `keep` takes."""
         if self._scratch < 0:
             with writing(self._blobs):
-                self._scratch = os.open(_SCRATCH, CREATE, _MODE, dir_fd=self._folder)
+                self._scratch = os.open(_SCRATCH, CREATE, PRIVATE_MODE, dir_fd=self._folder)
         return self._scratch
 
     def keep(self, digest: str, size: int) -> None:
@@ -157,7 +156,7 @@ class BlobWriter:
         digest = hashlib.sha256(piece).hexdigest()
         if not self._has(digest, size):
             with writing(self._blobs), contextlib.suppress(FileExistsError):
-                file = os.open(digest, CREATE, _MODE, dir_fd=self._folder)
+                file = os.open(digest, CREATE, PRIVATE_MODE, dir_fd=self._folder)
                 try:
                     write_all(file, piece)
                 finally:

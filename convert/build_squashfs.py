@@ -9,8 +9,8 @@ from . import tar_headers as tar
 from .attributes import marks_to_user
 from .blobs import opened_blob
 from .build import BuildOptions, build, entry_problem
-from .contents import PIECE, ZEROS
-from .entries import BLOCK, CHAR, DIRECTORY, FIFO, FILE, SYMLINK, Entry
+from .contents import PIECE, PRIVATE_MODE, ZEROS
+from .entries import DIRECTORY, Entry
 from .faults import Fault, UsageFault, cannot_write, writing
 from .fitting import attributes_problem, fitted, owners_problem
 from .layer_files import squashfs_tree
@@ -21,15 +21,11 @@ from .outputs import passing_folder
 from .pack import contents_of
 from .progress import Progress
 from .tar_headers import Header
-from .tar_writer import TarWriter, record_bytes
+from .tar_writer import TYPES, TarWriter, record_bytes
 
 SUFFIX = ".squashfs"
-_MODE = 0o600  # it holds what the files hold, secret ones too
 _MAX_RECORDS = 65_536  # bytes of PAX records that tar2sqfs takes of an entry
 _MAX_ZEROS = 1 << 34  # bytes of files without contents, which have to be written as zeros
-_TYPES = {
-    DIRECTORY: tar.DIRECTORY, FILE: b"0", SYMLINK: tar.SYMLINK, CHAR: tar.CHAR, BLOCK: tar.BLOCK, FIFO: tar.FIFO,
-}
 
 
 def build_layer(options: BuildOptions) -> None:
@@ -55,7 +51,7 @@ def build_squashfs(options: BuildOptions) -> None:
             _write_archive(entries, options, TarWriter(write))
         _require_same(path, entries, options)
         with writing(options.told):
-            os.chmod(path, _MODE)
+            os.chmod(path, PRIVATE_MODE)
             os.rename(path, place)
     losses.tell(options.told)
 
@@ -119,7 +115,7 @@ def _header(entry: Entry, userxattr: bool) -> Header:
     name = entry.path[1:] or "."
     attributes = marks_to_user(entry.attributes) if userxattr else entry.attributes
     return Header(
-        (name + "/" if entry.kind == DIRECTORY else name).encode(), _TYPES[entry.kind], entry.mode, entry.uid,
+        (name + "/" if entry.kind == DIRECTORY else name).encode(), TYPES[entry.kind], entry.mode, entry.uid,
         entry.gid, entry.size, entry.mtime_ns, entry.target.encode(), entry.major, entry.minor,
         {name.encode(): value for name, value in attributes.items()},
     )

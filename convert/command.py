@@ -1,7 +1,6 @@
 """The command line: words, statuses and fault lines."""
 
 import argparse
-import os
 import re
 import signal
 import sys

@@ -7,10 +7,11 @@ import struct
 import subprocess
 import zlib
 from collections import deque
-from collections.abc import Callable, Iterator
+from collections.abc import Iterator
 from concurrent.futures import Future, ThreadPoolExecutor
 from typing import IO
 
+from .contents import Write
 from .faults import Fault, cannot_write
 
 NONE, GZIP, ZSTD = "none", "gzip", "zstd"
@@ -20,7 +21,6 @@ _GZIP_LEVEL = 6
 BLOCK = 1 << 19  # bytes that one processor packs at once
 _DICTIONARY = 1 << 15
 _ZSTD_WORDS = ["--compress", "-3", "--single-thread", "--quiet", "--stdout"]
-Write = Callable[[bytes], object]
 
 
 def media_type(compression: str) -> str:

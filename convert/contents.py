@@ -5,9 +5,12 @@ import fcntl
 import hashlib
 import os
 import tempfile
+from collections.abc import Callable
 
 PIECE = 1 << 18
 ZEROS = bytes(PIECE)
+PRIVATE_MODE = 0o600  # of what has the contents of files, secret ones too
+Write = Callable[[bytes], object]  # takes all bytes that it is given
 _COPY_AT_ONCE = 1 << 30
 _CLONE = 0x40049409  # FICLONE of linux/fs.h
 _REFUSED = (

@@ -4,6 +4,7 @@ import contextlib
 import errno
 import os
 import re
+import signal
 from collections.abc import Iterator
 
 from .texts import printable
@@ -13,6 +14,7 @@ USAGE = 2
 READING = 3
 WRITING = 4
 OTHER = 5
+ENDING = (signal.SIGINT, signal.SIGTERM, signal.SIGHUP)  # signals that end a command
 
 
 class Fault(Exception):

@@ -13,11 +13,11 @@ from . import rules
 from .configuration import (
     MAX_BYTES, Document, configuration_problem, parse_json, platform_of, platform_text, require_texts, with_platform,
 )
-from .contents import PIECE
 from .faults import ReadFault, UsageFault, cannot_read, reading
 from .members import Members, opened_members
 from .progress import Progress
 from .streams import Slice, Source, Watched, unpacked
+from .targets import TRANSPORTS
 
 MAX_DOCUMENTS = 1 << 24  # bytes of an image's documents together, each as often as it is named
 _DIGEST = re.compile(r"(sha256|sha384|sha512):([0-9a-f]{64,128})\Z")
@@ -27,7 +27,6 @@ _INDEXES = (
     "application/vnd.oci.image.index.v1+json",
     "application/vnd.docker.distribution.manifest.list.v2+json",
 )
-_TRANSPORTS = ("oci", "oci-archive", "docker-archive", "dir")
 REF_NAME = "org.opencontainers.image.ref.name"
 _FULL_NAME = "io.containerd.image.name"
 _BASE = "org.opencontainers.image.base."
@@ -112,7 +111,7 @@ def spellings(tag: str) -> set[str]:
 def image_place(word: str, tag: str | None) -> tuple[str, str | None]:
     """The path and the tag of an image that a word names, as a path or as skopeo has it: `oci:PATH:TAG`."""
     transport, colon, rest = word.partition(":")
-    if not colon or transport not in _TRANSPORTS or os.path.lexists(word):
+    if not colon or transport not in TRANSPORTS or os.path.lexists(word):
         return word, tag
     path, _, own = (rest, "", "") if transport == "dir" else rest.partition(":")
     if own and tag not in (None, own):
@@ -215,12 +214,9 @@ def _wrong_bytes(path: str, digest: Digest) -> ReadFault:
 
 
 def _require_digest(layer: ImageLayer, part: Slice, digest: Digest) -> None:
-    found = hashlib.new(digest[0])
-    progress = Progress(f"checking bytes of {layer.name[-20:]}", part.size())
+    progress = Progress(f"checking bytes of {layer.name[-20:]}")
     with reading(layer.path):
-        while piece := part.read(PIECE):
-            found.update(piece)
-            progress.step(len(piece))
+        found = hashlib.file_digest(Watched(part, progress), digest[0])
     progress.end()
     if found.hexdigest() != digest[1]:
         raise _wrong_bytes(layer.path, digest)

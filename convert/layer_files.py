@@ -148,7 +148,10 @@ def squashfs_tree(path: str, told_as: str, userxattr: bool) -> LayerTree:
         file = os.open(path, READ_WHERE_IT_LEADS)
     try:
         layer = _FileLayer(told_as, Form.SQUASHFS, file)
-        taking = Taking(told_as, False, True, Digester(), Held(), Below(), is_folder=True, userxattr=userxattr)
+        taking = Taking(
+            out=told_as, overlay_marks=True, writer=Digester(), held=Held(), below=Below(), is_folder=True,
+            userxattr=userxattr,
+        )
         return LayerArchive(layer, taking).tree()
     finally:
         os.close(file)
@@ -160,8 +163,9 @@ def _read(layer: _FileLayer, options: FileOptions) -> LayerTree:
         writer = new_writer()
         try:
             return LayerArchive(layer, Taking(
-                options.blobs or options.out, options.skip_unsupported, True, writer, Held(), Below(),
-                is_folder=True, userxattr=options.userxattr, most_contents=most,
+                out=options.blobs or options.out, skip_unsupported=options.skip_unsupported, overlay_marks=True,
+                writer=writer, held=Held(), below=Below(), is_folder=True, userxattr=options.userxattr,
+                most_contents=most,
             )).tree()
         finally:
             writer.close()

@@ -8,12 +8,11 @@ import tempfile
 from collections.abc import Callable, Iterable, Iterator
 from typing import IO, TextIO
 
-from .contents import PIECE
+from .contents import PIECE, Write
 from .faults import cannot_write, reason_of, told_as, writing
 from .stages import Stage, remove, tidy, told
 
 STANDARD_OUTPUT = "-"
-Write = Callable[[bytes], object]
 _AT_ONCE = 1 << 18
 _USUAL_MODE = 0o666  # less what the umask takes
 

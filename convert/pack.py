@@ -3,7 +3,7 @@
 import hashlib
 import json
 import os
-from collections.abc import Callable, Iterator
+from collections.abc import Iterator
 from dataclasses import dataclass, replace
 from typing import IO, Any
 
@@ -15,10 +15,10 @@ from .compression import NONE, media_type, packing, require_program
 from .configuration import (
     USUAL_PLATFORM, Document, for_layers, platform_of, platform_text, read_annotations, read_configuration,
 )
-from .contents import PIECE, digest_and_size
+from .contents import PIECE, PRIVATE_MODE, Write, digest_and_size
 from .entries import (
-    BLOCK, CHAR, DIRECTORY, FIFO, FILE, IS_OPAQUE, LINK_MODE, OPAQUE, SOCKET, SYMLINK, Entry, drop_host_marks, is_opaque,
-    is_whiteout, needs_lower_layers,
+    DIRECTORY, IS_OPAQUE, LINK_MODE, OPAQUE, SOCKET, SYMLINK, Entry, drop_host_marks, is_opaque, is_whiteout,
+    needs_lower_layers,
 )
 from .faults import UsageFault, cannot_read, reading, writing
 from .image_files import BLOBS, ArchiveFiles, FolderFiles, ImageFiles
@@ -30,13 +30,8 @@ from .progress import Progress, counted, note, note_path
 from .room import least_archive, require_room
 from .tar_headers import Header
 from .targets import Form, Target
-from .tar_writer import TarWriter
+from .tar_writer import TYPES, TarWriter
 
-_TYPES = {
-    DIRECTORY: tar.DIRECTORY, FILE: b"0", SYMLINK: tar.SYMLINK, CHAR: tar.CHAR, BLOCK: tar.BLOCK,
-    FIFO: tar.FIFO,
-}
-_IMAGE_MODE = 0o600  # an image holds what the files hold, secret ones too
 _CONFIG_TYPE = "application/vnd.oci.image.config.v1+json"
 _MANIFEST_TYPE = "application/vnd.oci.image.manifest.v1+json"
 _INDEX_TYPE = "application/vnd.oci.image.index.v1+json"
@@ -89,7 +84,7 @@ def pack(options: PackOptions) -> None:
             files.end()
 
         with writing(out.told):
-            write_file_in_place(out.path, out.place, fill, _IMAGE_MODE)
+            write_file_in_place(out.path, out.place, fill, PRIVATE_MODE)
         return
     with new_folder(out.path) as folder, writing(out.told):
         _write_image(FolderFiles(folder, _blob_name(out, "")), layers, (given, annotations), options)
@@ -220,7 +215,7 @@ def _write_layer(files: ImageFiles, entries: list[Entry], options: PackOptions) 
     return packed[0]
 
 
-def _write_archive(entries: list[Entry], blobs: str, write: Callable[[bytes], object]) -> None:
+def _write_archive(entries: list[Entry], blobs: str, write: Write) -> None:
     """The archive of a layer. A directory's `.wh..wh..opq` comes right after it."""
     archive, firsts = TarWriter(write), FirstNames()
     progress = Progress("packing entries", len(entries))
@@ -242,7 +237,7 @@ def _write_archive(entries: list[Entry], blobs: str, write: Callable[[bytes], ob
 def _header(entry: Entry) -> Header:
     parent, _, name = entry.path[1:].rpartition("/")
     attributes = {key.encode(): value for key, value in entry.attributes.items()}
-    kind = _TYPES[entry.kind]
+    kind = TYPES[entry.kind]
     if is_whiteout(entry):
         name, kind = WHITEOUT_PREFIX + name, b"0"
     elif is_opaque(entry):

@@ -10,7 +10,7 @@ from collections.abc import Iterator, Sequence
 from pathlib import Path
 from typing import IO
 
-from .faults import OTHER, Fault, ReadFault, reading, writing
+from .faults import ENDING, FAULTY, OTHER, Fault, ReadFault, reading, writing
 
 NAME = "ovl_layers"
 _HERE = Path(__file__).resolve().parents[1]
@@ -18,8 +18,6 @@ _BUILT = _HERE / "crates" / NAME / "out" / NAME  # in the repository
 _INSTALLED = _HERE.parents[1] / "bin" / NAME  # of PREFIX/lib/ovl_layers, where `install` puts this converter
 # What each command is told that reads contents.
 _WORDS_ON_CONTENTS: tuple[str, ...] = ("--any-size",)
-_FAULTY = 1
-_ENDING = (signal.SIGINT, signal.SIGTERM, signal.SIGHUP)
 _LAST_BYTES = 4_096
 
 
@@ -82,7 +80,7 @@ def run_program(program: str, words: Sequence[str], report: str, faults: IO[str]
         told = process.communicate()[1]
     print(told.decode("utf-8", "replace"), end="", file=sys.stderr)
     status = process.returncode
-    if status == _FAULTY:
+    if status == FAULTY:
         _copy(report, faults)
     if status < 0:
         raise Refused(f"{NAME} {words[0]} was ended by signal {-status}; nothing is written", OTHER)
@@ -94,7 +92,7 @@ def run_program(program: str, words: Sequence[str], report: str, faults: IO[str]
 @contextlib.contextmanager
 def _running(words: Sequence[str], report: IO[bytes]) -> Iterator["subprocess.Popen[bytes]"]:
     """A process that ends with this one's work: signals wait while it is started, so that none leaves it alone."""
-    mask = signal.pthread_sigmask(signal.SIG_BLOCK, _ENDING)
+    mask = signal.pthread_sigmask(signal.SIG_BLOCK, ENDING)
     try:
         with _start(words, report, mask) as process:
             try:

@@ -6,7 +6,7 @@ from dataclasses import dataclass, field
 from typing import Any
 
 from .layer_sizes import Sizes, shown_size
-from .shown_tree import Directory, LayerFile, Node
+from .shown_tree import Directory, LayerFile
 from .texts import printable
 
 _MAX_BYTES = 1 << 20  # of the map's text

@@ -11,8 +11,7 @@ Read = Callable[[int], bytes]
 Places = list[tuple[int, int]]  # where data begin in the file, and how many bytes they are
 
 MAX_MAP_BYTES = 1 << 20
-_FIRST_PLACES = 4
-_MORE_PLACES = 21
+_MORE_PLACES = 21  # of a block after the header
 _PLACE_BYTES = 24
 
 

@@ -12,7 +12,8 @@ from collections.abc import Callable, Iterator, Mapping, Sequence
 from typing import IO
 
 from . import rules
-from .faults import ReadFault, cannot_read, cannot_write, reading
+from .contents import Write
+from .faults import ENDING, ReadFault, cannot_read, cannot_write, reading
 from .shares import usual_workers
 from .streams import Source
 from .tar_headers import TarFault
@@ -20,7 +21,6 @@ from .tar_headers import TarFault
 MAGIC = b"hsqs"
 COMPRESSIONS = ("gzip", "xz", "zstd", "lz4")
 _READER, _WRITER = "sqfs2tar", "tar2sqfs"
-Write = Callable[[bytes], object]
 _SUPER_BLOCK = struct.Struct("<4sI20xHH8xQ")  # magic, inodes, .., major and minor version, .., bytes used
 _VERSION = 4
 _PACKAGE = "squashfs-tools-ng"
@@ -29,7 +29,6 @@ _MOST_TOLD = 16 << 20  # bytes of what it says, a line for each socket
 _LAST_TOLD = 1_000
 _SOCKET = (b"WARNING: ./", b": cannot pack socket\nSkipping ./", b"\n")  # a path stands between these
 _ENVIRONMENT = {"LC_ALL": "C"}  # without SOURCE_DATE_EPOCH, which would be in what tar2sqfs writes
-_ENDING = (signal.SIGINT, signal.SIGTERM, signal.SIGHUP)
 
 
 def require_programs() -> None:
@@ -110,7 +109,7 @@ def _started(
     stdout: int = subprocess.DEVNULL, pass_fds: tuple[int, ...] = (),
 ) -> Iterator["subprocess.Popen[bytes]"]:
     """A process that ends with this one's work: signals wait while it is started, so that none leaves it alone."""
-    mask = signal.pthread_sigmask(signal.SIG_BLOCK, _ENDING)
+    mask = signal.pthread_sigmask(signal.SIG_BLOCK, ENDING)
 
     def prepare() -> None:
         for limit, most in {resource.RLIMIT_CORE: 0, **limits}.items():

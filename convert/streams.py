@@ -68,7 +68,7 @@ class Slice(Reader):
         """Whether its first bytes are those of a packed one."""
         return is_packed(os.pread(self._file, min(HEAD_BYTES, self._end - self._begin), self._begin))
 
-    def readinto(self, buffer: memoryview) -> int:  # type: ignore[override]
+    def readinto(self, buffer: bytearray | memoryview) -> int:  # type: ignore[override]
         """Reads what fits."""
         data = os.pread(self._file, min(len(buffer), self._end - self.place), self.place)
         buffer[:len(data)] = data
@@ -95,7 +95,7 @@ class Gunzip(Reader):
         self._member = zlib.decompressobj(_GZIP_WINDOW)
         self._input = b""
 
-    def readinto(self, buffer: memoryview) -> int:  # type: ignore[override]
+    def readinto(self, buffer: bytearray | memoryview) -> int:  # type: ignore[override]
         """Unpacks what fits, never more."""
         while True:
             if self._member.eof:
@@ -127,7 +127,7 @@ class Watched(Reader):
         self._progress = progress
         progress.expect(part.size())
 
-    def readinto(self, buffer: memoryview) -> int:  # type: ignore[override]
+    def readinto(self, buffer: bytearray | memoryview) -> int:  # type: ignore[override]
         """Reads what fits."""
         count = self._part.readinto(buffer)
         self._progress.step(count)
@@ -142,7 +142,7 @@ class Digesting(Reader):
         self._stream = stream
         self.digest = hashlib.new(algorithm)
 
-    def readinto(self, buffer: memoryview) -> int:  # type: ignore[override]
+    def readinto(self, buffer: bytearray | memoryview) -> int:  # type: ignore[override]
         """Reads what fits."""
         data = self._stream.read(len(buffer))
         buffer[:len(data)] = data

@@ -1,12 +1,14 @@
 """Writing a tar archive: ustar headers, with PAX records where those have no place for something."""
 
-from collections.abc import Callable
-
-from .tar_headers import (
-    BLOCK_BYTES, PAX, XATTR_RECORD, Header, header_block, pax_record,
-)
+from . import tar_headers as tar
+from .contents import Write
+from .entries import BLOCK, CHAR, DIRECTORY, FIFO, FILE, SYMLINK
+from .tar_headers import BLOCK_BYTES, PAX, XATTR_RECORD, Header, header_block, pax_record
 from .times import ONE_SECOND, to_decimal
 
+TYPES = {
+    DIRECTORY: tar.DIRECTORY, FILE: b"0", SYMLINK: tar.SYMLINK, CHAR: tar.CHAR, BLOCK: tar.BLOCK, FIFO: tar.FIFO,
+}
 _MAX_FIELD = 8**7 - 1  # seven octal digits
 _MAX_WIDE_FIELD = 8**11 - 1  # eleven
 _MAX_NAME = 100
@@ -16,7 +18,7 @@ _PAX_NAME = b"pax"
 class TarWriter:
     """An archive, entry by entry; the same bytes for the same entries."""
 
-    def __init__(self, write: Callable[[bytes], object]) -> None:
+    def __init__(self, write: Write) -> None:
         self._write = write
 
     def entry(self, header: Header) -> None:

@@ -24,7 +24,7 @@ class Form(Enum):
     COPY = auto()  # a folder as skopeo's `dir:`
 
 
-_TRANSPORTS = {"oci": Form.LAYOUT, "oci-archive": Form.ARCHIVE, "docker-archive": Form.ARCHIVE, "dir": Form.COPY}
+TRANSPORTS = {"oci": Form.LAYOUT, "oci-archive": Form.ARCHIVE, "docker-archive": Form.ARCHIVE, "dir": Form.COPY}
 _DOCKER = "docker-archive"
 
 
@@ -67,11 +67,11 @@ class Target:
 def target_of(word: str) -> Target:
     """What a word means: a path, or as skopeo has it: `oci:PATH:TAG`."""
     transport, colon, rest = word.partition(":")
-    if not colon or transport not in _TRANSPORTS:
+    if not colon or transport not in TRANSPORTS:
         path = _without_slashes(word)
         is_archive = path == STANDARD_OUTPUT or path.endswith((ARCHIVE_SUFFIX, *_PACKED_SUFFIXES))
         return _checked(Target(word, path, Form.ARCHIVE if is_archive else Form.LAYOUT))
-    form = _TRANSPORTS[transport]
+    form = TRANSPORTS[transport]
     path, _, tag = (rest, "", "") if form is Form.COPY else rest.partition(":")
     return _checked(Target(f"{transport}:{path}", _without_slashes(path), form, tag or None))
 

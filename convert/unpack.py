@@ -58,7 +58,8 @@ def unpack_opened(options: UnpackOptions, image: Image) -> None:
 def _unpack_layers(options: UnpackOptions, layers: list[ImageLayer], stage: str, writer: Writer) -> None:
     held, below, repeats = Held(), Below(), Repeats(layers, stage, options.out)
     taking = Taking(
-        options.out, options.skip_unsupported, options.overlay_marks, writer, held, below, repeats=repeats
+        out=options.out, skip_unsupported=options.skip_unsupported, overlay_marks=options.overlay_marks, writer=writer,
+        held=held, below=below, repeats=repeats,
     )
     written = 0
     try:

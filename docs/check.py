@@ -6,7 +6,10 @@
 - definitions.txt has the text of these definitions.
 - MADE_FAULTS.md has every function that names want of memory, or a fault of reading or writing, in its code,
   with how often, and no other.
-- Links of all documents lead somewhere, and files that ARCHITECTURE.md names are there.
+- Links of all documents lead somewhere. Files that ARCHITECTURE.md names are there, each with its crate where several
+  crates have one of that name.
+- No name of a type, or of a fact or record of specs/, stands twice, but for those that are known.
+- GLOSSARY.md or PROVED.md has every public type, and FORMATS.md every public limit, and none that isn't there.
 
 Prints what is missing; the status is 1 where something is. Says nothing of what the documents say.
 
@@ -25,6 +28,10 @@ MADE = {
     "want of memory": r"\bAllocError\b(?!\s*[>{;])|\bAllocFailed\b(?!\s*[<>{;])|Fault::Memory\b|\bOutOfMemory\b|\bUnread\b(?!\s*[>{;(])|\bstarved (?:=|: true)",
     "a fault of reading or writing": r"\bReadFault::(?:Device|TooLong)\b|\bProgramFault::(?:Input|Unread|Unwritten|Output)\b|\bErr\(\w*PartFault::",
 }
+# Types, and facts and records of specs/, whose names stand twice with two meanings. Each is to go; none is to come.
+TWICE = {"AreEnds", "AreMerged", "AreStarts", "Directory", "HeldBlobs", "IsBelow", "IsFaultOf", "IsMarked",
+         "IsTold", "IsToldOf", "IsUnread", "IsVisited", "PassesLimit", "Place", "Reached", "ReadFault", "Texts", "Told", "Tree",
+         "View"}
 TESTS = {"ovl_pool_tests", "ovl_engine_tests", "ovl_program_tests", "ovl_refusal_tests"}
 
 
@@ -61,7 +68,7 @@ def definitions():
 
 
 def reached(found, taken):
-    todo = [key for key in found if key[0].startswith("ovl_engine/") and key[1] in CLAUSES]
+    todo = [key for key in found if key[0].startswith(("ovl_engine/", "ovl_commands/")) and key[1] in CLAUSES]
     seen = set()
     while todo:
         key = todo.pop()
@@ -253,15 +260,80 @@ def links():
                 heads = re.findall(r"^#+ (.*)$", target.read_text(encoding="utf-8"), flags=re.M)
                 if place not in {anchor(head) for head in heads}:
                     yield f"{name} has no such chapter"
+
+
+def files():
+    """Files of crates that ARCHITECTURE.md names: from `crates`, or by their name where one crate alone has it."""
+    owners = collections.defaultdict(set)
+    for crate in crates():
+        for path in [*(crate / "src").rglob("*.rt"), *(crate / "specs").rglob("*.antt")]:
+            owners[path.name].add(crate.name)
     text = (TOP / "docs/ARCHITECTURE.md").read_text(encoding="utf-8")
-    for file in sorted(set(re.findall(r"`(ovl_\w+/[\w/]+\.(?:rt|antt))`", text))):
-        if not (TOP / "crates" / file).exists():
-            yield f"ARCHITECTURE.md names crates/{file}, which isn't there"
+    for file in sorted(set(re.findall(r"`([\w/]+\.(?:rt|antt))`", text))):
+        name = file.rpartition("/")[2]
+        if file.startswith("ovl_"):
+            if not (TOP / "crates" / file).exists():
+                yield f"ARCHITECTURE.md names crates/{file}, which isn't there"
+        elif len(owners[name]) > 1:
+            yield f"ARCHITECTURE.md names {file} without its crate, one of {', '.join(sorted(owners[name]))}"
+        elif not owners[name] and name.endswith(".rt"):
+            yield f"ARCHITECTURE.md names {file}, which isn't there"
+
+
+def types(crate):
+    """The types of a crate with their files, and whether they are public."""
+    exported = words(" ".join(re.findall(r"pub use ([^;]*);", lib_of(crate)))) if lib_of(crate) else set()
+    for path in sorted((crate / "src").rglob("*.rt")):
+        for name in re.findall(r"^(?:pub(?:\(crate\))? )?(?:struct|enum|trait|type) (\w+)", path.read_text(encoding="utf-8"), flags=re.M):
+            yield name, path, any(word.split("::")[-1] == name for word in exported)
+
+
+def lib_of(crate):
+    lib = crate / "src/lib.rt"
+    return lib.read_text(encoding="utf-8") if lib.exists() else ""
+
+
+def facts(crate):
+    """The facts and records of a crate's specs/, with their files."""
+    for path in sorted((crate / "specs").rglob("*.antt")):
+        if "declared" not in path.parts and "contracts" not in path.parts:
+            text = path.read_text(encoding="utf-8")
+            yield from ((name, path) for name in re.findall(r"^(?:abbrev )?pub (?:record |data )?([A-Z]\w*)\b", text, flags=re.M))
+
+
+def homonyms():
+    """Names that stand in several files, and those that are known to and don't any more."""
+    places = collections.defaultdict(set)
+    for crate in crates():
+        for name, path, *_ in [*types(crate), *facts(crate)]:
+            places[name].add(str(path.relative_to(TOP / "crates")))
+    found = {name for name, own in places.items() if len(own) > 1}
+    for name in sorted(found - TWICE):
+        yield f"{name} is a name of {' and '.join(sorted(places[name]))}: one name, one meaning"
+    for name in sorted(TWICE - found):
+        yield f"{name} doesn't stand twice any more: take it out of docs/check.py"
+
+
+def names():
+    """Public types and limits of which no document says anything."""
+    papers = {paper: (TOP / "docs" / paper).read_text(encoding="utf-8") for paper in ("GLOSSARY.md", "PROVED.md", "FORMATS.md")}
+    told = {word for paper in ("GLOSSARY.md", "PROVED.md") for code in re.findall(r"`([^`]+)`", papers[paper]) for word in re.findall(r"\w+", code)}
+    told |= {word.strip("` ").replace(" ", "") for row in re.findall(r"^\| (.*?) \|", papers["GLOSSARY.md"], flags=re.M) for word in row.split(",")}
+    limits = set(re.findall(r"`(\w+)` of `(\w+)`", papers["FORMATS.md"]))
+    for crate in crates():
+        for name, _, public in types(crate):
+            if public and name not in told and name.lower() not in told:
+                yield f"neither GLOSSARY.md nor PROVED.md has the type {name} of {crate.name}"
+        text = "\n".join(path.read_text(encoding="utf-8") for path in sorted((crate / "src").rglob("*.rt")))
+        for name in sorted(set(re.findall(r"^pub const (\w*LIMIT)\b", text, flags=re.M)) - {name for name, own in limits if own == crate.name}):
+            yield f"FORMATS.md lacks the limit {name} of {crate.name}"
+        for name in sorted(name for name, own in limits if own == crate.name and not re.search(rf"\bconst {name}\b", text)):
+            yield f"FORMATS.md names {name}, which {crate.name} hasn't"
 
 
 if __name__ == "__main__":
     if sys.argv[1:] == ["--definitions"]:
         sys.exit(print(page(), end=""))
-    missing = [*headline(), *proved(), *made_faults(), *links()]
+    missing = [*headline(), *proved(), *made_faults(), *links(), *files(), *homonyms(), *names()]
     print("\n".join(missing) or "nothing is missing")
     sys.exit(1 if missing else 0)

@@ -9,7 +9,7 @@ use Rattle.ovl_inode.specs.declared.inodes.Kind.TheVariants.{File}
 use Rattle.ovl_inode.specs.Kinds.{size_of}
 use Rattle.ovl_inode.specs.Marks.{mark_of, is_metacopy, is_regular, has_metacopy, is_data}
 use Rattle.ovl_names.specs.Paths.{PathNames}
-use Rattle.ovl_manifest.specs.Layers.{Entries}
+use Rattle.ovl_layer.specs.Layers.{Entries}
 use Rattle.ovl_lookup.specs.Merged.{shown_of, is_nothing, place_of_data, data_at_place}
 use Rattle.ovl_lookup.proofs.LawsOfFound.{shown-any, placed-data, data_of-metacopy, data_of-bad, data_below-metacopy, data_below-data, data_below-other, shown_of-full, shown_of-contents, shown_of-broken}
 use Rattle.ovl_lookup.specs.Passes.{data_below}

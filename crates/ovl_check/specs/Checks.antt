@@ -7,7 +7,7 @@ use Rattle.ovl_check.specs.contracts.findings.Code as code_type
 use Rattle.std.specs.Prelude.{ℕ, ◌+◌, Bool, false, not, ◌&&◌, ◌||◌, length, min, nat_lt, Option, Some, None, List, [], ◌++◌, if◌then◌else◌, map, filter, slice_get, unwrap_or}
 use Rattle.std.specs.List.{flat_map}
 use Rattle.ovl_names.specs.Paths.{PathNames, child_path}
-use Rattle.ovl_manifest.specs.Layers.{Entries, Entry, entry_at, is_directory_at, names_below}
+use Rattle.ovl_layer.specs.Layers.{Entries, Entry, entry_at, is_directory_at, names_below}
 use Rattle.ovl_inode.specs.declared.inodes.Kind.TheVariants.{File}
 use Rattle.ovl_lookup.specs.declared.looks.Look.{Look}
 use Rattle.ovl_lookup.specs.declared.looks.Look.TheVariants.{Shown}

@@ -5,8 +5,8 @@ ghost use Rattle.ovl_names.specs.Paths.{child_path};
 ghost use Rattle.ovl_inode.specs.declared.marks.Mark.TheVariants.{DirPlain};
 ghost use Rattle.ovl_inode.specs.Attributes.{origin_name};
 ghost use Rattle.ovl_inode.specs.Marks.{has_attribute as attribute_test, is_directory as the_directory};
-ghost use Rattle.ovl_manifest.specs.Layers.{is_directory_at};
-ghost use Rattle.ovl_manifest.specs.Sheets.{path_at};
+ghost use Rattle.ovl_layer.specs.Layers.{is_directory_at};
+ghost use Rattle.ovl_layer.specs.Sheets.{path_at};
 ghost use Rattle.ovl_check.specs.Checks.{layer_at, directory_piece};
 ghost use Rattle.ovl_check.specs.Facts.{IsGathered, IsBelowOf, IsMarked, child_seen, seen_at, held_in};
 
@@ -15,8 +15,8 @@ use crate::marks::{attribute_is, has_attribute};
 use crate::places::mark_in;
 use ovl_board::Piece;
 use ovl_inode::{Inode, Mark, is_directory, overlay};
+use ovl_layer::Sheet;
 use ovl_lookup::{DirView, OwnDirectory, Stack, Trail};
-use ovl_manifest::Sheet;
 use ovl_names::{Name, Path};
 use std::alloc::{AllocError, Global};
 

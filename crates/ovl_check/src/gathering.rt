@@ -5,7 +5,7 @@ ghost use Rattle.ovl_names.specs.Paths.{child_path};
 ghost use Rattle.ovl_inode.specs.Attributes.{origin_name};
 ghost use Rattle.ovl_inode.specs.Marks.{has_attribute as attribute_test, is_directory as the_directory};
 ghost use Rattle.ovl_inode.specs.declared.marks.Mark.TheVariants.{Meta};
-ghost use Rattle.ovl_manifest.specs.Layers.{entry_at};
+ghost use Rattle.ovl_layer.specs.Layers.{entry_at};
 ghost use Rattle.ovl_lookup.specs.Walk.{walk_to_file};
 ghost use Rattle.ovl_lookup.specs.Merged.{place_of_data};
 ghost use Rattle.ovl_lookup.specs.Sound.{is_seen_there};

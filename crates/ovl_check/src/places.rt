@@ -1,7 +1,7 @@
 ghost use Rattle.std.specs.Prelude.{◌≡◌, ◌<◌, ◌≤◌, Some, IfOk, length};
 ghost use Rattle.ovl_lookup.specs.Stacks.{all_layers};
 ghost use Rattle.ovl_inode.specs.declared.marks.Mark.TheVariants.{DirPlain};
-ghost use Rattle.ovl_manifest.specs.Sheets.{path_at};
+ghost use Rattle.ovl_layer.specs.Sheets.{path_at};
 ghost use Rattle.ovl_lookup.specs.Walk.{walk, mark_at as the_mark};
 ghost use Rattle.ovl_lookup.specs.Merged.{look as the_look};
 ghost use Rattle.ovl_lookup.specs.Sound.{is_plain as plain_test};
@@ -10,8 +10,8 @@ ghost use Rattle.ovl_check.specs.Facts.{data_size};
 
 use crate::marks::is_plain;
 use ovl_inode::{Kind, Mark, file_size};
+use ovl_layer::Sheet;
 use ovl_lookup::{Look, Stack, Step};
-use ovl_manifest::Sheet;
 use ovl_names::Path;
 use std::alloc::{AllocError, Global};
 

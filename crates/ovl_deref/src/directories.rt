@@ -2,8 +2,8 @@ ghost use Rattle.std.specs.Prelude.{◌≡◌, ◌<◌, ◌++◌, [], false, Som
 ghost use Rattle.std.specs.List.{cons_option};
 ghost use Rattle.ovl_names.specs.Paths.{child_path};
 ghost use Rattle.ovl_inode.specs.Marks.{mark_of as the_mark};
-ghost use Rattle.ovl_manifest.specs.Layers.{entry_at};
-ghost use Rattle.ovl_manifest.specs.Sheets.{path_at};
+ghost use Rattle.ovl_layer.specs.Layers.{entry_at};
+ghost use Rattle.ovl_layer.specs.Sheets.{path_at};
 ghost use Rattle.ovl_lookup.specs.DirViews.{IsViewOf};
 ghost use Rattle.ovl_lookup.specs.Sound.{is_moved as moved_test};
 ghost use Rattle.ovl_lookup.specs.Words.{top_layer, lower_layers};

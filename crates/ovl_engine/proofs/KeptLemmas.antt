@@ -8,9 +8,9 @@ use Rattle.std.proofs.lemmas.List.Elements.{All-head, All-tail}
 use Rattle.std.proofs.lemmas.List.Folds.{sum_by-zero}
 use Rattle.ovl_names.specs.Paths.{PathNames}
 use Rattle.ovl_names.proofs.Ascending.{both}
-use Rattle.ovl_manifest.specs.Layers.{Entries, IsLayer}
+use Rattle.ovl_layer.specs.Layers.{Entries, IsLayer}
 use Rattle.ovl_manifest.specs.Manifest.{read_layer}
-use Rattle.ovl_manifest.specs.declared.faults.LayerFault.{LayerFault}
+use Rattle.ovl_layer.specs.declared.faults.LayerFault.{LayerFault}
 use Rattle.ovl_lookup.specs.Stacks.{StackView, stack_with}
 use Rattle.ovl_lookup.specs.Merged.{look}
 use Rattle.ovl_lookup.specs.Sound.{IsSoundStack}
@@ -28,9 +28,9 @@ use Rattle.ovl_merge.specs.MergeDown.{IsMergedDown, merged_top}
 use Rattle.ovl_merge.specs.Laws.{MergeKeepsTree}
 use Rattle.ovl_engine.specs.declared.faults.EngineFault.{EngineFault}
 use Rattle.ovl_engine.specs.declared.faults.EngineFault.TheVariants.{Layer}
-use Rattle.ovl_engine.specs.declared.requests.Answer.{Answer}
-use Rattle.ovl_engine.specs.declared.requests.Command.{Command}
-use Rattle.ovl_engine.specs.Commands.{stands_alone}
+use Rattle.ovl_commands.specs.declared.requests.Answer.{Answer}
+use Rattle.ovl_commands.specs.declared.requests.Command.{Command}
+use Rattle.ovl_commands.specs.Commands.{stands_alone}
 use Rattle.ovl_engine.specs.FsckReports.{is_clean}
 use Rattle.ovl_engine.specs.Refusals.{layers_from, under_layer, stated_layers, first_unread}
 use Rattle.ovl_engine.specs.Requests.{Request}

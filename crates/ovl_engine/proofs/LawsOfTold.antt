@@ -9,11 +9,11 @@ use Rattle.ovl_check.specs.declared.contents.Content.{Content}
 use Rattle.ovl_check.specs.Blobs.{BlobView, digest_cmp}
 use Rattle.ovl_check.specs.Contents.{contents_of}
 use Rattle.ovl_check.specs.Findings.{findings}
-use Rattle.ovl_engine.specs.declared.requests.Command.{Command}
-use Rattle.ovl_engine.specs.declared.requests.Answer.{Answer}
+use Rattle.ovl_commands.specs.declared.requests.Command.{Command}
+use Rattle.ovl_commands.specs.declared.requests.Answer.{Answer}
 use Rattle.ovl_engine.specs.declared.faults.EngineFault.{EngineFault}
 use Rattle.ovl_engine.specs.declared.questions.Question.{Question}
-use Rattle.ovl_engine.specs.Commands.{checks}
+use Rattle.ovl_commands.specs.Commands.{checks}
 use Rattle.ovl_engine.specs.Requests.{Request}
 use Rattle.ovl_engine.specs.Outcomes.{IsAccepted, IsRun, stack_of}
 use Rattle.ovl_engine.specs.Questions.{AreAsked, IsQuestionOf}

@@ -1,10 +1,8 @@
 //! Gates that look how workers share the pieces of a work.
 ghost use Rattle.std.specs.Prelude.{◌≡◌, []};
 
-use crate::answers::blobs_of;
 use crate::commands::{of_forty, text_of};
-use crate::rows::command_of_word;
-use crate::samples::{manifests_of, stack_of};
+use crate::samples::{blobs_of, manifests_of, stack_of};
 use crate::tables::{parts_of, same};
 use ovl_board::{BoardFault, Piece};
 use ovl_engine::{Command, EngineFault, ShowWork, command};
@@ -142,6 +140,18 @@ merge of root | dir /a, dir /b -> 0 /a /b
 deref of dir /p redirect=/x, whiteout /x | dir /x, dir /x/a, dir /x/b -> 0 /p/a /p/b
 flatten of dir /p redirect=/x, whiteout /x | dir /x, dir /x/a, dir /x/b -> 0 /p/a /p/b
 ";
+
+fn command_of_word(word: &str) -> Result<Command, Fail> {
+    match word {
+        "show" => Ok(Command::Show),
+        "fsck" => Ok(Command::Fsck),
+        "vacuum" => Ok(Command::Vacuum),
+        "deref" => Ok(Command::Deref),
+        "merge" => Ok(Command::Merge),
+        "flatten" => Ok(Command::Flatten),
+        _ => Err(Fail::new("no command has this word")),
+    }
+}
 
 // How a command ends of which the pieces are to meet.
 fn met<R: Threads + Wait + Sync>(

@@ -12,8 +12,8 @@ use Rattle.ovl_names.specs.Paths.{PathNames, path_eq, child_path, parent_path, i
 use Rattle.ovl_names.proofs.Ascending.{both, is_lt-Less}
 use Rattle.ovl_names.specs.Order.{ascends}
 use Rattle.ovl_inode.specs.declared.inodes.Inode.{Inode}
-use Rattle.ovl_manifest.specs.Layers.{Entries, entry_at, Entry, entry_cmp}
-use Rattle.ovl_manifest.proofs.LayerLemmas.{path_cmp-same, path_order}
+use Rattle.ovl_layer.specs.Layers.{Entries, entry_at, Entry, entry_cmp}
+use Rattle.ovl_layer.proofs.LayerLemmas.{path_cmp-same, path_order}
 use Rattle.ovl_lookup.specs.Words.{is_at_or_under}
 
 -- what passes a test passes one that it implies, before or after

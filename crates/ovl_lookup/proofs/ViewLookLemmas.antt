@@ -12,9 +12,9 @@ use Rattle.ovl_inode.specs.declared.marks.Mark.TheVariants.{Whiteout, DirOpaque,
 use Rattle.ovl_inode.specs.declared.marks.Redirect.TheVariants.{To, Beside}
 use Rattle.ovl_inode.specs.Inodes.{visible}
 use Rattle.ovl_inode.specs.Marks.{mark_of, is_whiteout, is_data, is_metacopy, is_metacopy_mark, is_regular, has_metacopy}
-use Rattle.ovl_manifest.specs.Layers.{Entries, entry_at, names_below}
-use Rattle.ovl_manifest.specs.Sheets.{last_name, path_at}
-use Rattle.ovl_manifest.proofs.SheetLemmas.{last_name-child}
+use Rattle.ovl_layer.specs.Layers.{Entries, entry_at, names_below}
+use Rattle.ovl_layer.specs.Sheets.{last_name, path_at}
+use Rattle.ovl_layer.proofs.SheetLemmas.{last_name-child}
 use Rattle.ovl_lookup.specs.declared.looks.Look.{Look}
 use Rattle.ovl_lookup.specs.declared.looks.Look.TheVariants.{Nothing, Shown, Broken}
 use Rattle.ovl_lookup.specs.declared.tops.Top.{Top}

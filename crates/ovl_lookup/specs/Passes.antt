@@ -8,8 +8,8 @@ use Rattle.ovl_names.specs.Paths.{PathNames, child_path}
 use Rattle.ovl_inode.specs.declared.inodes.Inode.{Inode}
 use Rattle.ovl_inode.specs.declared.marks.Mark.{Mark}
 use Rattle.ovl_inode.specs.Marks.{mark_of, is_metacopy, is_data}
-use Rattle.ovl_manifest.specs.Layers.{Entries, IsLayer, entry_at, is_directory_at, names_below}
-use Rattle.ovl_manifest.specs.Sheets.{path_at}
+use Rattle.ovl_layer.specs.Layers.{Entries, IsLayer, entry_at, is_directory_at, names_below}
+use Rattle.ovl_layer.specs.Sheets.{path_at}
 use Rattle.ovl_lookup.specs.declared.steps.Descent.{Descent}
 use Rattle.ovl_lookup.specs.declared.steps.OwnDirectory.{OwnDirectory}
 use Rattle.ovl_lookup.specs.declared.steps.Step.{Step}

@@ -17,7 +17,7 @@ use crate::trails::Trail;
 use ovl_inode::{
     Inode, Kind, Mark, Redirect, is_data, is_directory, is_whiteout, overlay, visible,
 };
-use ovl_manifest::Sheet;
+use ovl_layer::Sheet;
 use ovl_names::Path;
 use std::alloc::{AllocError, Global};
 

@@ -1,7 +1,7 @@
 ghost use Rattle.std.specs.Prelude.{◌≡◌, ◌≢◌, ◌<◌, ◌≤◌, ◌+◌, ◌↔◌, ◌⊎◌, [], false, Some, Err, length, IsTrue, IfOk, MatchOption, MatchResult, slice_get, IfSome};
 ghost use Rattle.std.specs.Option.{option_map};
 ghost use Rattle.std.specs.List.{All};
-ghost use Rattle.ovl_manifest.specs.Layers.{IsLayer, entry_at, is_directory_at, names_below};
+ghost use Rattle.ovl_layer.specs.Layers.{IsLayer, entry_at, is_directory_at, names_below};
 ghost use Rattle.ovl_lookup.specs.Passes.{IsOwnDirectory};
 ghost use Rattle.ovl_lookup.specs.Walk.{walk as the_walk};
 ghost use Rattle.ovl_lookup.specs.declared.stacks.StackFault.TheVariants.{Layers, Memory, DataCount};
@@ -11,7 +11,7 @@ ghost use Rattle.ovl_lookup.specs.Words.{top_layer};
 use crate::steps::directory_in;
 use crate::{OwnDirectory, Step, walk};
 use ovl_inode::Inode;
-use ovl_manifest::{Layer, Sheet};
+use ovl_layer::{Layer, Sheet};
 use ovl_names::{Name, Path};
 use std::alloc::{AllocError, Global};
 use std::marker::Model;
@@ -52,7 +52,7 @@ pub struct Stack {
 impl Model for Stack {
     ghost use Rattle.std.specs.Prelude.{◌<◌, ◌≤◌, ◌+◌, length};
     ghost use Rattle.std.specs.List.{All};
-    ghost use Rattle.ovl_manifest.specs.Layers.{IsLayer};
+    ghost use Rattle.ovl_layer.specs.Layers.{IsLayer};
     ghost use Rattle.ovl_lookup.specs.Stacks.{StackView, layer_limit};
 
     ghost Value = { StackView };

@@ -2,15 +2,15 @@ ghost use Rattle.std.specs.Prelude.{◌≡◌, ◌<◌, ◌++◌, [], false, Som
 ghost use Rattle.ovl_names.specs.Names.{PathName};
 ghost use Rattle.ovl_names.specs.Paths.{PathNames, child_path};
 ghost use Rattle.ovl_inode.specs.Marks.{mark_of as the_mark};
-ghost use Rattle.ovl_manifest.specs.Layers.{entry_at, is_directory_at};
-ghost use Rattle.ovl_manifest.specs.Sheets.{path_at};
+ghost use Rattle.ovl_layer.specs.Layers.{entry_at, is_directory_at};
+ghost use Rattle.ovl_layer.specs.Sheets.{path_at};
 ghost use Rattle.ovl_lookup.specs.Onwards.{next_on, closed_on};
 ghost use Rattle.ovl_lookup.specs.Passes.{IsDescent, IsArrival, IsOwnDirectory, IsOwnEntry, IsMarked, step_of};
 ghost use Rattle.ovl_lookup.specs.Walk.{walk as the_walk};
 
 use crate::trails::Trail;
 use ovl_inode::{Inode, Mark, Redirect, is_directory, is_whiteout};
-use ovl_manifest::{Sheet, SheetRow};
+use ovl_layer::{Sheet, SheetRow};
 use ovl_names::{Name, Path};
 use std::alloc::{AllocError, Global};
 

@@ -2,7 +2,7 @@ ghost use Rattle.std.specs.Prelude.{◌≡◌, ◌<◌, [], Option, true, length
 ghost use Rattle.ovl_names.specs.Names.{name_cmp};
 ghost use Rattle.ovl_names.specs.Paths.{PathNames};
 ghost use Rattle.ovl_names.specs.Order.{ascends};
-ghost use Rattle.ovl_manifest.specs.Sheets.{path_at};
+ghost use Rattle.ovl_layer.specs.Sheets.{path_at};
 ghost use Rattle.ovl_lookup.specs.Passes.{own_names_along, put_names};
 ghost use Rattle.ovl_merge.specs.Places.{merge_of, two_layers};
 ghost use Rattle.ovl_merge.specs.Stands.{StandsAt};
@@ -10,8 +10,8 @@ ghost use Rattle.ovl_merge.specs.Reckoned.{IsVisited};
 ghost use Rattle.ovl_merge.specs.Candidates.{AreCandidates, AreMerged, AreRowsOf, HaveEntries, candidate_told, candidates_told, hidden_names as the_hidden, joined as joined_rows, names_of, unrowed, rows_on};
 
 use crate::directories::Directory;
+use ovl_layer::Sheet;
 use ovl_lookup::Stack;
-use ovl_manifest::Sheet;
 use ovl_names::Name;
 use std::alloc::{AllocError, Global};
 use std::cmp::Ordering;

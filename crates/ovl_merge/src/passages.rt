@@ -2,7 +2,7 @@ ghost use Rattle.std.specs.Prelude.{◌≡◌, ◌≢◌, ◌<◌, Option, None,
 ghost use Rattle.std.specs.Option.{option_map, option_and_then};
 ghost use Rattle.ovl_names.specs.Paths.{PathNames, child_path};
 ghost use Rattle.ovl_inode.specs.Marks.{mark_of as the_mark, is_directory as directory_test, is_metacopy as metacopy_test};
-ghost use Rattle.ovl_manifest.specs.Layers.{entry_at};
+ghost use Rattle.ovl_layer.specs.Layers.{entry_at};
 ghost use Rattle.ovl_lookup.specs.Merged.{look as the_look};
 ghost use Rattle.ovl_merge.specs.Places.{merge_of, is_nothing_or, is_shown_regular as regular_look, reach as the_reach, goes_on_at};
 ghost use Rattle.ovl_merge.specs.Reckoned.{IsVisited, onward_at, upper_onward};
@@ -14,8 +14,8 @@ use crate::candidates::Candidate;
 use crate::directories::Directory;
 use crate::stands::{Passing, Stand, passing_at, passing_in};
 use ovl_inode::{Inode, Kind, is_directory};
+use ovl_layer::Sheet;
 use ovl_lookup::{Found, Look, Onward, Stack, Step, is_well_formed_metacopy, walk};
-use ovl_manifest::Sheet;
 use ovl_names::{Name, Path};
 use std::alloc::{AllocError, Global};
 

@@ -4,8 +4,8 @@ ghost use Rattle.ovl_names.specs.Paths.{PathNames, child_path};
 ghost use Rattle.ovl_merge.specs.Stands.{IsStand, StandsAt, IsRowAt, IsThing, IsPassing, name_on, onward_to};
 
 use ovl_inode::Mark;
+use ovl_layer::Sheet;
 use ovl_lookup::{Arrival, Found, Onward, Trail};
-use ovl_manifest::Sheet;
 use ovl_names::{Name, Path};
 use std::alloc::{AllocError, Global};
 

@@ -4,9 +4,9 @@ use Rattle.std.specs.Global.{Global}
 use Rattle.std.specs.Io.KnownBytes.{Keeps}
 use Rattle.ovl_check.specs.Blobs.{are_in_order}
 use Rattle.ovl_engine.specs.Requests.{Request}
-use Rattle.ovl_engine.specs.declared.requests.Answer.{Answer}
+use Rattle.ovl_commands.specs.declared.requests.Answer.{Answer}
 use Rattle.ovl_engine.specs.declared.faults.EngineFault.{EngineFault}
-use Rattle.ovl_program.specs.declared.command_line.options.Line.{Line}
+use Rattle.ovl_command_line.specs.declared.options.Line.{Line}
 use Rattle.ovl_program.specs.declared.output.status.Ending.{Ending}
 use Rattle.ovl_program.specs.declared.faults.ProgramFault.{ProgramFault}
 use Rattle.ovl_program.specs.declared.faults.ProgramFault.TheVariants.{Usage, Words, Input, Unread, Unwritten, Output, Engine}

@@ -3,8 +3,8 @@ use Rattle.std.specs.Prelude.{◌≡◌, ◌⊎◌, ◌<◌, ℕ, Bool, true, fa
 use Rattle.std.specs.Global.{Global}
 use Rattle.std.specs.Io.KnownBytes.{Appends, Keeps}
 use Rattle.ovl_board.specs.declared.pieces.Piece.{Piece}
-use Rattle.ovl_engine.specs.declared.requests.Command.TheVariants.{Show}
-use Rattle.ovl_engine.specs.declared.requests.Answer.{Answer}
+use Rattle.ovl_commands.specs.declared.requests.Command.TheVariants.{Show}
+use Rattle.ovl_commands.specs.declared.requests.Answer.{Answer}
 use Rattle.ovl_engine.specs.declared.faults.EngineFault.{EngineFault}
 use Rattle.ovl_engine.specs.declared.faults.EngineFault.TheVariants.{Faulty as FaultyLayers}
 use Rattle.ovl_engine.specs.Requests.{Request}
@@ -17,7 +17,7 @@ use Rattle.ovl_program.specs.declared.faults.ProgramFault.TheVariants.{Usage, Wo
 use Rattle.ovl_program.specs.Status.{ending_of}
 use Rattle.ovl_program.specs.Faults.{IsMemory}
 use Rattle.ovl_program.specs.BlobFolders.{anything}
-use Rattle.ovl_program.specs.Commands.{default_workers}
+use Rattle.ovl_command_line.specs.Commands.{default_workers}
 use Rattle.ovl_program.specs.LayerFiles.{IsOutFile}
 
 -- the program's gate refuses nothing

@@ -1,7 +1,7 @@
 ghost use Rattle.std.specs.Prelude.{◌≡◌, ◌<◌, [], length, map, unwrap_or, IfOk, IfSome, MatchOption};
 ghost use Rattle.ovl_names.specs.Paths.{child_path};
-ghost use Rattle.ovl_manifest.specs.Layers.{names_below};
-ghost use Rattle.ovl_manifest.specs.Sheets.{path_at};
+ghost use Rattle.ovl_layer.specs.Layers.{names_below};
+ghost use Rattle.ovl_layer.specs.Sheets.{path_at};
 ghost use Rattle.ovl_inode.specs.Inodes.{visible as visible_inode};
 ghost use Rattle.ovl_lookup.specs.declared.looks.Look.TheVariants.{Shown};
 ghost use Rattle.ovl_lookup.specs.Equal.{look_eq};

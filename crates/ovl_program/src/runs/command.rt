@@ -3,13 +3,13 @@ ghost use Rattle.ovl_check.specs.Blobs.{blob_views, are_in_order};
 ghost use Rattle.ovl_program.specs.Faults.{IsUnread};
 ghost use Rattle.ovl_program.specs.Programs.{IsOfBlobs, IsPerformed, folder_in_parts as the_folder_in_parts};
 
-use crate::command_line::options::Line;
 use crate::faults::ProgramFault;
 use crate::files::blob_folder::read_blobs;
 use crate::files::manifests::{SharedFiles, read_files};
 use crate::output::report::write_report;
 use crate::output::status::Ending;
 use crate::runs::in_parts::perform_in_parts;
+use ovl_command_line::Line;
 use ovl_engine::{Blob, command_of};
 use ovl_pool::OpenGate;
 use std::io::Write;

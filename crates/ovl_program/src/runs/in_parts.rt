@@ -4,12 +4,12 @@ ghost use Rattle.ovl_program.specs.Faults.{IsUnread};
 ghost use Rattle.ovl_program.specs.Reported.{IsComingOver};
 ghost use Rattle.ovl_program.specs.Programs.{IsOfBlobs, IsPerformed, folder_in_parts};
 
-use crate::command_line::options::Line;
 use crate::faults::ProgramFault;
 use crate::files::folder_in_parts::tell_blobs;
 use crate::files::manifests::SharedFiles;
 use crate::output::report::write_report;
 use crate::output::status::Ending;
+use ovl_command_line::Line;
 use ovl_engine::{Answer, EngineFault, answer_told, question_of};
 use ovl_pool::OpenGate;
 use std::io::Write;

@@ -3,8 +3,8 @@ use Rattle.std.specs.Prelude.{unwrap_or}
 use Rattle.std.specs.Option.{option_map}
 use Rattle.ovl_names.specs.Paths.{PathNames, is_root}
 use Rattle.ovl_inode.specs.Marks.{mark_of}
-use Rattle.ovl_manifest.specs.Layers.{Entries, entry_at}
-use Rattle.ovl_manifest.proofs.NodeLemmas.{entry_at-under}
+use Rattle.ovl_layer.specs.Layers.{Entries, entry_at}
+use Rattle.ovl_layer.proofs.NodeLemmas.{entry_at-under}
 use Rattle.ovl_lookup.specs.Walk.{mark_at}
 use Rattle.ovl_lookup.specs.Sound.{is_plain}
 use Rattle.ovl_check.specs.Checks.{layer_at}

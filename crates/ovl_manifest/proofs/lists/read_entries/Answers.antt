@@ -1,7 +1,8 @@
 use Rattle.std.proofs.Common.{subst}
 use Rattle.std.specs.Prelude.{IsSomeAnd, option_and_then}
 use Rattle.serde_json.specs.Read.{read}
-use Rattle.ovl_manifest.specs.Manifest.{layer_of_entries, stated_entries}
+use Rattle.ovl_layer.specs.Entries.{layer_of_entries}
+use Rattle.ovl_manifest.specs.Manifest.{stated_entries}
 use Rattle.ovl_manifest.specs.Lists.{listed, Tells}
 use Rattle.ovl_manifest.proofs.ListLemmas.{told-draft}
 use Rattle.ovl_manifest.proofs.lists.read_entries.Goals as goal

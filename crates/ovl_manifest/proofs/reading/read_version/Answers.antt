@@ -1,7 +1,7 @@
 use Rattle.std.proofs.Common.{sym, ap, ◌∙◌, Err}
 use Rattle.std.specs.Option.{option_map}
 use Rattle.ovl_json.specs.Views.{object_view}
-use Rattle.ovl_manifest.specs.declared.faults.LayerFault.TheVariants.{Shape}
+use Rattle.ovl_layer.specs.declared.faults.LayerFault.TheVariants.{Shape}
 use Rattle.ovl_manifest.proofs.ListLemmas.{outlined, outline_stated}
 use Rattle.ovl_manifest.proofs.reading.read_version.Goals as goal
 

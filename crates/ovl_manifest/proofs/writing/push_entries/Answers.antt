@@ -2,11 +2,11 @@ use Rattle.std.proofs.Common.{◌≡◌, ◌++◌, [], ◌∙◌, ℕ, List, tru
 use Rattle.std.proofs.lemmas.List.{take_all}
 use Rattle.serde_json.specs.Written.{compact_text}
 use Rattle.ovl_manifest.specs.Compact.{entries_text}
-use Rattle.ovl_manifest.specs.Layers.{Entry, Entries}
-use Rattle.ovl_manifest.specs.LayerTrees.{NodeView, entries_of_nodes, under, entries_from}
+use Rattle.ovl_layer.specs.Layers.{Entry, Entries}
+use Rattle.ovl_layer.specs.LayerTrees.{NodeView, entries_of_nodes, under, entries_from}
 use Rattle.ovl_manifest.specs.Text.{entry_value}
 use Rattle.ovl_manifest.specs.Versions.{written}
-use Rattle.ovl_manifest.proofs.NodeLemmas.{entries_of_nodes-more, placed_at-under}
+use Rattle.ovl_layer.proofs.NodeLemmas.{entries_of_nodes-more, placed_at-under}
 use Rattle.ovl_manifest.proofs.CompactLemmas.{Grows, onto, entries-append}
 use Rattle.ovl_manifest.proofs.writing.push_entries.Goals as goal
 

@@ -1,6 +1,6 @@
 use Rattle.std.proofs.Common.{◌≡◌, ◌∙◌, [], Some, None, sym, ap}
-use Rattle.ovl_manifest.specs.Layers.{Entries, entry_at}
-use Rattle.ovl_manifest.proofs.NodeLemmas.{entry_at-under}
+use Rattle.ovl_layer.specs.Layers.{Entries, entry_at}
+use Rattle.ovl_layer.proofs.NodeLemmas.{entry_at-under}
 use Rattle.ovl_merge.proofs.BaseLemmas.{at-some}
 use Rattle.ovl_merge.proofs.passages.found_at.Goals as goal
 

@@ -8,7 +8,7 @@ use Rattle.ovl_names.specs.Paths.{PathNames}
 use Rattle.ovl_inode.specs.declared.inodes.Inode.{Inode}
 use Rattle.ovl_inode.specs.Marks.{mark_of, is_metacopy, is_metacopy_mark}
 use Rattle.ovl_lookup.specs.declared.steps.Found.{Found}
-use Rattle.ovl_manifest.specs.Layers.{Entries}
+use Rattle.ovl_layer.specs.Layers.{Entries}
 use Rattle.ovl_lookup.specs.Trace.{things_found}
 use Rattle.ovl_lookup.specs.Passes.{data_below, step_of}
 use Rattle.ovl_lookup.proofs.FoundLemmas.{found-first, found-closed, found-open, found-first_open, found-first_closed}

@@ -1,6 +1,6 @@
 use Rattle.std.proofs.Common.{◌∙◌, ◌≡◌, ℕ, None, refl, sym, subst, ap, length, Vec, Global, Result}
 use Rattle.std.proofs.lemmas.List.{length-map}
-use Rattle.ovl_engine.specs.declared.requests.Answer.{Answer}
+use Rattle.ovl_commands.specs.declared.requests.Answer.{Answer}
 use Rattle.ovl_engine.specs.declared.faults.EngineFault.{EngineFault}
 use Rattle.ovl_engine.specs.Requests.{Request, request_of}
 use Rattle.ovl_program.specs.Reported.{IsComing}
