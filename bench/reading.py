@@ -56,6 +56,11 @@ def at_most(what: str, number: float, most: float) -> Count:
     return Count(what, number, 0, most)
 
 
+def names_of(it: Entry) -> list[bytes]:
+    path: str = it["path"]
+    return path.encode().split(b"/")
+
+
 # ---- runs
 
 @dataclass(frozen=True)
@@ -83,7 +88,7 @@ class Bench:
         _, status, used = os.wait4(process.pid, 0)
         if status:
             sys.exit(f"reading.py: {words[0]} ended with status {status}")
-        return used.ru_maxrss
+        return int(used.ru_maxrss)
 
     def folder(self, name: str) -> Path:
         made = self.room / name
@@ -92,7 +97,7 @@ class Bench:
 
     def write(self, name: str, entries: Layer) -> str:
         """A manifest as it is written, of the root and these."""
-        entries = sorted([entry("/"), *entries], key=lambda it: it["path"].encode().split(b"/"))
+        entries = sorted([entry("/"), *entries], key=names_of)
         value = json.dumps(manifest_of(entries, entries), ensure_ascii=False, separators=(",", ":"), sort_keys=True)
         made = self.room / f"{name}.json"
         made.write_text(value + "\n", encoding="utf-8")
