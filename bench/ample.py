@@ -212,12 +212,12 @@ def of_some_version(rng: random.Random, layer: Layer) -> Layer:
     return layer if any(it[NSEC] for it in layer) or rng.choice((1, 2)) == 2 else First(layer)
 
 
-def stack_of(rng: random.Random) -> Stack:
+def stack_of(rng: random.Random, counts: tuple[int, ...] = (2, 3, 3, 4, 5)) -> Stack:
     tree: Tree = {}
     layers: list[Layer] = []
     # The lowest layers may be of a time in which manifests had whole seconds alone.
     times = rng.choice(((0,), NANOSECONDS))
-    for _ in range(rng.choice((2, 3, 3, 4, 5))):
+    for _ in range(rng.choice(counts)):
         lower, tree = tree, work(rng, tree, times)
         layers.insert(0, entries(rng, tree, lower))
         times = rng.choice((times, NANOSECONDS))

@@ -35,7 +35,7 @@ from pathlib import Path
 from growth import REDIRECT, Entry, First, Layer, entry, write
 
 SOURCE = Path(__file__).resolve().parent / "refuse.c"
-COMMANDS = ("show", "fsck", "vacuum", "deref", "merge", "flatten", "fsck --any-size", "merge --any-size")
+COMMANDS = ("show", "fsck", "vacuum", "deref", "merge", "flatten", "fsck --any-size", "merge --any-size", "merge --down-to 1")
 # What is refused, and how refuse.c is told so.
 THREAD = "the start of a thread"
 WAYS = {"a request": {"REFUSE": "memory"}, "a request and all after it": {"REFUSE": "memory", "REFUSE_ON": ""},
@@ -43,6 +43,8 @@ WAYS = {"a request": {"REFUSE": "memory"}, "a request and all after it": {"REFUS
 # What a command does beside checking its layers, each by as many threads as there are workers: it reads files, reads what these
 # state, reads blobs, digests them, makes what is shown or a new layer, lets the stack go, and writes lines.
 THINGS = 7
+# Stacks of so many layers, at most, are merged down to one.
+FEW = 3
 # No run meets so many requests. A sweep ends with so many wrong endings; of a command so many are told.
 MOST, ENOUGH, TOLD = 50_000, 40, 5
 # So many processes share the requests of a test.
@@ -143,8 +145,14 @@ class Sweep:
     workers: int
     refused: str
 
+    def goes_on(self) -> bool:
+        """Whether it merges again and again, and so checks the layers that are left and makes new ones each time."""
+        return "--down-to" in self.command
+
     def most_threads(self) -> int:
-        return (THINGS + len(STACKS[self.stack].layers)) * (self.workers - 1)
+        layers = len(STACKS[self.stack].layers)
+        more = sum(left + 1 for left in range(2, layers)) if self.goes_on() else 0
+        return (THINGS + layers + more) * (self.workers - 1)
 
     def words(self, program: str, room: Path) -> list[str]:
         stack, blobs, folder = STACKS[self.stack], room / "blobs", room / "layers"
@@ -271,7 +279,8 @@ def sweeps() -> Iterator[Sweep]:
     """All, those of the longest runs first."""
     for name, stack in reversed(STACKS.items()):
         for refused in stack.refused:
-            yield from (Sweep(command, name, workers, refused) for workers in stack.workers for command in COMMANDS)
+            found = (Sweep(command, name, workers, refused) for workers in stack.workers for command in COMMANDS)
+            yield from (it for it in found if not it.goes_on() or len(stack.layers) <= FEW)
 
 
 def main() -> None:

@@ -642,6 +642,15 @@ fi
 rm -f new/layer-0.json
 refuses 5 'result over the limits' merge --blobs none --out new moved_deeper.json deeper.json
 refuses 3 'no lower layer' merge --blobs blobs --out missing k.json
+for left in 2 127; do
+    refuses 3 'no lower layer' merge --down-to "$left" --blobs blobs --out missing meta.json k.json
+done
+refuses 3 'no lower layer' merge --down-to 1 --data-layers 1 --blobs blobs --out missing meta.json k.json
+for left in 0 128 two ''; do
+    ends 2 printed merge --down-to "$left" --blobs blobs --out missing meta.json k.json && same=$((same + 1))
+done
+ends 2 printed vacuum --down-to 1 --blobs blobs --out missing meta.json k.json && same=$((same + 1))
+prints 1 'fault blob-missing 2 /k\nfaults 1 notes 0\n' merge --down-to 1 --blobs none --out new root.json meta.json k.json
 refuses 3 'layer 0: wrong shape' merge --blobs blobs --out missing shape.json
 prints 1 'fault blob-missing 1 /k\nfaults 1 notes 0\n' merge --blobs none --out new meta.json k.json
 refuses 5 'result over the limits' merge --blobs none --out new moved.json deeper.json
@@ -651,6 +660,13 @@ mkdir taken/second && mkdir taken/second/layer-1.json
 cp pipes.json taken/second/layer-0.json
 refuses 4 'cannot write taken/second/layer-1.json' merge --blobs blobs --out taken/second meta.json k.json
 gives taken/second pipes.json
+for more in '' --any-size; do
+    # shellcheck disable=SC2086
+    prints 0 'leaf /k\nentries 2\n' merge --down-to 1 $more --blobs blobs --out new root.json meta.json k.json
+    gives new root.json
+    mv new/layer-1.json new/layer-0.json
+    gives new k.json
+done
 prints 0 'leaf /k\nentries 2\n' merge --blobs blobs --out new meta.json k.json
 gives new root.json
 mv new/layer-1.json new/layer-0.json

@@ -39,7 +39,7 @@ const BLOB_ROOM: usize = 74;
 // text needn't grow.
 fn room_for(layer: &Layer) -> usize {
     let mut room = ENTRY_ROOM;
-    for child in &layer.children {
+    for child in layer.root().children() {
         room = room.saturating_add(room_under(child, 0));
     }
     room
@@ -47,12 +47,12 @@ fn room_for(layer: &Layer) -> usize {
 
 // Those of the entries at and under a node, by how long the text of its directory's path is.
 fn room_under(node: &Node, above: usize) -> usize {
-    let path = above.saturating_add(node.name.as_str().len() + 1);
+    let path = above.saturating_add(node.name().as_str().len() + 1);
     let mut room = path.saturating_add(ENTRY_ROOM);
-    if matches!(&node.inode.kind, Kind::File { blob: Some(_), .. }) {
+    if matches!(&node.inode().kind, Kind::File { blob: Some(_), .. }) {
         room = room.saturating_add(BLOB_ROOM);
     }
-    for child in &node.children {
+    for child in node.children() {
         room = room.saturating_add(room_under(child, path));
     }
     room
@@ -74,9 +74,10 @@ fn push_entries(alloc: Global, text: &mut String, layer: &Layer) -> Result<(), A
     ensures { OnOk result
         (string_bytes text.new ≡ string_bytes text.old ++ entries_text written false layer.now) }
 {
-    push_entry(alloc, text, "/", &layer.inode)?;
+    let root = layer.root();
+    push_entry(alloc, text, "/", root.inode())?;
     let mut path = String::new(alloc);
-    for child in &layer.children {
+    for child in root.children() {
         push_under(alloc, text, &mut path, child)?;
     }
     Ok(())
@@ -100,10 +101,10 @@ fn push_under(
 {
     let length = path.len();
     path.push_str("/")?;
-    path.push_str(node.name.as_str())?;
+    path.push_str(node.name().as_str())?;
     text.push_str(",")?;
-    push_entry(alloc, text, path.as_str(), &node.inode)?;
-    for child in &node.children {
+    push_entry(alloc, text, path.as_str(), node.inode())?;
+    for child in node.children() {
         push_under(alloc, text, path, child)?;
     }
     path.truncate(length);

@@ -1,13 +1,14 @@
-use Rattle.std.proofs.Common.{[]}
+use Rattle.std.proofs.Common.{[], refl}
 use Rattle.std.proofs.lemmas.Result.{err_from_is_err_and}
-use Rattle.ovl_engine.proofs.LawsOfTold.{asked_ascend, outcome_told, run_told}
+use Rattle.ovl_engine.proofs.LawsOfTold.{asked_ascend, outcome_down_told}
+use Rattle.ovl_commands.specs.declared.requests.Command.TheVariants.{Merge}
 use Rattle.ovl_engine.specs.Requests.{Request, request_of}
 use Rattle.ovl_program.specs.BlobFolders.{IsInFolder, anything}
 use Rattle.ovl_program.specs.Programs.{IsOfBlobs}
 use Rattle.ovl_program.specs.Reported.{refuses_nothing}
 use Rattle.ovl_program.proofs.Performed.{asked_folder}
 use Rattle.ovl_program.proofs.Unread.{unread_of_more}
-use Rattle.ovl_program.proofs.runs.in_parts.answer_in_parts.Goals as goal
+use Rattle.ovl_program.proofs.runs.in_parts.merged_in_parts.Goals as goal
 
 pub tell_blobs-requires-clause-ascend : goal.tell_blobs-requires-clause-ascend
 tell_blobs-requires-clause-ascend g c lifetimes live =
@@ -24,8 +25,7 @@ returns-in_err-told-clause-fault g c =
 pub returns-clause-coming : goal.returns-clause-coming
 returns-clause-coming g c =
     let line = c.args.line.now in
-    let request : Request = request_of line.what c.args.manifests.items line.data_layers [] line.workers in
+    let request : Request = request_of Merge c.args.manifests.items line.data_layers [] line.workers in
     let question = c.in-Ok.question in
-    outcome_told anything request question refuses_nothing c.answer_told.result c.in-Ok.ensures.accepted c.in-Ok.ensures.question
-    (run_told anything question.what question.stack refuses_nothing question.names.items c.in_ok-told.told.items c.answer_told.result c.in-Ok.ensures.question.names
-    (rw c.deref.ensures.value at c.in_ok-told.ensures.told) c.answer_told.ensures.outcome)
+    outcome_down_told anything c.args.left request question refuses_nothing c.in_ok-told.told.items c.merge_down_told.result refl c.in-Ok.ensures.accepted c.in-Ok.ensures.question
+    (rw c.deref.ensures.value at c.in_ok-told.ensures.told) c.merge_down_told.ensures.outcome
