@@ -100,9 +100,13 @@ class Stack:
             path.write_text(layer, encoding="utf-8")
         return [str(it) for it in paths]
 
-    def with_new(self, new: list[str], flattened: bool) -> "Stack":
-        """The stack with these layers in place of its topmost ones, or of all where it is flattened."""
-        return Stack(self.folder, new, 0) if flattened else Stack(self.folder, new + self.layers[len(new):], self.data)
+    def with_new(self, new: list[str], what: str) -> "Stack":
+        """The stack with a command's layers in place of its topmost ones, or of all where it is flattened."""
+        if what == "flatten":
+            return Stack(self.folder, new, 0)
+        _, goes_on, left = what.partition(" --down-to ")
+        gone = len(self.layers) - self.data - int(left) + 1 if goes_on else len(new)
+        return Stack(self.folder, new + self.layers[gone:], self.data)
 
 
 def stack_of(folder: Path, line: str) -> Stack:
@@ -136,7 +140,7 @@ class Program:
         result = self._run(what, stack, *words)
         if result.returncode == 0 or (result.returncode == 1 and what == "fsck"):
             new = [it.read_text(encoding="utf-8") for it in sorted(self._out.iterdir())]
-            kept = not new or self._shown(stack) == self._shown(stack.with_new(new, what == "flatten"))
+            kept = not new or self._shown(stack) == self._shown(stack.with_new(new, what))
             return result.stdout + "".join(new) + result.stderr + ("" if kept else "something else is shown\n")
         return "! " + result.stdout + result.stderr.removeprefix("ovl_layers: ")
 
@@ -144,7 +148,7 @@ class Program:
         return self._run("show", stack).stdout
 
     def _run(self, what: str, stack: Stack, *words: str) -> "subprocess.CompletedProcess[str]":
-        given = [what, *words] if what != "show" else [what, *(it for it in words if it != "--any-size")]
+        given = [*what.split(), *words] if what != "show" else [what, *(it for it in words if it != "--any-size")]
         given += ["--data-layers", str(stack.data)] if stack.data else []
         given += ["--blobs", str(self._blobs)] if what != "show" else []
         given += ["--out", str(self._out)] if what not in ("show", "fsck") else []

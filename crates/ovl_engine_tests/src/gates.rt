@@ -176,6 +176,24 @@ fn two_workers_of_a_command_meet_and_one_is_refused(rt: HostRuntime) -> Result<(
     Ok(())
 }
 
+// As many workers as there are pieces, and behind them a row as above.
+const CREWS: &str = "\
+4 show of dir /a, dir /b, dir /c, dir /d | root -> 0 /a /b /c /d
+4 fsck of root | dir /a, dir /b, dir /c, dir /d -> 1 /a /b /c /d
+4 merge of root | dir /a, dir /b, dir /c, dir /d -> 0 /a /b /c /d
+12 show of dir /a, dir /b, dir /c, dir /d, dir /e, dir /f, dir /g, dir /h, dir /i, dir /j, dir /k, dir /l \
+-> 0 /a /b /c /d /e /f /g /h /i /j /k /l
+";
+
+#[test]
+fn all_workers_of_a_command_meet(rt: HostRuntime) -> Result<(), Fail> {
+    for row in CREWS.lines() {
+        let (workers, row) = row.split_once(' ').unwrap_or((row, ""));
+        same(row, met(&rt, rt.alloc(), row, workers.parse()?)?.as_str(), "none")?;
+    }
+    Ok(())
+}
+
 // Each directory is asked for by the check, and by the work of the command where the check finds no fault. Before the stack
 // stands from how many times on a directory is refused.
 const REFUSED: &str = "\
@@ -280,6 +298,7 @@ const RUNS: &str = "\
 4 /a /b /c /d -> 5: 5 5 5 0
 3 /a /b /c /d -> Gate
 7 /a /b /c /d /e /f /g -> 8: 8 8 8 0
+12 /a /b /c /d /e /f /g /h /i /j /k /l -> 13: 13 13 13 0
 ";
 
 fn row_met<R: Threads + Wait + Sync>(rt: &R, alloc: Global, row: &str) -> Result<(), Fail> {
