@@ -9,5 +9,5 @@ use Rattle.ovl_manifest.proofs.lists.read_entries.Goals as goal
 
 pub finish-requires : goal.finish-requires
 finish-requires c =
-    told-draft (option_and_then listed (read c.args.text.now)) c.args.version c.in-Ok-2.draft
-    (subst (λ own. IsSomeAnd (option_and_then listed (read c.args.text.now)) (λ items. Tells own (layer_of_entries (stated_entries c.args.version items)))) c.in-Ok-2.is c.in-Ok.ensures)
+    told-draft (option_and_then listed (read c.args.text.now)) c.args.version c.in-Ok-told.draft
+    (subst (λ own. IsSomeAnd (option_and_then listed (read c.args.text.now)) (λ items. Tells own (layer_of_entries (stated_entries c.args.version items)))) c.in-Ok-told.is c.in-Ok.ensures)
