@@ -10,6 +10,9 @@ use Rattle.clap.specs.Words.{ReadsOne, one_text}
 use Rattle.clap.specs.Walk.{Text, one_of, rows_of}
 use Rattle.clap.specs.declared.parser.matches.Found.{Found}
 use Rattle.clap.proofs.WalkLemmas.{one_text-rows}
+use Rattle.clap.specs.Values.{IsUnsignedIn}
+use Rattle.ovl_commands.specs.declared.requests.Command.{Command}
+use Rattle.ovl_commands.specs.declared.requests.Command.TheVariants.{Merge}
 use Rattle.ovl_command_line.specs.Lines.{HasNumber, IsFlag, has_flag, number_in}
 use Rattle.ovl_command_line.proofs.Numbers.{number_read}
 
@@ -22,6 +25,22 @@ option_read id low high E gives f read given reads parses =
     let text = given.0 in
     let number = number_read E gives low high text read (reads text (one_text-rows f id ∙ given.1)) parses given.2 in
     (number.0, number.1, ap (option_map number_in) given.1 ∙ ap Some (sym number.2), number.3, number.4)
+
+-- the number that an option has that may be left out is read, too
+pub option_if_read : (id : Text) (what : Command) (low high : ℕ) (E : Type 0) (gives : List ℕ → Result ℕ E → Type 0) (f : Found) (read : Option ℕ)
+    → IfSome (one_of id (rows_of f)) (λ text. (what ≡ Merge) × IsUnsignedIn low high text)
+    → (one_text f id ≡ None → read ≡ None)
+    → ((text : List ℕ) → one_text f id ≡ Some text → ReadsOne gives text read)
+    → ((t : List ℕ) (r : Result ℕ E) → gives t r → ParsesUnsigned 64 10 t r)
+    → (read ≡ option_map number_in (one_of id (rows_of f))) × IfSome read (λ n. (what ≡ Merge) × ((low ≤ n) × (n ≤ high)))
+option_if_read id what low high E gives f read given none reads parses = go (one_of id (rows_of f)) refl given
+  where
+    go : (o : Option Text) → one_of id (rows_of f) ≡ o → IfSome o (λ text. (what ≡ Merge) × IsUnsignedIn low high text)
+        → (read ≡ option_map number_in o) × IfSome read (λ n. (what ≡ Merge) × ((low ≤ n) × (n ≤ high)))
+    go None e is = let nothing : read ≡ None = none (one_text-rows f id ∙ e) in rw nothing (refl, tt)
+    go (Some text) e is =
+        let number = number_read E gives low high text read (reads text (one_text-rows f id ∙ e)) parses is.1 in
+        rw (number.1) (ap Some number.2, (is.0, (number.3, number.4)))
 
 -- a flag that is there is read as such
 pub flag_read : (id : Text) (f : Found) (read : Bool) → IsFlag id (rows_of f) → (one_text f id ≡ None → read ≡ false)
