@@ -14,11 +14,11 @@ same-path trail above view own is there b e = sym (trail_eq-path above view) ∙
 pub returns-then-eq : goal.returns-then-eq
 returns-then-eq c =
     name-in c.in-Reached.view.path c.args.path.now c.in-Some.above c.in-Some.last.now (sym c.names.ensures.value ∙ c.in-Some.ensures.value) true
-    (same-path c.in_ok-of.of c.in-Some.above c.in-Reached.view.path c.path.result.now c.in_ok-of.ensures c.path.ensures true (sym c.eq.ensures ∙ c.if-eq.true))
+    (same-path c.in_ok-of.field-0 c.in-Some.above c.in-Reached.view.path c.path.result.now c.in_ok-of.ensures c.path.ensures true (sym c.eq-2.ensures ∙ c.if-eq.true))
     ∙ ap (λ (own : Base). name_directly_in (reached_in own) c.args.path.now) (sym c.in-Reached.is)
 
 pub returns-else-eq : goal.returns-else-eq
 returns-else-eq c =
     name-in c.in-Reached.view.path c.args.path.now c.in-Some.above c.in-Some.last.now (sym c.names.ensures.value ∙ c.in-Some.ensures.value) false
-    (same-path c.in_ok-of.of c.in-Some.above c.in-Reached.view.path c.path.result.now c.in_ok-of.ensures c.path.ensures false (sym c.eq.ensures ∙ c.if-eq.false))
+    (same-path c.in_ok-of.field-0 c.in-Some.above c.in-Reached.view.path c.path.result.now c.in_ok-of.ensures c.path.ensures false (sym c.eq-2.ensures ∙ c.if-eq.false))
     ∙ ap (λ (own : Base). name_directly_in (reached_in own) c.args.path.now) (sym c.in-Reached.is)

@@ -23,13 +23,3 @@ returns-in-Beside c =
     (let found = reach-above stack each above.path (onward_at above.lower) (visited-reach stack above.path above c.requires.above) (child_path above.path c.args.name.now) path goes c.in-Beside.own.now
     (sym (ap (place_from (onward_at above.lower)) c.in-Beside.is) ∙ (c.requires.place ∙ goes)) in
     h (reach m above.path) path (ap (λ (n : PathName). Some n) c.as_str.ensures.value ∙ (directly-child found.0 c.in-Beside.own.now ∙ (λ j. name_directly_in (sym found.1 j) (sym found.2 j)))))) c.renamed.ensures
-
-pub returns-in-At : goal.returns-in-At
-returns-in-At c =
-    let stack = c.args.stack.now in
-    let m = merge_of stack in
-    let above = c.args.above.now in
-    IfOk-weaker c.redirected_at.result _ _ (λ new h. λ path goes.
-    (let some : Some c.in-At.trail ≡ Some path = sym (ap (place_from (onward_at above.lower)) c.in-At.is) ∙ (c.requires.place ∙ goes) in
-    let same : c.in-At.trail ≡ path = cc in
-    h ∙ (λ j. redirected_from (base-reached stack above.path above.base c.requires.above.base j) c.args.name.now c.args.inode ((c.in_ok-path.ensures ∙ same) j)))) c.redirected_at.ensures

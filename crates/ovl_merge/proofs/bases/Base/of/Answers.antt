@@ -23,7 +23,7 @@ returns-in-Some-2 c =
     let stack = c.args.stack.now in
     let m = merge_of stack in
     let next : PathNames = c.in-Some.next.now in
-    let sought : IsSought stack 2 next c.in_ok-view.view = subst (λ (path : PathNames). IsSought stack 2 path c.in_ok-view.view) c.in_ok-copy.ensures c.in_ok-view.ensures in
+    let sought : IsSought stack 2 next c.in_ok-view.field-0 = subst (λ (path : PathNames). IsSought stack 2 path c.in_ok-view.field-0) c.in_ok-copy.ensures c.in_ok-view.ensures in
     let told = view-reached stack next c.in-Some-2.view (subst (IsSought stack 2 next) c.in-Some-2.is sought) in
     (c.requires.reach ∙ (ap (reach_from m.rest) (sym c.in-Some.ensures) ∙ told.0), told.1)
 
@@ -33,7 +33,7 @@ returns-in-None c =
     let m = merge_of stack in
     let each = merge-each stack c.requires.several c.ordinary-layers.ensures.each in
     let next : PathNames = c.in-Some.next.now in
-    let sought : IsSought stack 2 next c.in_ok-view.view = subst (λ (path : PathNames). IsSought stack 2 path c.in_ok-view.view) c.in_ok-copy.ensures c.in_ok-view.ensures in
+    let sought : IsSought stack 2 next c.in_ok-view.field-0 = subst (λ (path : PathNames). IsSought stack 2 path c.in_ok-view.field-0) c.in_ok-copy.ensures c.in_ok-view.ensures in
     let shown : shows_directory (from_layer 2 stack) next ≡ false = subst (IsSought stack 2 next) c.in-None.is sought in
     let none : reach m c.args._dir.now ≡ None = c.requires.reach ∙ (ap (reach_from m.rest) (sym c.in-Some.ensures) ∙ ap (λ (b : Bool). cond b (Some next) None) shown) in
     (none, base-apart m (upper m each) (lower m each) c.args._dir.now c.requires.shown none)

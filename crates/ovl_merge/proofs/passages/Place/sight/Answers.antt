@@ -21,11 +21,11 @@ returns-in-Beside c =
     ∙ ap sight_of (beside-look stack each above.path above.base c.requires.above.base (onward_at above.lower) (visited-reach stack above.path above c.requires.above) c.in-Beside.name.now path
     (sym (ap (place_from (onward_at above.lower)) c.in-Beside.is) ∙ there))
 
-pub returns-in-At : goal.returns-in-At
-returns-in-At c =
+pub returns-in_ok-copy-in-At : goal.returns-in_ok-copy-in-At
+returns-in_ok-copy-in-At c =
     let stack = c.args.stack.now in
     let above = c.args.above.now in
     IfOk-weaker c.sight-in-At.result _ _ (λ shown is. λ path there.
     (let some : Some c.in-At.path ≡ Some path = sym (ap (place_from (onward_at above.lower)) c.in-At.is) ∙ there in
     let same : c.in-At.path ≡ path = cc in
-    is ∙ ap (λ (p : PathNames). sight_of (look (merge_of stack).rest p)) (c.in_ok-copy.ensures ∙ same))) c.sight-in-At.ensures
+    is ∙ ap (λ (p : PathNames). sight_of (look (merge_of stack).rest p)) (c.in_ok-copy-in-At.ensures ∙ same))) c.sight-in-At.ensures
