@@ -17,10 +17,12 @@ use std::marker::Model;
 pub struct LayerBuilder {
     draft: Draft,
     count: u32,
+    // Whether a change was begun and failed, after which nothing is known of the draft.
+    failed: bool,
 }
 
 impl Model for LayerBuilder {
-    ghost use Rattle.std.specs.Prelude.{◌≡◌, ◌≤◌, length};
+    ghost use Rattle.std.specs.Prelude.{◌≡◌, ◌≤◌, false, length};
     ghost use Rattle.ovl_layer.specs.Layers.{Entries, entry_limit};
     ghost use Rattle.ovl_layer.specs.Drafts.{draft_entries, IsDraft};
 
@@ -28,7 +30,7 @@ impl Model for LayerBuilder {
 
     ghost view = { λ a. draft_entries a.draft };
 
-    ghost invariant = { λ a. IsDraft a.draft × (a.count ≡ length (draft_entries a.draft)) × (a.count ≤ entry_limit) };
+    ghost invariant = { λ a. a.failed ≡ false → IsDraft a.draft × (a.count ≡ length (draft_entries a.draft)) × (a.count ≤ entry_limit) };
 }
 
 impl LayerBuilder {
@@ -39,48 +41,61 @@ impl LayerBuilder {
             (λ fault. entry_after [] (stated_pair ([], root)) ≡ Err fault) }
     {
         let draft = start_draft(alloc, stated((Path::root(alloc), root)))?;
-        Ok(LayerBuilder { draft, count: 1 })
+        Ok(LayerBuilder {
+            draft,
+            count: 1,
+            failed: false,
+        })
     }
 
-    /// The layer with one more entry, `name` of a directory, of which no path is made. It is refused with `Count` behind
+    /// Adds the entry `name` of a directory, of which no path is made. It is refused with `Count` behind
     /// [`ENTRY_LIMIT`] entries, and else as [`from_entries`](crate::from_entries) refuses the entry that comes after
-    /// those so far; `Memory` can come at any time. A refusal lets the builder go.
+    /// those so far; `Memory` can come at any time, and behind a refusal it may be told of all else.
     pub fn add_child(
-        self,
+        &mut self,
         alloc: Global,
         directory: &Path,
         name: Name,
         inode: Inode,
-    ) -> Result<LayerBuilder, LayerFault>
+    ) -> Result<(), LayerFault>
         ensures { MatchResult result
-            (λ builder. pair_after self (child_path directory.now name, inode) ≡ Ok builder)
-            (λ fault. IsFaultOf (pair_after self (child_path directory.now name, inode)) fault) }
+            (λ _. pair_after self.old (child_path directory.now name, inode) ≡ Ok self.new)
+            (λ fault. IsFaultOf (pair_after self.old (child_path directory.now name, inode)) fault) }
     {
-        let LayerBuilder { mut draft, count } = self;
-        if count as usize >= ENTRY_LIMIT {
+        if self.failed {
+            return Err(LayerFault::Memory);
+        }
+        if self.count as usize >= ENTRY_LIMIT {
             return Err(LayerFault::Count);
         }
-        add_child(alloc, &mut draft, count, directory, name, inode)?;
-        Ok(LayerBuilder {
-            draft,
-            count: count + 1,
-        })
+        self.failed = true;
+        add_child(alloc, &mut self.draft, self.count, directory, name, inode)?;
+        self.count += 1;
+        self.failed = false;
+        Ok(())
     }
 
-    /// The same layer, with room for so many entries directly below the last one, so that their list needn't grow as they
-    /// come. Fails only when out of memory, and lets the builder go then.
-    pub fn make_room(self, entries: usize) -> Result<LayerBuilder, AllocError>
-        ensures { IfOk result (λ builder. builder ≡ self) }
+    /// Makes room for so many entries directly below the last one, so that their list needn't grow as they come. Fails
+    /// only when out of memory.
+    pub fn make_room(&mut self, entries: usize) -> Result<(), AllocError>
+        ensures { IfOk result (λ _. self.new ≡ self.old) }
     {
-        let LayerBuilder { mut draft, count } = self;
-        draft.make_room(entries)?;
-        Ok(LayerBuilder { draft, count })
+        if self.failed {
+            return Err(AllocError);
+        }
+        self.failed = true;
+        self.draft.make_room(entries)?;
+        self.failed = false;
+        Ok(())
     }
 
     /// The finished layer; fails only when out of memory.
     pub fn finish(self) -> Result<Layer, AllocError>
         ensures { IfOk result (λ layer. layer ≡ self) }
     {
+        if self.failed {
+            return Err(AllocError);
+        }
         let LayerBuilder { draft, .. } = self;
         draft.finish()
     }

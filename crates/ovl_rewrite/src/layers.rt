@@ -1,4 +1,4 @@
-ghost use Rattle.std.specs.Prelude.{◌≡◌, ◌≤◌, true, Err, IfOk, IsOkAnd, OnOk, [], ◌∷◌, ◌++◌, length};
+ghost use Rattle.std.specs.Prelude.{◌≡◌, ◌≤◌, true, Ok, Err, IfOk, OnOk, [], ◌∷◌, ◌++◌, length};
 ghost use Rattle.std.specs.Vec.Iter.{into_iter_items};
 ghost use Rattle.ovl_names.specs.Order.{ascends};
 ghost use Rattle.ovl_names.specs.Paths.{child_path};
@@ -30,9 +30,9 @@ pub fn layer_told(
     ensures limit { result ≡ Err LimitOut → (new : NewLayer) → IsToldBy new root (parcel_views inodes_seen parcels.items)
         → (entries : Entries) × (ascends entry_cmp entries ≡ true) × IsOf new entries × (IsLayer entries → ⊥) }
 {
-    let builder = begun(alloc, root)?;
+    let mut builder = begun(alloc, root)?;
     let mut rest = parcels.into_iter();
-    let builder = add_under(alloc, builder, &mut rest)?;
+    add_under(alloc, &mut builder, &mut rest)?;
     let layer = builder.finish()?;
     // The type keeps that it is a layer.
     let _root = layer.root();
@@ -76,45 +76,45 @@ fn begun(alloc: Global, root: Inode) -> Result<LayerBuilder, RewriteFault>
     }
 }
 
-// The layer with the entries under the directory of the next parcel; its parcel and those of what lies under it are taken.
+// Adds the entries under the directory of the next parcel; its parcel and those of what lies under it are taken.
 // `LimitOut` comes only where no layer goes on with them.
 fn add_under(
     alloc: Global,
-    builder: LayerBuilder,
+    builder: &mut LayerBuilder,
     rest: &mut IntoIter<Parcel<Vec<(Name, Inode)>>>,
-) -> Result<LayerBuilder, RewriteFault>
+) -> Result<(), RewriteFault>
     ensures fewer { OnOk result (length (into_iter_items rest.new) ≤ length (into_iter_items rest.old)) }
-    ensures entries { IfOk result (λ grown. WalksUnder (parcel_views inodes_seen (into_iter_items rest.old)) (parcel_views inodes_seen (into_iter_items rest.new)) builder grown) }
-    ensures limit { result ≡ Err LimitOut → StopsUnder (parcel_views inodes_seen (into_iter_items rest.old)) builder }
-    ensures none { into_iter_items rest.old ≡ [] → IsOkAnd result (λ grown. grown ≡ builder) }
+    ensures entries { IfOk result (λ _. WalksUnder (parcel_views inodes_seen (into_iter_items rest.old)) (parcel_views inodes_seen (into_iter_items rest.new)) builder.old builder.new) }
+    ensures limit { result ≡ Err LimitOut → StopsUnder (parcel_views inodes_seen (into_iter_items rest.old)) builder.old }
+    ensures none { into_iter_items rest.old ≡ [] → (result ≡ Ok tt) × (builder.new ≡ builder.old) }
 {
     let Some(Parcel { piece, out, .. }) = rest.next() else {
-        return Ok(builder);
+        return Ok(());
     };
-    let mut builder = builder.make_room(out.len())?;
+    builder.make_room(out.len())?;
     for (name, inode) in out {
         let is_above = is_directory(&inode);
-        builder = add_child(alloc, builder, &piece.dir, name, inode)?;
+        add_child(alloc, builder, &piece.dir, name, inode)?;
         if is_above {
-            builder = add_under(alloc, builder, rest)?;
+            add_under(alloc, builder, rest)?;
         }
     }
-    Ok(builder)
+    Ok(())
 }
 
-// The layer with the entry `name` of a directory; `LimitOut` comes only where no layer goes on with it.
+// Adds the entry `name` of a directory; `LimitOut` comes only where no layer goes on with it.
 fn add_child(
     alloc: Global,
-    builder: LayerBuilder,
+    builder: &mut LayerBuilder,
     directory: &Path,
     name: Name,
     inode: Inode,
-) -> Result<LayerBuilder, RewriteFault>
-    ensures entries { IfOk result (λ grown. grown ≡ builder ++ (child_path directory.now name, inode) ∷ []) }
-    ensures limit { result ≡ Err LimitOut → (more : Entries) → IsLayer (builder ++ (child_path directory.now name, inode) ∷ more) → ⊥ }
+) -> Result<(), RewriteFault>
+    ensures entries { IfOk result (λ _. builder.new ≡ builder.old ++ (child_path directory.now name, inode) ∷ []) }
+    ensures limit { result ≡ Err LimitOut → (more : Entries) → IsLayer (builder.old ++ (child_path directory.now name, inode) ∷ more) → ⊥ }
 {
     match builder.add_child(alloc, directory, name, inode) {
-        Ok(grown) => Ok(grown),
+        Ok(()) => Ok(()),
         Err(fault) => Err(refusal(fault)),
     }
 }

@@ -118,7 +118,7 @@ fn layer_left(alloc: Global, stack: &Stack, gone: &[bool]) -> Result<Layer, Allo
             }
             let name = sheet.name(number).unwrap().copy(alloc)?;
             let inode = sheet.inode(number).copy(alloc)?;
-            builder = add_child(alloc, builder, &above, name, inode)?;
+            add_child(alloc, &mut builder, &above, name, inode)?;
         }
     }
     builder.finish()
@@ -134,18 +134,18 @@ fn begun(alloc: Global, root: Inode) -> Result<LayerBuilder, AllocError>
     }
 }
 
-// The layer with the entry `name` of a directory. Here too nothing but memory can stand in the way.
+// Adds the entry `name` of a directory. Here too nothing but memory can stand in the way.
 fn add_child(
     alloc: Global,
-    builder: LayerBuilder,
+    builder: &mut LayerBuilder,
     directory: &Path,
     name: Name,
     inode: Inode,
-) -> Result<LayerBuilder, AllocError>
-    ensures { IfOk result (λ grown. pair_after builder (child_path directory.now name, inode) ≡ Ok grown) }
+) -> Result<(), AllocError>
+    ensures { IfOk result (λ _. pair_after builder.old (child_path directory.now name, inode) ≡ Ok builder.new) }
 {
     match builder.add_child(alloc, directory, name, inode) {
-        Ok(grown) => Ok(grown),
+        Ok(()) => Ok(()),
         Err(_) => Err(AllocError),
     }
 }

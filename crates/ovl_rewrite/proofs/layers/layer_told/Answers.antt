@@ -18,17 +18,17 @@ returns-in_err-builder-clause-limit c is new by =
     let parts = told-entries c.args.root views new by in
     (told_entries c.args.root views new by, parts.0, parts.1, c.in_err-builder.ensures.limit told (entries_under (tree_by new by.names) (suc by.deepest) []))
 
-pub returns-in_err-builder-2-clause-limit : goal.returns-in_err-builder-2-clause-limit
-returns-in_err-builder-2-clause-limit c is new by =
+pub returns-in_err-add_under-clause-limit : goal.returns-in_err-add_under-clause-limit
+returns-in_err-add_under-clause-limit c is new by =
     let views : List View = parcel_views inodes_seen c.args.parcels.items in
-    let out = err_from_is_err_and c.from_residual-in_err-builder-2.result c.from_residual-in_err-builder-2.ensures.1 in
+    let out = err_from_is_err_and c.from_residual-in_err-add_under.result c.from_residual-in_err-add_under.ensures.1 in
     let whole = sym (out.1 ∙ ap Err out.2) ∙ is in
-    let told : c.in_err-builder-2.field-0.0 ≡ LimitOut = cc in
+    let told : c.in_err-add_under.field-0.0 ≡ LimitOut = cc in
     let parts = told-entries c.args.root views new by in
     let given = c.into_iter-rest.ensures.rest in
     let stops : StopsUnder views (([], c.args.root) ∷ []) =
     subst (λ (old : Entries). StopsUnder views old) c.in_ok-builder.ensures.entries
-    (subst (λ parcels. StopsUnder (parcel_views inodes_seen parcels) c.in_ok-builder.builder) given (c.in_err-builder-2.ensures.limit (ap Err told))) in
+    (subst (λ parcels. StopsUnder (parcel_views inodes_seen parcels) c.in_ok-builder.builder) given (c.in_err-add_under.ensures.limit (ap Err told))) in
     (told_entries c.args.root views new by, parts.0, parts.1, told-stops c.args.root views new by stops)
 
 pub returns-clause-layer : goal.returns-clause-layer
@@ -36,7 +36,7 @@ returns-clause-layer c new by =
     let views : List View = parcel_views inodes_seen c.args.parcels.items in
     let after : List View = parcel_views inodes_seen (into_iter_items c.add_under.new.rest) in
     let given = c.into_iter-rest.ensures.rest in
-    let walks : WalksUnder views after (([], c.args.root) ∷ []) c.in_ok-builder-2.builder =
-    subst (λ (old : Entries). WalksUnder views after old c.in_ok-builder-2.builder) c.in_ok-builder.ensures.entries
-    (subst (λ parcels. WalksUnder (parcel_views inodes_seen parcels) after c.in_ok-builder.builder c.in_ok-builder-2.builder) given c.in_ok-builder-2.ensures.entries) in
-    subst (IsOf new) (sym (c.in_ok-layer.ensures ∙ told-whole c.args.root views new by after c.in_ok-builder-2.builder walks)) (told-entries c.args.root views new by).1
+    let walks : WalksUnder views after (([], c.args.root) ∷ []) c.add_under.new.builder =
+    subst (λ (old : Entries). WalksUnder views after old c.add_under.new.builder) c.in_ok-builder.ensures.entries
+    (subst (λ parcels. WalksUnder (parcel_views inodes_seen parcels) after c.in_ok-builder.builder c.add_under.new.builder) given c.in_ok-add_under.ensures.entries) in
+    subst (IsOf new) (sym (c.in_ok-layer.ensures ∙ told-whole c.args.root views new by after c.add_under.new.builder walks)) (told-entries c.args.root views new by).1

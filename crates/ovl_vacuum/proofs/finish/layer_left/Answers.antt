@@ -11,7 +11,7 @@ use Rattle.ovl_lookup.specs.Words.{top_layer}
 use Rattle.ovl_lookup.proofs.LawsOfLooks.{top-layer}
 use Rattle.ovl_vacuum.proofs.RowLemmas.{left-first, left-child, left-passed, left-all, root-first, named-row}
 use Rattle.ovl_vacuum.proofs.finish.layer_left.Goals as goal
-use Rattle.ovl_vacuum.proofs.finish.layer_left.Goals.{then-not-gone-number+in_ok-name+in_ok-inode+in_ok-builder-2, then-own-directory+in_ok-above, else-own-directory, else-not-gone-number}
+use Rattle.ovl_vacuum.proofs.finish.layer_left.Goals.{then-not-gone-number+in_ok-name+in_ok-inode+in_ok-add_child, then-own-directory+in_ok-above, else-own-directory, else-not-gone-number}
 
 pub unwrap-requires : goal.unwrap-requires
 unwrap-requires c =
@@ -40,7 +40,7 @@ loop-number-preserved c =
     let number : ℕ = c.loop-number.number in
     let inside : number < length (top_layer stack) = omega (arith, c.loop-number-test.true, c.len-number-end.ensures.value, ap length same) in
     elim c.if-not-gone-number.branch [
-      | then-not-gone-number+in_ok-name+in_ok-inode+in_ok-builder-2 w ↦
+      | then-not-gone-number+in_ok-name+in_ok-inode+in_ok-add_child w ↦
           let kept : w.if-own-directory.above ≡ path_at (top_layer stack) w.if-own-directory.directory =
           elim w.if-own-directory.branch [
             | then-own-directory+in_ok-above v ↦ v.above-is ∙ (v.in_ok-above.ensures ∙ ((λ j. path_at (same j) w.directory_of-own.result) ∙ ap (path_at (top_layer stack)) (sym v.directory-is)))
@@ -62,8 +62,8 @@ loop-number-preserved c =
           record {
             some = omega (arith, c.loop-number.invariant.some);
             left = w.builder-is
-                ∙ left-child stack is number inside c.args.gone.now c.loop-number.builder w.in_ok-builder-2.builder w.if-own-directory.above w.in_ok-name.name w.in_ok-inode.inode c.requires w.if-not-gone-number.true c.loop-number.invariant.left
-                parent named at w.in_ok-builder-2.ensures;
+                ∙ left-child stack is number inside c.args.gone.now c.loop-number.builder w.add_child.new.builder w.if-own-directory.above w.in_ok-name.name w.in_ok-inode.inode c.requires w.if-not-gone-number.true c.loop-number.invariant.left
+                parent named at w.in_ok-add_child.ensures;
             above = w.above-is ∙ (kept ∙ ap (path_at (top_layer stack)) (sym w.directory-is));
           }
       | else-not-gone-number w ↦ record {
