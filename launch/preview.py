@@ -78,7 +78,8 @@ def keep(program: Path, begun: int) -> None:
     """Keeps the program, as old as the start of its compilation, so that a source edited meanwhile is newer."""
     _KEPT.parent.mkdir(parents=True, exist_ok=True)
     with tempfile.TemporaryDirectory(dir=_KEPT.parent) as room:
-        new = Path(shutil.move(program, room))
+        new = Path(shutil.move(str(program), room))
+        new.chmod(0o755)
         os.utime(new, ns=(begun, begun))
         new.replace(_KEPT)
 

@@ -69,7 +69,7 @@ class Proofs:
                 self._look()
         finally:
             self._stop()
-        return not self._failed
+        return not self._left
 
     def _start(self) -> bool:
         """Starts what can be proved now, the longest chain first, and tells whether there was any."""
@@ -103,7 +103,7 @@ class Proofs:
         """Takes notice of proofs that have ended."""
         for name, proof in list(self._running.items()):
             status = proof.process.poll()
-            if status is None:
+            if status is None or _came:
                 continue
             del self._running[name]
             if status != 0:

@@ -10,7 +10,7 @@ from collections.abc import Iterator
 
 from support import COMMAND, PROGRAM, why_no_trusted
 
-TOOLS = ("dockerd", "docker", "podman", "skopeo", "busybox", "bash")
+TOOLS = ("dockerd", "docker", "runc", "podman", "skopeo", "busybox", "bash")
 SECONDS = 600  # that anything may take
 _BEGIN = 60
 _LIMITS = ["--ulimit", "nofile=1024:1024", "--ulimit", "nproc=1024:1024"]
@@ -92,7 +92,7 @@ def podman(folder: str) -> Engine:
     """Podman with a store of its own."""
     return Engine([
         "podman", "--root", f"{folder}/root", "--runroot", f"{folder}/run", "--storage-driver", "vfs",
-        "--cgroup-manager", "cgroupfs",
+        "--cgroup-manager", "cgroupfs", "--runtime", "runc",
     ], {})
 
 

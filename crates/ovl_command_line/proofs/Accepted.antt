@@ -18,7 +18,7 @@ use Rattle.clap.specs.declared.builder.value_parser.Reading.{Reading}
 use Rattle.clap.specs.declared.builder.value_parser.Reading.TheVariants.{AsWritten}
 use Rattle.clap.specs.declared.builder.value_parser.ValueParser.TheVariants.{Bool as Boolean, NonEmptyString, Unsigned}
 use Rattle.clap.proofs.ValueTestLemmas.{accepts-Accepts}
-use Rattle.ovl_command_line.specs.Commands.{any_size_rule, blobs_rule, data_layers_rule, fsck_shape, out_rule, show_shape, rewriting_shape, tool_app, workers_rule}
+use Rattle.ovl_command_line.specs.Commands.{any_size_rule, blobs_rule, data_layers_rule, down_to_rule, fsck_shape, merge_shape, out_rule, show_shape, rewriting_shape, tool_app, workers_rule}
 use Rattle.ovl_command_line.specs.Lines.{HasNumber, IsFlag, IsGiven, name_of}
 use Rattle.ovl_commands.specs.declared.requests.Command.{Command}
 use Rattle.ovl_commands.specs.Commands.{checks, makes_layers}
@@ -226,6 +226,17 @@ no_flag : (o : Option Text) → o ≡ None → option_map_or (λ text. bytes_eq 
 no_flag None e given = cc
 no_flag (Some text) e given = cc
 
+-- an option that may be left out has no value, or one that spells a number that its parser takes
+number_if_given : (c : List Rule) (id : Text) (a : Rule) (what : Command) (low high : ℕ) (rows : List Row) → AllFit c rows → arg_by_id c id ≡ Some a → reading_by a ≡ AsWritten
+    → ((v : Text) → value_passes a v ≡ true → IsUnsignedIn low high v) → IfSome (one_of id rows) (λ text. (what ≡ what) × IsUnsignedIn low high text)
+number_if_given c id a what low high rows fit rule written spells = go (find (λ r. bytes_eq r.id id) rows) refl
+  where
+    go : (o : Option Row) → find (λ r. bytes_eq r.id id) rows ≡ o → IfSome (option_and_then row_text o) (λ text. (what ≡ what) × IsUnsignedIn low high text)
+    go None found = tt
+    go (Some r) found =
+        let first = row_of_rule c id a rows r fit found rule in
+        rw (first_text r first.0 first.1 first.2 (first.4 ∙ written)) (refl, spells first.0 first.3)
+
 workers_given : (c : List Rule) (rows : List Row) → AllFit c rows → arg_by_id c (codes "workers") ≡ Some (filled workers_rule) → has_row (codes "workers") rows ≡ true
     → HasNumber (codes "workers") 1 64 rows
 workers_given c rows fit rule there =
@@ -251,6 +262,9 @@ own_show = ((refl, inl (inl refl, refl), (refl, tt)), ((refl, inl (inl refl, ref
 
 own_fsck : Each (IsOwn (leaf fsck_shape).rules) (leaf fsck_shape).rules
 own_fsck = ((refl, inl (inl refl, refl), tt), ((refl, inr (inr (refl, omega arith)), (refl, tt)), ((refl, inl (inl refl, refl), (refl, tt)), ((refl, inl (inl refl, refl), (refl, tt)), ((refl, inl (inr refl, refl), tt), ((refl, inr (inl refl), tt), tt))))))
+
+own_merge : Each (IsOwn (leaf merge_shape).rules) (leaf merge_shape).rules
+own_merge = ((refl, inl (inl refl, refl), tt), ((refl, inr (inr (refl, omega arith)), (refl, tt)), ((refl, inl (inl refl, refl), tt), ((refl, inl (inl refl, refl), tt), ((refl, inl (inl refl, refl), (refl, tt)), ((refl, inl (inl refl, refl), (refl, tt)), ((refl, inl (inr refl, refl), tt), ((refl, inr (inl refl), tt), tt))))))))
 
 one_wanted : (a : Bool) → check_kinds false false (not a || false) ≡ [] → a ≡ true
 one_wanted true e = refl
@@ -290,6 +304,7 @@ show_given words e =
       out_named = absent_passes _ (first_of (codes "out") rows) (absent rules (codes "out") rows fit refl);
       is_flag = absent_passes _ (one_of (codes "any-size") rows) (absent_by row_text rules (codes "any-size") rows fit refl);
       any_size = λ given. absurd (no_flag (one_of (codes "any-size") rows) (absent_by row_text rules (codes "any-size") rows fit refl) given);
+      down_to = absent_passes _ (one_of (codes "down-to") rows) (absent_by row_text rules (codes "down-to") rows fit refl);
       layers = files_given rules (codes "layers") _ rows fit refl (one_wanted _ check);
     }
 
@@ -314,6 +329,7 @@ fsck_given words e =
       out_named = absent_passes _ (first_of (codes "out") rows) (absent rules (codes "out") rows fit refl);
       is_flag = flag_given rules rows fit refl;
       any_size = λ given. refl;
+      down_to = absent_passes _ (one_of (codes "down-to") rows) (absent_by row_text rules (codes "down-to") rows fit refl);
       layers = files_given rules (codes "layers") _ rows fit refl wanted.1;
     }
 
@@ -340,6 +356,33 @@ rewriting_given what checking making name words e =
       out_named = first_passes rules (codes "out") (filled out_rule) (λ folder. 0 < length folder) rows fit refl (λ v passes. accepts-Accepts false NonEmptyString v passes);
       is_flag = flag_given rules rows fit refl;
       any_size = λ given. checking;
+      down_to = absent_passes _ (one_of (codes "down-to") rows) (absent_by row_text rules (codes "down-to") rows fit refl);
+      layers = files_given rules (codes "layers") _ rows fit refl wanted.2;
+    }
+
+-- the options of merge
+merge_given : (words : List Text) → level_fault (leaf merge_shape) [] nothing_held words false [] ≡ [] → IsGiven Merge (rows_after (leaf merge_shape).rules [] words)
+merge_given words e =
+    let rules = (leaf merge_shape).rules in
+    let fit = level_fits (leaf merge_shape) words own_merge e in
+    let check = (level_parts (leaf merge_shape) [] words false [] e).3 in
+    let rows = rows_after rules [] words in
+    let before = with_default (with_default (with_default (with_default (settled rules (walk rules [] nothing_held words).held).rows (filled blobs_rule)) (filled any_size_rule)) (filled out_rule)) (filled down_to_rule) in
+    let after = with_default before (filled workers_rule) in
+    let there : has_row (codes "workers") rows ≡ true =
+    defaults_stay (codes "workers") (rest_of (rest_of (rest_of (rest_of (rest_of rules))))) after (default_made (filled workers_rule) (codes "4") [] before refl) in
+    let there_too : has_row (codes "data-layers") rows ≡ true =
+    defaults_stay (codes "data-layers") (rest_of (rest_of (rest_of (rest_of (rest_of (rest_of rules)))))) (with_default after (filled data_layers_rule)) (default_made (filled data_layers_rule) (codes "0") [] after refl) in
+    let wanted = three_wanted _ _ _ check in
+    record {
+      workers = workers_given rules rows fit refl there;
+      data_layers = data_layers_given rules rows fit refl there_too;
+      blobs = first_given rules (codes "blobs") (filled blobs_rule) rows fit refl wanted.0;
+      out = first_given rules (codes "out") (filled out_rule) rows fit refl wanted.1;
+      out_named = first_passes rules (codes "out") (filled out_rule) (λ folder. 0 < length folder) rows fit refl (λ v passes. accepts-Accepts false NonEmptyString v passes);
+      is_flag = flag_given rules rows fit refl;
+      any_size = λ given. refl;
+      down_to = number_if_given rules (codes "down-to") (filled down_to_rule) Merge 1 127 rows fit refl refl (λ v passes. accepts-Accepts false (Unsigned 1 127) v passes);
       layers = files_given rules (codes "layers") _ rows fit refl wanted.2;
     }
 
@@ -357,12 +400,15 @@ rewrites : (what : Command) → checks what ≡ true → makes_layers what ≡ t
 rewrites what checking making words e =
     (what, rows_after (leaf (rewriting_shape (name_of what))).rules [] words, refl, rewriting_given what checking making (name_of what) words e)
 
+merge_makes : MakesCommand (leaf merge_shape)
+merge_makes words e = (Merge, rows_after (leaf merge_shape).rules [] words, refl, merge_given words e)
+
 makes : Each MakesCommand (built tool_app).subs
 makes = (
   (λ words e. (Show, rows_after (leaf show_shape).rules [] words, refl, show_given words e)),
   (
     (λ words e. (Fsck, rows_after (leaf fsck_shape).rules [] words, refl, fsck_given words e)),
-    (rewrites Vacuum refl refl, (rewrites Deref refl refl, (rewrites Merge refl refl, (rewrites Flatten refl refl, tt)))),
+    (rewrites Vacuum refl refl, (rewrites Deref refl refl, (merge_makes, (rewrites Flatten refl refl, tt)))),
   ),
 )
 

@@ -57,6 +57,14 @@ out_rule = record (new_rule (codes "out")) {
   required = true;
 }
 
+-- `--down-to N`, a whole number that is less than the most layers, which may be left out
+abbrev pub down_to_rule : Rule
+down_to_rule = record (new_rule (codes "down-to")) {
+  long = Some (codes "down-to");
+  value_names = 1;
+  parser = Some (Unsigned 1 (layer_limit - 1));
+}
+
 -- one layer or more
 abbrev pub layers_rule : Rule
 layers_rule = record (new_rule (codes "layers")) {
@@ -83,6 +91,10 @@ folders_shape name = record (new_shape name) { rules = blobs_rule ∷ any_size_r
 abbrev pub rewriting_shape : List ℕ → Shape
 rewriting_shape name = record (new_shape name) { rules = blobs_rule ∷ any_size_rule ∷ out_rule ∷ workers_rule ∷ data_layers_rule ∷ layers_rule ∷ [] }
 
+-- merge, which has one more
+abbrev pub merge_shape : Shape
+merge_shape = record (new_shape (codes "merge")) { rules = blobs_rule ∷ any_size_rule ∷ out_rule ∷ down_to_rule ∷ workers_rule ∷ data_layers_rule ∷ layers_rule ∷ [] }
+
 -- the program's own level, without its commands
 abbrev pub bare_app : App
 bare_app = record {
@@ -105,5 +117,5 @@ tool_app = record {
     disable_help_subcommand = true;
     subcommand_required = true;
   };
-  subs = show_shape ∷ fsck_shape ∷ rewriting_shape (codes "vacuum") ∷ rewriting_shape (codes "deref") ∷ rewriting_shape (codes "merge") ∷ rewriting_shape (codes "flatten") ∷ [];
+  subs = show_shape ∷ fsck_shape ∷ rewriting_shape (codes "vacuum") ∷ rewriting_shape (codes "deref") ∷ merge_shape ∷ rewriting_shape (codes "flatten") ∷ [];
 }

@@ -33,6 +33,10 @@ name_of Flatten = codes "flatten"
 abbrev pub NamesCommand : Text → Type 0
 NamesCommand name = (what : Command) × (name ≡ name_of what)
 
+-- so many layers can be left by a command's merges
+abbrev pub IsLeft : Command → ℕ → Type 0
+IsLeft what left = (what ≡ Merge) × ((0 < left) × (left < layer_limit))
+
 -- what every line keeps to: a stack has a layer that isn't data-only, the contents of files are read for what is checked,
 -- and new layers need a folder with a name
 pub record IsSound (line : Line) : Type 0 where
@@ -44,6 +48,7 @@ pub record IsSound (line : Line) : Type 0 where
   pub out : is_some line.out ≡ makes_layers line.what
   pub out_named : IfSome line.out (λ folder. 0 < length (string_bytes folder))
   pub any_size : line.any_size ≡ true → checks line.what ≡ true
+  pub down_to : IfSome line.down_to (λ left. IsLeft line.what left)
 
 -- the number that a text spells in decimal digits
 abbrev pub number_in : Text → ℕ
@@ -70,6 +75,7 @@ pub record IsGiven (what : Command) (rows : List Row) : Type 0 where
   pub out_named : IfSome (first_of (codes "out") rows) (λ folder. 0 < length folder)
   pub is_flag : IsFlag (codes "any-size") rows
   pub any_size : has_flag (codes "any-size") rows ≡ true → checks what ≡ true
+  pub down_to : IfSome (one_of (codes "down-to") rows) (λ text. (what ≡ Merge) × IsUnsignedIn 1 (layer_limit - 1) text)
   pub layers : (files : List Text) × (all_of (codes "layers") rows ≡ Some files) × (0 < length files)
 
 -- the line is a command with the values that its options have
@@ -79,6 +85,7 @@ pub record HasValues (line : Line) (rows : List Row) : Type 0 where
   pub blobs : option_map string_bytes line.blobs ≡ first_of (codes "blobs") rows
   pub out : option_map string_bytes line.out ≡ first_of (codes "out") rows
   pub any_size : line.any_size ≡ has_flag (codes "any-size") rows
+  pub down_to : line.down_to ≡ option_map number_in (one_of (codes "down-to") rows)
   pub layers : all_of (codes "layers") rows ≡ Some (map string_bytes line.layers.items)
 
 -- the words name the line's command, with the line's values for its options

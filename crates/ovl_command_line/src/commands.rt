@@ -2,7 +2,7 @@
 ghost use Rattle.std.specs.Prelude.{◌≡◌, IfOk, false};
 ghost use Rattle.clap.specs.Words.{app_of, rule_of};
 ghost use Rattle.clap.specs.declared.builder.command.Command.TheViews.{out-Command as fields_of};
-ghost use Rattle.ovl_command_line.specs.Commands.{any_size_rule, bare_app, blobs_rule, blobs_shape, data_layers_rule, default_word, default_workers, folders_shape, fsck_shape, layers_rule, out_rule, rewriting_shape, show_shape, tool_app, workers_rule};
+ghost use Rattle.ovl_command_line.specs.Commands.{any_size_rule, bare_app, blobs_rule, blobs_shape, data_layers_rule, default_word, default_workers, down_to_rule, folders_shape, fsck_shape, layers_rule, merge_shape, out_rule, rewriting_shape, show_shape, tool_app, workers_rule};
 ghost use Rattle.ovl_command_line.specs.Lines.{number_in};
 ghost use Rattle.clap.specs.Simple.{shape_of};
 
@@ -54,6 +54,9 @@ const BLOBS: &str =
 const ANY_SIZE: &str =
     "Read the contents in parts, those that the layers name alone, whatever their size";
 
+const DOWN_TO: &str =
+    "Merge again and again until N layers that aren't data-only are left, 1 to 127";
+
 const OUT: &str = "Folder for the new layers, written there as layer-0.json and so on";
 
 const LAYERS: &str = "Manifest of a layer, the topmost layer first";
@@ -66,6 +69,7 @@ What the commands take:
   --blobs <DIR>      For all but show: folder with the contents of the layers' files, each file named by its SHA-256 digest
   --any-size         For all but show: read the contents in parts, those that the layers name alone, whatever their size
   --out <DIR>        For vacuum, deref, merge and flatten: folder for the new layers, written there as layer-0.json and so on
+  --down-to <N>      For merge: merge again and again until N layers that aren't data-only are left, 1 to 127
 
 A data-only layer shows no path of its own. It has contents for metacopy files of the layers over it that name it by an
 absolute redirect, as in the mount option lowerdir=a:b::c, where c is one.
@@ -86,6 +90,12 @@ merge is for an upper layer that is to be taken into the layer below it: it writ
 layer of a root alone to go over it, layer-0.json. With these in place of the two the overlay shows the same as before. It
 tells what the one layer has, as deref does, and first checks, as vacuum does.
 
+With --down-to N merge takes that layer into the next one, and so on, until N of the layers are left: layer-1.json, which
+holds all that were merged, and the N - 1 lowest that were given. Data-only layers and layer-0.json aren't counted, and N must
+be less than there are. Each merge checks first, by contents that are read once. What is told and written is that of the last,
+as if all were done one by one. To have a single layer, flatten is quicker, and leaves no data-only layers under it;
+--down-to 1 is for one that is to stay over them.
+
 flatten is for a stack that is to be one layer: it writes all that the overlay shows as one, with no whiteout, no mark, and
 nothing under it; data-only layers aren't needed any more. It tells what that has, as deref does, and first checks, as vacuum
 does.
@@ -101,6 +111,7 @@ Examples:
   ovl_layers vacuum --blobs contents --out new upper.json lower.json
   ovl_layers deref --blobs contents --out new upper.json lower.json
   ovl_layers merge --blobs contents --out new upper.json lower.json
+  ovl_layers merge --blobs contents --out new --down-to 2 upper.json middle.json lower.json base.json
   ovl_layers flatten --blobs contents --out new upper.json lower.json";
 
 const SHOW_EXAMPLE: &str = "\
@@ -120,8 +131,9 @@ Example:
   ovl_layers deref --blobs contents --out new upper.json lower.json";
 
 const MERGE_EXAMPLE: &str = "\
-Example:
-  ovl_layers merge --blobs contents --out new upper.json lower.json";
+Examples:
+  ovl_layers merge --blobs contents --out new upper.json lower.json
+  ovl_layers merge --blobs contents --out new --down-to 2 upper.json middle.json lower.json base.json";
 
 const FLATTEN_EXAMPLE: &str = "\
 Example:
@@ -136,7 +148,7 @@ pub fn tool<'a>(alloc: Global) -> Result<Command<'a>, AllocError>
         .subcommand(fsck(alloc)?)?
         .subcommand(rewriting(alloc, "vacuum", VACUUM, VACUUM_EXAMPLE)?)?
         .subcommand(rewriting(alloc, "deref", DEREF, DEREF_EXAMPLE)?)?
-        .subcommand(rewriting(alloc, "merge", MERGE, MERGE_EXAMPLE)?)?
+        .subcommand(merge(alloc)?)?
         .subcommand(rewriting(alloc, "flatten", FLATTEN, FLATTEN_EXAMPLE)?)
 }
 
@@ -186,6 +198,16 @@ fn rewriting<'a>(
     ensures { IfOk result (λ command. (shape_of command ≡ rewriting_shape name.now) × ((fields_of command).has_globals ≡ false)) }
 {
     with_folders(alloc, name, about, example)?
+        .arg(workers(alloc))?
+        .arg(data_layers(alloc))?
+        .arg(layers(alloc))
+}
+
+fn merge<'a>(alloc: Global) -> Result<Command<'a>, AllocError>
+    ensures { IfOk result (λ command. (shape_of command ≡ merge_shape) × ((fields_of command).has_globals ≡ false)) }
+{
+    with_folders(alloc, "merge", MERGE, MERGE_EXAMPLE)?
+        .arg(down_to(alloc))?
         .arg(workers(alloc))?
         .arg(data_layers(alloc))?
         .arg(layers(alloc))
@@ -270,6 +292,16 @@ fn out<'a>(alloc: Global) -> Arg<'a>
         .value_parser(ValueParser::NonEmptyString)
         .required(true)
         .help(OUT)
+}
+
+fn down_to<'a>(alloc: Global) -> Arg<'a>
+    ensures { (rule_of result ≡ down_to_rule) × (result.global ≡ false) }
+{
+    Arg::new(alloc, "down-to")
+        .long("down-to")
+        .value_name("N")
+        .value_parser(value_parser!(usize).range(1..LAYER_LIMIT as i64))
+        .help(DOWN_TO)
 }
 
 fn layers<'a>(alloc: Global) -> Arg<'a>

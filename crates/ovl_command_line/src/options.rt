@@ -19,6 +19,9 @@ pub struct Line {
     pub blobs: Option<String>,
     /// Whether the contents are read in parts, whatever their size; never for `show`.
     pub any_size: bool,
+    /// How many layers merges are to leave, of those that aren't data-only, for `merge` alone: at least one, and fewer
+    /// than [`LAYER_LIMIT`](ovl_lookup::LAYER_LIMIT).
+    pub down_to: Option<usize>,
     /// The folder for new layers, for the commands that make some.
     pub out: Option<String>,
     /// The files of the manifests, the topmost layer first. There is at least one.

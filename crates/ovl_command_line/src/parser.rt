@@ -54,6 +54,7 @@ fn read(alloc: Global, what: Command, given: &ArgMatches<'_>) -> Result<Line, Al
         data_layers: data_layers as u16,
         blobs: copy(alloc, given.get_str("blobs"))?,
         any_size: given.get_flag("any-size"),
+        down_to: given.get_one("down-to"),
         out: copy(alloc, given.get_str("out"))?,
         layers: copies(alloc, given.get_strs("layers").unwrap())?,
     })

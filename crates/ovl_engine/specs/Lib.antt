@@ -1,5 +1,6 @@
 pub mod FsckReports
 pub mod Kept
+pub mod MergesDown
 pub mod NamedBlobs
 pub mod Outcomes
 pub mod Questions

@@ -15,9 +15,9 @@ use Rattle.std.proofs.lemmas.List.Elements.{All-cons, All-head, All-tail, All-ap
 use Rattle.std.proofs.lemmas.Str.{IsCharBoundary-at_seam, IsCharBoundary-end}
 use Rattle.std.proofs.Math.Seq.{drop-append_seam, take-length}
 use Rattle.ovl_inode.specs.declared.tables.Part.{Part}
-use Rattle.ovl_inode.specs.declared.tables.Place.{Place}
+use Rattle.ovl_inode.specs.declared.tables.AttributePlace.{AttributePlace}
 use Rattle.ovl_inode.specs.Attributes.{Attributes}
-use Rattle.ovl_inode.specs.Tables.{bytes_of, attribute_of, attributes_of, name_bytes, value_bytes, IsPart, IsTextPart, IsPlace, ArePlaces, IsFull}
+use Rattle.ovl_inode.specs.Tables.{bytes_of, attribute_of, attributes_of, name_bytes, value_bytes, IsPart, IsTextPart, IsAttributePlace, ArePlaces, IsFull}
 
 -- a part of bytes, with more behind them
 bytes_of-onto : (bytes more : List ℕ) (part : Part) → part.start ≤ part.end → part.end ≤ length bytes → bytes_of (bytes ++ more) part ≡ bytes_of bytes part
@@ -56,20 +56,20 @@ part-onto : (bytes more : List ℕ) (part : Part) → IsPart bytes part → IsPa
 part-onto bytes more part is = record { order = is.order; inside = omega (arith, is.inside, length-append bytes more) }
 
 -- places in texts and values that have grown
-pub places-grown : (names values name value : List ℕ) (places : List Place) (more_names more_values : List ℕ) → more_names ≡ names ++ name → more_values ≡ values ++ value → IsUtf8 name → ArePlaces names values places → ArePlaces more_names more_values places
+pub places-grown : (names values name value : List ℕ) (places : List AttributePlace) (more_names more_values : List ℕ) → more_names ≡ names ++ name → more_values ≡ values ++ value → IsUtf8 name → ArePlaces names values places → ArePlaces more_names more_values places
 places-grown names values name value places more_names more_values texts bytes utf8 are =
-    rw (texts, bytes) (All-weaker (IsPlace names values) (IsPlace (names ++ name) (values ++ value))
+    rw (texts, bytes) (All-weaker (IsAttributePlace names values) (IsAttributePlace (names ++ name) (values ++ value))
     (λ place is. record { name = text_part-onto names name place.name utf8 is.name; value = part-onto values value place.value is.value }) places are)
 
-attributes_of-onto : (names values name value : List ℕ) (places : List Place) → ArePlaces names values places → attributes_of (names ++ name) (values ++ value) places ≡ attributes_of names values places
+attributes_of-onto : (names values name value : List ℕ) (places : List AttributePlace) → ArePlaces names values places → attributes_of (names ++ name) (values ++ value) places ≡ attributes_of names values places
 attributes_of-onto names values name value [] are = refl
 attributes_of-onto names values name value (place ∷ places) are =
-    let is : IsPlace names values place = All-head (IsPlace names values) place places are in
+    let is : IsAttributePlace names values place = All-head (IsAttributePlace names values) place places are in
     ap₂ (λ (attr : List ℕ × List ℕ) (rest : List (List ℕ × List ℕ)). attr ∷ rest)
     (ap₂ (λ (n v : List ℕ). (n, v)) (bytes_of-onto names name place.name is.name.order is.name.last.0) (bytes_of-onto values value place.value is.value.order is.value.inside))
-    (attributes_of-onto names values name value places (All-tail (IsPlace names values) place places are))
+    (attributes_of-onto names values name value places (All-tail (IsAttributePlace names values) place places are))
 
-pub attributes_of-grown : (names values name value : List ℕ) (places : List Place) (more_names more_values : List ℕ) → more_names ≡ names ++ name → more_values ≡ values ++ value → ArePlaces names values places → attributes_of more_names more_values places ≡ attributes_of names values places
+pub attributes_of-grown : (names values name value : List ℕ) (places : List AttributePlace) (more_names more_values : List ℕ) → more_names ≡ names ++ name → more_values ≡ values ++ value → ArePlaces names values places → attributes_of more_names more_values places ≡ attributes_of names values places
 attributes_of-grown names values name value places more_names more_values texts bytes are =
     rw (texts, bytes) (attributes_of-onto names values name value places are)
 
@@ -85,10 +85,10 @@ pub part-behind : (bytes more : List ℕ) (part : Part) → part.start ≡ lengt
 part-behind bytes more part start end = record { order = omega (arith, start, end); inside = omega (arith, end, length-append bytes more) }
 
 -- a place put between others
-pub places-insert : (names values : List ℕ) (places : List Place) (i : ℕ) (place : Place) → ArePlaces names values places → IsPlace names values place → ArePlaces names values (insert places i place)
+pub places-insert : (names values : List ℕ) (places : List AttributePlace) (i : ℕ) (place : AttributePlace) → ArePlaces names values places → IsAttributePlace names values place → ArePlaces names values (insert places i place)
 places-insert names values places i place are is =
-    All-append (IsPlace names values) (take i places) (place ∷ drop i places) (All-take (IsPlace names values) i places are)
-    (All-cons (IsPlace names values) place (drop i places) is (All-drop (IsPlace names values) i places are))
+    All-append (IsAttributePlace names values) (take i places) (place ∷ drop i places) (All-take (IsAttributePlace names values) i places are)
+    (All-cons (IsAttributePlace names values) place (drop i places) is (All-drop (IsAttributePlace names values) i places are))
 
 pub map-insert : {X Y : Type 0} (f : X → Y) (xs : List X) (i : ℕ) (x : X) → map f (insert xs i x) ≡ insert (map f xs) i (f x)
 map-insert f [] zero x = refl
@@ -102,7 +102,7 @@ pub record IsBehind (bytes more : List ℕ) (part : Part) : Type 0 where
   pub end : part.end ≡ length bytes + length more
 
 -- an attribute whose name and value are put behind all others
-pub insert-full : (names values name value more_names more_values : List ℕ) (places more_places : List Place) (i : ℕ) (own : Place) → IsUtf8 name → IsBehind names name own.name → IsBehind values value own.value
+pub insert-full : (names values name value more_names more_values : List ℕ) (places more_places : List AttributePlace) (i : ℕ) (own : AttributePlace) → IsUtf8 name → IsBehind names name own.name → IsBehind values value own.value
     → more_names ≡ names ++ name → more_values ≡ values ++ value → more_places ≡ insert places i own → IsFull names values places
     → IsFull more_names more_values more_places × (attributes_of more_names more_values more_places ≡ insert (attributes_of names values places) i (name, value))
 insert-full names values name value more_names more_values places more_places i own utf8 named valued texts bytes put is = (

@@ -59,7 +59,8 @@ impl Model for Attrs {
 
     ghost view = { λ a. unwrap_or (option_map (λ table. table.value) a.table) [] };
 
-    ghost invariant = { λ a. IsTrue (are_attributes (unwrap_or (option_map (λ table. table.value) a.table) [])) };
+    ghost invariant = { λ a. IsTrue
+        (are_attributes (unwrap_or (option_map (λ table. table.value) a.table) [])) };
 }
 
 impl Attrs {
@@ -82,12 +83,15 @@ impl Attrs {
         None
     }
 
-    /// Sets the value of the attribute `name`; the other names stay as they are.
-    /// Refused, with nothing changed, where the name has not 1 to 255 bytes without NUL, and where memory runs out.
+    /// Sets the value of the attribute `name`; the other names stay as they are. Refused, with
+    /// nothing changed, where the name has not 1 to 255 bytes without NUL, and where memory runs
+    /// out.
     pub fn put(&mut self, name: &str, value: &[u8]) -> Result<(), AttrFault>
         ensures { MatchResult result
-            (λ _. (self.new ≡ with_attribute self.old name.now value.now) × IsTrue (is_attribute_name name.now))
-            (λ fault. (self.new ≡ self.old) × (attribute_fault name.now ≡ attribute_refusal fault)) }
+            (λ _. (self.new ≡ with_attribute self.old name.now value.now)
+            × IsTrue (is_attribute_name name.now))
+            (λ fault. (self.new ≡ self.old)
+            × (attribute_fault name.now ≡ attribute_refusal fault)) }
     {
         check_name(name)?;
         match &mut self.table {
@@ -122,8 +126,8 @@ impl Attrs {
         }
     }
 
-    /// The attributes that the merged tree shows: those whose name doesn't begin with `trusted.overlay.`.
-    /// Fails only when out of memory.
+    /// The attributes that the merged tree shows: those whose name doesn't begin with
+    /// `trusted.overlay.`. Fails only when out of memory.
     pub fn visible(&self, alloc: Global) -> Result<Attrs, AllocError>
         ensures { IfOk result (λ attrs. attrs ≡ visible_attributes self.now) }
     {

@@ -1,5 +1,5 @@
 -- The entries at and under one node of a layer's tree.
-use Rattle.std.proofs.Common.{◌≡◌, ℕ, zero, suc, ◌+◌, ◌<◌, length, get_or, take, append_assoc, add-one, Ok, Err, Bool, true, false, cond, Some, None, List, [], ◌∷◌, ◌++◌, refl, sym, ap, ◌∙◌, subst, arith, inl, inr}
+use Rattle.std.proofs.Common.{◌≡◌, ℕ, zero, suc, ◌+◌, ◌<◌, length, length-append, get_or, take, append_assoc, add-one, Ok, Err, Bool, true, false, cond, Some, None, List, [], ◌∷◌, ◌++◌, refl, sym, ap, ◌∙◌, subst, arith, inl, inr}
 use Rattle.std.specs.Prelude.{not, slice_get, unwrap_or}
 use Rattle.std.specs.List.{list_all, cons_option}
 use Rattle.std.specs.List.Sorted.{IsNonDecreasingBy, IsBinarySearchResult}
@@ -9,7 +9,7 @@ use Rattle.std.specs.Cmp.Lexicographic.{nat_list_cmp_total, bytes_decides}
 use Rattle.std.specs.declared.cmp.Ordering.{Ordering}
 use Rattle.std.specs.declared.cmp.Ordering.TheVariants.{Less, Equal, Greater}
 use Rattle.std.proofs.lemmas.Map.Text.{is_eq-slice_cmp}
-use Rattle.std.proofs.lemmas.List.{append-nil, map-append, take_more}
+use Rattle.std.proofs.lemmas.List.{append-nil, length-map, map-append, take_more}
 use Rattle.std.proofs.lemmas.Bool.{cases_lt}
 use Rattle.std.proofs.lemmas.Option.{slice_get_read}
 use Rattle.std.proofs.lemmas.List.Elements.{filter_map-append}
@@ -193,3 +193,11 @@ found nodes place name node up inside answer is =
     let same : node.name ≡ name = (bytes_decides node.name name).0 (name_eq-cmp node.name name Equal (ap (λ (n : NodeView). name_cmp n.name name) is ∙ answer node)) in
     subst (λ (n : PathName). entries_in n (entries_of_nodes nodes) ≡ entries_from node.inode node.below) same
     (entries_in-node nodes place node up (slice_get_read nodes (length nodes) place node refl inside is))
+
+-- a node has fewer entries below it than its directory
+pub fewer_below : (nodes : List NodeView) (k : ℕ) (node : NodeView) → k < length nodes → node ≡ get_or nodes k node → length node.below < length (entries_of_nodes nodes)
+fewer_below [] k node inside is = absurd (omega (arith, inside))
+fewer_below (first ∷ nodes) zero node inside is =
+    omega (arith, ap (λ (n : NodeView). length n.below) is, length-append (under first.name (entries_from first.inode first.below)) (entries_of_nodes nodes), length-map {B = Entry} first.below (λ entry. (first.name ∷ entry.0, entry.1)))
+fewer_below (first ∷ nodes) (suc k) node inside is =
+    omega (arith, fewer_below nodes k node (omega (arith, inside)) is, length-append (under first.name (entries_from first.inode first.below)) (entries_of_nodes nodes))

@@ -12,11 +12,14 @@ use Rattle.ovl_layer.specs.declared.drafts.Draft.{Draft}
 -- the entries of open nodes, each inside the one before
 abbrev pub entries_of_open : List NodeView → Entries
 entries_of_open [] = []
-entries_of_open (node ∷ deeper) = under node.name (entries_from node.inode (node.below ++ entries_of_open deeper))
+entries_of_open (node ∷ deeper) =
+    under node.name (entries_from node.inode (node.below ++ entries_of_open deeper))
 
 -- the entries of a draft: the finished nodes of the root, and the open ones after them
 abbrev pub draft_entries : Draft → Entries
-draft_entries draft = entries_from draft.inode (entries_of_nodes draft.children.items ++ entries_of_open draft.spine.items)
+draft_entries draft =
+    entries_from draft.inode
+    (entries_of_nodes draft.children.items ++ entries_of_open draft.spine.items)
 
 -- the inode of the directory on the way to the last entry that has so many names
 abbrev pub inode_on_way : Inode → List NodeView → ℕ → Inode
@@ -28,7 +31,8 @@ inode_on_way inode (node ∷ spine) (suc depth) = inode_on_way node.inode spine 
 pub record IsDraft (draft : Draft) : Type 0 where
   pub layer : IsLayer (draft_entries draft)
   pub spelled : map (λ node. node.name) draft.spine.items ≡ draft.last
-  pub ends : (front : Entries) × (inode : Inode) × (draft_entries draft ≡ front ++ (draft.last, inode) ∷ [])
+  pub ends : (front : Entries) × (inode : Inode)
+      × (draft_entries draft ≡ front ++ (draft.last, inode) ∷ [])
 
 -- the entry can stand after those of the draft
 pub record CanTake (draft : Draft) (path : PathNames) (inode : Inode) : Type 0 where

@@ -38,19 +38,23 @@ entry_fault before entry =
 -- the entries with one more, or its fault
 abbrev pub entry_after : Entries → Option Entry → Result Entries LayerFault
 entry_after before None = Err (WrongEntry (length before))
-entry_after before (Some entry) = elim (entry_fault before entry) [ Some fault ↦ Err fault | None ↦ Ok (before ++ entry ∷ []) ]
+entry_after before (Some entry) =
+    elim (entry_fault before entry) [ Some fault ↦ Err fault | None ↦ Ok (before ++ entry ∷ []) ]
 
 -- the entries with all of these, or the first fault
 abbrev pub entries_after : Entries → List (Option Entry) → Result Entries LayerFault
 entries_after before [] = Ok before
-entries_after before (stated ∷ more) = elim (entry_after before stated) [ Ok entries ↦ entries_after entries more | Err fault ↦ Err fault ]
+entries_after before (stated ∷ more) =
+    elim (entry_after before stated)
+    [ Ok entries ↦ entries_after entries more | Err fault ↦ Err fault ]
 
 -- a layer has 1 to 1,048,576 entries
 abbrev pub is_miscounted : ℕ → Bool
 is_miscounted count = count == 0 || nat_lt entry_limit count
 
 abbrev pub layer_of_entries : List (Option Entry) → Result Entries LayerFault
-layer_of_entries stated = if is_miscounted (length stated) then Err Count else entries_after [] stated
+layer_of_entries stated =
+    if is_miscounted (length stated) then Err Count else entries_after [] stated
 
 -- a pair states an entry where its path keeps the limits and its inode is sound
 abbrev pub is_statable : Entry → Bool
@@ -67,7 +71,8 @@ layer_of_pairs pairs = layer_of_entries (map stated_pair pairs)
 abbrev pub first_fault : Entries → Option LayerFault
 first_fault [] = None
 first_fault (pair ∷ pairs) =
-    if is_miscounted (length (pair ∷ pairs)) then None else result_err (entry_after [] (stated_pair pair))
+    if is_miscounted (length (pair ∷ pairs)) then None
+    else result_err (entry_after [] (stated_pair pair))
 
 -- the faults that only a first entry has
 abbrev pub is_of_first : LayerFault → Bool

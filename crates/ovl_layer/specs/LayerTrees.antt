@@ -29,7 +29,8 @@ entries_from inode below = ([], inode) ∷ below
 -- the entries of the nodes, one node after another
 abbrev pub entries_of_nodes : List NodeView → Entries
 entries_of_nodes [] = []
-entries_of_nodes (node ∷ nodes) = under node.name (entries_from node.inode node.below) ++ entries_of_nodes nodes
+entries_of_nodes (node ∷ nodes) =
+    under node.name (entries_from node.inode node.below) ++ entries_of_nodes nodes
 
 -- the entries are those of a directory or file that has these nodes directly below it
 abbrev pub HasBelow : Entries → List NodeView → Type 0
@@ -55,4 +56,5 @@ placed path entries = map (λ entry. (path ++ entry.0, entry.1)) entries
 
 -- a node with one more child at its end
 abbrev pub grown : NodeView → NodeView → NodeView
-grown node last = record node { below = node.below ++ under last.name (entries_from last.inode last.below) }
+grown node last =
+    record node { below = node.below ++ under last.name (entries_from last.inode last.below) }

@@ -29,7 +29,8 @@ entry_at layer path = lookup (path_eq path) layer
 
 -- a directory stands at the path
 abbrev pub is_directory_at : Entries → PathNames → Bool
-is_directory_at layer path = elim (entry_at layer path) [ Some inode ↦ is_directory inode | None ↦ false ]
+is_directory_at layer path =
+    elim (entry_at layer path) [ Some inode ↦ is_directory inode | None ↦ false ]
 
 -- the name of `path` where it lies directly below `directory`
 abbrev pub name_below : PathNames → PathNames → Option PathName
@@ -37,7 +38,8 @@ name_below [] [] = None
 name_below [] (name ∷ []) = Some name
 name_below [] (name ∷ other ∷ names) = None
 name_below (first ∷ directory) [] = None
-name_below (first ∷ directory) (name ∷ names) = if name_eq first name then name_below directory names else None
+name_below (first ∷ directory) (name ∷ names) =
+    if name_eq first name then name_below directory names else None
 
 -- the names directly below a path, in order
 abbrev pub names_below : Entries → PathNames → List PathName
@@ -49,7 +51,8 @@ entry_limit = 1048576
 
 -- the path has no more names, and its text no more bytes, than a manifest may state
 abbrev pub is_within_limits : PathNames → Bool
-is_within_limits path = nat_le (length path) depth_limit && nat_le (length (path_text path)) text_limit
+is_within_limits path =
+    nat_le (length path) depth_limit && nat_le (length (path_text path)) text_limit
 
 -- the entry's directory is in the layer; the root has none
 abbrev pub has_parent : Entries → PathNames → Bool

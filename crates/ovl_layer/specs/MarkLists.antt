@@ -12,7 +12,8 @@ plain_marks = Whiteout ∷ DirOpaque ∷ DirBad ∷ DirPlain ∷ Meta None ∷ M
 abbrev pub marks_at : List Mark → List ℕ → List Mark
 marks_at different numbers = map (λ number. slice_index_or different number Leaf) numbers
 
--- the list begins with the marks without a redirect, and has no more others than there are numbers; each number is one of it
+-- the list begins with the marks without a redirect, and has no more others than there are numbers;
+-- each number is one of it
 pub record AreMarks (different : List Mark) (numbers : List ℕ) : Type 0 where
   pub others : List Mark
   pub begins : different ≡ plain_marks ++ others

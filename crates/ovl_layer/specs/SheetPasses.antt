@@ -27,19 +27,23 @@ row_name rows number = name_of_row (slice_get rows number)
 abbrev pub kid_order : List SheetRow → PathName → ℕ → Ordering
 kid_order rows name number = name_order (row_name rows number) name
 
--- these entries, and after them the others, each where its parent's number and its last name place it
+-- these entries, and after them the others, each where its parent's number and its last name place
+-- it
 abbrev pub placed_by : Entries → List ℕ → Entries → Entries
 placed_by before parents [] = before
 placed_by before [] (entry ∷ entries) = before
 placed_by before (parent ∷ parents) (entry ∷ entries) =
     placed_by (before ++ (row_path before parent (last_name entry.0), entry.1) ∷ []) parents entries
 
--- the parents' numbers place the entries under the directory of that number, after so many other entries
+-- the parents' numbers place the entries under the directory of that number, after so many other
+-- entries
 abbrev pub Place : ℕ → ℕ → List ℕ → Entries → Type 0
 Place directory number parents entries =
-    (before : Entries) → length before ≡ number → placed_by before parents entries ≡ before ++ placed (path_at before directory) entries
+    (before : Entries) → length before ≡ number
+    → placed_by before parents entries ≡ before ++ placed (path_at before directory) entries
 
--- the list has grown by the numbers of the parents of these entries, which lie under the directory of that number
+-- the list has grown by the numbers of the parents of these entries, which lie under the directory
+-- of that number
 pub record AddsParents (directory : ℕ) (old new : List ℕ) (entries : Entries) : Type 0 where
   pub added : List ℕ
   pub grown : new ≡ old ++ added
@@ -47,14 +51,21 @@ pub record AddsParents (directory : ℕ) (old new : List ℕ) (entries : Entries
   pub earlier : are_earlier (length old) added ≡ true
   pub place : Place directory (length old) added entries
 
--- the rows of entries, the first of which has that number, with the numbers that stand for it in these lists
+-- the rows of entries, the first of which has that number, with the numbers that stand for it in
+-- these lists
 abbrev pub rows_from : List ℕ → List ℕ → ℕ → Entries → List SheetRow
 rows_from parents afters number [] = []
 rows_from parents afters number (entry ∷ entries) =
-    (record { name = last_name entry.0; inode = entry.1; parent = slice_index parents number; after = slice_index afters number })
+    (record {
+      name = last_name entry.0;
+      inode = entry.1;
+      parent = slice_index parents number;
+      after = slice_index afters number;
+    })
     ∷ rows_from parents afters (suc number) entries
 
--- the room of the sheet of these entries: all that it says beside names and inodes, and memory for its rows
+-- the room of the sheet of these entries: all that it says beside names and inodes, and memory for
+-- its rows
 pub record IsRoomFor (layer : Entries) (room : Room) : Type 0 where
   pub rows : room.rows.items ≡ []
   pub capacity : length layer ≤ vec_capacity room.rows
@@ -63,7 +74,8 @@ pub record IsRoomFor (layer : Entries) (room : Room) : Type 0 where
   pub earlier : are_earlier 1 (drop 1 room.parents.items) ≡ true
   pub place : placed_by [] room.parents.items layer ≡ layer
   pub afters : room.afters.items ≡ afters_from 0 layer
-  pub kids : (number : ℕ) → number < length layer → slice_get room.kids number ≡ Some (kid_numbers 1 (drop 1 room.parents.items) number)
+  pub kids : (number : ℕ) → number < length layer
+      → slice_get room.kids number ≡ Some (kid_numbers 1 (drop 1 room.parents.items) number)
   pub marks : room.marks ≡ map (λ entry. mark_of entry.1) layer
 
 -- the number of names of each entry's path

@@ -10,4 +10,5 @@ slashed names = flat_map (λ own. slash ∷ own) names
 -- where the texts of the paths on the way to a path end in its text, the root's first
 pub record AreEnds (path : PathNames) (ends : List ℕ) : Type 0 where
   pub count : length ends ≡ suc (length path)
-  pub places : (depth : ℕ) → depth ≤ length path → slice_get ends depth ≡ Some (length (slashed (take depth path)))
+  pub places : (depth : ℕ) → depth ≤ length path
+      → slice_get ends depth ≡ Some (length (slashed (take depth path)))

@@ -17,7 +17,7 @@ use std::marker::Model;
 pub struct LayerBuilder {
     draft: Draft,
     count: u32,
-    // Whether a change was begun and failed, after which nothing is known of the draft.
+    /// Whether a change was begun and failed, after which nothing is known of the draft.
     failed: bool,
 }
 
@@ -30,11 +30,13 @@ impl Model for LayerBuilder {
 
     ghost view = { λ a. draft_entries a.draft };
 
-    ghost invariant = { λ a. a.failed ≡ false → IsDraft a.draft × (a.count ≡ length (draft_entries a.draft)) × (a.count ≤ entry_limit) };
+    ghost invariant = { λ a. a.failed ≡ false
+        → IsDraft a.draft × (a.count ≡ length (draft_entries a.draft)) × (a.count ≤ entry_limit) };
 }
 
 impl LayerBuilder {
-    /// The layer of a root alone, refused as [`from_entries`](crate::from_entries) refuses a first entry.
+    /// The layer of a root alone, refused as [`from_entries`](crate::from_entries) refuses a first
+    /// entry.
     pub fn new(alloc: Global, root: Inode) -> Result<LayerBuilder, LayerFault>
         ensures { MatchResult result
             (λ builder. entry_after [] (stated_pair ([], root)) ≡ Ok builder)
@@ -48,9 +50,10 @@ impl LayerBuilder {
         })
     }
 
-    /// Adds the entry `name` of a directory, of which no path is made. It is refused with `Count` behind
-    /// [`ENTRY_LIMIT`] entries, and else as [`from_entries`](crate::from_entries) refuses the entry that comes after
-    /// those so far; `Memory` can come at any time, and behind a refusal it may be told of all else.
+    /// Adds the entry `name` of a directory, of which no path is made. It is refused with `Count`
+    /// behind [`ENTRY_LIMIT`] entries, and else as [`from_entries`](crate::from_entries) refuses
+    /// the entry that comes after those so far; `Memory` can come at any time, and behind a refusal
+    /// it may be told of all else.
     pub fn add_child(
         &mut self,
         alloc: Global,
@@ -60,7 +63,8 @@ impl LayerBuilder {
     ) -> Result<(), LayerFault>
         ensures { MatchResult result
             (λ _. pair_after self.old (child_path directory.now name, inode) ≡ Ok self.new)
-            (λ fault. IsFaultOf (pair_after self.old (child_path directory.now name, inode)) fault) }
+            (λ fault. IsFaultOf
+            (pair_after self.old (child_path directory.now name, inode)) fault) }
     {
         if self.failed {
             return Err(LayerFault::Memory);
@@ -75,8 +79,8 @@ impl LayerBuilder {
         Ok(())
     }
 
-    /// Makes room for so many entries directly below the last one, so that their list needn't grow as they come. Fails
-    /// only when out of memory.
+    /// Makes room for so many entries directly below the last one, so that their list needn't grow
+    /// as they come. Fails only when out of memory.
     pub fn make_room(&mut self, entries: usize) -> Result<(), AllocError>
         ensures { IfOk result (λ _. self.new ≡ self.old) }
     {

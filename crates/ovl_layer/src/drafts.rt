@@ -17,7 +17,8 @@ use ovl_inode::{Inode, is_directory};
 use ovl_names::{Name, Path};
 use std::alloc::{AllocError, Global};
 
-/// A layer while it is built: the finished nodes of its root, and the nodes on the way to its last entry.
+/// A layer while it is built: the finished nodes of its root, and the nodes on the way to its last
+/// entry.
 #[derive(Drop)]
 pub struct Draft {
     inode: Inode,
@@ -87,11 +88,14 @@ impl Draft {
         self.last.names().starts_with(&directory.names())
     }
 
-    /// Whether the entry `name` of the directory of the first `depth` names of the last path comes after all entries.
+    /// Whether the entry `name` of the directory of the first `depth` names of the last path comes
+    /// after all entries.
     pub(crate) fn comes_before_child(&self, depth: usize, name: &Name) -> bool
         requires draft { IsDraft self.now }
         requires depth { depth ≤ length self.now.last }
-        ensures { result ≡ comes_after (draft_entries self.now) (child_path (take depth self.now.last) name.now) }
+        ensures { result
+            ≡ comes_after (draft_entries self.now)
+            (child_path (take depth self.now.last) name.now) }
     {
         if depth == self.spine.len() {
             return true;
@@ -117,7 +121,8 @@ impl Draft {
     ) -> Result<(), AllocError>
         requires draft { IsDraft self.old }
         requires entry { CanTake self.old path.now inode }
-        ensures entries { IfOk result (λ _. draft_entries self.new ≡ draft_entries self.old ++ (path.now, inode) ∷ []) }
+        ensures entries { IfOk result
+            (λ _. draft_entries self.new ≡ draft_entries self.old ++ (path.now, inode) ∷ []) }
         ensures draft { IfOk result (λ _. IsDraft self.new) }
     {
         let (name, above) = path.names().split_last().unwrap();
@@ -125,8 +130,8 @@ impl Draft {
         self.enter_child(alloc, above.len(), name, inode)
     }
 
-    /// Enters the entry `name` of the directory of the first `depth` names of the last path, which is there; the entry
-    /// comes after all others.
+    /// Enters the entry `name` of the directory of the first `depth` names of the last path, which
+    /// is there; the entry comes after all others.
     pub(crate) fn enter_child(
         &mut self,
         alloc: Global,
@@ -221,7 +226,8 @@ impl Draft {
 impl Node {
     // Takes one more child, which comes after all others.
     fn take_child(&mut self, child: Node) -> Result<(), AllocError>
-        requires { ascends entry_cmp (self.old.below ++ under child.name (entries_from child.inode child.below)) ≡ true }
+        requires { ascends entry_cmp
+            (self.old.below ++ under child.name (entries_from child.inode child.below)) ≡ true }
         ensures { IfOk result (λ _. self.new ≡ grown self.old child) }
     {
         self.children.push(child)?;

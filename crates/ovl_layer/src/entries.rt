@@ -17,17 +17,19 @@ use std::alloc::Global;
 /// The most entries of a layer.
 pub const ENTRY_LIMIT: usize = 1_048_576;
 
-/// The layer of these entries. It is refused with `Count`, or with the first fault of the first entry that has one, in
-/// the order of tests that `docs/FORMATS.md` tells; `Memory` can come in place of a layer or of a later entry's fault,
-/// but `Count` and the faults of the first entry need none. `Entry` is told of a path past the limits of its
-/// names or its text, and of an inode that isn't sound.
+/// The layer of these entries. It is refused with `Count`, or with the first fault of the first
+/// entry that has one, in the order of tests that `docs/FORMATS.md` tells; `Memory` can come in
+/// place of a layer or of a later entry's fault, but `Count` and the faults of the first entry need
+/// none. `Entry` is told of a path past the limits of its names or its text, and of an inode that
+/// isn't sound.
 pub fn from_entries(alloc: Global, entries: Vec<(Path, Inode)>) -> Result<Layer, LayerFault>
     ensures value { MatchResult result
         (λ layer. layer_of_pairs entries.items ≡ Ok layer)
         (λ fault. IsFaultOf (layer_of_pairs entries.items) fault) }
     ensures count { (result ≡ Err Count) ↔ IsTrue (is_miscounted (length entries.items)) }
     ensures first { (fault : LayerFault)
-        → (first_fault entries.items ≡ Some fault) ↔ ((result ≡ Err fault) × IsTrue (is_of_first fault)) }
+        → (first_fault entries.items ≡ Some fault)
+        ↔ ((result ≡ Err fault) × IsTrue (is_of_first fault)) }
 {
     if entries.len() > ENTRY_LIMIT {
         return Err(LayerFault::Count);
@@ -76,7 +78,8 @@ pub fn add_entry(
     requires room { number < entry_limit }
     requires stated { IfSome entry (λ stated. IsTrue (is_statable stated)) }
     ensures { MatchResult result
-        (λ _. (entry_after (draft_entries draft.old) entry ≡ Ok (draft_entries draft.new)) × IsDraft draft.new)
+        (λ _. (entry_after (draft_entries draft.old) entry ≡ Ok (draft_entries draft.new))
+        × IsDraft draft.new)
         (λ fault. IsFaultOf (entry_after (draft_entries draft.old) entry) fault) }
 {
     let Some((path, inode)) = entry else {
@@ -107,8 +110,12 @@ pub(crate) fn add_child(
     requires number { number ≡ length (draft_entries draft.old) }
     requires room { number < entry_limit }
     ensures { MatchResult result
-        (λ _. (entry_after (draft_entries draft.old) (stated_pair (child_path directory.now name, inode)) ≡ Ok (draft_entries draft.new)) × IsDraft draft.new)
-        (λ fault. IsFaultOf (entry_after (draft_entries draft.old) (stated_pair (child_path directory.now name, inode))) fault) }
+        (λ _. (entry_after (draft_entries draft.old)
+        (stated_pair (child_path directory.now name, inode)) ≡ Ok (draft_entries draft.new))
+        × IsDraft draft.new)
+        (λ fault. IsFaultOf
+        (entry_after (draft_entries draft.old)
+        (stated_pair (child_path directory.now name, inode))) fault) }
 {
     if !draft.is_within(directory) {
         let path = directory.child(alloc, &name)?;
@@ -120,7 +127,8 @@ pub(crate) fn add_child(
     add_on_way(alloc, draft, number, directory.len(), name, inode)
 }
 
-// The same in the directory of the first `depth` names of the last path, where a manifest can state it.
+// The same in the directory of the first `depth` names of the last path, where a manifest can state
+// it.
 fn add_on_way(
     alloc: Global,
     draft: &mut Draft,
@@ -135,8 +143,12 @@ fn add_on_way(
     requires depth { depth ≤ length draft.old.last }
     requires stated { IsTrue (is_statable (child_path (take depth draft.old.last) name, inode)) }
     ensures { MatchResult result
-        (λ _. (entry_after (draft_entries draft.old) (Some (child_path (take depth draft.old.last) name, inode)) ≡ Ok (draft_entries draft.new)) × IsDraft draft.new)
-        (λ fault. IsFaultOf (entry_after (draft_entries draft.old) (Some (child_path (take depth draft.old.last) name, inode))) fault) }
+        (λ _. (entry_after (draft_entries draft.old)
+        (Some (child_path (take depth draft.old.last) name, inode))
+        ≡ Ok (draft_entries draft.new)) × IsDraft draft.new)
+        (λ fault. IsFaultOf
+        (entry_after (draft_entries draft.old)
+        (Some (child_path (take depth draft.old.last) name, inode))) fault) }
 {
     if has_escaped_name(&inode.attrs) {
         return Err(LayerFault::Escaped(number));
@@ -182,7 +194,8 @@ fn is_within_limits(path: &Path) -> bool
     bytes <= TEXT_LIMIT
 }
 
-// The most names of a path that can't pass `TEXT_LIMIT`: each takes at most 256 bytes with its separator.
+// The most names of a path that can't pass `TEXT_LIMIT`: each takes at most 256 bytes with its
+// separator.
 const SHORT: usize = 15;
 
 // The same of the path of the entry `name` of a directory.

@@ -4,8 +4,8 @@ ghost use Rattle.ovl_layer.specs.declared.faults.LayerFault.TheVariants.{Memory}
 use std::alloc::AllocError;
 use thiserror::Error;
 
-/// Why bytes are no manifest, or entries no layer; the first fault in the order of tests is given, which
-/// `docs/FORMATS.md` tells. An entry is named by its number, counted from 0.
+/// Why bytes are no manifest, or entries no layer; the first fault in the order of tests is given,
+/// which `docs/FORMATS.md` tells. An entry is named by its number, counted from 0.
 #[derive(Clone, Copy, Debug, PartialEq, Eq, Error)]
 pub enum LayerFault {
     /// The bytes are no JSON text in UTF-8.

@@ -5,8 +5,9 @@ ghost use Rattle.ovl_layer.specs.KidLists.{AreCounts, AreEnds};
 use std::alloc::{AllocError, Global};
 use std::marker::Model;
 
-/// The numbers of the rows directly below each row, seen as a list for each row. All lie in one list, row after row;
-/// beside it stands where those of each row begin, and last where those of the last row end.
+/// The numbers of the rows directly below each row, seen as a list for each row. All lie in one
+/// list, row after row; beside it stands where those of each row begin, and last where those of the
+/// last row end.
 #[derive(Drop)]
 pub(crate) struct KidLists {
     kids: Vec<u32>,

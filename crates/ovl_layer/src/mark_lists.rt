@@ -7,8 +7,8 @@ use ovl_inode::{Inode, Kind, Mark, mark_of};
 use std::alloc::{AllocError, Global};
 use std::marker::Model;
 
-/// The marks of rows, seen as their list. Of each row the number of its mark is kept: the marks without a redirect are
-/// shared, and stand at the head of the list of different ones.
+/// The marks of rows, seen as their list. Of each row the number of its mark is kept: the marks
+/// without a redirect are shared, and stand at the head of the list of different ones.
 #[derive(Drop)]
 pub(crate) struct MarkList {
     numbers: Vec<u32>,
@@ -82,7 +82,8 @@ impl MarkList {
     }
 }
 
-// The number of the mark of an inode without attributes. A device may be a whiteout, and is left to `mark_of`.
+// The number of the mark of an inode without attributes. A device may be a whiteout, and is left to
+// `mark_of`.
 fn bare_number(inode: &Inode) -> Option<u32>
     ensures { IfSome result (λ number. slice_get plain_marks number ≡ Some (the_mark inode.now)) }
 {

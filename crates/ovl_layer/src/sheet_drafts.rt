@@ -12,8 +12,8 @@ use ovl_inode::{Inode, is_directory};
 use ovl_names::Name;
 use std::alloc::{AllocError, Global};
 
-/// A layer while its entries come in path order: the rows of its sheet so far, and the numbers of those on the way to
-/// the last entry, the root's first.
+/// A layer while its entries come in path order: the rows of its sheet so far, and the numbers of
+/// those on the way to the last entry, the root's first.
 #[derive(Drop)]
 pub struct SheetDraft {
     rows: Vec<SheetRow>,
@@ -50,11 +50,14 @@ impl SheetDraft {
         self.way.len() - 1
     }
 
-    /// Whether the entry `name` of the directory of the first `depth` names of the last path comes after all entries.
+    /// Whether the entry `name` of the directory of the first `depth` names of the last path comes
+    /// after all entries.
     pub fn comes_before_child(&self, depth: usize, name: &Name) -> bool
         requires draft { IsSheetDraft self.now }
         requires depth { depth ≤ length (last_path self.now) }
-        ensures { result ≡ is_lt (path_cmp (last_path self.now) (child_path (take depth (last_path self.now)) name.now)) }
+        ensures { result
+            ≡ is_lt (path_cmp (last_path self.now)
+            (child_path (take depth (last_path self.now)) name.now)) }
     {
         if depth == self.last_depth() {
             return true;
@@ -76,8 +79,8 @@ impl SheetDraft {
         is_directory(&self.rows[number as usize].inode)
     }
 
-    /// Puts one more entry, which comes after all others, into the directory of the first `depth` names of the last
-    /// path, which is there.
+    /// Puts one more entry, which comes after all others, into the directory of the first `depth`
+    /// names of the last path, which is there.
     pub fn enter(
         &mut self,
         alloc: Global,
@@ -90,7 +93,8 @@ impl SheetDraft {
         ensures entries { IfOk result (λ _. drafted self.new
             ≡ drafted self.old ++ (child_path (take depth (last_path self.old)) name, inode) ∷ []) }
         ensures draft { IfOk result (λ _. IsSheetDraft self.new) }
-        ensures last { IfOk result (λ _. last_path self.new ≡ child_path (take depth (last_path self.old)) name) }
+        ensures last { IfOk result
+            (λ _. last_path self.new ≡ child_path (take depth (last_path self.old)) name) }
     {
         let number = self.rows.len() as u32;
         self.rows.push(SheetRow {

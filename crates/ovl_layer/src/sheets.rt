@@ -31,8 +31,9 @@ pub struct SheetRow {
     pub after: u32,
 }
 
-/// A layer as a flat table, seen as its entries in path order: the row of number `n` is that of the entry `n`, counted
-/// from 0, so that of the root is the first. Beside the rows it keeps the numbers of those directly below each, and each one's mark.
+/// A layer as a flat table, seen as its entries in path order: the row of number `n` is that of the
+/// entry `n`, counted from 0, so that of the root is the first. Beside the rows it keeps the
+/// numbers of those directly below each, and each one's mark.
 #[derive(Drop)]
 pub struct Sheet {
     rows: Vec<SheetRow>,
@@ -72,8 +73,8 @@ impl<'a> Model for SheetPlace<'a> {
 }
 
 impl Sheet {
-    /// The sheet of a layer, whose nodes are moved into it. All memory is taken before the first is moved: where a
-    /// growth was refused, the layer comes back as it was.
+    /// The sheet of a layer, whose nodes are moved into it. All memory is taken before the first is
+    /// moved: where a growth was refused, the layer comes back as it was.
     pub fn of(alloc: Global, layer: Layer) -> Result<Sheet, Layer>
         ensures value { IfOk result (λ sheet. sheet ≡ layer) }
         ensures back { IfErr result (λ back. back ≡ layer) }
@@ -84,7 +85,8 @@ impl Sheet {
         }
     }
 
-    /// The sheet of the rows of a layer, in path order; the number after each one's subtree is set here.
+    /// The sheet of the rows of a layer, in path order; the number after each one's subtree is set
+    /// here.
     pub(crate) fn of_rows(alloc: Global, mut rows: Vec<SheetRow>) -> Result<Sheet, AllocError>
         requires { AreRows rows.items }
         ensures { IfOk result (λ sheet. sheet ≡ entries_of_rows rows.items) }
@@ -121,7 +123,8 @@ impl Sheet {
 
     /// The row of a number, and `None` past the last; takes no memory.
     pub fn row(&self, number: u32) -> Option<&SheetRow>
-        ensures { MatchOption result (length self.now ≤ number) (λ row. IsRowOf self.now number row.now) }
+        ensures { MatchOption result (length self.now ≤ number)
+            (λ row. IsRowOf self.now number row.now) }
     {
         self.rows.get(number as usize)
     }
@@ -134,8 +137,8 @@ impl Sheet {
         &self.rows[number as usize].inode
     }
 
-    /// The last name of the path of the row of a number, which is below the number of rows; the root has none. Takes no
-    /// memory.
+    /// The last name of the path of the row of a number, which is below the number of rows; the
+    /// root has none. Takes no memory.
     pub fn name(&self, number: u32) -> Option<&Name>
         requires { number < length self.now }
         ensures { option_map (λ name. name.now) result ≡ last_name (path_at self.now number) }
@@ -143,31 +146,36 @@ impl Sheet {
         self.rows[number as usize].name.as_ref()
     }
 
-    /// The mark of the row of a number, as its inode alone says it; the number is below that of rows. Takes no memory.
+    /// The mark of the row of a number, as its inode alone says it; the number is below that of
+    /// rows. Takes no memory.
     pub fn mark(&self, number: u32) -> &Mark
         requires { number < length self.now }
-        ensures { option_map the_mark (entry_at self.now (path_at self.now number)) ≡ Some result.now }
+        ensures { option_map the_mark (entry_at self.now (path_at self.now number))
+            ≡ Some result.now }
     {
         self.marks.at(number)
     }
 
-    /// The numbers of the rows directly below the row of a number, in the order of their names; takes no memory.
+    /// The numbers of the rows directly below the row of a number, in the order of their names;
+    /// takes no memory.
     pub fn kids(&self, directory: u32) -> &[u32]
         requires { directory < length self.now }
         ensures inside { All (λ kid. kid < length self.now) result.now }
         ensures paths { map (path_at self.now) result.now
-            ≡ map (child_path (path_at self.now directory)) (names_below self.now (path_at self.now directory)) }
+            ≡ map (child_path (path_at self.now directory))
+            (names_below self.now (path_at self.now directory)) }
     {
         self.kids.below(directory)
     }
 
-    /// The number of the entry `name` in the directory of a number, and `None` where there is none; takes no memory,
-    /// and time for the logarithm of the directory's entries.
+    /// The number of the entry `name` in the directory of a number, and `None` where there is none;
+    /// takes no memory, and time for the logarithm of the directory's entries.
     pub fn child(&self, directory: u32, name: &str) -> Option<u32>
         requires { directory < length self.now }
         ensures { MatchOption result
             (entries_under (child_path (path_at self.now directory) name.now) self.now ≡ [])
-            (λ child. (child < length self.now) × (path_at self.now child ≡ child_path (path_at self.now directory) name.now)) }
+            (λ child. (child < length self.now)
+            × (path_at self.now child ≡ child_path (path_at self.now directory) name.now)) }
     {
         let rows = self.rows.as_slice();
         let kids = self.kids.below(directory);
@@ -215,7 +223,8 @@ impl Sheet {
         }
     }
 
-    /// The names directly below a path, in order; none where there is no directory. Fails only when out of memory.
+    /// The names directly below a path, in order; none where there is no directory. Fails only when
+    /// out of memory.
     pub fn children(&self, alloc: Global, path: &Path) -> Result<Vec<Name>, AllocError>
         ensures { IfOk result (λ names. names.items ≡ names_below self.now path.now) }
     {
@@ -226,7 +235,8 @@ impl Sheet {
     }
 }
 
-// How the name of the row of a number is to another; a row without a name, and none at all, come before each.
+// How the name of the row of a number is to another; a row without a name, and none at all, come
+// before each.
 fn order_of_kid(rows: &[SheetRow], number: u32, name: &str) -> Ordering
     ensures { result ≡ kid_order rows.now name.now number }
 {
@@ -288,7 +298,8 @@ impl<'a> SheetPlace<'a> {
     }
 }
 
-// The memory of a layer's sheet, taken before the layer's nodes are moved, with all that the sheet says beside them.
+// The memory of a layer's sheet, taken before the layer's nodes are moved, with all that the sheet
+// says beside them.
 #[derive(Drop)]
 struct Room {
     rows: Vec<SheetRow>,
@@ -325,11 +336,13 @@ impl Room {
     }
 }
 
-// Adds the number of the parent of each entry at and under these nodes, which lie in the directory of this number.
+// Adds the number of the parent of each entry at and under these nodes, which lie in the directory
+// of this number.
 fn push_parents(nodes: &[Node], directory: u32, parents: &mut Vec<u32>) -> Result<(), AllocError>
     requires directory { directory < vec_len parents.old }
     requires limit { vec_len parents.old + length (entries_of_nodes nodes.now) < 2 ^ 32 }
-    ensures { OnOk result (AddsParents directory parents.old.items parents.new.items (entries_of_nodes nodes.now)) }
+    ensures { OnOk result
+        (AddsParents directory parents.old.items parents.new.items (entries_of_nodes nodes.now)) }
 {
     for node in nodes {
         let number = parents.len() as u32;
@@ -339,7 +352,8 @@ fn push_parents(nodes: &[Node], directory: u32, parents: &mut Vec<u32>) -> Resul
     Ok(())
 }
 
-// Adds the number after the subtree of each entry at and under these nodes, the first of which has the next number.
+// Adds the number after the subtree of each entry at and under these nodes, the first of which has
+// the next number.
 fn push_afters(nodes: &[Node], afters: &mut Vec<u32>) -> Result<(), AllocError>
     requires limit { vec_len afters.old + length (entries_of_nodes nodes.now) < 2 ^ 32 }
     ensures { OnOk result (afters.new.items
@@ -388,7 +402,8 @@ fn depths_of(alloc: Global, rows: &[SheetRow]) -> Result<Vec<u32>, AllocError>
 fn set_afters(depths: &[u32], rows: &mut Vec<SheetRow>)
     requires limit { vec_len rows.old < 2 ^ 32 }
     requires depths { depths.now ≡ the_depths (entries_of_rows rows.old.items) }
-    ensures { rows.new.items ≡ with_afters (afters_from 0 (entries_of_rows rows.old.items)) rows.old.items }
+    ensures { rows.new.items
+        ≡ with_afters (afters_from 0 (entries_of_rows rows.old.items)) rows.old.items }
 {
     let mut number = rows.len();
     while number > 0 {
@@ -430,11 +445,14 @@ impl Sheet {
 // Adds the rows at and under these nodes, where there is room for them.
 fn move_nodes(nodes: Vec<Node>, parents: &[u32], afters: &[u32], rows: &mut Vec<SheetRow>)
     requires limit { vec_len rows.old + length (entries_of_nodes nodes.items) < 2 ^ 32 }
-    requires room { vec_len rows.old + length (entries_of_nodes nodes.items) ≤ vec_capacity rows.old }
-    requires parents { vec_len rows.old + length (entries_of_nodes nodes.items) ≤ length parents.now }
+    requires room { vec_len rows.old + length (entries_of_nodes nodes.items)
+        ≤ vec_capacity rows.old }
+    requires parents { vec_len rows.old + length (entries_of_nodes nodes.items)
+        ≤ length parents.now }
     requires afters { vec_len rows.old + length (entries_of_nodes nodes.items) ≤ length afters.now }
     ensures rows { rows.new.items
-        ≡ rows.old.items ++ rows_from parents.now afters.now (vec_len rows.old) (entries_of_nodes nodes.items) }
+        ≡ rows.old.items
+        ++ rows_from parents.now afters.now (vec_len rows.old) (entries_of_nodes nodes.items) }
     ensures room { vec_capacity rows.old ≤ vec_capacity rows.new }
 {
     for node in nodes {

@@ -10,8 +10,8 @@ use ovl_names::{Name, Path};
 use std::alloc::{AllocError, Global};
 use std::marker::Model;
 
-/// An entry below the root with all that lies under it, seen as its name, its inode and the entries below it, their
-/// paths counted from it.
+/// An entry below the root with all that lies under it, seen as its name, its inode and the entries
+/// below it, their paths counted from it.
 #[derive(Drop)]
 pub struct Node {
     pub(crate) name: Name,
@@ -28,16 +28,19 @@ impl Model for Node {
 
     ghost Value = { NodeView };
 
-    ghost view = { λ a. record { name = a.name; inode = a.inode; below = entries_of_nodes a.children.items } };
+    ghost view = { λ a. record
+        { name = a.name; inode = a.inode; below = entries_of_nodes a.children.items } };
 
     ghost invariant = { λ a. ascends node_cmp a.children.items ≡ true };
 
     ghost size = { λ v. length v.below };
 
-    ghost size_decreases = { λ a h. omega (arith, most_le-length-entries_of_nodes a.children.items) };
+    ghost size_decreases = { λ a h. omega
+        (arith, most_le-length-entries_of_nodes a.children.items) };
 }
 
-/// A layer: a tree whose children are in the byte order of their names, seen as its entries in path order.
+/// A layer: a tree whose children are in the byte order of their names, seen as its entries in path
+/// order.
 #[derive(Drop)]
 pub struct Layer {
     pub(crate) inode: Inode,
@@ -54,7 +57,8 @@ impl Model for Layer {
 
     ghost view = { λ a. entries_from a.inode (entries_of_nodes a.children.items) };
 
-    ghost invariant = { λ a. (ascends node_cmp a.children.items ≡ true) × IsLayer (entries_from a.inode (entries_of_nodes a.children.items)) };
+    ghost invariant = { λ a. (ascends node_cmp a.children.items ≡ true)
+        × IsLayer (entries_from a.inode (entries_of_nodes a.children.items)) };
 }
 
 /// A place in a layer, seen as the entries at and under it, their paths counted from it.
@@ -173,7 +177,9 @@ fn push_entries(
     entries: &mut Vec<(Path, Inode)>,
 ) -> Result<(), AllocError>
     ensures { OnOk result (entries.new.items
-        ≡ entries.old.items ++ placed (child_path above.now node.now.name) (entries_from node.now.inode node.now.below)) }
+        ≡ entries.old.items
+        ++ placed (child_path above.now node.now.name)
+        (entries_from node.now.inode node.now.below)) }
 {
     let path = above.child(alloc, &node.name)?;
     entries.push((path.copy(alloc)?, node.inode.copy(alloc)?))?;

@@ -29,7 +29,10 @@ listed value = option_and_then as_array (get (codes "entries") value)
 -- the version of a manifest that is an object of a whole number that names one, and of a list
 abbrev pub outline_of : Option Num → Option Items → Result Version LayerFault
 outline_of (Some n) (Some items) =
-    if is_whole n then elim (option_and_then version_of (as_u64 n)) [ Some version ↦ Ok version | None ↦ Err WrongVersion ] else Err Shape
+    if is_whole n then
+    elim (option_and_then version_of (as_u64 n))
+    [ Some version ↦ Ok version | None ↦ Err WrongVersion ]
+    else Err Shape
 outline_of _ _ = Err Shape
 
 abbrev pub outline : Data → Result Version LayerFault
@@ -72,4 +75,5 @@ Tells (Err fault) result = result ≡ Err fault
 -- the same of a list, where there is one
 abbrev pub TellsLast : Version → Option Items → Option (Result Draft LayerFault) → Type 0
 TellsLast version None told = ⊤
-TellsLast version (Some items) told = IsSomeAnd told (λ own. Tells own (layer_of_entries (stated_entries version items)))
+TellsLast version (Some items) told =
+    IsSomeAnd told (λ own. Tells own (layer_of_entries (stated_entries version items)))

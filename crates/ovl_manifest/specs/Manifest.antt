@@ -29,15 +29,19 @@ layer_of_version n values = elim (option_and_then version_of (as_u64 n)) [
 
 -- a manifest is an object of a whole number and a list
 abbrev pub layer_of_fields : Option Num → Option Items → Result Entries LayerFault
-layer_of_fields (Some version) (Some values) = if is_whole version then layer_of_version version values else Err Shape
+layer_of_fields (Some version) (Some values) =
+    if is_whole version then layer_of_version version values else Err Shape
 layer_of_fields _ _ = Err Shape
 
 abbrev pub layer_of_value : Data → Result Entries LayerFault
 layer_of_value value =
     if has_exactly (codes "entries" ∷ codes "overlay-layer" ∷ []) value
-    then layer_of_fields (option_and_then as_number (get (codes "overlay-layer") value)) (option_and_then as_array (get (codes "entries") value))
+    then layer_of_fields (option_and_then as_number (get (codes "overlay-layer") value))
+    (option_and_then as_array (get (codes "entries") value))
     else Err Shape
 
 -- the layer that bytes state
 abbrev pub read_layer : List ℕ → Result Entries LayerFault
-read_layer bytes = elim (if is_utf8 bytes then read bytes else None) [ None ↦ Err NotJson | Some value ↦ layer_of_value value ]
+read_layer bytes =
+    elim (if is_utf8 bytes then read bytes else None)
+    [ None ↦ Err NotJson | Some value ↦ layer_of_value value ]

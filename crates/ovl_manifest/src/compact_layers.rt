@@ -23,13 +23,14 @@ use simdutf8::compat::from_utf8;
 use std::alloc::Global;
 use std::borrow::CowStr;
 
-// Fewer bytes than most entries have in a manifest, so that a list with room for one in so many bytes of the text seldom
-// grows. Room that no entry takes is never touched.
+// Fewer bytes than most entries have in a manifest, so that a list with room for one in so many
+// bytes of the text seldom grows. Room that no entry takes is never touched.
 const ENTRY_TEXT: usize = 96;
 
-/// The sheet of the layer whose manifest these bytes are, byte for byte as [`write_layer`](crate::write_layer) writes
-/// it, or wrote it in the first version; the newline at its end may be missing. Gives none of manifests that are
-/// written in another way, of any fault and where memory runs out.
+/// The sheet of the layer whose manifest these bytes are, byte for byte as
+/// [`write_layer`](crate::write_layer) writes it, or wrote it in the first version; the newline at
+/// its end may be missing. Gives none of manifests that are written in another way, of any fault
+/// and where memory runs out.
 pub(crate) fn read_compact(alloc: Global, bytes: &[u8]) -> Option<Sheet>
     ensures { IfSome result (λ sheet. layer_stated bytes.now ≡ Ok sheet) }
 {
@@ -56,7 +57,8 @@ fn read_written(alloc: Global, version: Version, text: &str) -> Option<Sheet>
 
 // The sheet of the layer whose manifest of this version comes next.
 fn read_manifest(alloc: Global, version: Version, rest: &mut Rest<'_>) -> Option<Sheet>
-    ensures text { IfSome result (λ sheet. rest.old ≡ compact_text (layer_value version sheet) ++ rest.new) }
+    ensures text { IfSome result
+        (λ sheet. rest.old ≡ compact_text (layer_value version sheet) ++ rest.new) }
     ensures layer { IfSome result (λ sheet. IsLayer sheet) }
     ensures stated { IfSome result (λ sheet. list_all (is_stated_by version) sheet ≡ true) }
 {
@@ -73,7 +75,8 @@ fn read_manifest(alloc: Global, version: Version, rest: &mut Rest<'_>) -> Option
 
 // The sheet of at least one entry and at most `ENTRY_LIMIT`.
 fn read_entries(alloc: Global, version: Version, rest: &mut Rest<'_>) -> Option<Sheet>
-    ensures text { IfSome result (λ sheet. rest.old ≡ items_text false (entry_items version sheet) ++ rest.new) }
+    ensures text { IfSome result
+        (λ sheet. rest.old ≡ items_text false (entry_items version sheet) ++ rest.new) }
     ensures layer { IfSome result (λ sheet. IsLayer sheet) }
     ensures stated { IfSome result (λ sheet. list_all (is_stated_by version) sheet ≡ true) }
 {
@@ -113,7 +116,8 @@ fn read_entries(alloc: Global, version: Version, rest: &mut Rest<'_>) -> Option<
     }
 }
 
-// The draft of the entry of a sound inode, whose path a text spells, if it can be a layer's first; it has room for so many.
+// The draft of the entry of a sound inode, whose path a text spells, if it can be a layer's first;
+// it has room for so many.
 fn start(alloc: Global, text: &str, inode: Inode, room: usize) -> Option<SheetDraft>
     requires { is_sound_inode inode ≡ true }
     ensures root { IfSome result (λ _. text.now ≡ path_text []) }
@@ -130,9 +134,10 @@ fn start(alloc: Global, text: &str, inode: Inode, room: usize) -> Option<SheetDr
     }
 }
 
-// Puts the entry of a sound inode, whose path a text spells, into the draft, whose last path has the text `last`; where in
-// that the paths on the way there end stands beside it, and the text of the root is empty here. Gives none of a path or
-// an inode that no layer of the version has there, and when out of memory.
+// Puts the entry of a sound inode, whose path a text spells, into the draft, whose last path has
+// the text `last`; where in that the paths on the way there end stands beside it, and the text of
+// the root is empty here. Gives none of a path or an inode that no layer of the version has there,
+// and when out of memory.
 fn add_beside(
     alloc: Global,
     version: Version,
@@ -152,7 +157,8 @@ fn add_beside(
     ensures last { IfSome result (λ _. slashed (last_path draft.new) ≡ text.now) }
     ensures ends { IfSome result (λ _. AreEnds (last_path draft.new) ends.new.items) }
     ensures path { IfSome result (λ _. path_text (last_path draft.new) ≡ text.now) }
-    ensures entries { IfSome result (λ _. drafted draft.new ≡ drafted draft.old ++ (last_path draft.new, inode) ∷ []) }
+    ensures entries { IfSome result
+        (λ _. drafted draft.new ≡ drafted draft.old ++ (last_path draft.new, inode) ∷ []) }
 {
     let (depth, name) = place_beside(last, ends, text)?;
     if depth >= version.depth() || text.len() > TEXT_LIMIT || has_escaped_name(&inode.attrs) {

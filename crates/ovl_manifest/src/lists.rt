@@ -15,7 +15,7 @@ use crate::fields::read_entry;
 use crate::versions::Version;
 use json::{Reader, Scratch};
 use ovl_inode::Inode;
-use ovl_json::{Beginning, MAX_DEPTH, Unread, begin, pass_items, pass_members, read_object};
+use ovl_json::{Beginning, MAX_DEPTH, Unread, begin, read_object, skip_items, skip_members};
 use ovl_layer::{Draft, ENTRY_LIMIT, Layer, LayerFault, add_entry, start_draft};
 use ovl_names::Path;
 use std::alloc::Global;
@@ -25,7 +25,7 @@ const MEMBER_DEPTH: usize = MAX_DEPTH - 1;
 
 const ITEM_DEPTH: usize = MEMBER_DEPTH - 1;
 
-// What the entries so far make.
+/// What the entries so far make.
 #[derive(Drop)]
 pub(crate) enum Progress {
     // There was none yet.
@@ -73,14 +73,15 @@ fn read_draft(
     Ok(told)
 }
 
-// The same of the last member `entries` of an object whose brace was passed, where it is a list.
+// The same of the last member `entries` of an object whose brace was read, where it is a list.
 fn read_lists(
     alloc: Global,
     version: Version,
     reader: &mut Reader<'_>,
 ) -> Result<Option<Result<Draft, LayerFault>>, Unread>
     requires { is_some (members_read member_depth no_members reader.old) ≡ true }
-    ensures { IfOk result (λ last. IsSomeAnd (members_read member_depth no_members reader.old) (λ read.
+    ensures { IfOk result
+        (λ last. IsSomeAnd (members_read member_depth no_members reader.old) (λ read.
         TellsLast version (listed (object read.0)) last)) }
 {
     let mut last = None;
@@ -109,14 +110,14 @@ fn read_list(
     match begin(reader, MEMBER_DEPTH)? {
         Beginning::Array => Ok(Some(read_items(alloc, version, reader)?)),
         Beginning::Object => {
-            pass_members(reader, ITEM_DEPTH)?;
+            skip_members(reader, ITEM_DEPTH)?;
             Ok(None)
         }
         _ => Ok(None),
     }
 }
 
-// The same of an array whose bracket was passed.
+// The same of an array whose bracket was read.
 fn read_items(
     alloc: Global,
     version: Version,
@@ -130,7 +131,7 @@ fn read_items(
     let mut count = 0;
     while !reader.take_end_array() {
         if count == ENTRY_LIMIT {
-            pass_items(reader, ITEM_DEPTH)?;
+            skip_items(reader, ITEM_DEPTH)?;
             return Ok(Err(LayerFault::Count));
         }
         progress = with_item(alloc, version, progress, count as u32, reader)?;
@@ -143,7 +144,8 @@ fn read_items(
     }
 }
 
-// What the entries so far make with the item that stands next. Once there is a fault, items are passed.
+// What the entries so far make with the item that stands next. Once there is a fault, items are
+// passed.
 fn with_item(
     alloc: Global,
     version: Version,

@@ -19,10 +19,11 @@ use serde_json::Number;
 use simdutf8::compat::from_utf8;
 use std::alloc::Global;
 
-/// The layer that the bytes of a manifest state. It is refused with the first fault in the order of tests that
-/// `docs/FORMATS.md` tells, each entry tested before the next; `Memory` can come at any time. The text is JSON
-/// (RFC 8259) in UTF-8, nested at most 127 deep; of members with the same name the last counts. Memory is taken in
-/// proportion to the bytes, whatever they hold: no value but that of one entry is made at a time.
+/// The layer that the bytes of a manifest state. It is refused with the first fault in the order of
+/// tests that `docs/FORMATS.md` tells, each entry tested before the next; `Memory` can come at any
+/// time. The text is JSON (RFC 8259) in UTF-8, nested at most 127 deep; of members with the same
+/// name the last counts. Memory is taken in proportion to the bytes, whatever they hold: no value
+/// but that of one entry is made at a time.
 pub fn read_layer(alloc: Global, bytes: &[u8]) -> Result<Layer, LayerFault>
     ensures { MatchResult result
         (λ layer. layer_stated bytes.now ≡ Ok layer)
@@ -49,8 +50,9 @@ fn read_text(alloc: Global, text: &str) -> Result<Layer, LayerFault>
     }
 }
 
-/// The sheet of the layer that the bytes of a manifest state, refused as [`read_layer`] refuses it. A manifest as
-/// [`write_layer`](crate::write_layer) writes it is read at once; others by way of a value of each entry.
+/// The sheet of the layer that the bytes of a manifest state, refused as [`read_layer`] refuses it.
+/// A manifest as [`write_layer`](crate::write_layer) writes it is read at once; others by way of a
+/// value of each entry.
 pub fn read_sheet(alloc: Global, bytes: &[u8]) -> Result<Sheet, LayerFault>
     ensures { MatchResult result
         (λ sheet. layer_stated bytes.now ≡ Ok sheet)

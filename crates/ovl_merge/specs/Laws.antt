@@ -19,6 +19,11 @@ abbrev pub MergeKeepsTree : Type 0
 MergeKeepsTree = (m : Merge) (lower : Entries) → All IsLayer (whole m).layers → IsSoundStack (whole m) →
     IsLayer lower → IsMergedDown m lower → (path : PathNames) → look (after_merge m lower) path ≡ look (whole m) path
 
+-- the new lower layer keeps the tree without the new upper one above it, too
+abbrev pub MergedLayerKeepsTree : Type 0
+MergedLayerKeepsTree = (m : Merge) (lower : Entries) → All IsLayer (whole m).layers → IsSoundStack (whole m) →
+    IsLayer lower → IsMergedDown m lower → (path : PathNames) → look (over lower m.rest) path ≡ look (whole m) path
+
 -- a shown directory or metacopy file with a reach goes on there in the new lower layer; for a shown directory without
 -- a reach, the rest shows no directory along the new walk; for every other path, what the rest shows along the new
 -- walk is what it shows along the two old ones

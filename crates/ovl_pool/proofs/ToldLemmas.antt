@@ -22,7 +22,7 @@ use Rattle.ovl_pool.specs.declared.runs.RunFault.{RunFault}
 use Rattle.ovl_pool.specs.declared.runs.RunFault.TheVariants.{Gate}
 use Rattle.ovl_pool.specs.Flows.{all_pushed, all_taken, each_one, indicator, refused_weight, accounted, below, AreCounted, AreSettled, AreTied, AreWithin, HaveRoot, HaveGone, CountsParcels}
 use Rattle.ovl_pool.specs.Hauls.{IsOwnHaul}
-use Rattle.ovl_pool.specs.Runs.{MayBeRefused, IsBoardMemory, IsFaultOf}
+use Rattle.ovl_pool.specs.Runs.{MayBeRefused, IsBoardMemory, IsRunFault}
 use Rattle.ovl_pool.proofs.FlowLemmas.{length_delivered, delivered_pieces, below_kids}
 
 -- what the workers did from the start on
@@ -43,12 +43,12 @@ numbers root ended parcels known noted count gone counted knew delivered_so took
     )
 
 -- a run whose fault is the gate's was refused a piece
-pub was_refused : {T : Type 0} (r : Result T RunFault) (refused : Option Piece) (starved : Bool) (count : RunCount) → IfErr r (IsFaultOf refused starved count) → r ≡ Err Gate → is_some refused ≡ true
+pub was_refused : {T : Type 0} (r : Result T RunFault) (refused : Option Piece) (starved : Bool) (count : RunCount) → IfErr r (IsRunFault refused starved count) → r ≡ Err Gate → is_some refused ≡ true
 was_refused (Ok x) refused starved count want e = absurd (cc)
 was_refused (Err f) refused starved count want e = let is : f ≡ Gate = cc in want.gate.0 is
 
 -- a fault of the board is out of memory
-pub board_memory : {T : Type 0} (r : Result T RunFault) (refused : Option Piece) (starved : Bool) (count : RunCount) → IfErr r (IsFaultOf refused starved count) → IfErr r IsBoardMemory
+pub board_memory : {T : Type 0} (r : Result T RunFault) (refused : Option Piece) (starved : Bool) (count : RunCount) → IfErr r (IsRunFault refused starved count) → IfErr r IsBoardMemory
 board_memory (Ok x) refused starved count want = tt
 board_memory (Err f) refused starved count want = by (is_some refused) refl starved refl
   where

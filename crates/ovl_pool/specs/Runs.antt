@@ -25,12 +25,17 @@ IsBoardMemory Workers = Unit {0}
 IsBoardMemory Gate = Unit {0}
 IsBoardMemory Memory = Unit {0}
 
--- a run that met no fault gave no walk: it ended before all that is known was delivered, or memory to assemble the parcels is wanted
+-- a run that met no fault gave no walk: it ended before all that is known was delivered, or memory
+-- to assemble the parcels is wanted
 abbrev pub IsEndFault : RunCount → RunFault → Type 0
-IsEndFault count fault = ((fault ≡ Memory) × (count.known ≢ count.delivered)) ⊎ ((fault ≡ Board BoardMemory) × (count.known ≡ count.delivered))
+IsEndFault count fault =
+    ((fault ≡ Memory) × (count.known ≢ count.delivered))
+    ⊎ ((fault ≡ Board BoardMemory) × (count.known ≡ count.delivered))
 
--- a run that gave no walk: that the gate refused a piece goes before want of memory of a worker, and that before all else
-pub record IsFaultOf (refused : Option Piece) (starved : Bool) (count : RunCount) (fault : RunFault) : Type 0 where
+-- a run that gave no walk: that the gate refused a piece goes before want of memory of a worker,
+-- and that before all else
+pub record IsRunFault (refused : Option Piece) (starved : Bool) (count : RunCount)
+    (fault : RunFault) : Type 0 where
   pub gate : (fault ≡ Gate) ↔ (is_some refused ≡ true)
   pub memory : is_some refused ≡ false → starved ≡ true → fault ≡ Memory
   pub end : is_some refused ≡ false → starved ≡ false → IsEndFault count fault

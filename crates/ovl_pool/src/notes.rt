@@ -22,9 +22,9 @@ pub(crate) enum Prospect {
     End(Over),
 }
 
-/// A worker's way to the tally, with its shares of what is noted there. A piece with kids is noted before these are
-/// pushed, since others may take them then; pieces without kids are noted some at a time, so that workers seldom meet at
-/// the lock.
+/// A worker's way to the tally, with its shares of what is noted there. A piece with kids is noted
+/// before these are pushed, since others may take them then; pieces without kids are noted some at
+/// a time, so that workers seldom meet at the lock.
 #[derive(Drop)]
 pub(crate) struct Notes<'a, R, K: Ledger, D: Ledger> {
     rt: &'a R,
@@ -36,6 +36,7 @@ pub(crate) struct Notes<'a, R, K: Ledger, D: Ledger> {
 }
 
 impl<'a, R: Wait, K: Ledger, D: Ledger> Notes<'a, R, K, D> {
+    /// The way to this tally, with nothing noted so far.
     pub(crate) fn of(
         rt: &'a R,
         tally: &'a Mutex<Tally<K, D>>,
@@ -53,14 +54,16 @@ impl<'a, R: Wait, K: Ledger, D: Ledger> Notes<'a, R, K, D> {
         }
     }
 
-    /// Notes that a piece with so many kids was delivered, at once or later. Fails where the tally is at its end.
+    /// Notes that a piece with so many kids was delivered, at once or later. Fails where the tally
+    /// is at its end.
     pub(crate) fn deliver(&mut self, kids: u64) -> Result<Prospect, AllocError>
         ensures known { MatchResult result
             (λ _. self.new.shares.known.amount ≡ self.old.shares.known.amount + kids)
             (λ _. self.new.shares.known.amount ≡ self.old.shares.known.amount) }
         ensures delivered { OnOk result (self.new.shares.delivered.amount + self.new.unnoted
             ≡ self.old.shares.delivered.amount + self.old.unnoted + 1) }
-        ensures settled { IfOk result (λ next. (over : Over) → next ≡ End over → self.new.unnoted ≡ 0) }
+        ensures settled { IfOk result (λ next.
+            (over : Over) → next ≡ End over → self.new.unnoted ≡ 0) }
         ensures parts { (self.new.shares.known.parts ≡ self.old.shares.known.parts)
             × (self.new.shares.delivered.parts ≡ self.old.shares.delivered.parts) }
     {

@@ -21,8 +21,8 @@ use Rattle.ovl_program.specs.Faults.{IsUnread, IsMemory}
 use Rattle.ovl_program.specs.BlobFolders.{IsInFolder}
 use Rattle.ovl_program.specs.LayerFiles.{IsUnfinished}
 use Rattle.ovl_program.specs.Status.{ending_of}
-use Rattle.ovl_program.specs.Programs.{IsComingFor, IsComingIn, IsOfBlobs, IsRequestFor, IsPerformed, folder_in_parts}
-use Rattle.ovl_program.specs.Reported.{IsComing, IsComingOver, IsReported, IsTold, has_report}
+use Rattle.ovl_program.specs.Programs.{IsComingFor, IsComingIn, IsOfBlobs, IsRequestFor, IsPerformed, folder_in_parts, left_of}
+use Rattle.ovl_program.specs.Reported.{IsComing, IsComingOver, IsComingDown, IsComingDownOver, IsReported, IsTold, has_report}
 use Rattle.ovl_program.proofs.Unread.{unread_of_more}
 
 -- a report of what was read
@@ -40,8 +40,8 @@ module _ (line : Line) (before after : Option (List ℕ)) where
 
 -- what comes of a command is what may come for the line
 pub coming_for : (line : Line) (from : Option (String Global)) → from ≡ folder_in_parts line → (request : Request) (result : Result Answer EngineFault)
-    → IsComingIn from request result → IsComingFor line request result
-coming_for line from is request result comes = subst (λ (o : Option (String Global)). IsComingIn o request result) is comes
+    → IsComingIn (left_of line.what line.down_to) from request result → IsComingFor line request result
+coming_for line from is request result comes = subst (λ (o : Option (String Global)). IsComingIn (left_of line.what line.down_to) o request result) is comes
 
 -- a line whose blobs are read in parts has a folder of them
 pub asked_folder : (line : Line) (folder : String Global) → folder_in_parts line ≡ Some folder → line.blobs ≡ Some folder
@@ -128,3 +128,14 @@ few_coming request (Err fault) is = tt
 pub few_coming_over : (request : Request) (answered : Result Answer EngineFault) → IsComingOver request answered → IfOk answered (λ answer. length answer.layers.items ≤ 255)
 few_coming_over request (Ok answer) is = few_layers _ _ _ answer is.1.is
 few_coming_over request (Err fault) is = tt
+
+-- nor has one of merges until so many layers are left
+pub few_coming_down : (left : Option ℕ) (request : Request) (answered : Result Answer EngineFault) → IsComingDown left request answered → IfOk answered (λ answer. length answer.layers.items ≤ 255)
+few_coming_down None request answered is = few_coming request answered is
+few_coming_down (Some left) request (Ok answer) is = few_layers Merge _ _ answer is.1.run
+few_coming_down (Some left) request (Err fault) is = tt
+
+pub few_coming_down_over : (left : Option ℕ) (request : Request) (answered : Result Answer EngineFault) → IsComingDownOver left request answered → IfOk answered (λ answer. length answer.layers.items ≤ 255)
+few_coming_down_over None request answered is = few_coming_over request answered is
+few_coming_down_over (Some left) request (Ok answer) is = few_layers Merge _ _ answer is.1.2.run
+few_coming_down_over (Some left) request (Err fault) is = tt

@@ -15,14 +15,6 @@ use Rattle.ovl_reports.specs.Reports.{shown_names}
 use Rattle.ovl_reports.specs.LayerReports.{marked_line, entry_line}
 use Rattle.ovl_reports.proofs.ListingSteps.{shown-child}
 
--- a node has fewer entries below it than its directory
-pub fewer_below : (nodes : List NodeView) (k : ℕ) (node : NodeView) → k < length nodes → node ≡ get_or nodes k node → length node.below < length (entries_of_nodes nodes)
-fewer_below [] k node inside is = absurd (omega (arith, inside))
-fewer_below (first ∷ nodes) zero node inside is =
-    omega (arith, ap (λ (n : NodeView). length n.below) is, length-append (under first.name (entries_from first.inode first.below)) (entries_of_nodes nodes), length-map {B = Entry} first.below (λ entry. (first.name ∷ entry.0, entry.1)))
-fewer_below (first ∷ nodes) (suc k) node inside is =
-    omega (arith, fewer_below nodes k node (omega (arith, inside)) is, length-append (under first.name (entries_from first.inode first.below)) (entries_of_nodes nodes))
-
 -- a node more has as many entries more as are at and under it
 pub one_more_counted : (nodes : List NodeView) (k : ℕ) (node : NodeView) → k < length nodes → node ≡ get_or nodes k node
     → length (entries_of_nodes (take (k + 1) nodes)) ≡ length (entries_of_nodes (take k nodes)) + length (entries_from node.inode node.below)

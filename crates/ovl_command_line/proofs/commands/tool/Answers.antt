@@ -9,5 +9,5 @@ returns c =
     let with_fsck = c.in_ok-subcommand-2.ensures.shape c.in_ok-fsck.ensures.1 ∙ ap₂ with_subcommand with_show c.in_ok-fsck.ensures.0 in
     let with_vacuum = c.in_ok-subcommand-3.ensures.shape c.in_ok-rewriting.ensures.1 ∙ ap₂ with_subcommand with_fsck c.in_ok-rewriting.ensures.0 in
     let with_deref = c.in_ok-subcommand-4.ensures.shape c.in_ok-rewriting-2.ensures.1 ∙ ap₂ with_subcommand with_vacuum c.in_ok-rewriting-2.ensures.0 in
-    let with_merge = c.in_ok-subcommand-5.ensures.shape c.in_ok-rewriting-3.ensures.1 ∙ ap₂ with_subcommand with_deref c.in_ok-rewriting-3.ensures.0 in
-    IfOk-weaker c.subcommand-6.result _ _ (λ command added. added.shape c.in_ok-rewriting-4.ensures.1 ∙ ap₂ with_subcommand with_merge c.in_ok-rewriting-4.ensures.0) c.subcommand-6.ensures
+    let with_merge = c.in_ok-subcommand-5.ensures.shape c.in_ok-merge.ensures.1 ∙ ap₂ with_subcommand with_deref c.in_ok-merge.ensures.0 in
+    IfOk-weaker c.subcommand-6.result _ _ (λ command added. added.shape c.in_ok-rewriting-3.ensures.1 ∙ ap₂ with_subcommand with_merge c.in_ok-rewriting-3.ensures.0) c.subcommand-6.ensures

@@ -24,6 +24,18 @@ returns-clause-tree g c =
     (merge_same stack c.ordinary-layers.ensures.each c.merge_keeps_the_tree.ensures c.requires.several (c.requires.sound c.in_ok-expect_clean.ensures.clean)
     lower c.in_ok-rewritten.ensures.report.1 c.in_ok-top.ensures.lower) Merge refl
 
+pub returns-clause-two : goal.returns-clause-two
+returns-clause-two g c =
+    let stack = c.args.stack in
+    let lower = c.in_ok-top.field-0.lower in
+    record {
+      top = merged_top (merge_of stack);
+      lower = lower;
+      read = c.in_ok-rewritten.ensures.back ∙ ap (λ (top : Entries). Ok top ∷ Ok lower ∷ []) c.in_ok-top.ensures.top;
+      same = merge_same stack c.ordinary-layers.ensures.each c.merge_keeps_the_tree.ensures c.requires.several (c.requires.sound c.in_ok-expect_clean.ensures.clean)
+      lower c.in_ok-rewritten.ensures.report.1 c.in_ok-top.ensures.lower;
+    }
+
 pub returns-in_err-top-clause-outcome : goal.returns-in_err-top-clause-outcome
 returns-in_err-top-clause-outcome g c =
     let out = err_from_is_err_and c.from_residual-in_err-top.result c.from_residual-in_err-top.ensures.1 in

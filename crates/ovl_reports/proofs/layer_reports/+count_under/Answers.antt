@@ -1,7 +1,8 @@
 use Rattle.std.proofs.Common.{◌≡◌, ◌∙◌, List, length, take, ap, arith}
 use Rattle.std.proofs.lemmas.List.{take_all}
 use Rattle.ovl_layer.specs.LayerTrees.{NodeView, entries_of_nodes}
-use Rattle.ovl_reports.proofs.LayerReportSteps.{fewer_below, one_more_counted}
+use Rattle.ovl_layer.proofs.NodeLemmas.{fewer_below}
+use Rattle.ovl_reports.proofs.LayerReportSteps.{one_more_counted}
 use Rattle.ovl_reports.proofs.layer_reports.+count_under.Goals as goal
 
 pub count_under-requires : goal.count_under-requires

@@ -1,5 +1,5 @@
 use Rattle.std.proofs.Common.{◌≡◌, ◌∙◌, ◌+◌, ◌++◌, ℕ, List, ap, length, insert, string_bytes}
-use Rattle.ovl_inode.specs.declared.tables.Place.{Place}
+use Rattle.ovl_inode.specs.declared.tables.AttributePlace.{AttributePlace}
 use Rattle.ovl_inode.specs.Attributes.{Attributes}
 use Rattle.ovl_inode.proofs.TableLemmas.{insert-full}
 use Rattle.ovl_inode.proofs.tables.Table.insert.Goals as goal
@@ -8,7 +8,7 @@ pub invariant_of-self-2 : goal.invariant_of-self-2
 invariant_of-self-2 c =
     let names : List ℕ = string_bytes c.self.inside.names in
     let values : List ℕ = c.self.inside.values.items in
-    let own : Place = record { name = c.in_ok-behind.field-0; value = c.in_ok-behind-2.field-0 } in
+    let own : AttributePlace = record { name = c.in_ok-behind.field-0; value = c.in_ok-behind-2.field-0 } in
     let texts : c.len.result ≡ length names = c.len.ensures ∙ c.self.inside.names.bytes.ok.0 in
     let bytes : c.len-2.result ≡ length values = c.len-2.ensures ∙ c.self.inside.values.ok.0 in
     let full = insert-full names values c.args.name.now c.args.value.now (string_bytes c.push_str.new.self) c.extend_from_slice.new.self.items c.self.inside.places.items c.insert.new.self.items c.args.place own c.utf8.name
@@ -23,7 +23,7 @@ pub returns-clause-done : goal.returns-clause-done
 returns-clause-done c =
     let names : List ℕ = string_bytes c.self.inside.names in
     let values : List ℕ = c.self.inside.values.items in
-    let own : Place = record { name = c.in_ok-behind.field-0; value = c.in_ok-behind-2.field-0 } in
+    let own : AttributePlace = record { name = c.in_ok-behind.field-0; value = c.in_ok-behind-2.field-0 } in
     let texts : c.len.result ≡ length names = c.len.ensures ∙ c.self.inside.names.bytes.ok.0 in
     let bytes : c.len-2.result ≡ length values = c.len-2.ensures ∙ c.self.inside.values.ok.0 in
     let full = insert-full names values c.args.name.now c.args.value.now (string_bytes c.push_str.new.self) c.extend_from_slice.new.self.items c.self.inside.places.items c.insert.new.self.items c.args.place own c.utf8.name
