@@ -23,7 +23,7 @@ use crate::places::{data_size_below, sight_below, step_of};
 use crate::subjects::CheckWork;
 use ovl_inode::{Inode, Mark, Redirect};
 use ovl_lookup::{Sight, Stack, Trail, TrailStep};
-use ovl_names::Name;
+use ovl_names::{Name, Path};
 use std::alloc::{AllocError, Global};
 
 // The facts of a directory of layer `i`, with whether it directly holds an entry with `origin`.
@@ -107,18 +107,23 @@ fn old_place(
     if directory.closed {
         return Ok(OldPlace::Hidden);
     }
-    let place = next_trail(alloc, directory)?;
-    open_place(alloc, stack, i, place)
+    match &directory.turned {
+        Some(next) => {
+            let place = next.copy(alloc)?;
+            open_place(alloc, stack, i, place)
+        }
+        None => {
+            let place = trail_of(alloc, directory.path)?;
+            open_place(alloc, stack, i, place)
+        }
+    }
 }
 
-// Where the walk of a directory goes on.
-fn next_trail<'d>(alloc: Global, directory: &'d Directory<'_, '_>) -> Result<Trail<'d>, AllocError>
-    ensures { IfOk result (λ trail. trail ≡ next_of directory.now) }
+// The trail of a path.
+fn trail_of<'a>(alloc: Global, path: &'a Path) -> Result<Trail<'a>, AllocError>
+    ensures { IfOk result (λ trail. trail ≡ path.now) }
 {
-    match &directory.turned {
-        Some(next) => next.copy(alloc),
-        None => Trail::of(alloc, &directory.path.names()),
-    }
+    Trail::of(alloc, &path.names())
 }
 
 // The same at a path where the layers below aren't hidden.
@@ -156,6 +161,8 @@ fn is_seen<'a>(
     requires { i < length (all_layers stack.now) }
     ensures { IfOk result (λ answer. answer ≡ is_seen_there (layer_at stack.now i) place.now) }
 {
+    // Each of them is a layer.
+    let _layers = stack.layers();
     let TrailStep {
         found,
         next,

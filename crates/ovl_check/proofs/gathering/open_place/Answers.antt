@@ -10,5 +10,5 @@ use Rattle.ovl_check.proofs.gathering.open_place.Goals as goal
 pub returns : goal.returns
 returns c =
     let below = layers_below c.args.stack.now c.args.i in
-    let thing = c.thing_shown.ensures (look below c.args.place) (c.in_ok-sight_below.ensures ∙ ap (λ (path : PathNames). sight_of (look below path)) c.in_ok-copy.ensures) in
+    let thing = c.thing_shown-thing.ensures (look below c.args.place) (c.in_ok-sight_below.ensures ∙ ap (λ (path : PathNames). sight_of (look below path)) c.in_ok-copy.ensures) in
     λ j. Open (thing j) (c.in_ok-is_seen.ensures j)
