@@ -1,5 +1,5 @@
 -- What the getters of the matches read of the options of a command.
-use Rattle.std.proofs.Common.{rules, ◌≡◌, ◌∙◌, ◌<◌, ◌≤◌, ◌⊎◌, inl, inr, ℕ, Bool, true, false, codes, refl, sym, ap, arith, List, length, map, Option, Some, None, is_some}
+use Rattle.std.proofs.Common.{rules, ◌≡◌, ◌∙◌, ◌<◌, ◌≤◌, ◌⊎◌, inl, inr, ℕ, suc, Bool, true, false, codes, refl, sym, ap, arith, List, length, map, Option, Some, None, is_some}
 use Rattle.std.specs.Global.{Global}
 use Rattle.std.specs.Prelude.{IfSome, IsSome, Result, String, option_map, string_bytes}
 use Rattle.std.specs.Option.{option_map_or}
@@ -27,20 +27,20 @@ option_read id low high E gives f read given reads parses =
     (number.0, number.1, ap (option_map number_in) given.1 ∙ ap Some (sym number.2), number.3, number.4)
 
 -- the number that an option has that may be left out is read, too
-pub option_if_read : (id : Text) (what : Command) (low high : ℕ) (E : Type 0) (gives : List ℕ → Result ℕ E → Type 0) (f : Found) (read : Option ℕ)
-    → IfSome (one_of id (rows_of f)) (λ text. (what ≡ Merge) × IsUnsignedIn low high text)
+pub option_if_read : (id : Text) (what : Command) (high : ℕ) (E : Type 0) (gives : List ℕ → Result ℕ E → Type 0) (f : Found) (read : Option ℕ)
+    → IfSome (one_of id (rows_of f)) (λ text. (what ≡ Merge) × IsUnsignedIn 1 high text)
     → (one_text f id ≡ None → read ≡ None)
     → ((text : List ℕ) → one_text f id ≡ Some text → ReadsOne gives text read)
     → ((t : List ℕ) (r : Result ℕ E) → gives t r → ParsesUnsigned 64 10 t r)
-    → (read ≡ option_map number_in (one_of id (rows_of f))) × IfSome read (λ n. (what ≡ Merge) × ((low ≤ n) × (n ≤ high)))
-option_if_read id what low high E gives f read given none reads parses = go (one_of id (rows_of f)) refl given
+    → (read ≡ option_map number_in (one_of id (rows_of f))) × IfSome read (λ n. (what ≡ Merge) × ((0 < n) × (n < suc high)))
+option_if_read id what high E gives f read given none reads parses = go (one_of id (rows_of f)) refl given
   where
-    go : (o : Option Text) → one_of id (rows_of f) ≡ o → IfSome o (λ text. (what ≡ Merge) × IsUnsignedIn low high text)
-        → (read ≡ option_map number_in o) × IfSome read (λ n. (what ≡ Merge) × ((low ≤ n) × (n ≤ high)))
+    go : (o : Option Text) → one_of id (rows_of f) ≡ o → IfSome o (λ text. (what ≡ Merge) × IsUnsignedIn 1 high text)
+        → (read ≡ option_map number_in o) × IfSome read (λ n. (what ≡ Merge) × ((0 < n) × (n < suc high)))
     go None e is = let nothing : read ≡ None = none (one_text-rows f id ∙ e) in rw nothing (refl, tt)
     go (Some text) e is =
-        let number = number_read E gives low high text read (reads text (one_text-rows f id ∙ e)) parses is.1 in
-        rw (number.1) (ap Some number.2, (is.0, (number.3, number.4)))
+        let number = number_read E gives 1 high text read (reads text (one_text-rows f id ∙ e)) parses is.1 in
+        rw (number.1) (ap Some number.2, (is.0, (omega (arith, number.3), omega (arith, number.4))))
 
 -- a flag that is there is read as such
 pub flag_read : (id : Text) (f : Found) (read : Bool) → IsFlag id (rows_of f) → (one_text f id ≡ None → read ≡ false)

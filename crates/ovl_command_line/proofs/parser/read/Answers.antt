@@ -34,7 +34,7 @@ returns-clause-sound c =
     (found_of c.args.given.now) c.get_one.result c.requires.data_layers c.get_one.ensures.value (λ t r g. g.0) in
     let workers = option_read (codes "workers") 1 64 _ (λ bs r. ParsesUnsigned 64 10 bs r × ExplainsUnsignedError 10 bs r × HasUnsignedDigitsIfOk bs r)
     (found_of c.args.given.now) c.get_one-2.result c.requires.workers c.get_one-2.ensures.value (λ t r g. g.0) in
-    let down = option_if_read (codes "down-to") c.args.what 1 127 _ (λ bs r. ParsesUnsigned 64 10 bs r × ExplainsUnsignedError 10 bs r × HasUnsignedDigitsIfOk bs r)
+    let down = option_if_read (codes "down-to") c.args.what 127 _ (λ bs r. ParsesUnsigned 64 10 bs r × ExplainsUnsignedError 10 bs r × HasUnsignedDigitsIfOk bs r)
     (found_of c.args.given.now) c.get_one-3.result c.requires.down_to c.get_one-3.ensures.none c.get_one-3.ensures.value (λ t r g. g.0) in
     let bottom_is : bottom.0 ≡ c.unwrap-data_layers.result = cc in
     let workers_is : workers.0 ≡ c.unwrap.result = cc in
@@ -58,7 +58,7 @@ returns-clause-values c =
     (found_of c.args.given.now) c.get_one.result c.requires.data_layers c.get_one.ensures.value (λ t r g. g.0) in
     let workers = option_read (codes "workers") 1 64 _ (λ bs r. ParsesUnsigned 64 10 bs r × ExplainsUnsignedError 10 bs r × HasUnsignedDigitsIfOk bs r)
     (found_of c.args.given.now) c.get_one-2.result c.requires.workers c.get_one-2.ensures.value (λ t r g. g.0) in
-    let down = option_if_read (codes "down-to") c.args.what 1 127 _ (λ bs r. ParsesUnsigned 64 10 bs r × ExplainsUnsignedError 10 bs r × HasUnsignedDigitsIfOk bs r)
+    let down = option_if_read (codes "down-to") c.args.what 127 _ (λ bs r. ParsesUnsigned 64 10 bs r × ExplainsUnsignedError 10 bs r × HasUnsignedDigitsIfOk bs r)
     (found_of c.args.given.now) c.get_one-3.result c.requires.down_to c.get_one-3.ensures.none c.get_one-3.ensures.value (λ t r g. g.0) in
     let bottom_is : bottom.0 ≡ c.unwrap-data_layers.result = cc in
     let workers_is : workers.0 ≡ c.unwrap.result = cc in
