@@ -1,5 +1,5 @@
 #!/usr/bin/env python3
-"""Counts what five small stacks cost, and refuses more.
+"""Counts what small stacks cost, and refuses more.
 
 Python 3.11, standard library, and valgrind; without valgrind it says so and ends with 0. No contract says what anything
 costs: a body that asks every code of every entry, makes a view anew for each name, digests a blob again for each name that
@@ -17,7 +17,7 @@ import sys
 import tempfile
 from dataclasses import dataclass
 
-from growth import NSEC, REDIRECT, Layer, entry, write
+from growth import METACOPY, NSEC, REDIRECT, Entry, Layer, entry, write
 from instructions import instructions
 
 CONTENTS = b"x" * 65_536
@@ -40,6 +40,24 @@ def directories(count: int) -> Layer:
 def moved(count: int) -> Layer:
     return [entry(f"/m{n:04d}", attrs={REDIRECT: f"/d{n:05d}"}) for n in range(count)] + [
         entry(f"/d{n:05d}", "char", major=0, minor=0) for n in range(count)]
+
+
+def way(depth: int) -> list[Entry]:
+    """Directories in each other."""
+    return [entry("/d" * n) for n in range(1, depth + 1)]
+
+
+def copied(depth: int, count: int) -> tuple[Layer, ...]:
+    """Metacopy files deep in layers, over their contents in the lowest one."""
+    names = [f"{'/d' * depth}/f{n:04d}" for n in range(count)]
+    upper = way(depth) + [entry(it, "file", {METACOPY: ""}, size=len(CONTENTS)) for it in names]
+    lower = way(depth) + [entry(it, "file", size=len(CONTENTS), blob=NAME) for it in names]
+    return (upper, *[way(depth)] * 10, lower)
+
+
+def apart(layers: int, count: int) -> tuple[Layer, ...]:
+    """Layers of other names in one directory."""
+    return tuple([entry(f"/f{n:04d}-{layer:02d}", "file", size=0) for n in range(count)] for layer in range(layers))
 
 
 @dataclass(frozen=True)
@@ -76,7 +94,7 @@ def counted(program: str, bound: Bound, folder: str) -> float:
 
 
 def main() -> None:
-    words = argparse.ArgumentParser(description="Counts what five small stacks cost, and refuses more.")
+    words = argparse.ArgumentParser(description="Counts what small stacks cost, and refuses more.")
     words.add_argument("--program", required=True, help="path of the program")
     given = words.parse_args()
     if not shutil.which("valgrind"):

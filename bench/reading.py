@@ -180,7 +180,7 @@ def of_peaks(bench: Bench) -> Iterator[Count]:
         made = [sys.executable, "-B", GENERATE, "--entries", "60000", "--empty", "--seed", seed, "--out", layers[-1]]
         subprocess.run(made, stdin=subprocess.DEVNULL, check=True)
     shown = bench.peak(["show", "--workers", "1", *layers])
-    for command, most in (("merge", 9), ("flatten", 9)):
+    for command, most in (("merge", 1.35), ("flatten", 1.35)):
         words = [command, "--workers", "1", "--blobs", str(blobs), "--out", str(out), *layers]
         yield at_most(f"peak of {command} beside that of show", bench.peak(words) / shown, most)
 

@@ -14,11 +14,13 @@ N) and gives them to the program as words after `show`, the topmost first.
 import argparse
 import os
 import platform
+import shutil
 import subprocess
 import sys
 import tempfile
 import time
 from collections.abc import Sequence
+from dataclasses import dataclass
 
 HERE = os.path.dirname(os.path.abspath(__file__))
 GENERATE = os.path.join(HERE, "generate.py")
@@ -62,6 +64,38 @@ def measure(command: list[str], source: str, repeats: int) -> tuple[float, int]:
             sys.exit("run.py: %s ended with status %d" % (command[0], status))
         runs.append((seconds, peak))
     return min(s for s, _ in runs), max(p for _, p in runs)
+
+
+@dataclass(frozen=True)
+class Used:
+    """What a process took with its children: seconds of processor and of the clock, and one's peak in kilobytes."""
+
+    user: float
+    system: float
+    wall: float
+    peak: int
+
+    @property
+    def processor(self) -> float:
+        """User and system together."""
+        return self.user + self.system
+
+
+def used(words: list[str], out: Sequence[str]) -> Used:
+    """What a command took that says nothing. Takes away first what it made before."""
+    for path in out:
+        if os.path.isdir(path):
+            shutil.rmtree(path)
+        elif os.path.lexists(path):
+            os.unlink(path)
+    began = time.monotonic()
+    process = os.posix_spawnp(words[0], words, os.environ, file_actions=[
+        (os.POSIX_SPAWN_OPEN, 1, os.devnull, os.O_WRONLY, 0), (os.POSIX_SPAWN_OPEN, 2, os.devnull, os.O_WRONLY, 0),
+    ])
+    _, status, usage = os.wait4(process, 0)
+    if status:
+        raise SystemExit(f"{' '.join(words)}: status {os.waitstatus_to_exitcode(status)}")
+    return Used(usage.ru_utime, usage.ru_stime, time.monotonic() - began, usage.ru_maxrss)
 
 
 def last_line(path: str) -> list[bytes]:

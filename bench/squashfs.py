@@ -11,35 +11,20 @@ packed alike. The folder of blobs is a new one for each run.
 """
 import argparse
 import os
-import shutil
 import sys
 import tempfile
-import time
-from collections.abc import Sequence
 from pathlib import Path
+
+from run import used
 
 LAYERS = [sys.executable, "-B", str(Path(__file__).resolve().parent.parent / "layers.py")]
 COMPRESSION = "gzip"
 
 
-def measured(words: list[str], out: Sequence[str]) -> tuple[float, float, int]:
-    """Processor seconds, wall seconds and peak in kilobytes of one run. Takes away what it made before."""
-    for path in out:
-        shutil.rmtree(path) if os.path.isdir(path) else Path(path).unlink(missing_ok=True)
-    began = time.monotonic()
-    process = os.posix_spawnp(words[0], words, os.environ, file_actions=[
-        (os.POSIX_SPAWN_OPEN, 1, os.devnull, os.O_WRONLY, 0), (os.POSIX_SPAWN_OPEN, 2, os.devnull, os.O_WRONLY, 0),
-    ])
-    _, status, used = os.wait4(process, 0)
-    if status:
-        raise SystemExit(f"{' '.join(words)}: status {os.waitstatus_to_exitcode(status)}")
-    return used.ru_utime + used.ru_stime, time.monotonic() - began, used.ru_maxrss
-
-
 def row(name: str, runs: int, words: list[str], *out: str) -> None:
     """A line of the table."""
-    found = [measured(words, out) for _ in range(runs)]
-    processor, wall, peak = min(f[0] for f in found), min(f[1] for f in found), max(f[2] for f in found)
+    found = [used(words, out) for _ in range(runs)]
+    processor, wall, peak = min(it.processor for it in found), min(it.wall for it in found), max(it.peak for it in found)
     print(f"| {name} | {processor:.1f} s | {wall:.1f} s | {peak / 1000:.0f} MB |", flush=True)
 
 

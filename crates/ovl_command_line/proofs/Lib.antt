@@ -1,5 +1,5 @@
 pub mod Accepted
 pub mod Numbers
-pub mod Options
+pub mod OptionLemmas
 pub mod Outcomes
 pub mod Taken

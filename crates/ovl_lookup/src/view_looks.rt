@@ -1,4 +1,4 @@
-ghost use Rattle.std.specs.Prelude.{◌≡◌, ◌<◌, ◌++◌, [], ◌∷◌, if◌then◌else◌, None, Some, drop, length, not, slice_get, IfOk, IfSome, IsSomeAnd, OnOk};
+ghost use Rattle.std.specs.Prelude.{◌≡◌, ◌<◌, ◌++◌, [], ◌∷◌, if◌then◌else◌, None, Some, drop, length, not, slice_get, IfOk, IfSome, IsSomeAnd, OnErr, OnOk};
 ghost use Rattle.std.specs.Option.{option_map};
 ghost use Rattle.std.specs.List.{All};
 ghost use Rattle.ovl_names.specs.Paths.{child_path};
@@ -43,6 +43,7 @@ impl<'a> DirView<'a> {
         requires { IfSome view.old (IsViewOf stack.now 0 dir.now) }
         ensures look { IfOk result (λ look. look ≡ the_look stack.now (child_path dir.now name.now)) }
         ensures view { IfSome view.new (IsViewOf stack.now 0 dir.now) }
+        ensures kept { OnErr result (view.new ≡ view.old) }
     {
         // Each layer of a stack is one.
         let _layers = stack.ordinary();

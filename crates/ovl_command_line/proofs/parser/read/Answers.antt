@@ -2,7 +2,7 @@ use Rattle.std.proofs.Common.{rules, ◌≡◌, ◌∙◌, ap, refl, sym, arith,
 use Rattle.std.specs.Str.Parse.{ExplainsUnsignedError, HasUnsignedDigitsIfOk, ParsesUnsigned}
 use Rattle.clap.proofs.WalkLemmas.{first_value-rows, raw_values-rows}
 use Rattle.clap.specs.Matches.{found_of}
-use Rattle.ovl_command_line.proofs.Options.{flag_read, is_some-map, named_copy, option_if_read, option_read, some_copied, some_mapped}
+use Rattle.ovl_command_line.proofs.OptionLemmas.{flag_read, is_some-map, named_copy, option_if_read, option_read, some_copied, some_mapped}
 use Rattle.ovl_command_line.proofs.parser.read.Goals as goal
 
 pub unwrap-data_layers-requires : goal.unwrap-data_layers-requires
