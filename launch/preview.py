@@ -79,6 +79,7 @@ def keep(program: Path, begun: int) -> None:
     _KEPT.parent.mkdir(parents=True, exist_ok=True)
     with tempfile.TemporaryDirectory(dir=_KEPT.parent) as room:
         new = Path(shutil.move(str(program), room))
+        new.chmod(0o755)
         os.utime(new, ns=(begun, begun))
         new.replace(_KEPT)
 

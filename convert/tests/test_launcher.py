@@ -1,5 +1,6 @@
 """What the launcher prints where nothing is built; how it proves, builds and previews, with a stand-in for `rt`."""
 
+import fcntl
 import os
 import shutil
 import signal
@@ -254,6 +255,22 @@ class Build(Making):
         self.assertIn("waiting for another ./ovl_layers or rt", told)
         self.assertEqual(set(self.times().values()), {1})
 
+    def test_rt_beside_it(self) -> None:
+        folder = os.open(self.path("crates", "low"), os.O_RDONLY)
+        self.addCleanup(os.close, folder)
+        fcntl.flock(folder, fcntl.LOCK_EX)
+        self.put("hold-left")
+        launcher = self.start("show")
+        time.sleep(0.5)
+        self.assertEqual(self.times(), {})
+        fcntl.flock(folder, fcntl.LOCK_UN)
+        self.wait_for("left")
+        self.assertRaises(BlockingIOError, fcntl.flock, folder, fcntl.LOCK_EX | fcntl.LOCK_NB)
+        os.unlink(self.notes / "hold-left")
+        status, _, told = self.ended(launcher)
+        self.assertEqual(status, 0, told)
+        self.assertIn(f"which is at work in {os.path.realpath(self.path('crates', 'low'))}", told)
+
     def test_edit_meanwhile(self) -> None:
         self.put("hold-left")
         launcher = self.start("show")
@@ -278,7 +295,9 @@ class Preview(Making):
         self.assertEqual(self.run_launcher("--unproved"), (0, "unproved\n", _UNPROVED))
         self.assertEqual(self.times(), {"try": 1})
         self.assertEqual(os.listdir(self.out("ovl_layers")), ["unproved"])
-        self.assertEqual(os.listdir(self.out("ovl_layers") / "unproved"), ["ovl_layers"])
+        kept = self.out("ovl_layers") / "unproved"
+        self.assertEqual(os.listdir(kept), ["ovl_layers"])
+        self.assertEqual((kept / "ovl_layers").stat().st_mode & 0o777, 0o755)
         self.assertEqual(os.listdir(self.path("tmp")), [])
 
     def test_beside_the_proved_program(self) -> None:

@@ -41,7 +41,7 @@ pub(crate) struct Directory<'p, 'a> {
     pub(crate) closed: bool,
     pub(crate) children: Vec<Child<'a>>,
     // The view of the layers below there, where they aren't hidden and an entry asks them.
-    pub(crate) below: Option<DirView>,
+    pub(crate) below: Option<DirView<'p>>,
 }
 
 // The directory that layer `i` has at a path, and `None` where it has none; the mark of plain directories is lent for

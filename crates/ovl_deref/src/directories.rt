@@ -94,11 +94,11 @@ fn own_inodes(
 }
 
 // Adds what becomes of the entry of a row, which lies directly in such a directory, by the view of that.
-fn push_own(
+fn push_own<'a>(
     alloc: Global,
-    stack: &Stack,
-    view: &mut Option<DirView>,
-    dir: &Path,
+    stack: &'a Stack,
+    view: &mut Option<DirView<'a>>,
+    dir: &'a Path,
     number: u32,
     inodes: &mut Vec<(Name, Inode)>,
 ) -> Result<(), AllocError>
@@ -124,11 +124,11 @@ fn push_own(
 }
 
 // What becomes of the entry at a name in a directory, by the view of that.
-fn dereferenced(
+fn dereferenced<'a>(
     alloc: Global,
-    stack: &Stack,
-    view: &mut Option<DirView>,
-    dir: &Path,
+    stack: &'a Stack,
+    view: &mut Option<DirView<'a>>,
+    dir: &'a Path,
     name: &Name,
     entry: &Found<'_>,
 ) -> Result<Inode, AllocError>

@@ -204,8 +204,8 @@ fn left_by_merge<G: Gate + Sync, R: Threads + Wait + Sync>(
         → IsFailure Merge stack found (MayRefuseOwn Merge stack (G.may_refuse team.now.gate.now)) fault) }
 {
     // Each layer of a stack is one, and there are no more than there may be.
-    let _layers = stack.layers();
-    let _ordinary = stack.ordinary();
+    let _all = stack.layers();
+    let _each = stack.ordinary();
     merged_layer_keeps_the_tree();
     let (parcels, end) = walked(team, &stack)?;
     let (mut both, data_only) = stack.into_sheets();

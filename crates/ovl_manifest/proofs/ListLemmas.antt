@@ -15,7 +15,7 @@ use Rattle.std.proofs.lemmas.Slice.Eq.{bytes_eq-Decides}
 use Rattle.ovl_json.specs.Reading.{read_value}
 use Rattle.ovl_json.proofs.Turns.{read_is}
 use Rattle.ovl_json.specs.Kept.{kept, object_kept}
-use Rattle.ovl_json.specs.declared.passing.Unread.{Unread}
+use Rattle.ovl_json.specs.declared.skipping.Unread.{Unread}
 use Rattle.ovl_layer.specs.Layers.{Entry, Entries, entry_limit}
 use Rattle.ovl_manifest.specs.Fields.{has_exactly, entry_of}
 use Rattle.ovl_manifest.specs.Versions.{version_of}

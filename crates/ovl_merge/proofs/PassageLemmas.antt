@@ -155,10 +155,6 @@ below-inside layer None lower below own row known = absurd below
 below-inside layer (Some path) lower below own row known = row-inside layer (child_path path own) row known
 
 -- what a walk finds is the entry
-pub found-entry : (layer : Entries) → IsLayer layer → (path : PathNames) (found : Option Inode) → found ≡ (walk layer path).found → IfSome found (λ inode. entry_at layer path ≡ Some inode)
-found-entry layer is path None same = tt
-found-entry layer is path (Some inode) same = (walk-finds layer path inode is (sym same)).0
-
 -- ---- in the rest
 
 pub goes-directory : (m : Merge) (inode : Inode) (passed : Option Inode) (place : PathNames) → is_directory inode ≡ true → (a : Bool) → a ≡ is_nothing_or is_directory passed → (b : Bool) → b ≡ shows_directory m.rest place → (a && b) ≡ goes_on_at m inode passed place

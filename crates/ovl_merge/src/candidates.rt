@@ -66,7 +66,7 @@ impl<'a> Candidate<'a> {
 pub(crate) fn hidden_names(
     alloc: Global,
     stack: &Stack,
-    directory: &Directory,
+    directory: &Directory<'_>,
 ) -> Result<Vec<Name>, AllocError>
     requires several { 1 < length stack.now.layers }
     requires visited { IsVisited stack.now directory.now.path directory.now }
@@ -83,7 +83,7 @@ pub(crate) fn hidden_names(
 pub(crate) fn candidates_in<'a>(
     alloc: Global,
     stack: &'a Stack,
-    directory: &Directory,
+    directory: &Directory<'_>,
     hidden: &'a [Name],
 ) -> Result<Vec<Candidate<'a>>, AllocError>
     requires several { 1 < length stack.now.layers }
@@ -102,7 +102,7 @@ pub(crate) fn candidates_in<'a>(
 fn own_candidates<'a>(
     alloc: Global,
     stack: &'a Stack,
-    directory: &Directory,
+    directory: &Directory<'_>,
 ) -> Result<Vec<Candidate<'a>>, AllocError>
     requires several { 1 < length stack.now.layers }
     requires visited { IsVisited stack.now directory.now.path directory.now }

@@ -22,8 +22,8 @@ laid_over-requires g c =
     omega (
       arith,
       c.requires.several,
-      c.layers-_layers.ensures.value,
-      c.layers-_layers.ensures.limit,
+      c.layers-all.ensures.value,
+      c.layers-all.ensures.limit,
       length-append stack.layers stack.data_only,
       ap length c.into_sheets-both.ensures.0,
       ap length c.into_sheets-both.ensures.1,
@@ -56,5 +56,5 @@ returns-clause-tree g c path =
     let layers : next.layers ≡ lower ∷ drop 2 stack.layers = c.in_ok-laid_over.ensures.layers ∙ ap (λ (ls : List Entries). lower ∷ ls) rest in
     let data_only : next.data_only ≡ stack.data_only = c.in_ok-laid_over.ensures.data_only ∙ c.into_sheets-both.ensures.1 in
     (λ j. look (record { layers = layers j; data_only = data_only j }) path)
-    ∙ merged_same stack c.ordinary-_ordinary.ensures.each c.merged_layer_keeps_the_tree.ensures c.requires.several c.requires.sound
+    ∙ merged_same stack c.ordinary-each.ensures.each c.merged_layer_keeps_the_tree.ensures c.requires.several c.requires.sound
     lower c.in_ok-laid_over.ensures.is_layer (c.in_ok-top.ensures.lower stack c.in_ok-parcels.ensures.end c.in_ok-parcels.ensures.walk) path

@@ -17,13 +17,13 @@ returns-in_err-stack-clause-outcome g c =
 
 pub returns-in_err-expect_lower-clause-outcome : goal.returns-in_err-expect_lower-clause-outcome
 returns-in_err-expect_lower-clause-outcome g c =
-    let out = err_from_is_err_and c.from_residual.result c.from_residual.ensures.1 in
+    let out = err_from_is_err_and c.from_residual-in_err-expect_lower.result c.from_residual-in_err-expect_lower.ensures.1 in
     let request : Request = request_of Merge c.args.manifests.items c.args.bottom c.args.blobs.now c.args.workers in
     rw (out.1, out.2) (inl (refused-down c.args.left c.in_ok-stack.stack request c.in_err-expect_lower.field-0.0 c.in_ok-stack.ensures.accepted c.in_ok-stack.ensures.read.same c.in_err-expect_lower.ensures.refused))
 
 pub returns-in_err-contents-clause-outcome : goal.returns-in_err-contents-clause-outcome
 returns-in_err-contents-clause-outcome g c =
-    let out = err_from_is_err_and c.from_residual.result c.from_residual.ensures.1 in
+    let out = err_from_is_err_and c.from_residual-in_err-contents.result c.from_residual-in_err-contents.ensures.1 in
     let may_refuse = g.G.Gate.may_refuse c.args.gate.now in
     let blobs = blob_views c.args.blobs.now in
     let request : Request = request_of Merge c.args.manifests.items c.args.bottom c.args.blobs.now c.args.workers in

@@ -31,7 +31,7 @@ returns-in_err-last-clause-outcome g c =
 
 pub returns-in_err-found-clause-outcome : goal.returns-in_err-found-clause-outcome
 returns-in_err-found-clause-outcome g c =
-    let out = err_from_is_err_and c.from_residual.result c.from_residual.ensures.1 in
+    let out = err_from_is_err_and c.from_residual-in_err-found.result c.from_residual-in_err-found.ensures.1 in
     let may_refuse = g.G.Gate.may_refuse c.args.team.now.gate.now in
     let count = led-count c.requires.told.0 c.args.stack c.loop-done.done c.loop-done.last (omega (arith, c.ordinary.ensures.value, c.requires.fewer.1, c.loop-done.auto)) (c.loop-done.invariant.0 c.requires.told.0 c.requires.told.1) in
     let more : c.args.left < length c.loop-done.last.layers = omega (arith, count, c.ordinary.ensures.value, c.requires.fewer.1, c.loop-done.auto) in

@@ -22,7 +22,7 @@ returns-in_err-found-clause-fault g c =
 
 pub returns-in_err-expect_clean-clause-fault : goal.returns-in_err-expect_clean-clause-fault
 returns-in_err-expect_clean-clause-fault g c =
-    let out = err_from_is_err_and c.from_residual.result c.from_residual.ensures.1 in
+    let out = err_from_is_err_and c.from_residual-in_err-expect_clean.result c.from_residual-in_err-expect_clean.ensures.1 in
     let refused = MayRefuseTold Merge c.args.stack (g.G.Gate.may_refuse c.args.team.now.gate.now) in
     rw (out.1, out.2) (λ blobs told.
         subst (λ (found : List Finding). IsFailure Merge c.args.stack found refused c.in_err-expect_clean.field-0.0) (c.in_ok-found.ensures.found blobs told)

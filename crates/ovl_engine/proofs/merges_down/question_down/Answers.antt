@@ -12,7 +12,7 @@ returns-in_err-question-clause-refused g c =
 
 pub returns-in_err-expect_lower-clause-refused : goal.returns-in_err-expect_lower-clause-refused
 returns-in_err-expect_lower-clause-refused g c =
-    let out = err_from_is_err_and c.from_residual.result c.from_residual.ensures.1 in
+    let out = err_from_is_err_and c.from_residual-in_err-expect_lower.result c.from_residual-in_err-expect_lower.ensures.1 in
     let request : Request = request_of Merge c.args.manifests.items c.args.bottom [] c.args.workers in
     rw (out.1, out.2) (refused-down c.args.left c.in_ok-question.question.stack request c.in_err-expect_lower.field-0.0 c.in_ok-question.ensures.accepted c.in_ok-question.ensures.question.stack.same c.in_err-expect_lower.ensures.refused)
 

@@ -35,7 +35,7 @@ returns c =
     let below : Entries = entries_of_nodes (take c.loop-child.child-index nodes) in
     let whole : entries_from inode below ≡ c.args.layer.now =
     ap (λ (ns : List NodeView). entries_from inode (entries_of_nodes ns)) (take_all c.loop-child.child-index nodes c.loop-child-test.false)
-    ∙ (sym c.children-child-items.ensures.1 ∙ c.root.ensures.value) in
+    ∙ (sym c.children-child-items.ensures.1 ∙ c.root-root.ensures.value) in
     let at : Some inode ≡ Some c.inode.result.now = ap (λ (entries : Entries). entry_at entries []) (sym c.children-child-items.ensures.1) ∙ c.inode.ensures in
     let same : c.inode.result.now ≡ inode = cc in
     let root : Grows before (compact_text (entry_value written ([], inode))) (string_bytes c.push_entry.new.text) =

@@ -42,7 +42,7 @@ returns-clause-gate g c = λ refused.
     let begun = subst (λ p. HaveRoot p c.in_ok-crowd.crowd.items) c.in_ok-first.ensures c.in_ok-crowd.ensures.root in
     let lawful = own_lawful-bare g.W.Work.seen (g.W.Work.kids_of w) (g.W.Work.out_of w) (g.W.Work.deepest_of w) c.deepest-deepest.ensures.lawful haul.parcels.items crew.haul.0 in
     refused_reached g.W.Work.seen (g.W.Work.kids_of w) (g.W.Work.out_of w) (g.G.Gate.may_refuse c.args.gate.now) c.args.root c.in_ok-crowd.crowd.items c.in_ok-ended.ended.items haul left.0 crew.haul lawful begun crew.within left.1.1
-    (was_refused c.outcome.result haul.refused haul.starved c.counted-count.result c.outcome.ensures.fault refused)
+    (was_refused c.outcome.result haul.refused haul.starved c.run_count-count.result c.outcome.ensures.fault refused)
 
 pub returns-clause-board : goal.returns-clause-board
-returns-clause-board g c = board_memory c.outcome.result c.in_ok-ended.haul.refused c.in_ok-ended.haul.starved c.counted-count.result c.outcome.ensures.fault
+returns-clause-board g c = board_memory c.outcome.result c.in_ok-ended.haul.refused c.in_ok-ended.haul.starved c.run_count-count.result c.outcome.ensures.fault
