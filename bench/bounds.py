@@ -4,8 +4,8 @@
 Python 3.11, standard library, and valgrind; without valgrind it says so and ends with 0. No contract says what anything
 costs: a body that asks every code of every entry, makes a view anew for each name, digests a blob again for each name that
 it has, or halves a list so that one half is all of it, gives the same bytes. So the instructions of one run of each stack
-are counted, and may be no more than its bound, a fifth over what it took as it was bounded. The same program takes the same
-number of instructions, but for some hundreds that come of the environment.
+are counted, and may be no more than its bound, at most a few tenths over what it took as it was bounded. The same program
+takes the same number of instructions, but for some hundreds that come of the environment.
 
     python3 bench/bounds.py --program crates/ovl_layers/out/ovl_layers
 """
@@ -71,11 +71,13 @@ class Bound:
 
 
 BOUNDS = {
-    "a layer in which nothing is at fault": Bound("fsck", (plain(4_000),), 8.8),
+    "a layer in which nothing is at fault": Bound("fsck", (plain(4_000),), 8.1),
     "files over the same files": Bound("vacuum", (plain(4_000, 1), plain(4_000)), 36.0),
     "one content of many names": Bound("fsck", (named_alike(200),), 4.8, True),
     "a directory of directories": Bound("show", (directories(2_000), directories(2_000)), 23.6),
     "moved directories": Bound("deref", (moved(500), directories(500)), 25.8),
+    "metacopy files in a deep directory": Bound("deref", copied(20, 400), 22.3, True),
+    "many layers of other names": Bound("show", apart(128, 20), 26.0),
 }
 
 

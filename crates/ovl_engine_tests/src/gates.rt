@@ -189,7 +189,11 @@ const CREWS: &str = "\
 fn all_workers_of_a_command_meet(rt: HostRuntime) -> Result<(), Fail> {
     for row in CREWS.lines() {
         let (workers, row) = row.split_once(' ').unwrap_or((row, ""));
-        same(row, met(&rt, rt.alloc(), row, workers.parse()?)?.as_str(), "none")?;
+        same(
+            row,
+            met(&rt, rt.alloc(), row, workers.parse()?)?.as_str(),
+            "none",
+        )?;
     }
     Ok(())
 }

@@ -195,7 +195,12 @@ fn none(alloc: Global) -> Result<String, Fail> {
 }
 
 // What is shown in the directory of a view, or in that which a name leads to from there where it isn't empty.
-fn entered_last(alloc: Global, stack: &Stack, view: &DirView<'_>, name: &str) -> Result<String, Fail>
+fn entered_last(
+    alloc: Global,
+    stack: &Stack,
+    view: &DirView<'_>,
+    name: &str,
+) -> Result<String, Fail>
     requires { IsViewOver stack.now view.now }
 {
     if name.is_empty() {

@@ -67,10 +67,7 @@ fn checked<T: Drop>(alloc: Global, parcels: Vec<Parcel<T>>) -> Result<Vec<Parcel
 }
 
 // The pieces of parcels, and behind `=` those of the walk that is assembled from them.
-fn assembled<T: Drop>(
-    alloc: Global,
-    parcels: Vec<Parcel<Vec<(Name, T)>>>,
-) -> Result<String, Fail> {
+fn assembled<T: Drop>(alloc: Global, parcels: Vec<Parcel<Vec<(Name, T)>>>) -> Result<String, Fail> {
     let arrived = told(alloc, &parcels)?;
     let walk = assemble(alloc, &root_piece(alloc), checked(alloc, parcels)?)?;
     let walk = told(alloc, &walk)?;
