@@ -49,12 +49,13 @@ fn answer_held<R: AllocGlobal + Threads + Wait + Sync>(
     ensures { IsComingDown (the_left_of line.now.what line.now.down_to)
         (request_of line.now.what manifests.items line.now.data_layers blobs.now line.now.workers) result }
 {
+    let data_layers = line.data_layers;
     match left_of(line) {
         Some(left) => merge_down(
             rt,
             rt.alloc(),
             manifests,
-            line.data_layers,
+            data_layers,
             blobs,
             left,
             line.workers,
@@ -65,7 +66,7 @@ fn answer_held<R: AllocGlobal + Threads + Wait + Sync>(
             rt.alloc(),
             line.what,
             manifests,
-            line.data_layers,
+            data_layers,
             blobs,
             line.workers,
             &OpenGate,
