@@ -10,7 +10,7 @@ use Rattle.ovl_engine.proofs.OutcomeLemmas.{outcome-part}
 use Rattle.ovl_engine.proofs.merges_down.merged_down.Goals as goal
 
 pub merged_over-requires-clause-several : goal.merged_over-requires-clause-several
-merged_over-requires-clause-several g c =
+merged_over-requires-clause-several g c lifetimes live =
     let count = led-count c.requires.told.0 c.args.stack c.loop-done.done c.loop-done.last (omega (arith, c.ordinary.ensures.value, c.loop-done-test.true)) (c.loop-done.invariant.0 c.requires.told.0 c.requires.told.1) in
     omega (arith, count, c.ordinary.ensures.value, c.loop-done-test.true)
 
@@ -40,7 +40,7 @@ returns-in_err-found-clause-outcome g c =
         (unchecked may_refuse c.loop-done.last (findings blobs c.loop-done.last) c.in_err-found.field-0.0 c.in_err-found.ensures.found))
 
 pub merge-requires-clause-several : goal.merge-requires-clause-several
-merge-requires-clause-several g c =
+merge-requires-clause-several g c lifetimes live =
     let count = led-count c.requires.told.0 c.args.stack c.loop-done.done c.loop-done.last (omega (arith, c.ordinary.ensures.value, c.requires.fewer.1, c.loop-done.auto)) (c.loop-done.invariant.0 c.requires.told.0 c.requires.told.1) in
     omega (arith, count, c.ordinary.ensures.value, c.requires.fewer.0, c.requires.fewer.1, c.loop-done.auto)
 

@@ -11,7 +11,7 @@ use Rattle.ovl_engine.proofs.OutcomeLemmas.{failure-part, unclean}
 use Rattle.ovl_engine.proofs.merges_down.merged_over.Goals as goal
 
 pub left_by_merge-requires-clause-sound : goal.left_by_merge-requires-clause-sound
-left_by_merge-requires-clause-sound g c =
+left_by_merge-requires-clause-sound g c lifetimes live =
     c.in_ok-found.ensures.sound c.requires.told.0 c.requires.told.1 c.in_ok-expect_clean.ensures.clean
 
 pub returns-in_err-found-clause-fault : goal.returns-in_err-found-clause-fault
