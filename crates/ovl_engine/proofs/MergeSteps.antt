@@ -15,7 +15,7 @@ use Rattle.ovl_engine.specs.declared.faults.EngineFault.TheVariants.{NoLower}
 use Rattle.ovl_engine.specs.Outcomes.{IsAccepted, IsFailedWalk, IsFailure, IsRun, MayRefuse, MayRefuseCheck, MayRefuseLayers, stack_of}
 use Rattle.ovl_engine.specs.Requests.{Request}
 use Rattle.ovl_engine.specs.Told.{MayRefuseTold}
-use Rattle.ovl_engine.specs.MergesDown.{IsAcceptedDown, IsOutcomeOfRun, IsRefusalDown, IsRunDown, KeepsTreeByTwo, KeepsTreeDown, MergesLead}
+use Rattle.ovl_engine.specs.MergesDown.{IsAcceptedDown, IsOutcomeOfRun, IsRefusalDown, IsRunDown, KeepsTreeByTwo, KeepsTreeDown, MergeLeads, MergesLead}
 use Rattle.ovl_engine.proofs.KeptLemmas.{keeps_down, renewed_from}
 use Rattle.ovl_engine.proofs.OutcomeLemmas.{outcome-part, unwalked, walk-part}
 
@@ -41,6 +41,12 @@ module _ (blobs : List BlobView) (stack : StackView) where
         length-drop 2 lead.0.layers,
         some,
       )
+
+  -- one more leads on
+  pub led-more : (n : ℕ) (next last : StackView) → MergesLead n blobs stack next → MergeLeads blobs next last → MergesLead (n + 1) blobs stack last
+  led-more n next last lead one =
+      let more : suc n ≡ n + 1 = omega arith in
+      subst (λ (m : ℕ). MergesLead m blobs stack last) more (next, (lead, one))
 
   -- those under the topmost are the given ones
   led-rest : (n : ℕ) (last : StackView) → MergesLead n blobs stack last → drop 1 last.layers ≡ drop (suc n) stack.layers

@@ -5,7 +5,7 @@ use Rattle.ovl_check.specs.Findings.{findings}
 use Rattle.ovl_commands.specs.declared.requests.Command.TheVariants.{Merge}
 use Rattle.ovl_engine.specs.Outcomes.{IsRun, MayRefuseOwn}
 use Rattle.ovl_engine.specs.Told.{MayRefuseTold}
-use Rattle.ovl_engine.proofs.MergeSteps.{if-ok, kept-down, led-count, run-down, unchecked}
+use Rattle.ovl_engine.proofs.MergeSteps.{if-ok, kept-down, led-count, led-more, run-down, unchecked}
 use Rattle.ovl_engine.proofs.OutcomeLemmas.{outcome-part}
 use Rattle.ovl_engine.proofs.merges_down.merged_down.Goals as goal
 
@@ -16,7 +16,7 @@ merged_over-requires-clause-several g c lifetimes live =
 
 pub loop-done-preserved : goal.loop-done-preserved
 loop-done-preserved g c = (
-  (λ blobs told. (c.loop-done.last, (c.loop-done.invariant.0 blobs told, c.in_ok-last.ensures.next blobs told))),
+  (λ blobs told. led-more blobs c.args.stack c.loop-done.done c.loop-done.last c.in_ok-last.last (c.loop-done.invariant.0 blobs told) (c.in_ok-last.ensures.next blobs told)),
   (λ path. c.in_ok-last.ensures.tree path ∙ c.loop-done.invariant.1 path),
 )
 
