@@ -147,5 +147,5 @@ module _ (may_refuse : Piece → Type 0) where
     more = more;
     answered = tt;
     run = unwalked (MayRefuse Merge stack blobs may_refuse) Merge stack (findings blobs stack) fault
-    (walk-part (MayRefuseCheck stack blobs may_refuse) (MayRefuse Merge stack blobs may_refuse) (λ refused. inl (refl, refused)) fault is);
+        (walk-part (MayRefuseCheck stack blobs may_refuse) (MayRefuse Merge stack blobs may_refuse) (λ refused. inl (refl, refused)) fault is);
   }

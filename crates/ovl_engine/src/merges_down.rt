@@ -25,12 +25,12 @@ use crate::commands::stack_for;
 use crate::faults::EngineFault;
 use crate::merges::{merge, walked};
 use crate::questions::{Question, question_of};
-use ovl_commands::{Answer, Command};
 use crate::rewrites::expect_clean;
 use crate::teams::Team;
 use ovl_check::{Blob, Content, contents_held};
-use ovl_lookup::Stack;
+use ovl_commands::{Answer, Command};
 use ovl_layer::{Layer, Sheet};
+use ovl_lookup::Stack;
 use ovl_merge::MergeDone;
 use ovl_merge::laws::merged_layer_keeps_the_tree;
 use ovl_pool::Gate;
@@ -109,7 +109,11 @@ pub fn merge_down_told<G: Gate + Sync, R: Threads + Wait + Sync>(
         → IsRunDown left blobs question.stack (λ one. MayRefuseTold Merge one (G.may_refuse gate.now)) result }
     ensures keeps { IfOk result (KeepsTreeDown left question.stack) }
 {
-    let Question { what: _, stack, names } = question;
+    let Question {
+        what: _,
+        stack,
+        names,
+    } = question;
     drop(names);
     let team = Team {
         rt,

@@ -12,9 +12,7 @@ use crate::output::report::write_report;
 use crate::output::status::Ending;
 use crate::runs::command::left_of;
 use ovl_command_line::Line;
-use ovl_engine::{
-    Answer, EngineFault, answer_told, merge_down_told, question_down, question_of,
-};
+use ovl_engine::{Answer, EngineFault, answer_told, merge_down_told, question_down, question_of};
 use ovl_pool::OpenGate;
 use std::io::Write;
 use std::rt::Files;
@@ -70,14 +68,7 @@ fn merged_in_parts<R: Files + SharedFiles + AllocGlobal + Threads + Wait + Sync>
     ensures fault { IfErr result (λ fault. IsUnread (IsOfBlobs line.now) fault) }
 {
     let alloc = rt.alloc();
-    let question = match question_down(
-        rt,
-        alloc,
-        manifests,
-        line.data_layers,
-        left,
-        line.workers,
-    ) {
+    let question = match question_down(rt, alloc, manifests, line.data_layers, left, line.workers) {
         Ok(question) => question,
         Err(fault) => return Ok(Err(fault)),
     };

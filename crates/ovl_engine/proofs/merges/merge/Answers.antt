@@ -33,7 +33,7 @@ returns-clause-two g c =
       lower = lower;
       read = c.in_ok-rewritten.ensures.back ∙ ap (λ (top : Entries). Ok top ∷ Ok lower ∷ []) c.in_ok-top.ensures.top;
       same = merge_same stack c.ordinary-layers.ensures.each c.merge_keeps_the_tree.ensures c.requires.several (c.requires.sound c.in_ok-expect_clean.ensures.clean)
-      lower c.in_ok-rewritten.ensures.report.1 c.in_ok-top.ensures.lower;
+          lower c.in_ok-rewritten.ensures.report.1 c.in_ok-top.ensures.lower;
     }
 
 pub returns-in_err-top-clause-outcome : goal.returns-in_err-top-clause-outcome

@@ -31,8 +31,10 @@ returns-in_err-contents-clause-outcome g c =
     let fault = c.in_err-contents.field-0.0 in
     let run = undigested may_refuse c.args.left blobs stack fault c.in_ok-expect_lower.ensures.fewer.1
     (walk-part (MayRefuseBlobs blobs may_refuse) (MayRefuseCheck stack blobs may_refuse) (λ refused. inl refused) fault c.in_err-contents.ensures.fault) in
-    rw (out.1, out.2) (inr (accepted-down c.args.left stack request c.in_ok-stack.ensures.accepted c.in_ok-stack.ensures.read.same c.in_ok-expect_lower.ensures.fewer,
-    subst (λ (s : StackView). IsRunDown c.args.left blobs s (λ one. MayRefuse Merge one blobs may_refuse) (Err fault)) c.in_ok-stack.ensures.read.same run))
+    rw (out.1, out.2) (inr (
+      accepted-down c.args.left stack request c.in_ok-stack.ensures.accepted c.in_ok-stack.ensures.read.same c.in_ok-expect_lower.ensures.fewer,
+      subst (λ (s : StackView). IsRunDown c.args.left blobs s (λ one. MayRefuse Merge one blobs may_refuse) (Err fault)) c.in_ok-stack.ensures.read.same run,
+    ))
 
 pub merged_down-requires-clause-told : goal.merged_down-requires-clause-told
 merged_down-requires-clause-told g c lifetimes live = (blob_views c.args.blobs.now, sym (c.deref.ensures.value ∙ c.in_ok-contents.ensures.told))

@@ -27,7 +27,7 @@ returns-in_err-last-clause-outcome g c =
     let count = led-count c.requires.told.0 c.args.stack c.loop-done.done c.loop-done.last (omega (arith, c.ordinary.ensures.value, c.loop-done-test.true)) (c.loop-done.invariant.0 c.requires.told.0 c.requires.told.1) in
     let more : c.args.left < length c.loop-done.last.layers = omega (arith, count, c.ordinary.ensures.value, c.loop-done-test.true) in
     rw (out.1, out.2) (λ blobs told.
-        run-down may_refuse c.args.left blobs c.args.stack c.loop-done.last c.loop-done.done (Err c.in_err-last.field-0.0) (c.loop-done.invariant.0 blobs told) more tt (c.in_err-last.ensures.fault blobs told))
+    run-down may_refuse c.args.left blobs c.args.stack c.loop-done.last c.loop-done.done (Err c.in_err-last.field-0.0) (c.loop-done.invariant.0 blobs told) more tt (c.in_err-last.ensures.fault blobs told))
 
 pub returns-in_err-found-clause-outcome : goal.returns-in_err-found-clause-outcome
 returns-in_err-found-clause-outcome g c =
@@ -36,8 +36,8 @@ returns-in_err-found-clause-outcome g c =
     let count = led-count c.requires.told.0 c.args.stack c.loop-done.done c.loop-done.last (omega (arith, c.ordinary.ensures.value, c.requires.fewer.1, c.loop-done.auto)) (c.loop-done.invariant.0 c.requires.told.0 c.requires.told.1) in
     let more : c.args.left < length c.loop-done.last.layers = omega (arith, count, c.ordinary.ensures.value, c.requires.fewer.1, c.loop-done.auto) in
     rw (out.1, out.2) (λ blobs told.
-        run-down may_refuse c.args.left blobs c.args.stack c.loop-done.last c.loop-done.done (Err c.in_err-found.field-0.0) (c.loop-done.invariant.0 blobs told) more tt
-        (unchecked may_refuse c.loop-done.last (findings blobs c.loop-done.last) c.in_err-found.field-0.0 c.in_err-found.ensures.found))
+    run-down may_refuse c.args.left blobs c.args.stack c.loop-done.last c.loop-done.done (Err c.in_err-found.field-0.0) (c.loop-done.invariant.0 blobs told) more tt
+    (unchecked may_refuse c.loop-done.last (findings blobs c.loop-done.last) c.in_err-found.field-0.0 c.in_err-found.ensures.found))
 
 pub merge-requires-clause-several : goal.merge-requires-clause-several
 merge-requires-clause-several g c lifetimes live =

@@ -25,8 +25,8 @@ returns-in_err-expect_clean-clause-fault g c =
     let out = err_from_is_err_and c.from_residual-in_err-expect_clean.result c.from_residual-in_err-expect_clean.ensures.1 in
     let refused = MayRefuseTold Merge c.args.stack (g.G.Gate.may_refuse c.args.team.now.gate.now) in
     rw (out.1, out.2) (λ blobs told.
-        subst (λ (found : List Finding). IsFailure Merge c.args.stack found refused c.in_err-expect_clean.field-0.0) (c.in_ok-found.ensures.found blobs told)
-        (unclean refused Merge refl c.args.stack c.in_ok-found.found.items c.in_err-expect_clean.field-0.0 c.in_err-expect_clean.ensures.refused))
+    subst (λ (found : List Finding). IsFailure Merge c.args.stack found refused c.in_err-expect_clean.field-0.0) (c.in_ok-found.ensures.found blobs told)
+    (unclean refused Merge refl c.args.stack c.in_ok-found.found.items c.in_err-expect_clean.field-0.0 c.in_err-expect_clean.ensures.refused))
 
 pub returns-clause-next : goal.returns-clause-next
 returns-clause-next g c =
@@ -39,6 +39,6 @@ returns-clause-fault g c =
     let may_refuse = g.G.Gate.may_refuse c.args.team.now.gate.now in
     IfErr-weaker c.left_by_merge.result _ _
     (λ fault failed blobs told.
-        failure-part (MayRefuseOwn Merge c.args.stack may_refuse) (MayRefuseTold Merge c.args.stack may_refuse) (λ refused. inr refused) Merge c.args.stack (findings blobs c.args.stack) fault
-        (failed (findings blobs c.args.stack) (subst (λ (found : List Finding). is_clean found ≡ true) (c.in_ok-found.ensures.found blobs told) c.in_ok-expect_clean.ensures.clean)))
+    failure-part (MayRefuseOwn Merge c.args.stack may_refuse) (MayRefuseTold Merge c.args.stack may_refuse) (λ refused. inr refused) Merge c.args.stack (findings blobs c.args.stack) fault
+    (failed (findings blobs c.args.stack) (subst (λ (found : List Finding). is_clean found ≡ true) (c.in_ok-found.ensures.found blobs told) c.in_ok-expect_clean.ensures.clean)))
     c.left_by_merge.ensures.fault

@@ -11,8 +11,8 @@ returns-in-Some-clause-coming g c =
     let request : Request = request_of line.what c.args.manifests.items line.data_layers [] line.workers in
     IfOk-weaker c.merged_in_parts.result _ _
     (λ outcome comes. subst (λ (left : Option ℕ). IsComingDownOver left request outcome) c.in-Some.ensures.left
-        (subst (λ (what : Command). IsComingDownOver (Some c.in-Some.left) (request_of what c.args.manifests.items line.data_layers [] line.workers) outcome)
-        (sym c.in-Some.ensures.merge) comes))
+    (subst (λ (what : Command). IsComingDownOver (Some c.in-Some.left) (request_of what c.args.manifests.items line.data_layers [] line.workers) outcome)
+    (sym c.in-Some.ensures.merge) comes))
     c.merged_in_parts.ensures.coming
 
 pub returns-in-None-clause-coming : goal.returns-in-None-clause-coming
