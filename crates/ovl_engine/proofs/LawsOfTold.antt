@@ -67,7 +67,7 @@ module _ (may_be : List ℕ → Option (List ℕ) → Type 0) where
       checking = ap checks (of.what ∙ merges)
 
       is : IsRunDownTold left question.stack may_be may_refuse result
-      is = (are.blobs, (λ name stated. are.each name (((of.names.stated checking).same name).1 stated)), run are.blobs (sym are.contents))
+      is = (are.blobs, ((λ name stated. are.each name (((of.names.stated checking).same name).1 stated)), run are.blobs (sym are.contents)))
 
       by : (one : Result Answer EngineFault) → IsRunDownTold left (stack_of request) may_be may_refuse one → IsOutcomeDownTold left request may_be may_refuse one
       by (Ok answer) run = (accepted, run)
