@@ -137,5 +137,5 @@ few_coming_down (Some left) request (Err fault) is = tt
 
 pub few_coming_down_over : (left : Option ℕ) (request : Request) (answered : Result Answer EngineFault) → IsComingDownOver left request answered → IfOk answered (λ answer. length answer.layers.items ≤ 255)
 few_coming_down_over None request answered is = few_coming_over request answered is
-few_coming_down_over (Some left) request (Ok answer) is = few_layers Merge _ _ answer is.1.2.run
+few_coming_down_over (Some left) request (Ok answer) is = few_layers Merge _ _ answer is.1.1.1.run
 few_coming_down_over (Some left) request (Err fault) is = tt
