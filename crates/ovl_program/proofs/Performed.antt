@@ -5,6 +5,7 @@ use Rattle.std.proofs.lemmas.List.{length-map}
 use Rattle.ovl_layer.specs.Layers.{Entries}
 use Rattle.ovl_manifest.specs.Text.{manifest_text}
 use Rattle.ovl_lookup.specs.Stacks.{StackView}
+use Rattle.ovl_check.specs.Findings.{findings}
 use Rattle.ovl_check.specs.declared.findings.Finding.{Finding}
 use Rattle.ovl_check.specs.Blobs.{BlobView}
 use Rattle.ovl_engine.specs.Outcomes.{IsAnswerOf, IsRewritten}
@@ -132,10 +133,10 @@ few_coming_over request (Err fault) is = tt
 -- nor has one of merges until so many layers are left
 pub few_coming_down : (left : Option ℕ) (request : Request) (answered : Result Answer EngineFault) → IsComingDown left request answered → IfOk answered (λ answer. length answer.layers.items ≤ 255)
 few_coming_down None request answered is = few_coming request answered is
-few_coming_down (Some left) request (Ok answer) is = few_layers Merge _ _ answer is.1.run
+few_coming_down (Some left) request (Ok answer) is = few_layers Merge is.1.last (findings request.blobs is.1.last) answer is.1.run
 few_coming_down (Some left) request (Err fault) is = tt
 
 pub few_coming_down_over : (left : Option ℕ) (request : Request) (answered : Result Answer EngineFault) → IsComingDownOver left request answered → IfOk answered (λ answer. length answer.layers.items ≤ 255)
 few_coming_down_over None request answered is = few_coming_over request answered is
-few_coming_down_over (Some left) request (Ok answer) is = few_layers Merge _ _ answer is.1.1.1.run
+few_coming_down_over (Some left) request (Ok answer) is = few_layers Merge is.1.1.1.last (findings is.1.0 is.1.1.1.last) answer is.1.1.1.run
 few_coming_down_over (Some left) request (Err fault) is = tt
