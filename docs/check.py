@@ -316,10 +316,10 @@ def homonyms():
 
 def names():
     """Public types and limits of which no document says anything."""
-    papers = {paper: (TOP / "docs" / paper).read_text(encoding="utf-8") for paper in ("GLOSSARY.md", "PROVED.md", "FORMATS.md")}
-    told = {word for paper in ("GLOSSARY.md", "PROVED.md") for code in re.findall(r"`([^`]+)`", papers[paper]) for word in re.findall(r"\w+", code)}
-    told |= {word.strip("` ").replace(" ", "") for row in re.findall(r"^\| (.*?) \|", papers["GLOSSARY.md"], flags=re.M) for word in row.split(",")}
-    limits = set(re.findall(r"`(\w+)` of `(\w+)`", papers["FORMATS.md"]))
+    pages = {page: (TOP / "docs" / page).read_text(encoding="utf-8") for page in ("GLOSSARY.md", "PROVED.md", "FORMATS.md")}
+    told = {word for page in ("GLOSSARY.md", "PROVED.md") for code in re.findall(r"`([^`]+)`", pages[page]) for word in re.findall(r"\w+", code)}
+    told |= {word.strip("` ").replace(" ", "") for row in re.findall(r"^\| (.*?) \|", pages["GLOSSARY.md"], flags=re.M) for word in row.split(",")}
+    limits = set(re.findall(r"`(\w+)` of `(\w+)`", pages["FORMATS.md"]))
     for crate in crates():
         for name, _, public in types(crate):
             if public and name not in told and name.lower() not in told:
