@@ -1,12 +1,13 @@
 -- The directories of a new layer as work: a piece is a directory, its kids are the directories in it, and its output is
 -- each name in it with its inode.
-use Rattle.std.specs.Prelude.{List, map, filter, Vec}
+use Rattle.std.specs.Prelude.{◌≡◌, ℕ, Bool, true, ◌&&◌, not, length, nat_lt, List, map, filter, Vec}
 use Rattle.std.specs.Global.{Global}
 use Rattle.std.specs.Coded.{Coded-set, codes}
-use Rattle.ovl_names.specs.Names.{PathName}
-use Rattle.ovl_names.specs.Paths.{child_path}
+use Rattle.ovl_names.specs.Names.{PathName, is_name}
+use Rattle.ovl_names.specs.Paths.{PathNames, child_path}
 use Rattle.ovl_inode.specs.declared.inodes.Inode.{Inode}
 use Rattle.ovl_inode.specs.Marks.{is_directory}
+use Rattle.ovl_manifest.specs.Layers.{is_within_limits}
 use Rattle.ovl_board.specs.declared.pieces.Piece.{Piece}
 
 -- an entry of a directory: its name and its inode
@@ -20,6 +21,21 @@ piece_in piece entry = record { space = piece.space; dir = child_path piece.dir 
 -- the kids of a directory are the directories in it, and its output is each name in it, in order, with its inode
 abbrev pub directories_among : Piece → List NamedInode → List Piece
 directories_among piece entries = map (piece_in piece) (filter (λ entry. is_directory entry.1) entries)
+
+-- a piece whose directory a manifest can hold, and a directory among the entries of another one that none can
+abbrev pub is_kept : Piece → Bool
+is_kept piece = is_within_limits piece.dir
+
+abbrev pub is_past_limits : PathNames → NamedInode → Bool
+is_past_limits directory entry = is_directory entry.1 && not (is_within_limits (child_path directory entry.0))
+
+-- of the names in a directory, those with fewer bytes have a path that a manifest can hold
+abbrev pub IsRoom : PathNames → ℕ → Type 0
+IsRoom directory room = (name : PathName) → is_name name ≡ true → is_within_limits (child_path directory name) ≡ nat_lt (length name) room
+
+-- the kids that are visited: what no manifest can hold is left out, since no new layer has it
+abbrev pub visited_kids : (Piece → List Piece) → Piece → List Piece
+visited_kids kids piece = filter is_kept (kids piece)
 
 -- what is seen of the entries that a directory puts out
 abbrev pub inodes_seen : Vec NamedInode Global → List NamedInode

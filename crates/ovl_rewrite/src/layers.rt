@@ -18,9 +18,9 @@ use ovl_names::{Name, Path};
 use std::alloc::Global;
 use std::vec::IntoIter;
 
-/// The layer with this root that the parcels tell, which are the plain walk over its directories from `/` of space 0.
-/// `LimitOut` comes only where its entries are no layer.
-pub fn layer_told(
+// The layer with this root that the parcels tell, which are the plain walk over its directories from `/` of space 0.
+// `LimitOut` comes only where its entries are no layer.
+pub(crate) fn layer_told(
     alloc: Global,
     root: Inode,
     parcels: Vec<Parcel<Vec<(Name, Inode)>>>,
